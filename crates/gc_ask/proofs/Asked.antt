@@ -5,12 +5,13 @@ use Rattle.std.proofs.Common.{◌≡◌, ℕ, ◌+◌, ◌<◌, Bool, true, ltb,
 use Rattle.std.specs.Io.KnownBytes.{Appends}
 use Rattle.std.proofs.lemmas.Bool.{ltb-true}
 use Rattle.std.proofs.lemmas.List.{length_push}
+use Rattle.std.proofs.KnownBytes.{Appends-trans, Appends-nil}
 use Rattle.gc_lines.specs.Answering.{all_of}
 use Rattle.gc_lines.specs.Assembler.{Kept, StandsFor}
 use Rattle.gc_lines.specs.Frames.{lines, rest_of, rest_behind}
 use Rattle.gc_lines.proofs.Cutting.{rest-append}
 use Rattle.gc_lines.proofs.InOrder.{all_of-append}
-use Rattle.gc_lines.proofs.Known.{Appends-append, Appends-nil, Appends-is}
+use Rattle.gc_lines.proofs.Known.{Appends-is}
 use Rattle.gc_catalogue.specs.declared.call.Call.{Call}
 use Rattle.gc_client.specs.declared.settlement.Settlement
 use Rattle.gc_client.specs.Rule.{ById, Settlement, heard, fits, hears, settled_by_line, place_in}
@@ -28,11 +29,12 @@ use Rattle.gc_ask.proofs.FirstReplies.{lines_completed-append, first_reply-at}
 zero_if_below_one : (p : ℕ) (b : Bool) → b ≡ ltb p 1 → b ≡ true → p ≡ 0
 zero_if_below_one p b is e = omega (arith, ltb-true p 1 (sym is ∙ e))
 
--- a line that fits the client which waits for request k settles that request alone, and nothing waits any more
+-- a line that fits the client which waits for request k settles that request alone, and the client is then the one before request
+-- k + 1, for which nothing waits
 pub hears_one : (k : ℕ) (c : Command) (line : List ℕ) → fits (waiting_for k c) (heard line) ≡ true
     → ((hears (waiting_for k c) line (heard line)).settlements ≡ settled_by_line (awaited c) line ∷ []) × ((hears (waiting_for k c) line (heard line)).client ≡ idle (k + 1))
 hears_one k c line fit = by_id (heard line) fit where
-  -- whatever id is heard, where it fits, the request that waits is settled, and nothing waits any more
+  -- the lemma above for whatever id is heard (`o`), or none, where it fits the client
   by_id : (o : Option ℕ) → fits (waiting_for k c) o ≡ true
       → ((hears (waiting_for k c) line o).settlements ≡ settled_by_line (awaited c) line ∷ []) × ((hears (waiting_for k c) line o).client ≡ idle (k + 1))
   by_id None e = (cc)
@@ -42,7 +44,7 @@ hears_one k c line fit = by_id (heard line) fit where
 
 -- Requests and settlements in order.
 
--- the request lines of the commands `done` and then c are those of `done`, and then that of c
+-- the request lines of the commands `done` and then c, the first of which is request k, are those of `done`, and then that of c
 texts_one : (k : ℕ) (done : List Command) (c : Command) → request_texts k (done ++ c ∷ []) ≡ request_texts k done ++ request_text (k + length done) c ∷ []
 texts_one k [] c = ap (λ n. request_text n c ∷ []) (omega arith)
 texts_one k (x ∷ done) c =
@@ -56,7 +58,7 @@ all_texts_one done c =
     ap all_of (texts_one 0 done c ∙ ap (λ n. request_texts 0 done ++ request_text n c ∷ []) place) ∙ all_of-append (request_texts 0 done) (request_text (length done) c ∷ [])
     ∙ ap (λ t. all_of (request_texts 0 done) ++ t) (append-nil (request_text (length done) c))
 
--- the line of one more settlement comes after those before it
+-- the lines of k settlements and one more are those of the k, and then the line of that one, at place k
 pub lines_last : (settled : List (Settlement Call)) (k : ℕ) (next : Settlement Call) → length settled ≡ k
     → settlement_lines (settled ++ next ∷ []) ≡ settlement_lines settled ++ lines_from k (next ∷ [])
 lines_last settled k next is =
@@ -65,8 +67,9 @@ lines_last settled k next is =
 
 -- The bytes that came.
 
--- where more bytes come, the lines that were looked at stay, and those after them are the lines of what was left and of the
--- new bytes; `now` is the rest of a line that the assembler keeps before these
+-- where the lines of `given` are `looked` and then those that `left` completes after `now`, the rest of a line, and the bytes
+-- after the last line feed of `given` are those that `now` and `left` end with, both are still true with `more` at the end of
+-- `given` and of `left`
 more_came : (given left more now : List ℕ) (looked : List (List ℕ)) → lines given ≡ looked ++ lines_completed now left → rest_of given ≡ rest_behind now left
     → (lines (given ++ more) ≡ looked ++ lines_completed now (left ++ more)) × (rest_of (given ++ more) ≡ rest_behind now (left ++ more))
 more_came given left more now looked seen rests = (
@@ -90,7 +93,8 @@ pub record Course (done : List Command) (given left : List ℕ) (kept : Kept) (c
   pub link : Appends link_old link_new (all_of (request_texts 0 done))
   pub sink : Appends sink_old sink_new (settlement_lines settled)
 
--- before anything is asked, `Course` is true with no commands asked and no bytes given
+-- where the assembler keeps nothing, and the client is the one before request 0, `Course` is true with no commands asked and no
+-- bytes given
 pub course_start : (kept : Kept) (client : ById Call) (link sink : Option (List ℕ)) → StandsFor kept [] → client ≡ idle 0 → Course [] [] [] kept client link link sink sink
 course_start kept client link sink s is = record {
   now = [];
@@ -133,7 +137,8 @@ first_is : (rest bytes left : List ℕ) (kept : Kept) (from to : ById Call) (set
     → first_reply from (lines_completed rest bytes) ≡ Some (record { line = s.line; later = lines_completed [] left })
 first_is rest bytes left kept from to settled s = ap (first_reply from) s.seen ∙ first_reply-at from s.front s.line (lines_completed [] left) s.none s.fits
 
--- what the client settled is that one request, by that line, and then it waits for nothing
+-- where a line settles the request of a client that waits for request k alone (`Settles`), what was settled is that one request,
+-- by that line, and the client is then the one before request k + 1
 pub settled_is : (k : ℕ) (command : Command) (rest bytes left : List ℕ) (kept : Kept) (to : ById Call) (settled : List (Settlement.Settlement Call))
     (s : Settles (waiting_for k command) (record { rest = rest; bytes = bytes; left = left; kept = kept; client = to; settled = settled }))
     → (map settlement_seen settled ≡ settled_by_line (awaited command) s.line ∷ []) × (to ≡ idle (k + 1))
@@ -141,27 +146,21 @@ settled_is k command rest bytes left kept to settled s =
     let one = hears_one k command s.line s.fits in
     (s.settles.seen ∙ one.0, s.client ∙ one.1)
 
--- where one more command was sent, and a line settles it, the bytes that came settle what the course says, and then this
--- command by that line
+-- where a line of the bytes that came settles one more command (`Settles`), these bytes settle what the course says, and then
+-- this command by that line
 pub asked_with : (done : List Command) (given left : List ℕ) (kept : Kept) (client : ById Call) (a b c d : Option (List ℕ)) (more : List ℕ)
     (at : Course done given left kept client a b c d) (command : Command)
     (left' : List ℕ) (kept' : Kept) (to : ById Call) (settled : List (Settlement.Settlement Call))
-    (s : Settles (waiting_for (length done) command) (record {
-      rest = at.now;
-      bytes = left ++ more;
-      left = left';
-      kept = kept';
-      client = to;
-      settled =
-          settled;
-    }))
+    (s : Settles (waiting_for (length done) command)
+    (record { rest = at.now; bytes = left ++ more; left = left'; kept = kept'; client = to; settled = settled }))
     → asked (done ++ command ∷ []) (given ++ more) ≡ at.settled ++ settled_by_line (awaited command) s.line ∷ []
 asked_with done given left kept client a b c d more at command left' kept' to settled s =
     let found = first_is at.now (left ++ more) left' kept' (waiting_for (length done) command) to settled s in
     asked_on done given left kept client a b c d more at command [] (Some (record { line = s.line; later = lines_completed [] left' })) found
     ∙ ap (λ zs. at.settled ++ (zs ++ [])) (hears_one (length done) command s.line s.fits).0
 
--- where one more command was asked and settled, the course goes on with that command
+-- where `Course` is true of the commands `done`, one more command was sent, a line settles it (`Settles`), and the line of its
+-- settlement was written, `Course` is true of `done` and that command
 pub course_more : (done : List Command) (command : Command) (given left more left' : List ℕ) (kept kept' : Kept) (client to : ById Call)
     (a b b' c d d' : Option (List ℕ)) (settled : List (Settlement.Settlement Call))
     → (at : Course done given left kept client a b c d) → Settles (waiting_for (length done) command)
@@ -194,13 +193,13 @@ course_more done command given left more left' kept kept' client to a b b' c d d
           ∙ ap (λ n. at.settled ++ next ∷ asked_from n others later) place
           ∙ sym (append_assoc at.settled (next ∷ []) (asked_from (length (done ++ command ∷ [])) others later));
       client_is = is.1 ∙ ap idle place;
-      link = Appends-is _ _ _ _ (sym (all_texts_one done command)) (Appends-append _ _ _ _ _ at.link sent);
-      sink = Appends-is _ _ _ _ (ap (λ zs. settlement_lines at.settled ++ lines_from k zs) is.0 ∙ sym (lines_last at.settled k next at.count)) (Appends-append _ _ _ _ _ at.sink told);
+      link = Appends-is _ _ _ _ (sym (all_texts_one done command)) (Appends-trans _ _ _ _ _ at.link sent);
+      sink = Appends-is _ _ _ _ (ap (λ zs. settlement_lines at.settled ++ lines_from k zs) is.0 ∙ sym (lines_last at.settled k next at.count)) (Appends-trans _ _ _ _ _ at.sink told);
     }
 
 -- Ends.
 
--- where the course has all commands, all were asked and settled, as `AsksAll` has it
+-- where `Course` is true of all commands, all were asked and settled, as `AsksAll` has it
 pub course_all : (commands : List Command) (given left : List ℕ) (kept : Kept) (client : ById Call) (a b c d : Option (List ℕ))
     → Course commands given left kept client a b c d → AsksAll commands given (record { link_old = a; link_new = b; sink_old = c; sink_new = d })
 course_all commands given left kept client a b c d at =
@@ -211,27 +210,34 @@ course_all commands given left kept client a b c d at =
       sink_took = Appends-is _ _ _ _ (ap settlement_lines (sym all)) at.sink;
     }
 
--- where the next command was sent, and is lost, asking stops there (`StopsAt`)
-pub course_stops : (is_remote : Bool) (commands done later : List Command) (command : Command) (given left more : List ℕ) (kept : Kept) (client : ById Call) (a b b' c d d' : Option (List ℕ))
-    → (at : Course done given left kept client a b c d) → commands ≡ done ++ command ∷ later
+-- where `Course` is true of the commands `done`, the next command was sent, what came doesn't settle it if the link is remote,
+-- and the line that says it is lost was written, asking stopped there (`StopsAt`)
+pub course_stops : (is_remote : Bool) (commands done later : List Command) (command : Command) (given left more : List ℕ) (kept : Kept)
+    (client : ById Call) (a b b' c d d' : Option (List ℕ)) → (at : Course done given left kept client a b c d) → commands ≡ done ++ command ∷ later
     → (is_remote ≡ true → first_reply (waiting_for (length done) command) (lines_completed at.now (left ++ more)) ≡ None)
     → Appends b b' (request_text (length done) command) → Appends d d' (lines_from (length done) (lost_of command ∷ []))
     → StopsAt is_remote commands (given ++ more) (record { link_old = a; link_new = b'; sink_old = c; sink_new = d' })
 course_stops is_remote commands done later command given left more kept client a b b' c d d' at order none sent told =
     let so : asked done (given ++ more) ≡ at.settled = asked_so done given left kept client a b c d more at in
     record {
-      earlier = done;
-      command = command;
-      later = later;
-      order = order;
-      settled = ap length so ∙ at.count;
+      loops = record {
+        at = record {
+          earlier = done;
+          command = command;
+          later = later;
+          order = order;
+          settled = ap length so ∙ at.count;
+          sink_took = Appends-is _ _ _ _ (sym (lines_last at.settled (length done) (lost_of command) at.count)
+              ∙ ap (λ zs. settlement_lines (zs ++ lost_of command ∷ [])) (sym so)) (Appends-trans _ _ _ _ _ at.sink told);
+        };
+        sent = Appends-is _ _ _ _ (sym (all_texts_one done command)) (Appends-trans _ _ _ _ _ at.link sent);
+      };
       none = λ is. ap (λ xs. asked xs (given ++ more)) order ∙ asked_on done given left kept client a b c d more at command later None (none is) ∙ append-nil at.settled ∙ sym so;
-      sent = Appends-is _ _ _ _ (sym (all_texts_one done command)) (Appends-append _ _ _ _ _ at.link sent);
-      sink_took = Appends-is _ _ _ _ (sym (lines_last at.settled (length done) (lost_of command) at.count)
-          ∙ ap (λ zs. settlement_lines (zs ++ lost_of command ∷ [])) (sym so)) (Appends-append _ _ _ _ _ at.sink told);
     }
 
--- where the next command's request or its reply was cut, asking was cut there (`IsCut`)
+-- where `Course` is true of the `count` commands `done`, the link took the first `bytes` bytes of the next command's request (if
+-- the link is remote, `part` bytes, and not all), and the line that says the command is lost was written, asking was cut there
+-- (`IsCut`)
 pub course_cut : (is_remote : Bool) (commands done later : List Command) (command : Command) (given left more : List ℕ) (kept : Kept) (client : ById Call)
     (a b b' c d d' : Option (List ℕ)) (count part bytes : ℕ) → (at : Course done given left kept client a b c d) → (order : commands ≡ done ++ command ∷ later)
     → (is : count ≡ length done) → (cut : is_remote ≡ true → (bytes ≡ part) × (part < length (request_text (length done) command)))
@@ -240,20 +246,26 @@ pub course_cut : (is_remote : Bool) (commands done later : List Command) (comman
 course_cut is_remote commands done later command given left more kept client a b b' c d d' count part bytes at order is cut sent told =
     let so : asked done (given ++ more) ≡ at.settled = asked_so done given left kept client a b c d more at in
     record {
-      earlier = done;
-      command = command;
-      later = later;
-      order = order;
-      count_is = is;
-      settled = ap length so ∙ at.count;
-      bytes = bytes;
+      loops = record {
+        at = record {
+          earlier = done;
+          command = command;
+          later = later;
+          order = order;
+          settled = ap length so ∙ at.count;
+          sink_took = Appends-is _ _ _ _ (sym (lines_last at.settled (length done) (lost_of command) at.count)
+              ∙ ap (λ zs. settlement_lines (zs ++ lost_of command ∷ [])) (sym so)) (Appends-trans _ _ _ _ _ at.sink told);
+        };
+        count_is = is;
+        bytes = bytes;
+        sent = Appends-is _ _ _ _ (ap (λ n. all_of (request_texts 0 done) ++ take bytes (request_text n command)) (sym is)) (Appends-trans _ _ _ _ _ at.link sent);
+      };
       cut = subst (λ n. is_remote ≡ true → (bytes ≡ part) × (part < length (request_text n command))) (sym is) cut;
-      sent = Appends-is _ _ _ _ (ap (λ n. all_of (request_texts 0 done) ++ take bytes (request_text n command)) (sym is)) (Appends-append _ _ _ _ _ at.link sent);
-      sink_took = Appends-is _ _ _ _ (sym (lines_last at.settled (length done) (lost_of command) at.count)
-          ∙ ap (λ zs. settlement_lines (zs ++ lost_of command ∷ [])) (sym so)) (Appends-append _ _ _ _ _ at.sink told);
     }
 
--- where the sink failed as it took the line of the next settlement, asking ended there (`WritesPart`)
+-- where `Course` is true of the commands `done`, the link took the first `bytes` bytes of the next command's request, the link's
+-- use ended with `link` (`over`), and the sink failed as it took the line of the next settlement (`IsNext`), asking ended there
+-- (`WritesPart`)
 pub course_sink_failed : (commands done later : List Command) (command : Command) (given left more : List ℕ) (kept : Kept) (client : ById Call)
     (a b b' c d d' : Option (List ℕ)) (bytes : ℕ) (next : Settlement Call) (over : LinkEnd → Type 0) (link : LinkEnd) → (at : Course done given left kept client a b c d)
     → (order : commands ≡ done ++ command ∷ later) → (ends : over link) → (is : asked done (given ++ more) ≡ at.settled → IsNext done command (given ++ more) next link)
@@ -270,7 +282,7 @@ course_sink_failed commands done later command given left more kept client a b b
       order = order;
       settled = ap length so ∙ at.count;
       bytes = bytes;
-      sent = Appends-append _ _ _ _ _ at.link sent;
+      sent = Appends-trans _ _ _ _ _ at.link sent;
       link = link;
       ends = ends;
       next = next;
@@ -278,7 +290,7 @@ course_sink_failed commands done later command given left more kept client a b b
       part = told.part;
       not_all = subst (λ (t : List ℕ). told.part < length t) (the_line same alone.1) told.not_all;
       sink_took = Appends-is _ _ _ _ (ap (λ zs. settlement_lines zs ++ take told.part (settlement_line (length done) next)) (sym so))
-          (Appends-append _ _ _ _ _ at.sink (Appends-is _ _ _ _ (ap (λ (xs : List (Settlement Call)). lines_from (length done) xs ++ take told.part
+          (Appends-trans _ _ _ _ _ at.sink (Appends-is _ _ _ _ (ap (λ (xs : List (Settlement Call)). lines_from (length done) xs ++ take told.part
           (settlement_line (length done + length told.earlier) told.next)) alone.0 ∙ ap (take told.part) (the_line same alone.1)) told.took));
     } where
       -- a list of one element that is split round an element has that one, with nothing before it

@@ -30,7 +30,7 @@ fits_only k c line fit = by_id (heard line) refl fit where
   the_id : (id : ℕ) → heard line ≡ Some id → Waits (waiting_for k c) id → id ≡ k % 8
   the_id id e (place, below, same) = omega (arith, below, same)
 
-  -- an id that is heard and fits is that of request k
+  -- what is heard of the line (`o`), if it fits, is the id of request k
   by_id : (o : Option ℕ) → heard line ≡ o → fits (waiting_for k c) o ≡ true → o ≡ Some (k % 8)
   by_id None e f = (cc)
   by_id (Some id) e f = ap Some (the_id id e ((fits_where_it_waits (waiting_for k c) id (one_window k c) (heard_digit line id e)).0 f))

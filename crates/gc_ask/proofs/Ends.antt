@@ -1,11 +1,11 @@
 -- The ports of a link's two ends, after one step (a call, or several in a row, that uses the link), and after all steps of a run.
 -- Throughout, `c` or `p` is the client's end, and `i` or `q` the instrument's; `c0` is an end at first, `c` before a step, and
 -- `c'` after it. An end is sound (`Sound`) while no read was the end of its input and neither of its ports failed.
-use Rattle.std.proofs.Common.{◌≡◌, ℕ, ◌<◌, ◌≤◌, Bool, true, false, ltb, List, [], Option, Ok, Err, ◌⊎◌, inl, inr, refl, sym, ap, ◌∙◌, subst, arith}
+use Rattle.std.proofs.Common.{◌≡◌, ℕ, ◌<◌, ◌≤◌, Bool, true, false, List, [], Option, Ok, Err, inl, inr, refl, sym, ap, ◌∙◌, subst, arith}
 use Rattle.std.specs.Io.KnownBytes.{Consumes}
-use Rattle.std.proofs.lemmas.Bool.{ltb-true, ltb-false}
+use Rattle.std.proofs.lemmas.Bool.{cases_lt}
+use Rattle.std.proofs.KnownBytes.{Consumes-nil}
 use Rattle.gc_lines.specs.Answering.{Ports}
-use Rattle.gc_lines.proofs.Known.{Consumes-nil}
 use Rattle.gc_ask.specs.Asking.{EndsWith, LinkEnd, LinkEnds, Taken}
 use Rattle.gc_ask.specs.Links.{BothStep, Sends, StepEnds, no_ports, source_of}
 use Rattle.gc_ask.specs.Listening.{ReadEnds}
@@ -17,14 +17,15 @@ use Rattle.gc_texts.specs.WholeTexts.{Input}
 -- Ports, a step later.
 
 -- where nothing happened at an end, that is a step which went well
-pub step_none : (old new : Ports) → new.reads ≡ old.reads → new.ended ≡ old.ended → new.source_failed ≡ old.source_failed → new.sink_failed ≡ old.sink_failed → StepEnds old new (Ok tt)
+pub step_none : (old new : Ports) → new.reads ≡ old.reads → new.ended ≡ old.ended → new.source_failed ≡ old.source_failed
+    → new.sink_failed ≡ old.sink_failed → StepEnds old new (Ok tt)
 step_none old new reads ended source sink = record {
   ends = ((λ some. absurd (omega (arith, some, reads))), source, sink);
   same = λ _. ended;
   grows = omega (arith, reads);
 }
 
--- a failed write of a request is a step of the end with the write's fault
+-- a failed write of a request, while nothing was read, is a step of the end with the write's fault
 pub step_sends : (place : ℕ) (text : List ℕ) (old new : Ports) (e : RunFault)
     → Sends place text (record { bytes = old.taken; failed = old.sink_failed }) (record { bytes = new.taken; failed = new.sink_failed }) (Err e)
     → new.reads ≡ old.reads → new.ended ≡ old.ended → new.source_failed ≡ old.source_failed → StepEnds old new (Err e)
@@ -33,12 +34,9 @@ step_sends place text old new (Write count bytes) s reads ended source = record 
   same = λ _. ended;
   grows = omega (arith, reads);
 }
-step_sends place text old new Read s reads ended source = absurd s
-step_sends place text old new TooManyReads s reads ended source = absurd s
-step_sends place text old new LinkClosed s reads ended source = absurd s
 step_sends place text old new other s reads ended source = absurd s
 
--- a write of a request, whatever came of it, is a step of the end with the write's result
+-- a write of a request, while nothing was read, is a step of the end with the write's result, whatever came of it
 pub step_sent : (place : ℕ) (text : List ℕ) (old new : Ports) (r : LinkEnd)
     → Sends place text (record { bytes = old.taken; failed = old.sink_failed }) (record { bytes = new.taken; failed = new.sink_failed }) r
     → new.reads ≡ old.reads → new.ended ≡ old.ended → new.source_failed ≡ old.source_failed → StepEnds old new r
@@ -49,7 +47,7 @@ step_sent place text old new (Err e) s reads ended source = step_sends place tex
 pub sends_not_too_many : (place : ℕ) (text : List ℕ) (old new : Taken) (r : LinkEnd) → Sends place text old new r → r ≡ Err TooManyReads → ⊥
 sends_not_too_many place text old new r s is = subst (λ (e : LinkEnd). Sends place text old new e) is s
 
--- waiting for a reply is a step of the end with the result of the waiting
+-- waiting for a reply, while nothing was written, is a step of the end with the result of the waiting
 pub step_hears : (old new : Ports) (after : ℕ) (r : LinkEnd) → ReadEnds (source_of old) (source_of new) after r
     → old.reads ≤ new.reads → new.sink_failed ≡ old.sink_failed → StepEnds old new r
 step_hears old new after (Ok u) h grows sink = record { ends = (h.0, h.2, sink); same = h.1; grows = grows }
@@ -64,8 +62,8 @@ both_ok : (a b c d : Ports) → BothStep a b c d (Ok tt) → StepEnds a b (Ok tt
 both_ok a b c d (inl s) = s
 both_ok a b c d (inr s) = s
 
--- the sending of a request that went well, and the reading at the client's end after it, are together one step, with the
--- result of the reading
+-- the sending of a request that went well, and the reading at the client's end after it, are together one step, with the result of the
+-- reading, if the sending read nothing of the client's end, and the reading left its sink and the instrument's end as they were
 pub step_both : (c c' c'' i i' i'' : Ports) (after : ℕ) (r : LinkEnd) → (sent : BothStep c c' i i' (Ok tt)) → (unread : source_of c' ≡ source_of c)
     → (sink : c''.sink_failed ≡ c'.sink_failed) → (same : i'' ≡ i') → (grows : c'.reads ≤ c''.reads) → (ends : ReadEnds (source_of c') (source_of c'') after r)
     → BothStep c c'' i i'' r
@@ -82,25 +80,19 @@ pub reads_nothing : (old new : Ports) → source_of new ≡ source_of old → Co
 reads_nothing old new same = subst (λ (r : Option (List ℕ)). Consumes old.remaining r []) (ap (λ (s : Input). s.remaining) (sym same)) (Consumes-nil _)
 
 -- where nothing was read in a first step, all that was read in both was read in the second
-pub reads_then : (old mid new : Ports) (given : List ℕ) → source_of mid ≡ source_of old → Consumes mid.remaining new.remaining given → Consumes old.remaining new.remaining given
+pub reads_then : (old mid new : Ports) (given : List ℕ) → source_of mid ≡ source_of old → Consumes mid.remaining new.remaining given
+    → Consumes old.remaining new.remaining given
 reads_then old mid new given same gave = subst (λ (r : Option (List ℕ)). Consumes r new.remaining given) (ap (λ (s : Input). s.remaining) same) gave
 
 -- where no read of a first step was the end, and none of a second, none of both together was. `old`, `mid` and `new` are the
--- numbers of reads, `mid_end` and `new_end` say whether the last read was the end
-none_in_both : (old mid new : ℕ) (mid_end new_end : Bool) → (grows : old ≤ mid) → (more : mid ≤ new) → (going : old < mid → mid_end ≡ false)
+-- numbers of reads before the first, between the two and after the second; `mid_end` and `new_end` say whether the last read by
+-- then was the end
+none_in_both : (old mid new : ℕ) (mid_end new_end : Bool) → (more : mid ≤ new) → (going : old < mid → mid_end ≡ false)
     → (on : mid < new → new_end ≡ false) → (same : new ≡ mid → new_end ≡ mid_end) → (below : old < new) → new_end ≡ false
-none_in_both old mid new mid_end new_end grows more going on same below = by_order (le_cases mid new more) where
-  -- a number that isn't above another is below it or equal
-  le_cases : (a b : ℕ) → a ≤ b → (a < b) ⊎ (b ≡ a)
-  le_cases a b h = elim (ltb a b) as (λ v. ltb a b ≡ v → (a < b) ⊎ (b ≡ a)) [
-    | true ↦ λ e. inl (ltb-true a b e)
-    | false ↦ λ e. inr (let f = ltb-false a b e in omega (arith, f, h))
-  ] refl
-
-  -- by whether the second step read anything: if it did, none of its reads was the end; else the first step had none
-  by_order : (mid < new) ⊎ (new ≡ mid) → new_end ≡ false
-  by_order (inl h) = on h
-  by_order (inr e) = same e ∙ going (omega (arith, e, below))
+none_in_both old mid new mid_end new_end more going on same below = elim (cases_lt mid new) [
+  | inl further ↦ on further
+  | inr still ↦ let stays : new ≡ mid = omega (arith, still, more) in same stays ∙ going (omega (arith, stays, below))
+]
 
 -- an end that is sound so far: since `old` no read was the end of its input, and neither of its ports failed
 pub record Sound (old new : Ports) : Type 0 where
@@ -112,8 +104,9 @@ pub sound_start : (old : Ports) → Sound old old
 sound_start old = record { ends = ((λ some. absurd (omega (arith, some))), refl, refl); grows = omega arith }
 
 -- where an end was sound, and no read of a step after that was the end of its input, no read at all was
-none_ended : (old mid new : Ports) (r : LinkEnd) → Sound old mid → StepEnds mid new r → (mid.reads < new.reads → new.ended ≡ false) → old.reads < new.reads → new.ended ≡ false
-none_ended old mid new r g s more = none_in_both old.reads mid.reads new.reads mid.ended new.ended g.grows s.grows g.ends.0 more s.same
+none_ended : (old mid new : Ports) (r : LinkEnd) → Sound old mid → StepEnds mid new r → (mid.reads < new.reads → new.ended ≡ false)
+    → old.reads < new.reads → new.ended ≡ false
+none_ended old mid new r g s more = none_in_both old.reads mid.reads new.reads mid.ended new.ended s.grows g.ends.0 more s.same
 
 -- where an end was sound, and then made a step with this result, its whole use ended with this result
 link_step : (old mid new : Ports) (r : LinkEnd) → Sound old mid → StepEnds mid new r → LinkEnds old new r
@@ -142,7 +135,7 @@ both_end c0 c c' i0 i i' r gc gi (inr s) = inr (link_step c0 c c' (Ok tt) gc s.0
 pub both_sound : (c0 c i0 i : Ports) → Sound c0 c → Sound i0 i → BothEnd c0 c i0 i (Ok tt)
 both_sound c0 c i0 i gc gi = inl (gc.ends, gi.ends)
 
--- a step of the link's ends never ends with the fault of the sink
+-- a step of the link's ends never ends with `Output`, the fault of the sink of the settlements
 pub no_output : (p p' q q' : Ports) → BothStep p p' q q' (Err Output) → ⊥
 no_output p p' q q' (inl s) = s.0.ends
 no_output p p' q q' (inr s) = s.1.ends
@@ -159,9 +152,10 @@ remote_end p p' (Err TooManyReads) (inr s) = s.0
 remote_end p p' (Err LinkClosed) (inr s) = absurd (omega (arith, s.1.0))
 remote_end p p' (Err other) (inr s) = absurd s.1
 
--- where `other` holds of each end of which `over` does, `EndsWith` may be said with `other`; `x`, `y` and `z` say whether the
--- sink had failed at first, then, and in the end
-pub ends_as : (over other : LinkEnd → Type 0) → ((r : LinkEnd) → over r → other r) → (x y z : Bool) → y ≡ x → (r : LinkEnd) → EndsWith over y z r → EndsWith other x z r
+-- where `other` holds of each end of which `over` does, `EndsWith` may be said with `other`, and from an earlier moment on, at which the
+-- sink had failed (x) exactly if it had later on (y); z says whether it has failed in the end
+pub ends_as : (over other : LinkEnd → Type 0) → ((r : LinkEnd) → over r → other r) → (x y z : Bool) → y ≡ x → (r : LinkEnd) → EndsWith over y z r
+    → EndsWith other x z r
 ends_as over other so x y z same (Ok u) ends = (so (Ok u) ends.0, ends.1 ∙ same)
 ends_as over other so x y z same (Err Output) ends = (ends.0, (ends.1.0, so ends.1.0 ends.1.1))
 ends_as over other so x y z same (Err e) ends = (so (Err e) ends.0, ends.1 ∙ same)

@@ -38,7 +38,8 @@ takes_sent is_remote place text a b x y (Ok u) s = s.0
 takes_sent is_remote place text a b x y (Err (Write count part)) s = (s.0, (part, s.2, λ so. (refl, s.1)))
 takes_sent is_remote place text a b x y (Err other) s = absurd s
 
--- where a request was written, and the other end answered it or couldn't, the client's end took what `TakesRequest` says
+-- where the link isn't remote, a request was written whole, and the result of answering it counts `place` replies if it is
+-- `Write` (`CountsReplies`), the client's end took what `TakesRequest` says
 pub takes_answered : (is_remote : Bool) (place : ℕ) (text : List ℕ) (a b : Option (List ℕ)) (r : LinkEnd) → (is_remote ≡ true → ⊥) → Appends a b text
     → CountsReplies place r → TakesRequest is_remote place text a b r
 takes_answered is_remote place text a b (Ok u) two sent of = sent
@@ -47,9 +48,10 @@ takes_answered is_remote place text a b (Err other) two sent of = (sent, two)
 
 -- One command.
 
--- where a request couldn't be sent, or wasn't answered at the other end, and the client still waits for it, the exchange ended with that
--- fault
-pub unsent : (is_remote : Bool) (place : ℕ) (command : Command) (h : Heard) (a b : Option (List ℕ)) (e : RunFault) → TakesRequest is_remote place (request_text place command) a b (Err e)
+-- where the client's end took of a request what `TakesRequest` says of the fault e, and the client still waits for that request,
+-- the exchange ended with e (`Exchanges`)
+pub unsent : (is_remote : Bool) (place : ℕ) (command : Command) (h : Heard) (a b : Option (List ℕ)) (e : RunFault)
+    → TakesRequest is_remote place (request_text place command) a b (Err e)
     → h.client ≡ waiting_for place command → Exchanges is_remote place command h a b (Err e)
 unsent is_remote place command h a b (Write count part) t is = (t, is)
 unsent is_remote place command h a b other t is = (t.0, (λ so. absurd (t.1 so)), is)
@@ -90,7 +92,8 @@ sent_part is_remote place command h a b other x = (length (request_text place co
 abbrev with_client : Heard → ById Call → Heard
 with_client h to = record { rest = h.rest; bytes = h.bytes; left = h.left; kept = h.kept; client = to; settled = h.settled }
 
--- where a fault came, and the line of the lost command was written, asking this command ended with the fault (`AsksOne`)
+-- where the link had a fault, which is never `Output`, and the line of the lost command was written, asking this command ended with that
+-- fault (`AsksOne`)
 pub asks_lost : (is_remote : Bool) (place : ℕ) (command : Command) (h : Heard) (to : ById Call) (lost now : List (Settlement Call)) (w : Written) (e : RunFault)
     (over : LinkEnd → Type 0) → (none : over (Err Output) → ⊥) → (ends : over (Err e)) → (x : Exchanges is_remote place command h w.link_old w.link_new (Err e))
     → (are : AreSettlements lost (restarts h.client).settlements) → (is : now ≡ lost)
@@ -104,7 +107,8 @@ asks_lost is_remote place command h to lost now w e over none ends x are is wrot
       by_fault Output ends x wrote = absurd (none ends)
       by_fault other ends x wrote = (x.0, x.1, wrote)
 
--- where a fault came, and the sink failed as it took the line of the lost command, asking this command ended with the fault of the sink
+-- where the link had a fault, and the sink failed as it took the line of the lost command, asking this command ended with the fault of the
+-- sink
 pub asks_sink_failed : (is_remote : Bool) (place : ℕ) (command : Command) (h : Heard) (to : ById Call) (lost now : List (Settlement Call)) (w : Written) (x y : Bool)
     (e f : RunFault) (over : LinkEnd → Type 0) → (ends : over (Err e)) → (ex : Exchanges is_remote place command h w.link_old w.link_new (Err e))
     → (are : AreSettlements lost (restarts h.client).settlements) → (is : now ≡ lost)
@@ -117,7 +121,8 @@ asks_sink_failed is_remote place command h to lost now w x y e f over ends ex ar
       by_fault Output t = let sent = sent_part is_remote place command h w.link_old w.link_new e ex in inr (e, ends, (sent.0, sent.1, t.0))
       by_fault other t = absurd t
 
--- where a reply settled the request, and its line was written, or the sink failed, asking this command ended as that writing did
+-- where the request was sent whole, the link's use ended well (`over`), a reply settled the request (`Settles`), and the line of
+-- the settlement was written, or the sink failed, asking this command ended as that writing did (`AsksOne`)
 pub asks_written : (is_remote : Bool) (place : ℕ) (command : Command) (h : Heard) (now : List (Settlement Call)) (w : Written) (x y : Bool) (over : LinkEnd → Type 0)
     (r : LinkEnd) → (link : over (Ok tt)) → (sent : Appends w.link_old w.link_new (request_text place command)) → (s : Settles (waiting_for place command) h)
     → (is : now ≡ h.settled) → (wrote : WroteSettlements place (map settlement_seen now) w.sink_old w.sink_new x y r) → AsksOne is_remote place command h w over r
@@ -127,20 +132,22 @@ asks_written is_remote place command h now w x y over (Err Output) link sent s i
     inl (link, sent, s, subst (λ (zs : List (Settlement Call)). WrotePartOfSettlements place (map settlement_seen zs) w.sink_old w.sink_new) is wrote.0)
 asks_written is_remote place command h now w x y over (Err other) link sent s is wrote = absurd wrote
 
--- where the use of the link ended well, asking a command ended as the writing of its settlement did
+-- where the use of the link ended well (`over`), and settlements were written with the result r, the ports are as `EndsWith` says
+-- of r
 pub ends_written : (over : LinkEnd → Type 0) (place : ℕ) (settled : List (Rule.Settlement Call)) (c d : Option (List ℕ)) (x y : Bool) (r : LinkEnd) → over (Ok tt)
     → WroteSettlements place settled c d x y r → EndsWith over x y r
 ends_written over place settled c d x y (Ok u) ends wrote = (ends, wrote.1)
 ends_written over place settled c d x y (Err Output) ends wrote = (wrote.1, (Ok tt, ends))
 ends_written over place settled c d x y (Err other) ends wrote = absurd wrote
 
--- where the link had a fault, which is never `Output`, and the line of the lost command was written, asking the command ended with that
--- fault
+-- where the use of the link ended with the fault e, which is never `Output`, and whether the sink has failed is as before, the
+-- ports are as `EndsWith` says of e
 pub ends_lost : (over : LinkEnd → Type 0) (x y : Bool) (e : RunFault) → (over (Err Output) → ⊥) → over (Err e) → y ≡ x → EndsWith over x y (Err e)
 ends_lost over x y Output none ends same = absurd (none ends)
 ends_lost over x y other none ends same = (ends, same)
 
--- where the sink failed as it took the line of the lost command, asking the command ended with the fault of the sink
+-- where the use of the link ended with the fault e, and then the writing of settlements with the fault f, the ports are as
+-- `EndsWith` says of f
 pub ends_sink_failed : (over : LinkEnd → Type 0) (place : ℕ) (settled : List (Rule.Settlement Call)) (c d : Option (List ℕ)) (x y : Bool) (e f : RunFault) → over (Err e)
     → WroteSettlements place settled c d x y (Err f) → EndsWith over x y (Err f)
 ends_sink_failed over place settled c d x y e Output ends wrote = (wrote.1, (Err e, ends))
@@ -148,10 +155,11 @@ ends_sink_failed over place settled c d x y e other ends wrote = absurd wrote
 
 -- The run.
 
--- where the commands before one command were asked and settled, and that command ended with a fault, asking all commands ended
--- with that fault: by the fault, asking stopped at this command, its request or reply was cut, or the sink failed. `a`, `b` and
--- `b'` are what the link had taken at first, before this command and after it, `c`, `d` and `d'` what the sink had taken then,
--- `c0`, `p` and `p'` the client's end, and `i0`, `q` and `q'` the instrument's
+-- where the commands before one command were asked and settled (`Course`), both ends were sound by then (`Sound`), and that
+-- command ended with a fault, asking all commands ended with that fault: by the fault, asking stopped at this command, its
+-- request or reply was cut, or the sink failed. `a`, `b` and `b'` are what the link had taken at first, before this command and
+-- after it, `c`, `d` and `d'` what the sink had taken then, `c0`, `p` and `p'` the client's end, and `i0`, `q` and `q'` the
+-- instrument's
 pub run_fault : (is_remote : Bool) (commands done later : List Command) (command : Command) (place : ℕ) (given left more left' : List ℕ) (kept kept' : Kept)
     (client to : ById Call) (settled : List (Settlement Call)) (a b b' c d d' : Option (List ℕ)) (e : RunFault) (c0 p p' i0 q q' : Ports) (x y : Bool) → (gc : Sound c0 p)
     → (gi : Sound i0 q) → (at : Course done given left kept client a b c d) → (is : length done ≡ place) → (order : commands ≡ done ++ command ∷ later)
@@ -193,7 +201,8 @@ run_fault is_remote commands done later command place given left more left' kept
           (both_end c0 p p' i0 q q' (Err o.0) gc gi o.1) (λ so. refl) o.2.1 o.2.2
       by_fault other one ends = absurd (none (λ h. h) (λ h. h) ends.0)
 
--- where one more command was asked and settled, the course goes on with that command
+-- where `Course` is true of the commands `done`, and one more command was asked and settled (`AsksOne`), `Course` is true of
+-- `done` and that command
 pub course_next : (is_remote : Bool) (commands done later : List Command) (command : Command) (place : ℕ) (given left more left' : List ℕ) (kept kept' : Kept)
     (client to : ById Call) (settled : List (Settlement Call)) (a b b' c d d' : Option (List ℕ)) (over : LinkEnd → Type 0)
     → (at : Course done given left kept client a b c d) → length done ≡ place

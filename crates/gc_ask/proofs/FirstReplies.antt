@@ -3,7 +3,6 @@
 use Rattle.std.proofs.Common.{◌≡◌, ℕ, ◌+◌, true, false, cond, List, [], ◌∷◌, ◌++◌, take, drop, map, Option, Some, None, refl, sym, ap, ◌∙◌, subst, append_assoc, append-nil}
 use Rattle.std.specs.List.{position, filter_map}
 use Rattle.std.specs.Option.{option_to_list}
-use Rattle.std.specs.Io.KnownBytes.{Consumes, Keeps}
 use Rattle.std.proofs.lemmas.List.{map-append}
 use Rattle.std.proofs.lemmas.List.Elements.{filter_map-append}
 use Rattle.gc_lines.specs.Assembler.{Kept, StandsFor}
@@ -41,7 +40,8 @@ first_reply-none c (x ∷ xs) ys e = (elim (fits c (heard x)) as (λ v. cond v (
       | false ↦ λ f. first_reply-none c xs ys f
     ]) e
 
--- a line that fits is the first reply where none before it is
+-- where the lines `front` have no first reply, and the line after them fits, that line is the first reply, with the lines `later`
+-- after it
 pub first_reply-at : (c : ById Call) (front : List (List ℕ)) (line : List ℕ) (later : List (List ℕ)) → first_reply c front ≡ None → fits c (heard line) ≡ true
     → first_reply c (front ++ line ∷ later) ≡ Some (record { line = line; later = later })
 first_reply-at c front line later none fit = first_reply-none c front (line ∷ later) none ∙ rw fit refl
@@ -49,7 +49,8 @@ first_reply-at c front line later none fit = first_reply-none c front (line ∷ 
 -- Quiet pieces.
 
 -- where a piece settles nothing, and neither does the piece after it, the two together settle nothing
-pub quiet_then : (rest xs ys : List ℕ) (kept kept' : Kept) (a b c : ById Call) → IsQuiet rest xs kept a b → IsQuiet (rest_behind rest xs) ys kept' b c → IsQuiet rest (xs ++ ys) kept' a c
+pub quiet_then : (rest xs ys : List ℕ) (kept kept' : Kept) (a b c : ById Call) → IsQuiet rest xs kept a b
+    → IsQuiet (rest_behind rest xs) ys kept' b c → IsQuiet rest (xs ++ ys) kept' a c
 quiet_then rest xs ys kept kept' a b c q r = record {
   none = ap (first_reply a) (lines_completed-append rest xs ys) ∙ first_reply-none a (lines_completed rest xs) (lines_completed (rest_behind rest xs) ys) q.none
       ∙ ap (λ x. first_reply x (lines_completed (rest_behind rest xs) ys)) (sym q.same) ∙ r.none;
@@ -111,7 +112,8 @@ no_reply : (c : ById Call) (line : Option (List ℕ)) → SettlesNothing c line 
 no_reply c None q = refl
 no_reply c (Some line) q = rw q refl
 
--- where the line of the next frame, if it has one, settles nothing, that frame is passed, too
+-- where a piece was passed as far as `left` (`Passed`), and the line of the next frame, if it has one, settles nothing, the piece
+-- was passed as far as that frame's end
 pub passed_on : (rest piece left : List ℕ) (used : ℕ) (frame : Frame) (kept kept' : Kept) (a b c : ById Call) → (p : Passed rest piece left kept a b)
     → Takes p.now left used frame kept' → c ≡ b → SettlesNothing b (line_in frame)
     → Passed rest piece (drop used left) kept' a c
@@ -146,7 +148,7 @@ first_line f line fs e = filter_map-append line_in (f ∷ []) fs ∙ ap (λ zs. 
   alone None e = (cc)
   alone (Some x) e = ap (λ (l : List ℕ). l ∷ []) (cc)
 
--- a frame that has a line, as the assembler gives it, is the first line of the bytes (`TakesLine`)
+-- if a frame, as the assembler gives it, has a line, that is the first line of the bytes (`TakesLine`)
 takes_line : (rest left : List ℕ) (used : ℕ) (frame : Frame) (line : List ℕ) (kept : Kept) → line_in frame ≡ Some line
     → (position is_line_feed left ≡ None → frame ≡ More)
     → ((at : ℕ) → position is_line_feed left ≡ Some at → (used ≡ at + 1) × (frame ≡ frame_of (rest ++ take at left)) × StandsFor kept [])
@@ -164,12 +166,12 @@ takes_line rest left used frame line kept is more whole = elim (position is_line
         stands = w.2;
       }
 ] refl where
-  -- nothing is both absent and this line
+  -- what is `None` isn't this line
   no_line : (o : Option (List ℕ)) → o ≡ None → o ≡ Some line → ⊥
   no_line o e f = (cc)
 
--- where the line of the next frame settles a request, the piece settles that request; `used` and `frame` are what the assembler
--- gave for `left`
+-- where a piece was passed as far as `left` (`Passed`), and the line of the next frame settles a request, the piece settles that
+-- request (`Settles`); `used` and `frame` are what the assembler gave for `left`
 pub passed_settles : (rest piece left : List ℕ) (used : ℕ) (frame : Frame) (line : List ℕ) (kept kept' : Kept) (a b c : ById Call) (settled : List (Settlement Call))
     → (p : Passed rest piece left kept a b) → (is : line_in frame ≡ Some line) → (more : position is_line_feed left ≡ None → frame ≡ More)
     → (whole : (at : ℕ) → position is_line_feed left ≡ Some at → (used ≡ at + 1) × (frame ≡ frame_of (p.now ++ take at left)) × StandsFor kept' [])
@@ -190,7 +192,8 @@ passed_settles rest piece left used frame line kept kept' a b c settled p is mor
       client = subst (λ (x : ById Call). c ≡ (hears x line (heard line)).client) p.same client;
     }
 
--- a frame that settled a request has a line, which fits
+-- a frame that settled a request has a line, which fits; what was settled, and the client then, are by the client's rule for that
+-- line
 pub taken_line : (a b : ById Call) (o : Option (List ℕ)) (settled : List (Settlement Call)) → TakesFrame a b o settled true
     → (line : List ℕ) × (o ≡ Some line) × (fits a (heard line) ≡ true) × AreSettlements settled (hears a line (heard line)).settlements × (b ≡ (hears a line (heard line)).client)
 taken_line a b None settled t = absurd t
@@ -206,7 +209,7 @@ pub record Reading (rest start given ahead : List ℕ) (kept : Kept) (from to : 
   pub order : start ++ given ≡ looked_at ++ ahead
   pub quiet : IsQuiet rest looked_at kept from to
 
--- where all that was ahead settles nothing, and one more piece was read, the reading goes on with that piece
+-- where all that was ahead settles nothing, and one more piece was read, `Reading` is true with that piece as what is ahead
 pub reading_more : (rest start given ahead piece : List ℕ) (kept kept' : Kept) (a b c : ById Call) → (r : Reading rest start given ahead kept a b)
     → IsQuiet (rest_behind rest r.looked_at) ahead kept' b c
     → Reading rest start (given ++ piece) piece kept' a c
@@ -216,8 +219,10 @@ reading_more rest start given ahead piece kept kept' a b c r q = record {
   quiet = quiet_then rest r.looked_at ahead kept kept' a b c r.quiet q;
 }
 
--- where all that is ahead settles nothing either, nothing that was given does
-pub reading_quiet : (rest start given ahead : List ℕ) (kept kept' : Kept) (a b c : ById Call) → (r : Reading rest start given ahead kept a b) → IsQuiet (rest_behind rest r.looked_at) ahead kept' b c
+-- where all that is ahead settles nothing either, no line of all bytes since the start is a first reply, and the client is as
+-- before
+pub reading_quiet : (rest start given ahead : List ℕ) (kept kept' : Kept) (a b c : ById Call)
+    → (r : Reading rest start given ahead kept a b) → IsQuiet (rest_behind rest r.looked_at) ahead kept' b c
     → (first_reply a (lines_completed rest (start ++ given)) ≡ None) × (c ≡ a)
 reading_quiet rest start given ahead kept kept' a b c r q =
     let all = quiet_then rest r.looked_at ahead kept kept' a b c r.quiet q in
@@ -231,12 +236,3 @@ pub reading_settles : (rest start given ahead left : List ℕ) (kept kept' : Kep
 reading_settles rest start given ahead left kept kept' a b c settled r s =
     subst (λ (zs : List ℕ). Settles a (record { rest = rest; bytes = zs; left = left; kept = kept'; client = c; settled = settled })) (sym r.order)
     (settles_then rest r.looked_at ahead left kept kept' a b c settled r.quiet s)
-
--- Nothing more was given.
-
--- where a source gave bytes, and then stayed as it was, it gave these bytes
-pub Consumes-keeps : (a b c : Option (List ℕ)) (xs : List ℕ) → Consumes a b xs → Keeps b c → Consumes a c xs
-Consumes-keeps None b c xs h k = tt
-Consumes-keeps (Some a) None c xs h k = absurd h
-Consumes-keeps (Some a) (Some b) None xs h k = absurd k
-Consumes-keeps (Some a) (Some b) (Some c) xs h k = h ∙ ap (λ zs. xs ++ zs) (sym k)

@@ -4,11 +4,12 @@ use Rattle.std.proofs.Common.{◌≡◌, ℕ, suc, ◌+◌, Bool, true, List, []
 use Rattle.std.proofs.lemmas.List.{append-nil}
 use Rattle.std.specs.Fmt.{decimal}
 use Rattle.std.specs.Io.KnownBytes.{Appends}
+use Rattle.std.proofs.KnownBytes.{Appends-trans, Appends-nil}
 use Rattle.gc_lines.specs.Answering.{how_far}
 use Rattle.gc_lines.specs.declared.served.TheConstants.{WRITE_FAILED}
 use Rattle.gc_texts.specs.Faults.{run_fault_number}
 use Rattle.gc_texts.specs.declared.fault.RunFault.TheVariants as fault
-use Rattle.gc_lines.proofs.Known.{Appends-append, Appends-nil, Appends-is}
+use Rattle.gc_lines.proofs.Known.{Appends-is}
 use Rattle.gc_ask.specs.Keeping.{ConnectionEnd, Grows, ServesCallers, caller_line, end_line, end_lines}
 use Rattle.gc_ask.specs.declared.callers.CallerFault.TheVariants.{Write, Socket}
 
@@ -24,7 +25,8 @@ pub grows_none : (a : Option (List ConnectionEnd)) → Grows a a []
 grows_none None = tt
 grows_none (Some a) = sym (append-nil a)
 
--- what is written of one more connection comes after the others'
+-- what is written of connections, the first of which has the number n, and of one more is what is written of them, and then what
+-- is written of that one under the next number
 pub end_lines_append : (n : ℕ) (ends : List ConnectionEnd) (end : ConnectionEnd) → end_lines n (ends ++ end ∷ []) ≡ end_lines n ends ++ end_line (n + length ends) end
 end_lines_append n [] end =
     let at : n ≡ n + 0 = omega arith in
@@ -58,7 +60,7 @@ kept_more n all_written all_written' s0 s1 s2 m0 m1 m2 end kept grew tells =
       served = grows_more s0 s1 s2 kept.ends (end ∷ []) kept.served grew;
       lines = λ all.
           let t = tells all in
-          Appends-is m0 m2 _ _ text (Appends-append m0 m1 m2 (end_lines 1 kept.ends) (end_line (n + 1) end) (kept.lines t.0) t.1);
+          Appends-is m0 m2 _ _ text (Appends-trans m0 m1 m2 (end_lines 1 kept.ends) (end_line (n + 1) end) (kept.lines t.0) t.1);
     }
 
 -- the pieces that are written one after the other of the line of a cut write make up that line
@@ -71,8 +73,7 @@ cut_line number count bytes =
     ∙ ap (λ xs. decimal WRITE_FAILED ++ (codes " reply " ++ xs)) (append_assoc (decimal count) (codes " byte " ++ decimal bytes) (codes "\n")) in
     ap (λ xs. codes "geocom: connection " ++ (decimal number ++ (codes ": fault " ++ xs))) (sym text)
 
--- the pieces that are written one after the other of the line of a caller who couldn't be accepted, whose fault has the number n, make
--- up that line
+-- the pieces that are written one after the other of the line of the fault `Socket`, whose number is n, make up that line
 pub socket_line : (number n : ℕ) → n ≡ run_fault_number fault.Socket
     → codes "geocom: connection " ++ (decimal number ++ (codes ": fault " ++ (decimal n ++ codes "\n"))) ≡ caller_line number Socket
 socket_line number n is =

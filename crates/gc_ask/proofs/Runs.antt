@@ -7,7 +7,7 @@ use Rattle.gc_ask.specs.AskRuns.{AskRuns, AsksOver, Seen, written}
 use Rattle.gc_ask.specs.Asking.{Asks, AsksPart, AsksUpTo, LinkEnd, LinkEnds, WritesPart, Written, lost_of, request_text, request_texts}
 use Rattle.gc_ask.specs.Links.{no_ports, seen_at}
 use Rattle.gc_ask.specs.Listening.{AsksAt, AsksOn, IsCut, RunsAt, StopsAt}
-use Rattle.gc_ask.specs.Looping.{BothEnd, LoopRuns, Loops, LoopsOver, LoopsPart, LoopsUpTo, SeenAtBoth, written_there}
+use Rattle.gc_ask.specs.Looping.{BothEnd, LoopRuns, Loops, LoopsOver, SeenAtBoth, written_there}
 use Rattle.gc_ask.proofs.Ends.{remote_end, ends_as}
 use Rattle.gc_texts.specs.declared.commands.Command.{Command}
 use Rattle.gc_texts.specs.declared.fault.RunFault.TheVariants.{Read, Write, TooManyReads, LinkClosed, Output, Memory}
@@ -19,27 +19,22 @@ use Rattle.gc_texts.specs.WholeTexts.{Input}
 -- where the link is remote, asking that stopped at a command (`StopsAt`) is what `AsksUpTo` says
 asks_up_to : (commands : List Command) (given : List ℕ) (w : Written) → StopsAt true commands given w → AsksUpTo commands given w
 asks_up_to commands given w s = record {
-  earlier = s.earlier;
-  command = s.command;
-  later = s.later;
-  order = s.order;
-  settled = ap length (s.none refl) ∙ s.settled;
-  sent = s.sent;
-  sink_took = Appends-is _ _ _ _ (ap (λ zs. settlement_lines (zs ++ lost_of s.command ∷ [])) (sym (s.none refl))) s.sink_took;
+  earlier = s.loops.at.earlier;
+  command = s.loops.at.command;
+  later = s.loops.at.later;
+  order = s.loops.at.order;
+  settled = ap length (s.none refl) ∙ s.loops.at.settled;
+  sent = s.loops.sent;
+  sink_took = Appends-is _ _ _ _ (ap (λ zs. settlement_lines (zs ++ lost_of s.loops.at.command ∷ [])) (sym (s.none refl))) s.loops.at.sink_took;
 }
 
 -- where the link is remote, asking that was cut (`IsCut`) is what `AsksPart` says
 asks_part : (commands : List Command) (given : List ℕ) (w : Written) (count part : ℕ) → IsCut true commands given w count part → AsksPart commands given w count part
 asks_part commands given w count part s = record {
-  earlier = s.earlier;
-  command = s.command;
-  later = s.later;
-  order = s.order;
-  count_is = s.count_is;
-  settled = s.settled;
+  at = s.loops.at;
+  count_is = s.loops.count_is;
   not_all = (s.cut refl).1;
-  sent = Appends-is _ _ _ _ (ap (λ n. all_of (request_texts 0 s.earlier) ++ take n (request_text count s.command)) (s.cut refl).0) s.sent;
-  sink_took = s.sink_took;
+  sent = Appends-is _ _ _ _ (ap (λ n. all_of (request_texts 0 s.loops.at.earlier) ++ take n (request_text count s.loops.at.command)) (s.cut refl).0) s.loops.sent;
 }
 
 -- `WritesPart` with a condition `over` on the link's end holds with any weaker condition `other`
@@ -94,37 +89,20 @@ runs_remote text_old text_new most old new r (given, gave, few, inr x) = (given,
 
 -- A loop.
 
--- asking that stopped at a command (`StopsAt`) is what `LoopsUpTo` says
-loops_up_to : (is_remote : Bool) (commands : List Command) (given : List ℕ) (w : Written) → StopsAt is_remote commands given w → LoopsUpTo commands given w
-loops_up_to is_remote commands given w s = record { earlier = s.earlier; command = s.command; later = s.later; order = s.order; settled = s.settled; sent = s.sent; sink_took = s.sink_took }
-
--- asking that was cut (`IsCut`) is what `LoopsPart` says
-loops_part : (is_remote : Bool) (commands : List Command) (given : List ℕ) (w : Written) (count part : ℕ) → IsCut is_remote commands given w count part → LoopsPart commands given w count
-loops_part is_remote commands given w count part s = record {
-  earlier = s.earlier;
-  command = s.command;
-  later = s.later;
-  order = s.order;
-  count_is =
-      s.count_is;
-  settled = s.settled;
-  bytes = s.bytes;
-  sent = s.sent;
-  sink_took = s.sink_took;
-}
-
 -- what was asked over any link (`AsksOn`) is what `Loops` says
-loops : (is_remote : Bool) (commands : List Command) (given : List ℕ) (w : Written) (over : LinkEnd → Type 0) (r : LinkEnd) → AsksOn is_remote commands given w over r → Loops commands given w over r
+loops : (is_remote : Bool) (commands : List Command) (given : List ℕ) (w : Written) (over : LinkEnd → Type 0) (r : LinkEnd)
+    → AsksOn is_remote commands given w over r → Loops commands given w over r
 loops is_remote commands given w over (Ok u) x = x
-loops is_remote commands given w over (Err Read) x = loops_up_to is_remote commands given w x
-loops is_remote commands given w over (Err LinkClosed) x = loops_up_to is_remote commands given w x
-loops is_remote commands given w over (Err TooManyReads) x = loops_up_to is_remote commands given w x
-loops is_remote commands given w over (Err (Write count part)) x = loops_part is_remote commands given w count part x
+loops is_remote commands given w over (Err Read) x = x.loops
+loops is_remote commands given w over (Err LinkClosed) x = x.loops
+loops is_remote commands given w over (Err TooManyReads) x = x.loops
+loops is_remote commands given w over (Err (Write count part)) x = x.loops
 loops is_remote commands given w over (Err Output) x = x
 loops is_remote commands given w over (Err e) x = absurd x
 
 -- a run of commands over any link is what `LoopsOver` says
-pub loops_over : (is_remote : Bool) (commands : List Command) (most : ℕ) (old new : SeenAtBoth) (r : LinkEnd) → AsksAt is_remote commands most old new r → LoopsOver commands old new r
+pub loops_over : (is_remote : Bool) (commands : List Command) (most : ℕ) (old new : SeenAtBoth) (r : LinkEnd)
+    → AsksAt is_remote commands most old new r → LoopsOver commands old new r
 loops_over is_remote commands most old new r x = record { given = x.given; gave = x.gave; loops = loops is_remote commands x.given _ _ r x.asks; ends = x.ends }
 
 -- a run of a text over any link is what `LoopRuns` says
@@ -134,6 +112,7 @@ loop_runs is_remote text_old text_new most old new r (given, gave, few, inl x) =
 loop_runs is_remote text_old text_new most old new r (given, gave, few, inr x) = (given, gave, few, inr (x.0, x.1, loops_over is_remote x.0 most old new r x.2))
 
 -- asking commands never ends with `Memory`
-pub no_memory : (is_remote : Bool) (commands : List Command) (most : ℕ) (old new : SeenAtBoth) (r : LinkEnd) → AsksAt is_remote commands most old new r → r ≡ Err Memory → ⊥
+pub no_memory : (is_remote : Bool) (commands : List Command) (most : ℕ) (old new : SeenAtBoth) (r : LinkEnd)
+    → AsksAt is_remote commands most old new r → r ≡ Err Memory → ⊥
 no_memory is_remote commands most old new r x is =
     subst (λ (e : LinkEnd). AsksOn is_remote commands x.given (written_there old new) (BothEnd old.client new.client old.instrument new.instrument) e) is x.asks

@@ -12,7 +12,7 @@ pub heard_line : (before after : SlowState) (line : List ℕ) (at : ℕ) (old be
 heard_line before after line at old between new h e =
     (with_end h.0, (at, (Some h.0, h.1, refl)), e ∙ ap (λ (xs : List ℕ). xs ++ 13 ∷ 10 ∷ []) h.2 ∙ append_assoc old h.0 (13 ∷ 10 ∷ []))
 
--- a line without a reply is answered by nothing
+-- the frame of a line without a reply is answered by nothing
 pub unheard_line : (before after : SlowState) (line : List ℕ) (at : ℕ) (old new : List ℕ) → AppendsAnswer (HearsLine before line at after) old new false
     → AppendsAnswer (HearsSometime before (Line (record { items = line })) after) old new false
 unheard_line before after line at old new h = ((at, (None, h.0, refl)), h.1)

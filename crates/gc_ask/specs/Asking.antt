@@ -22,7 +22,7 @@ use Rattle.gc_texts.specs.declared.fault.RunFault.TheVariants.{Read, Write, TooM
 abbrev pub awaited : Command → Pending Call
 awaited command = pending_of command.target command.call 18446744073709551615
 
--- the client before request k is sent, whose id is k modulo 8
+-- the client before request k, whose id is k modulo 8, is sent
 abbrev pub idle : ℕ → ById Call
 idle k = record { next = k % IDS; waiting = [] }
 
@@ -36,31 +36,31 @@ pub record Reply : Type 0 where
   pub later : List (List ℕ)
 
 -- the first of the lines that is a reply with the id of a request that waits, with the lines after it; none if there is no such line
-abbrev pub first_reply : ById Call → List (List ℕ) → Option Reply
+abbrev pub first_reply : ById Call → (came : List (List ℕ)) → Option Reply
 first_reply client [] = None
 first_reply client (line ∷ later) = if fits client (heard line) then Some (record { line = line; later = later }) else first_reply client later
 
 -- the settlements after a search for the first reply: those of that reply by the client's rule, and then what `rest` makes of
 -- the lines after it; none where there is no reply
-abbrev pub settled_by : ById Call → (List (List ℕ) → List (Settlement Call)) → Option Reply → List (Settlement Call)
+abbrev pub settled_by : ById Call → (rest : (later : List (List ℕ)) → List (Settlement Call)) → Option Reply → List (Settlement Call)
 settled_by client rest None = []
 settled_by client rest (Some reply) = (hears client reply.line (heard reply.line)).settlements ++ rest reply.later
 
 -- the settlements of these commands, the first of which is request k, by the client's rule over the lines that come
-abbrev pub asked_from : ℕ → List Command → List (List ℕ) → List (Settlement Call)
+abbrev pub asked_from : (k : ℕ) → List Command → (came : List (List ℕ)) → List (Settlement Call)
 asked_from k [] came = []
 asked_from k (command ∷ later) came = settled_by (waiting_for k command) (asked_from (k + 1) later) (first_reply (waiting_for k command) came)
 
 -- the settlements of these commands by the lines of all that a link gives, as far as the lines settle them
-abbrev pub asked : List Command → List ℕ → List (Settlement Call)
+abbrev pub asked : List Command → (stream : List ℕ) → List (Settlement Call)
 asked commands stream = asked_from 0 commands (lines stream)
 
 -- request k as it is written, with its CR LF
-abbrev pub request_text : ℕ → Command → List ℕ
+abbrev pub request_text : (k : ℕ) → Command → List ℕ
 request_text k command = with_end (request_line (Some (k % IDS)) command.call)
 
 -- the requests of these commands as they are written, the first of which is request k
-abbrev pub request_texts : ℕ → List Command → List (List ℕ)
+abbrev pub request_texts : (k : ℕ) → List Command → List (List ℕ)
 request_texts k [] = []
 request_texts k (command ∷ later) = request_text k command ∷ request_texts (k + 1) later
 
@@ -105,22 +105,26 @@ pub record AsksUpTo (commands : List Command) (given : List ℕ) (w : Written) :
   pub sent : Appends w.link_old w.link_new (all_of (request_texts 0 (earlier ++ command ∷ [])))
   pub sink_took : Appends w.sink_old w.sink_new (settlement_lines (asked commands given ++ lost_of command ∷ []))
 
--- the commands `earlier` are settled, `count` in number; of the request of `command` only the first `bytes` bytes were sent,
--- and it is lost, even where a reply with its id came already. The sink took the lines of these settlements
-pub record AsksPart (commands : List Command) (given : List ℕ) (w : Written) (count bytes : ℕ) : Type 0 where
+-- what came settles the commands `earlier`; `command`, the one after them, is lost, even where a reply with its id came already.
+-- The sink took the lines of these settlements, and no line of the commands `later`
+pub record LosesOne (commands : List Command) (given : List ℕ) (w : Written) : Type 0 where
   pub earlier : List Command
   pub command : Command
   pub later : List Command
   pub order : commands ≡ earlier ++ command ∷ later
-  pub count_is : count ≡ length earlier
   pub settled : length (asked earlier given) ≡ length earlier
-  pub not_all : bytes < length (request_text count command)
-  pub sent : Appends w.link_old w.link_new (all_of (request_texts 0 earlier) ++ take bytes (request_text count command))
   pub sink_took : Appends w.sink_old w.sink_new (settlement_lines (asked earlier given ++ lost_of command ∷ []))
 
--- `next` is the settlement of `command`, after those of `earlier`: where the link ended well, what the bytes that came settle,
--- and else that the command is lost
-abbrev pub IsNext : List Command → Command → List ℕ → Settlement Call → LinkEnd → Type 0
+-- a command is lost (`LosesOne`) after `count` others, and of its request only the first `bytes` bytes were sent
+pub record AsksPart (commands : List Command) (given : List ℕ) (w : Written) (count bytes : ℕ) : Type 0 where
+  pub at : LosesOne commands given w
+  pub count_is : count ≡ length at.earlier
+  pub not_all : bytes < length (request_text count at.command)
+  pub sent : Appends w.link_old w.link_new (all_of (request_texts 0 at.earlier) ++ take bytes (request_text count at.command))
+
+-- `next` is the settlement of `command`, after those of `earlier`: where the link ended well, the one by the bytes that came;
+-- else the one that says the command is lost
+abbrev pub IsNext : (earlier : List Command) → (command : Command) → (given : List ℕ) → (next : Settlement Call) → LinkEnd → Type 0
 IsNext earlier command given next (Ok _) = asked (earlier ++ command ∷ []) given ≡ asked earlier given ++ next ∷ []
 IsNext earlier command given next (Err _) = next ≡ lost_of command
 
@@ -144,7 +148,7 @@ pub record WritesPart (commands : List Command) (given : List ℕ) (w : Written)
   pub sink_took : Appends w.sink_old w.sink_new (settlement_lines (asked earlier given) ++ take part (settlement_line (length earlier) next))
 
 -- what was asked over a link that gave these bytes, by how asking ended; `over e` says what the link's ports are after the end e
-abbrev pub Asks : List Command → List ℕ → Written → (over : LinkEnd → Type 0) → LinkEnd → Type 0
+abbrev pub Asks : List Command → (given : List ℕ) → Written → (over : LinkEnd → Type 0) → LinkEnd → Type 0
 Asks commands given w over (Ok _) = AsksAll commands given w
 Asks commands given w over (Err Read) = AsksUpTo commands given w
 Asks commands given w over (Err LinkClosed) = AsksUpTo commands given w

@@ -39,7 +39,7 @@ end_lines number (end ∷ later) = end_line number end ++ end_lines (number + 1)
 
 -- some connections ended as `more` says: the ends known now are those known before, followed by these. What was known is known now, too.
 -- Where the ends before aren't known, nothing is said
-abbrev pub Grows : Option (List ConnectionEnd) → Option (List ConnectionEnd) → List ConnectionEnd → Type 0
+abbrev pub Grows : (old new : Option (List ConnectionEnd)) → (more : List ConnectionEnd) → Type 0
 Grows None new more = Unit {0}
 Grows (Some ends) None more = ⊥
 Grows (Some ends) (Some all) more = all ≡ ends ++ more

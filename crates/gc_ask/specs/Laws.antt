@@ -6,7 +6,7 @@ use Rattle.gc_ask.specs.Asking.{awaited, asked_from}
 use Rattle.gc_texts.specs.declared.commands.Command.{Command}
 
 -- no line of these is a reply with the id of request k
-abbrev pub HasNoReply : ℕ → List (List ℕ) → Type 0
+abbrev pub HasNoReply : (k : ℕ) → List (List ℕ) → Type 0
 HasNoReply k [] = Unit {0}
 HasNoReply k (line ∷ later) = (heard line ≡ Some (k % IDS) → ⊥) × HasNoReply k later
 

@@ -30,7 +30,7 @@ abbrev pub source_of : Ports → Input
 source_of ports = record { remaining = ports.remaining; reads = ports.reads; ended = ports.ended; failed = ports.source_failed }
 
 -- a source was read once: it gave these bytes (`Ok`, with false where that was its end), or it failed (`Err`)
-abbrev pub ReadsOnce : {E : Type 0} → (old new : Input) → List ℕ → Result Bool E → Type 0
+abbrev pub ReadsOnce : {E : Type 0} → (old new : Input) → (given : List ℕ) → Result Bool E → Type 0
 ReadsOnce old new given (Ok more) =
     Consumes old.remaining new.remaining given × (new.reads ≡ old.reads + 1) × (new.ended ≡ not more) × (old.failed ≡ false) × (new.failed ≡ false)
 ReadsOnce old new given (Err _) = Keeps old.remaining new.remaining × (new.reads ≡ old.reads) × (new.ended ≡ old.ended) × (new.failed ≡ true)
@@ -48,27 +48,28 @@ BothStep client_old client_new instrument_old instrument_new result =
     ⊎ (StepEnds client_old client_new (Ok tt) × StepEnds instrument_old instrument_new result)
 
 -- the text at this place went out whole, or the sink failed and took its first bytes, but not all: the fault has the place and their count
-abbrev pub Sends : ℕ → List ℕ → (old new : Taken) → LinkEnd → Type 0
+abbrev pub Sends : (place : ℕ) → (text : List ℕ) → (old new : Taken) → LinkEnd → Type 0
 Sends place text old new (Ok _) = Appends old.bytes new.bytes text × (new.failed ≡ old.failed)
 Sends place text old new (Err (Write count bytes)) =
     (count ≡ place) × (bytes < length text) × Appends old.bytes new.bytes (take bytes text) × (new.failed ≡ true)
 Sends place text old new (Err _) = ⊥
 
 -- what the client's end took as the request at this place was sent, and, unless the link is remote, answered at the other end.
--- `Ok`: all of it. `Write`, whose count is the place: its first bytes, where the link is remote as many as the fault says, and not all of
--- them. Another fault, which a link that is remote never has: all of it
-abbrev pub TakesRequest : (is_remote : Bool) → ℕ → List ℕ → (old new : Option (List ℕ)) → LinkEnd → Type 0
+-- `Ok`: all of it. `Write`, whose count is the place: its first bytes, or none or all of them; where the link is remote, as many as
+-- the fault says, and not all. Another fault, which a link that is remote never has: all of it
+abbrev pub TakesRequest : (is_remote : Bool) → (place : ℕ) → (text : List ℕ) → (old new : Option (List ℕ)) → LinkEnd → Type 0
 TakesRequest is_remote place text old new (Ok _) = Appends old new text
 TakesRequest is_remote place text old new (Err (Write count part)) =
     (count ≡ place) × ((bytes : ℕ) × Appends old new (take bytes text) × (is_remote ≡ true → (bytes ≡ part) × (part < length text)))
 TakesRequest is_remote place text old new (Err _) = Appends old new text × (is_remote ≡ true → ⊥)
 
--- if the result is `Write`, because a reply was cut, its count of the replies before that one is `place`
-abbrev pub CountsReplies : ℕ → LinkEnd → Type 0
+-- where the result is `Write`, its count is `place`: that many replies went out whole before the one that was cut
+abbrev pub CountsReplies : (place : ℕ) → LinkEnd → Type 0
 CountsReplies place (Err (Write count _)) = count ≡ place
 CountsReplies place _ = Unit {0}
 
--- a read of the client's end left all else as it was: what the client's sink took, the instrument's end, and the references held
+-- a read of the client's end left all else as it was: what the client's sink took and whether it failed, the instrument's end,
+-- and the references held
 abbrev pub OnlyReads : (client_old client_new instrument_old instrument_new : Ports) → (held_old held_new : Held) → Type 0
 OnlyReads client_old client_new instrument_old instrument_new held_old held_new =
     (client_new.taken ≡ client_old.taken) × (client_new.sink_failed ≡ client_old.sink_failed) × (instrument_new ≡ instrument_old) × (held_new ≡ held_old)

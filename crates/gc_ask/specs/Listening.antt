@@ -2,9 +2,9 @@
 -- of a line whose end hasn't come. `place` is the number of a command, counted from 0. `is_remote` says that somebody other than
 -- this program answers at the other end of the link. `w` is what the link and the sink of the settlements took, and `over e`
 -- says what the link's ports are after the end e. `from` and `to` are the client before and after.
-use Rattle.std.specs.Prelude.{◌≡◌, ℕ, ◌+◌, ◌*◌, ◌-◌, ◌<◌, ◌≤◌, ◌⊎◌, Bool, true, false, List, [], ◌∷◌, ◌++◌, length, Option, Some, None, Result, Ok, Err, take, drop, map}
+use Rattle.std.specs.Prelude.{◌≡◌, ℕ, ◌+◌, ◌*◌, ◌-◌, ◌<◌, ◌≤◌, ◌⊎◌, Bool, true, false, List, [], ◌∷◌, ◌++◌, length, Option, Some, None, Ok, Err, take, drop, map}
 use Rattle.std.specs.Io.KnownBytes.{Appends, Consumes}
-use Rattle.gc_lines.specs.Answering.{Ports, all_of}
+use Rattle.gc_lines.specs.Answering.{Ports}
 use Rattle.gc_lines.specs.Assembler.{Kept, StandsFor}
 use Rattle.gc_lines.specs.Frames.{rest_behind}
 pub use Rattle.gc_lines.specs.Passing.{lines_completed}
@@ -13,14 +13,14 @@ use Rattle.gc_catalogue.specs.declared.call.Call.{Call}
 use Rattle.gc_client.specs.declared.settlement.Settlement.{Settlement}
 use Rattle.gc_client.specs.Rule.{ById, heard, fits, hears}
 use Rattle.gc_client.specs.Settlements.{AreSettlements, settlement_seen}
-use Rattle.gc_texts.specs.Settlements.{lines_from, settlement_lines, WrotePartOfSettlements}
+use Rattle.gc_texts.specs.Settlements.{lines_from, WrotePartOfSettlements}
 use Rattle.gc_ask.specs.declared.ask.AskState.{AskState}
 use Rattle.gc_ask.specs.declared.client_end.ClientEnd.{ClientEnd}
 use Rattle.gc_ask.specs.declared.link.Link.{Ghosts as Link}
 use Rattle.gc_ask.specs.declared.unused.TheConstants.{ROOM}
-use Rattle.gc_ask.specs.Asking.{Written, LinkEnd, taken_by, first_reply, asked, waiting_for, request_text, request_texts, lost_of, AsksAll, WritesPart, EndsWith, RunsText}
+use Rattle.gc_ask.specs.Asking.{Written, LinkEnd, taken_by, first_reply, asked, waiting_for, request_text, lost_of, AsksAll, WritesPart, EndsWith, RunsText}
 use Rattle.gc_ask.specs.Links.{BothStep, OnlyReads, TakesRequest, seen_at}
-use Rattle.gc_ask.specs.Looping.{BothEnd, SeenAtBoth, written_there}
+use Rattle.gc_ask.specs.Looping.{BothEnd, LoopsPart, LoopsUpTo, SeenAtBoth, written_there}
 use Rattle.gc_texts.specs.WholeTexts.{Input}
 use Rattle.gc_texts.specs.declared.commands.Command.{Command}
 use Rattle.gc_texts.specs.declared.fault.RunFault.{RunFault}
@@ -56,9 +56,9 @@ abbrev pub SettlesNothing : ById Call → Option (List ℕ) → Type 0
 SettlesNothing client None = Unit {0}
 SettlesNothing client (Some line) = fits client (heard line) ≡ false
 
--- how a client took the line of a frame, if it has one. With `false` the line settles nothing, and the client is as before; with
--- `true` there is a line that settles a request, and the settlements and the client then are those of the client's rule
-abbrev pub TakesFrame : (from to : ById Call) → Option (List ℕ) → List (Settlement Call) → Bool → Type 0
+-- how a client took the line of a frame, if it has one, by whether that settles a request (`settles`). If not, the client is as before;
+-- if so, there is a line, and the settlements and the client then are those of the client's rule
+abbrev pub TakesFrame : (from to : ById Call) → (line : Option (List ℕ)) → (settled : List (Settlement Call)) → (settles : Bool) → Type 0
 TakesFrame from to line settled false = (to ≡ from) × SettlesNothing from line
 TakesFrame from to None settled true = ⊥
 TakesFrame from to (Some line) settled true = (fits from (heard line) ≡ true)
@@ -108,31 +108,31 @@ pub record Settles (from : ById Call) (hearing : Heard) : Type 0 where
   pub client : hearing.client ≡ (hears from line (heard line)).client
 
 -- what is left of a piece of which this many bytes were used; nothing where no number is given
-abbrev pub left_by : Option ℕ → List ℕ → List ℕ
+abbrev pub left_by : (used : Option ℕ) → (piece : List ℕ) → List ℕ
 left_by None piece = []
 left_by (Some used) piece = drop used piece
 
--- what the lines of a piece did: none of them settled a request (`None`), or one did, and this many bytes were used by then
--- (`Some`)
+-- what the lines of a piece did: none of them settled a request (`None`), or one did (`Some`). The number of bytes that were used
+-- by then plays no part here: what is left after them is in `hearing`
 abbrev pub Listens : ById Call → Heard → Option ℕ → Type 0
 Listens from hearing None = IsQuiet hearing.rest hearing.bytes hearing.kept from hearing.client
 Listens from hearing (Some used) = Settles from hearing
 
 -- how a client's reading for a reply ended. `Ok`: a line settles its request. `Err`: no line that was read does, and the client
 -- is as before
-abbrev pub HearsReply : ById Call → Heard → Result (Unit {0}) RunFault → Type 0
+abbrev pub HearsReply : ById Call → Heard → LinkEnd → Type 0
 HearsReply from hearing (Ok _) = Settles from hearing
 HearsReply from hearing (Err _) = (first_reply from (lines_completed hearing.rest hearing.bytes) ≡ None) × (hearing.client ≡ from)
 
 -- a client's end read for a reply, with this result: what the client's end of the link gave, and how that ended (`HearsReply`). `ahead`
 -- are the bytes that were read before and not used, and `ahead'` those that aren't used now
-abbrev pub HearsOver : (from to : ClientEnd) → (ahead ahead' : List ℕ) → (client_old client_new : Ports) → Result (Unit {0}) RunFault → Type 0
+abbrev pub HearsOver : (from to : ClientEnd) → (ahead ahead' : List ℕ) → (client_old client_new : Ports) → LinkEnd → Type 0
 HearsOver from to ahead ahead' client_old client_new result = Gives client_old client_new from.assembler (λ rest given.
     HearsReply from.client.ids (heard_by to rest (ahead ++ given) ahead') result)
 
 -- why reading a source ended, with `after` reads left. Only with `LinkClosed` was the last read the end of the input; with
 -- `Read` the source failed, and a read was left; with `TooManyReads` none was. Without a read `ended` is as before
-abbrev pub ReadEnds : (old new : Input) → (after : ℕ) → Result (Unit {0}) RunFault → Type 0
+abbrev pub ReadEnds : (old new : Input) → (after : ℕ) → LinkEnd → Type 0
 ReadEnds old new after (Ok _) = (old.reads < new.reads → new.ended ≡ false) × (new.reads ≡ old.reads → new.ended ≡ old.ended) × (new.failed ≡ old.failed)
 ReadEnds old new after (Err Read) =
     (old.reads < new.reads → new.ended ≡ false) × (new.reads ≡ old.reads → new.ended ≡ old.ended) × (0 < after) × (new.failed ≡ true)
@@ -144,7 +144,7 @@ ReadEnds old new after (Err _) = ⊥
 -- a request was sent, and its reply waited for, by how that ended. `Ok`: the request was sent whole, and a line settles it.
 -- `Write`: the request was cut, or the reply at the other end was. Another fault: the request was sent whole, and where the
 -- link is remote, no line that came settles it. After each fault the client still waits
-abbrev pub Exchanges : (is_remote : Bool) → ℕ → Command → Heard → (old new : Option (List ℕ)) → LinkEnd → Type 0
+abbrev pub Exchanges : (is_remote : Bool) → (place : ℕ) → Command → Heard → (old new : Option (List ℕ)) → LinkEnd → Type 0
 Exchanges is_remote place command hearing old new (Ok _) = Appends old new (request_text place command) × Settles (waiting_for place command) hearing
 Exchanges is_remote place command hearing old new (Err (Write count part)) =
     TakesRequest is_remote place (request_text place command) old new (Err (Write count part)) × (hearing.client ≡ waiting_for place command)
@@ -155,24 +155,26 @@ Exchanges is_remote place command hearing old new (Err _) =
 
 -- the command at this place was sent over a link, and its reply waited for, with this result: what the client's end of the link gave, and
 -- how that ended (`Exchanges`). `old` and `new` are what asking keeps from one command to the next
-abbrev pub ExchangesCommand : (is_remote : Bool) → ℕ → Command → (old new : AskState) → (client_old client_new : Ports) → LinkEnd → Type 0
+abbrev pub ExchangesCommand : (is_remote : Bool) → (place : ℕ) → Command → (old new : AskState) → (client_old client_new : Ports) → LinkEnd → Type 0
 ExchangesCommand is_remote place command old new client_old client_new result = Gives client_old client_new old.end.assembler (λ rest given.
     Exchanges is_remote place command (heard_by new.end rest (old.ahead ++ given) new.ahead) client_old.taken client_new.taken result)
 
--- the sink failed as it took the line of a settlement. Where the link had ended well (left case), that is the settlement by the
--- reply; after a fault of the link (right case), the one that says the command is lost
-abbrev pub WritesOnePart : ℕ → Command → Heard → Written → (over : LinkEnd → Type 0) → Type 0
+-- the sink failed as it took the line of a settlement. Where the link had ended well (left case), the request was sent whole, and
+-- that is the settlement by the reply; after a fault of the link (right case), the first bytes of the request were sent, or none
+-- or all of them, and that is the settlement that says the command is lost
+abbrev pub WritesOnePart : (place : ℕ) → Command → Heard → Written → (over : LinkEnd → Type 0) → Type 0
 WritesOnePart place command hearing w over =
     (over (Ok tt) × Appends w.link_old w.link_new (request_text place command)
     × Settles (waiting_for place command) hearing × WrotePartOfSettlements place (map settlement_seen hearing.settled) w.sink_old w.sink_new)
     ⊎ ((fault : RunFault) × over (Err fault)
-    × ((part : ℕ) × Appends w.link_old w.link_new (take part (request_text place command)) × WrotePartOfSettlements place (lost_of command ∷ []) w.sink_old w.sink_new))
+    × ((part : ℕ) × Appends w.link_old w.link_new (take part (request_text place command))
+    × WrotePartOfSettlements place (lost_of command ∷ []) w.sink_old w.sink_new))
 
 -- a request was sent, its reply waited for, and its settlement written, by how that ended. `Ok`: a line settles it, and the
 -- sink took this settlement. `Write`: the request was cut, or the reply at the other end was. `Output`: the sink failed.
 -- Another fault: the request was sent whole, and where the link is remote, no line that came settles it. After each fault but
 -- `Output` the sink took the line that says the command is lost
-abbrev pub AsksOne : (is_remote : Bool) → ℕ → Command → Heard → Written → (over : LinkEnd → Type 0) → LinkEnd → Type 0
+abbrev pub AsksOne : (is_remote : Bool) → (place : ℕ) → Command → Heard → Written → (over : LinkEnd → Type 0) → LinkEnd → Type 0
 AsksOne is_remote place command hearing w over (Ok _) =
     Appends w.link_old w.link_new (request_text place command)
     × Settles (waiting_for place command) hearing × Appends w.sink_old w.sink_new (lines_from place (map settlement_seen hearing.settled))
@@ -187,43 +189,28 @@ AsksOne is_remote place command hearing w over (Err _) =
 
 -- one command was asked over a link, with this result: what the link gave, and how that ended (`AsksOne`). `old` and `new` are what
 -- asking keeps from one command to the next
-abbrev pub AsksCommand : (is_remote : Bool) → ℕ → Command → (old new : AskState) → (seen_old seen_new : SeenAtBoth) → LinkEnd → Type 0
+abbrev pub AsksCommand : (is_remote : Bool) → (place : ℕ) → Command → (old new : AskState) → (seen_old seen_new : SeenAtBoth) → LinkEnd → Type 0
 AsksCommand is_remote place command old new seen_old seen_new result = Gives seen_old.client seen_new.client old.end.assembler (λ rest given.
     AsksOne is_remote place command (heard_by new.end rest (old.ahead ++ given) new.ahead) (written_there seen_old seen_new)
     (BothStep seen_old.client seen_new.client seen_old.instrument seen_new.instrument) result)
 
 -- Runs.
 
--- what came settles the commands `earlier`; `command` was sent, and is lost; `later` weren't sent. Where the link is remote,
--- what came doesn't settle `command`. The sink took the lines of these settlements
+-- asking stopped at a command, whose request was sent, and which is lost (`LoopsUpTo`). Where the link is remote, what came doesn't settle
+-- that command
 pub record StopsAt (is_remote : Bool) (commands : List Command) (given : List ℕ) (w : Written) : Type 0 where
-  pub earlier : List Command
-  pub command : Command
-  pub later : List Command
-  pub order : commands ≡ earlier ++ command ∷ later
-  pub settled : length (asked earlier given) ≡ length earlier
-  pub none : is_remote ≡ true → asked commands given ≡ asked earlier given
-  pub sent : Appends w.link_old w.link_new (all_of (request_texts 0 (earlier ++ command ∷ [])))
-  pub sink_took : Appends w.sink_old w.sink_new (settlement_lines (asked earlier given ++ lost_of command ∷ []))
+  pub loops : LoopsUpTo commands given w
+  pub none : is_remote ≡ true → asked commands given ≡ asked loops.at.earlier given
 
--- what came settles the commands `earlier`, `count` in number; a write of the request of `command`, or of its reply, was cut.
--- Of that request the first `bytes` bytes were sent, or all, and it is lost; `later` weren't sent. The sink took the lines of
--- these settlements. `count` and `part` are the numbers of the fault
+-- a write of a command's request, or of its reply, was cut (`LoopsPart`); `count` and `part` are the numbers of the fault. Where the link is
+-- remote, `part` bytes of the request were sent, and not all
 pub record IsCut (is_remote : Bool) (commands : List Command) (given : List ℕ) (w : Written) (count part : ℕ) : Type 0 where
-  pub earlier : List Command
-  pub command : Command
-  pub later : List Command
-  pub order : commands ≡ earlier ++ command ∷ later
-  pub count_is : count ≡ length earlier
-  pub settled : length (asked earlier given) ≡ length earlier
-  pub bytes : ℕ
-  pub cut : is_remote ≡ true → (bytes ≡ part) × (part < length (request_text count command))
-  pub sent : Appends w.link_old w.link_new (all_of (request_texts 0 earlier) ++ take bytes (request_text count command))
-  pub sink_took : Appends w.sink_old w.sink_new (settlement_lines (asked earlier given ++ lost_of command ∷ []))
+  pub loops : LoopsPart commands given w count
+  pub cut : is_remote ≡ true → (loops.bytes ≡ part) × (part < length (request_text count loops.at.command))
 
 -- how commands were asked over a link that gave these bytes, by how that ended; `is_remote` says whether somebody else answers at the
 -- other end
-abbrev pub AsksOn : (is_remote : Bool) → List Command → List ℕ → Written → (over : LinkEnd → Type 0) → LinkEnd → Type 0
+abbrev pub AsksOn : (is_remote : Bool) → List Command → (given : List ℕ) → Written → (over : LinkEnd → Type 0) → LinkEnd → Type 0
 AsksOn is_remote commands given w over (Ok _) = AsksAll commands given w
 AsksOn is_remote commands given w over (Err Read) = StopsAt is_remote commands given w
 AsksOn is_remote commands given w over (Err LinkClosed) = StopsAt is_remote commands given w
@@ -232,7 +219,8 @@ AsksOn is_remote commands given w over (Err (Write count part)) = IsCut is_remot
 AsksOn is_remote commands given w over (Err Output) = WritesPart commands given w over
 AsksOn is_remote commands given w over (Err _) = ⊥
 
--- commands were asked over a link, in at most `most` reads of both its ends, with this result
+-- commands were asked over a link, in at most `most` reads of both its ends, with this result, which is `TooManyReads` only once these are
+-- used up; `given` is what the client's end gave, at most `ROOM` bytes at each read. Which ports have failed then is as `EndsWith` has it
 pub record AsksAt (is_remote : Bool) (commands : List Command) (most : ℕ) (old new : SeenAtBoth) (result : LinkEnd) : Type 0 where
   pub given : List ℕ
   pub gave : Consumes old.client.remaining new.client.remaining given

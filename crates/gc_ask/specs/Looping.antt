@@ -1,45 +1,31 @@
 -- A client and an instrument of this program at the two ends of one link: this project's own. `given` are all bytes that the client's
 -- end gave, `w` is what that end and the sink of the settlements took, and `over e` says what the link's ports are after the end e.
-use Rattle.std.specs.Prelude.{◌≡◌, false, ℕ, ◌+◌, ◌≤◌, ◌⊎◌, List, [], ◌∷◌, ◌++◌, length, take, Result, Ok, Err}
+use Rattle.std.specs.Prelude.{◌≡◌, false, ℕ, ◌+◌, ◌≤◌, ◌⊎◌, List, [], ◌∷◌, ◌++◌, length, take, Ok, Err}
 use Rattle.std.specs.Io.KnownBytes.{Appends, Consumes}
 use Rattle.gc_lines.specs.Answering.{Ports, all_of, ports_of}
 use Rattle.gc_lines.specs.declared.ports.Source.{Ghosts as Source}
 use Rattle.gc_lines.specs.declared.ports.Sink.{Ghosts as Sink}
-use Rattle.gc_texts.specs.Settlements.{settlement_lines}
 use Rattle.gc_texts.specs.declared.commands.Command.{Command}
-use Rattle.gc_texts.specs.declared.fault.RunFault.{RunFault}
 use Rattle.gc_texts.specs.declared.fault.RunFault.TheVariants.{Read, Write, TooManyReads, LinkClosed, Output, Socket}
 use Rattle.gc_texts.specs.WholeTexts.{Input}
 use Rattle.gc_ask.specs.declared.looped.Duplex.{Duplex}
-use Rattle.gc_ask.specs.Asking.{asked, lost_of, taken_by, request_text, request_texts, Taken, Written, LinkEnd, AsksAll, WritesPart, LinkEnds, EndsWith, RunsText}
+use Rattle.gc_ask.specs.Asking.{taken_by, request_text, request_texts, Taken, Written, LinkEnd, AsksAll, LosesOne, WritesPart, LinkEnds, EndsWith, RunsText}
 
--- what came settles the commands `earlier`; `command` was sent, and is lost; `later` weren't sent. The sink took the lines of
--- these settlements
+-- a command is lost (`LosesOne`), and its request was sent
 pub record LoopsUpTo (commands : List Command) (given : List ℕ) (w : Written) : Type 0 where
-  pub earlier : List Command
-  pub command : Command
-  pub later : List Command
-  pub order : commands ≡ earlier ++ command ∷ later
-  pub settled : length (asked earlier given) ≡ length earlier
-  pub sent : Appends w.link_old w.link_new (all_of (request_texts 0 (earlier ++ command ∷ [])))
-  pub sink_took : Appends w.sink_old w.sink_new (settlement_lines (asked earlier given ++ lost_of command ∷ []))
+  pub at : LosesOne commands given w
+  pub sent : Appends w.link_old w.link_new (all_of (request_texts 0 (at.earlier ++ at.command ∷ [])))
 
--- what came settles the commands `earlier`, `count` in number; a write of the request of `command`, or of its reply, was cut.
--- Of that request the first `bytes` bytes were sent, or all, and it is lost; `later` weren't sent. The sink took the lines of
--- these settlements
+-- a command is lost (`LosesOne`) after `count` others, because a write of its request, or of the reply, was cut. Of the request the first
+-- `bytes` bytes were sent, or all
 pub record LoopsPart (commands : List Command) (given : List ℕ) (w : Written) (count : ℕ) : Type 0 where
-  pub earlier : List Command
-  pub command : Command
-  pub later : List Command
-  pub order : commands ≡ earlier ++ command ∷ later
-  pub count_is : count ≡ length earlier
-  pub settled : length (asked earlier given) ≡ length earlier
+  pub at : LosesOne commands given w
+  pub count_is : count ≡ length at.earlier
   pub bytes : ℕ
-  pub sent : Appends w.link_old w.link_new (all_of (request_texts 0 earlier) ++ take bytes (request_text count command))
-  pub sink_took : Appends w.sink_old w.sink_new (settlement_lines (asked earlier given ++ lost_of command ∷ []))
+  pub sent : Appends w.link_old w.link_new (all_of (request_texts 0 at.earlier) ++ take bytes (request_text count at.command))
 
 -- what was asked over a link whose client's end gave these bytes, by how asking ended
-abbrev pub Loops : List Command → List ℕ → Written → (over : LinkEnd → Type 0) → LinkEnd → Type 0
+abbrev pub Loops : List Command → (given : List ℕ) → Written → (over : LinkEnd → Type 0) → LinkEnd → Type 0
 Loops commands given w over (Ok _) = AsksAll commands given w
 Loops commands given w over (Err Read) = LoopsUpTo commands given w
 Loops commands given w over (Err LinkClosed) = LoopsUpTo commands given w
@@ -50,7 +36,7 @@ Loops commands given w over (Err _) = ⊥
 
 -- the ports of both ends of a link, by the result of asking over it. At one end they are as `LinkEnds` says for this result, so a fault is
 -- a fault of that end; at the other end they are as it says for `Ok`
-abbrev pub BothEnd : (client_old client_new instrument_old instrument_new : Ports) → Result (Unit {0}) RunFault → Type 0
+abbrev pub BothEnd : (client_old client_new instrument_old instrument_new : Ports) → LinkEnd → Type 0
 BothEnd client_old client_new instrument_old instrument_new result =
     (LinkEnds client_old client_new result × LinkEnds instrument_old instrument_new (Ok tt))
     ⊎ (LinkEnds client_old client_new (Ok tt) × LinkEnds instrument_old instrument_new result)
@@ -82,8 +68,9 @@ IsUnused old new =
 abbrev pub written_there : (old new : SeenAtBoth) → Written
 written_there old new = record { link_old = old.client.taken; link_new = new.client.taken; sink_old = old.sink.bytes; sink_new = new.sink.bytes }
 
--- commands were asked over a link with an instrument of this program at its other end, with this result
-pub record LoopsOver (commands : List Command) (old new : SeenAtBoth) (result : Result (Unit {0}) RunFault) : Type 0 where
+-- commands were asked over a link with an instrument of this program at its other end, with this result; `given` is what the client's
+-- end gave. Which ports have failed then is as `EndsWith` has it
+pub record LoopsOver (commands : List Command) (old new : SeenAtBoth) (result : LinkEnd) : Type 0 where
   pub given : List ℕ
   pub gave : Consumes old.client.remaining new.client.remaining given
   pub loops : Loops commands given (written_there old new) (BothEnd old.client new.client old.instrument new.instrument) result
@@ -91,12 +78,12 @@ pub record LoopsOver (commands : List Command) (old new : SeenAtBoth) (result : 
 
 -- a run over a source of commands, the two ends of a link and a sink: the text was refused, and then nothing was read of the link, sent or
 -- written; or its commands were asked
-abbrev pub LoopRuns : (text_old text_new : Input) → (old new : SeenAtBoth) → Result (Unit {0}) RunFault → Type 0
+abbrev pub LoopRuns : (text_old text_new : Input) → (old new : SeenAtBoth) → LinkEnd → Type 0
 LoopRuns text_old text_new old new result = RunsText text_old text_new result (new ≡ old) (λ commands. LoopsOver commands old new result)
 
--- commands were asked, in at most `most` reads and with this result, over some connection with an instrument of this
--- program at its other end; neither end had failed, and nothing was read of them before
-pub record LoopsOverOne (commands : List Command) (most : ℕ) (old new : Taken) (result : Result (Unit {0}) RunFault) : Type 0 where
+-- commands were asked, in at most `most` reads of both ends and with this result, which is `TooManyReads` only once these are used up, over
+-- some connection with an instrument of this program at its other end; neither end had failed, and nothing was read of them before
+pub record LoopsOverOne (commands : List Command) (most : ℕ) (old new : Taken) (result : LinkEnd) : Type 0 where
   pub before : SeenAtBoth
   pub after : SeenAtBoth
   pub unread : (before.client.reads ≡ 0) × (before.instrument.reads ≡ 0)
@@ -109,6 +96,6 @@ pub record LoopsOverOne (commands : List Command) (most : ℕ) (old new : Taken)
 
 -- a run over a source of commands, a connection that it makes to an instrument of its own, and a sink: the text was refused, or it was read
 -- and no connection could be had, and in both cases nothing was written; or its commands were asked over the connection
-abbrev pub LoopRunsAt : (text_old text_new : Input) → (most : ℕ) → (old new : Taken) → Result (Unit {0}) RunFault → Type 0
+abbrev pub LoopRunsAt : (text_old text_new : Input) → (most : ℕ) → (old new : Taken) → LinkEnd → Type 0
 LoopRunsAt text_old text_new most old new result = RunsText text_old text_new result (new ≡ old) (λ commands.
     ((result ≡ Err Socket) × (new ≡ old)) ⊎ LoopsOverOne commands most old new result)

@@ -10,11 +10,11 @@ use Rattle.gc_scenes.specs.SceneState.{SceneState, scene_restarted}
 use Rattle.gc_scenes.specs.Slow.{SlowState, HearsSometime, slow_restarted}
 
 -- a caller was served with an instrument without rules, as the simulator is, restarted from the state `before`, as `IsServing` has it
-abbrev pub ServesAnew : (before after : State) → (old new : Ports) → ℕ → Result Served ServeFault → Type 0
+abbrev pub ServesAnew : (before after : State) → (old new : Ports) → (most : ℕ) → Result Served ServeFault → Type 0
 ServesAnew before after old new most end = IsServing (restarted before) after old new most end
 
 -- a caller was served with the instrument of a scene with rules, restarted from the state `before`, as `IsSceneServing` has it
-abbrev pub ServesSceneAnew : (before after : SceneState) → (old new : Ports) → ℕ → Result Served ServeFault → Type 0
+abbrev pub ServesSceneAnew : (before after : SceneState) → (old new : Ports) → (most : ℕ) → Result Served ServeFault → Type 0
 ServesSceneAnew before after old new most end = IsSceneServing (scene_restarted before) after old new most end
 
 -- serving in at most `most` reads with an instrument whose replies take time took it from `from` to `to` and the ports from `old` to `new`,
@@ -24,5 +24,5 @@ pub record IsSlowServing (from to : SlowState) (old new : Ports) (most : ℕ) (r
   pub ended : HasEnded old new most result
 
 -- a caller was served with an instrument whose replies take time, restarted from the state `before`, as `IsSlowServing` has it
-abbrev pub ServesSlowAnew : (before after : SlowState) → (old new : Ports) → ℕ → Result Served ServeFault → Type 0
+abbrev pub ServesSlowAnew : (before after : SlowState) → (old new : Ports) → (most : ℕ) → Result Served ServeFault → Type 0
 ServesSlowAnew before after old new most end = IsSlowServing (slow_restarted before) after old new most end

@@ -14,7 +14,7 @@ pub enum Address<'a> {
 }
 
 impl<'a> Address<'a> {
-    /// Binds the address and listens at it. `Err`: that failed.
+    /// Binds the address and listens at it. `Err`: no address could be listened at, or the name couldn't be looked up.
     pub(crate) fn listen<R: Net<Listener = TcpListener, Stream = TcpStream>>(
         self,
         rt: &R,

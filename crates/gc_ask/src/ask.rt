@@ -63,8 +63,8 @@ impl AskState {
         line
     }
 
-    // Sends the command at this place, and waits until it is settled, or the link has a fault, which is returned. After a fault the client
-    // still waits for the command.
+    // Sends the command at this place, and waits until it is settled, or the link has a fault, which is returned. After a
+    // fault the client still waits for the command's reply.
     fn exchange<L: Link>(
         &mut self,
         place: usize,
@@ -123,9 +123,9 @@ impl AskState {
 /// Reads the whole command text of a source, and asks its commands over a link, in at most `max_reads` reads of it, of at
 /// most 256 bytes each.
 ///
-/// Each command is sent once the one before it is settled. Request k has id k modulo 8, and it is settled by the first reply
-/// with this id among the lines after the one that settled request k - 1. Other lines are ignored. The line of each
-/// settlement goes to the sink as the reply comes.
+/// Each command is sent once the one before it is settled. Request k, counted from 0, has id k modulo 8. It is settled by the
+/// first reply with this id, for k > 0 among the lines after the one that settled request k - 1. Other lines are ignored. The
+/// line of each settlement goes to the sink as the reply comes.
 ///
 /// Before anything is sent or written, `Read` comes where the source failed, `InputTooLong` where it gave more than 65,536
 /// bytes, `Schedule` at the first line that has the form of no command, counted from 1, and `Memory` where memory was refused.
@@ -164,8 +164,8 @@ pub fn run_ask<S: Source, I: Source, O: Sink, K: Sink>(
     run_over(alloc, commands, &mut link, sink, max_reads)
 }
 
-/// Reads the whole command text of a source, and asks its commands over any link, in at most `max_reads` reads of the link's two
-/// ends together. The faults come as `run_ask` says.
+/// Reads the whole command text of a source, and asks its commands over any link, in at most `max_reads` reads of the link's
+/// two ends together. The faults come as `run_ask` says, and those of an instrument's end as `run_loop` says.
 pub(crate) fn run_over<S: Source, L: Link, K: Sink>(
     alloc: Global,
     commands: &mut S,
@@ -194,8 +194,8 @@ pub(crate) fn run_over<S: Source, L: Link, K: Sink>(
     ask_all(commands.as_slice(), link, sink, max_reads)
 }
 
-/// Asks commands in order, in at most `max_reads` reads of the link's two ends together. It ends at the first fault of the link
-/// or of the sink, which comes as `run_ask` says.
+/// Asks commands in order, in at most `max_reads` reads of the link's two ends together. It ends at the first fault of the
+/// link or of the sink. The faults come as `run_ask` says, and those of an instrument's end as `run_loop` says.
 pub(crate) fn ask_all<L: Link, K: Sink>(
     commands: &[Command],
     link: &mut L,

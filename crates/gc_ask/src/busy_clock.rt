@@ -5,6 +5,7 @@
 ghost use Rattle.std.specs.Prelude.{◌≤◌, length};
 
 use arrayvec::ArrayVec;
+use gc_links::millis_of;
 use std::cell::{Cell, RefCell};
 use std::time::{Clock, Duration, Instant};
 use std::{io, thread};
@@ -19,7 +20,8 @@ pub struct BusyClock {
     start: Instant,
     // Whether what comes while the instrument is busy is dropped.
     drops: bool,
-    // When the last bytes came.
+    // When the last read returned, or when bytes that were handed on from `early` count as having come; 0 before the first
+    // read.
     came: Cell<u64>,
     // Until when the instrument is busy, and whether its reply has still to wait until then.
     until: Cell<u64>,
@@ -28,8 +30,9 @@ pub struct BusyClock {
     early: RefCell<Early>,
 }
 
-// Bytes that came while the instrument was busy, and how many of them were handed on. It holds 8192 bytes. `End::take_in` reads no more at
-// once: further ones wait in the system's buffer, and count as having come when they are read.
+// Bytes that came while the instrument was busy, and how many of them were handed on. It holds 8192 bytes at most.
+// `End::take_in` reads no more at once: further ones wait in the system's buffer, and count as having come when they are
+// read.
 #[derive(Drop)]
 struct Early {
     bytes: ArrayVec<u8, 8192>,
@@ -67,12 +70,15 @@ impl BusyClock {
         self.drops
     }
 
-    /// When the last bytes came, in milliseconds since the clock was made: 0 before any did.
+    /// When the last bytes came or count as having come (`take_early`), or when a later read failed or found the end, in
+    /// milliseconds since the clock was made. It is 0 before the first read, and a new connection leaves it as it is. Where
+    /// the system's clock couldn't be read, or had gone back, it is the moment of an earlier read.
     pub(crate) fn came(&self) -> u64 {
         self.came.get()
     }
 
-    /// Records that bytes came just now. If the system's clock can't be read, the moment of the last bytes stays as it was.
+    /// Records that a read returned just now, with bytes or without. If the system's clock can't be read, or lies before the
+    /// moment of the last read (`came`), that moment stays as it was.
     pub(crate) fn note_now<R: Clock>(&self, rt: &R) {
         self.came.set(self.now(rt));
     }
@@ -83,8 +89,8 @@ impl BusyClock {
         self.waits.set(true);
     }
 
-    /// Sleeps until the instrument is free, if a reply still has to wait for that. Returns whether it slept. It doesn't if that moment is
-    /// over.
+    /// Sleeps until the instrument is free, if a reply still has to wait for that. Returns whether it slept: it doesn't where
+    /// the instrument is free already.
     pub(crate) fn wait<R: Clock>(&self, rt: &R) -> bool {
         let now = self.now(rt);
         let until = self.until.get();
@@ -103,8 +109,9 @@ impl BusyClock {
         }
     }
 
-    /// Moves bytes that came while the instrument was busy into `buf`, and returns how many. They count as having come a millisecond
-    /// before it was free again. Where there are none, the moment of the last bytes stays as it was.
+    /// Moves bytes that came while the instrument was busy into the front of `buf`, as many as it has room for, and returns
+    /// how many. They count as having come a millisecond before the instrument was free again. Where there are none, the
+    /// moment of the last read (`came`) stays as it was.
     pub(crate) fn take_early(&self, buf: &mut [u8]) -> usize
         ensures { result ≤ length buf.new }
     {
@@ -118,14 +125,12 @@ impl BusyClock {
         n
     }
 
-    // The moment now, in milliseconds since the clock was made. It is never before the moment at which the last bytes came, and it is
-    // that moment if the system's clock can't be read.
+    // The moment now, in milliseconds since the clock was made. It is never before the moment of the last read (`came`), and it
+    // is that moment if the system's clock can't be read.
     fn now<R: Clock>(&self, rt: &R) -> u64 {
         let last = self.came.get();
         match self.start.elapsed(rt) {
-            Ok(time) => u64::try_from(time.as_millis())
-                .unwrap_or(u64::MAX)
-                .max(last),
+            Ok(time) => millis_of(time).max(last),
             Err(_) => last,
         }
     }
@@ -144,7 +149,8 @@ fn store(early: &mut Early, bytes: &[u8]) {
     }
 }
 
-// Moves the bytes that weren't handed on yet into the front of `buf`, as many as it has room for, and returns how many.
+// Moves the bytes that weren't handed on yet into the front of `buf`, as many as it has room for, and returns how many. Once
+// the last was handed on, all of them are discarded.
 fn hand_on(early: &mut Early, buf: &mut [u8]) -> usize
     ensures { result ≤ length buf.new }
 {

@@ -1,17 +1,10 @@
-//! One caller of a place that is served: both ends of the connection, and how the caller is served.
+//! The connection of a caller who is served: the end at which the instrument answers, with its reading and its writing side.
 
-ghost use Rattle.std.specs.Prelude.{◌≡◌, ◌≤◌, length, IfOk, IfSome, Result};
-ghost use Rattle.gc_ask.specs.Keeping.{end_of_caller};
-ghost use Rattle.gc_lines.specs.declared.served.Served.{Served};
-ghost use Rattle.gc_lines.specs.declared.served.ServeFault.{ServeFault};
-ghost use Rattle.gc_lines.specs.Answering.{ports_of};
+ghost use Rattle.std.specs.Prelude.{◌≤◌, length, IfOk, IfSome};
 
 use crate::busy_clock::BusyClock;
-use crate::callers::CallerFault;
-use crate::simulated::Simulates;
-use gc_instrument::ServeFault;
-use gc_lines::{PortFailed, Sink, Source};
-use gc_links::{Wire, read_stream_within};
+use gc_lines::{PortFailed, Source};
+use gc_links::{Wire, read_stream_within, write_stream};
 use std::io::{self, ErrorKind, Read, Write};
 use std::net::TcpStream;
 use std::time::{Clock, Duration};
@@ -29,8 +22,8 @@ pub(crate) enum End<'a, R> {
 }
 
 impl<'a, R: Clock> End<'a, R> {
-    // Reads what comes within about a millisecond. `None`: nothing came. `Some(0)`: the connection has ended. Reads after this one may
-    // wait as long as before.
+    // Reads what comes within about a millisecond; over a device only what has come already. `None`: nothing came, or the read was
+    // interrupted. `Some(0)`: the connection has ended. Reads after this one may wait as long as before.
     fn read_soon(&self, buf: &mut [u8]) -> io::Result<Option<usize>>
         ensures { IfOk result (λ read. IfSome read (λ n. n ≤ length buf.new)) }
     {
@@ -40,7 +33,8 @@ impl<'a, R: Clock> End<'a, R> {
         }
     }
 
-    // Reads the connection, waiting until something comes, it ends (0), or its time-out has passed (`Err`). A device has no time-out.
+    // Reads the connection, waiting until something comes, the connection ends (0) or fails (`Err`), or its time-out has
+    // passed (`Err`). A device has no time-out.
     fn read_plain(&self, buf: &mut [u8]) -> io::Result<usize>
         ensures { IfOk result (λ n. n ≤ length buf.new) }
     {
@@ -74,8 +68,8 @@ impl<'a, R: Clock> End<'a, R> {
         }
     }
 
-    // Moves into the clock what has come while the instrument was busy, until a read brings nothing or fails. 32 reads of 256 bytes are as
-    // much as it has room for.
+    // Moves into the clock what has come while the instrument was busy, until a read brings nothing or fails. It makes at
+    // most 32 reads of at most 256 bytes each: as much as the clock has room for.
     fn take_in(&self, clock: &BusyClock) {
         let mut buf = [0u8; 256];
         for _ in 0..32 {
@@ -124,8 +118,8 @@ impl<'a, R: Clock> Write for ReplyWriter<'a, R> {
     }
 }
 
-/// The reading end of a connection. It stores whether the last read that failed had timed out, and for an instrument whose replies take
-/// time it records when bytes came.
+/// The reading end of a connection. It stores whether the read that failed had timed out, and for an instrument whose replies
+/// take time it records when bytes came.
 #[derive(Drop)]
 pub(crate) struct RequestReader<'a, R> {
     rt: &'a R,
@@ -134,7 +128,7 @@ pub(crate) struct RequestReader<'a, R> {
     // How many reads were answered, and whether the last of them was the end.
     answered: u64,
     at_end: bool,
-    // Whether a read failed, and whether only because nothing came before its time-out.
+    // Whether a read failed, and whether that was because it had timed out.
     broken: bool,
     is_idle: bool,
 }
@@ -161,14 +155,14 @@ impl<'a, R: Clock> RequestReader<'a, R> {
         }
     }
 
-    /// Whether the last read that failed had timed out.
+    /// Whether a read failed because it had timed out (`is_time_out`); `false` while none has failed.
     pub(crate) fn is_idle(&self) -> bool {
         self.is_idle
     }
 }
 
-// `remaining` is `None`: which bytes will come over a connection isn't known. A read fails as one of `FromReader` does: at the first
-// error, and once 2^64 - 1 reads were answered.
+// `remaining` is `None`: which bytes will come over a connection isn't known. A read fails as one of `FromReader` does: at
+// the first error, once 2^64 - 1 reads were answered, and always after that.
 impl<'a, R: Clock> Source for RequestReader<'a, R> {
     ghost use Rattle.std.specs.Prelude.{None};
 
@@ -244,14 +238,6 @@ fn read_wire<R: Clock>(wire: &Wire<'_, R>, buf: &mut [u8]) -> io::Result<usize>
     wire.read(buf)
 }
 
-// Writes to a connection over TCP.
-fn write_stream(stream: &TcpStream, buf: &[u8]) -> io::Result<usize>
-    ensures { IfOk result (λ n. n ≤ length buf.now) }
-{
-    let mut stream = stream;
-    stream.write(buf)
-}
-
 // Writes to a device.
 fn write_wire<R: Clock>(wire: &Wire<'_, R>, buf: &[u8]) -> io::Result<usize>
     ensures { IfOk result (λ n. n ≤ length buf.now) }
@@ -260,29 +246,8 @@ fn write_wire<R: Clock>(wire: &Wire<'_, R>, buf: &[u8]) -> io::Result<usize>
     wire.write(buf)
 }
 
-// Whether a read failed only because nothing came before its time-out.
+// Whether an error of a read says that it had timed out: nothing came before its time-out, or the system gave the connection
+// up because the other end answered nothing (`TimedOut`).
 fn is_time_out(kind: ErrorKind) -> bool {
     matches!(kind, ErrorKind::WouldBlock | ErrorKind::TimedOut)
-}
-
-/// Restarts an instrument, and serves one connection with it, in at most `max_reads` reads: `source` and `sink` are its two directions. The
-/// faults are those of `serve`: `Read`, also for a read that timed out, `Write` and `TooManyReads`.
-pub(crate) fn serve_caller<I: Simulates, S: Source, K: Sink>(
-    instrument: &mut I,
-    source: &mut S,
-    sink: &mut K,
-    max_reads: u32,
-) -> Result<(), CallerFault>
-    ensures { (end : Result Served ServeFault) × I.serving instrument.old instrument.new
-        (ports_of S.Source source.old K.Sink sink.old)
-        (ports_of S.Source source.new K.Sink sink.new)
-        max_reads end
-        × (result ≡ end_of_caller end) }
-{
-    match instrument.serve_anew(source, sink, max_reads) {
-        Ok(_) => Ok(()),
-        Err(ServeFault::Read { .. }) => Err(CallerFault::Read),
-        Err(ServeFault::Write { replies, bytes }) => Err(CallerFault::Write { replies, bytes }),
-        Err(ServeFault::TooManyReads { .. }) => Err(CallerFault::TooManyReads),
-    }
 }

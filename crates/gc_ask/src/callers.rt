@@ -3,17 +3,19 @@
 
 ghost use Rattle.std.specs.Prelude.{◌≡◌, [], ◌∷◌, true, OnOk};
 ghost use Rattle.std.specs.Io.KnownBytes.{Appends};
-ghost use Rattle.gc_ask.specs.Keeping.{Grows, ServesCallers, caller_line, end_line};
+ghost use Rattle.gc_ask.specs.Keeping.{Grows, ServesCallers, caller_line, end_line, end_of_caller};
 
+use gc_instrument::{ServeFault, Served};
 use gc_lines::{READ_FAILED, READS_SPENT, WRITE_FAILED};
 use gc_texts::RunFault;
 use std::io::{self, Write};
 
-/// For how many seconds a kept port pauses after an accept that failed, and a kept device each time that it was served or wasn't there.
-/// Without the pause a port for which no descriptor is free, or a device that is gone, would be tried again at once, for ever.
+/// For how many seconds a kept port pauses after an accept that failed, and a kept device each time that it was served, wasn't
+/// there or couldn't be used. Without the pause a port for which no descriptor is free, or a device that is gone, would be tried
+/// again at once, for ever.
 pub(crate) const PAUSE: u64 = 1;
 
-/// Why a caller's connection was left before its end.
+/// Why a caller's connection was left before its end, or wasn't served at all.
 #[derive(Clone, Copy, Debug, PartialEq, Eq)]
 pub enum CallerFault {
     /// A read failed.
@@ -24,13 +26,14 @@ pub enum CallerFault {
     TooManyReads,
     /// No connection could be accepted, or its time-outs couldn't be set; or the device is there and can't be used.
     Socket,
-    /// Nothing came for as long as a connection may be idle.
+    /// Nothing came for as long as a connection may be idle, or the system gave the connection up because the other end
+    /// answered nothing.
     Idle,
 }
 
 impl CallerFault {
     /// Writes the line of the fault: the program's name, the connection's number, counted from 1, and why the connection was
-    /// left. `Err`: it couldn't be written whole.
+    /// left. `Err`: the line couldn't be written whole.
     pub fn tell<E: Write>(self, number: u64, messages: &mut E) -> io::Result<()>
         ensures { OnOk result (Appends (E.contents messages.old) (E.contents messages.new) (caller_line number self)) }
     {
@@ -57,6 +60,19 @@ impl CallerFault {
     }
 }
 
+/// How the connection of a caller who was served ended: well, or with the fault of serving it, which is `Read`, `Write` or
+/// `TooManyReads`. A read that timed out is `Read` here, too.
+pub(crate) fn end_of_caller(end: Result<Served, ServeFault>) -> Result<(), CallerFault>
+    ensures { result ≡ end_of_caller end }
+{
+    match end {
+        Ok(_) => Ok(()),
+        Err(ServeFault::Read { .. }) => Err(CallerFault::Read),
+        Err(ServeFault::Write { replies, bytes }) => Err(CallerFault::Write { replies, bytes }),
+        Err(ServeFault::TooManyReads { .. }) => Err(CallerFault::TooManyReads),
+    }
+}
+
 /// The callers of a port or of a device.
 pub trait Callers {
     ghost use Rattle.std.specs.Prelude.{List, Option};
@@ -65,7 +81,7 @@ pub trait Callers {
     /// How the connections of those who were served ended, in their order, where that is known.
     ghost served: { Self → Option (List ConnectionEnd) };
 
-    /// Waits for the next caller, and serves the connection to its end. `Err`: a fault came before that.
+    /// Waits for the next caller, and serves the connection to its end. `Err`: a fault came before the end.
     fn serve_next(&mut self) -> Result<(), CallerFault>
         ensures { Grows (served self.old) (served self.new) (result ∷ []) };
 }
@@ -85,8 +101,8 @@ pub fn keep<C: Callers, E: Write>(callers: &mut C, most: u64, messages: &mut E) 
     all_written
 }
 
-// Writes the line of the fault if the connection with this number ended with one. `all_written` says whether all earlier lines
-// were written. Returns whether all lines were, this one included.
+// Writes the line of the fault if the connection with this number ended with one. `all_written` says whether all earlier
+// lines were written. Returns whether all lines were, also this one, if there is one.
 fn tell_end<E: Write>(
     end: Result<(), CallerFault>,
     number: u64,

@@ -21,7 +21,7 @@ use gc_texts::RunFault;
 pub(crate) struct ClientEnd {
     pub(crate) client: Client<Slots>,
     pub(crate) assembler: Assembler,
-    // What the last reply settled.
+    // What the line that the client heard last settled: nothing before the first.
     pub(crate) settled: ArrayVec<Settlement<Call>, WINDOW>,
 }
 
@@ -70,9 +70,9 @@ impl ClientEnd {
         None
     }
 
-    // Reads a link, at most `reads` times, until a line settles a request that waits, and subtracts from `reads` the reads that were
-    // answered. Bytes after that line stay in `ahead` for the next request. The faults are `TooManyReads`, `Read` and `LinkClosed`, as
-    // `run_ask` has them; after a fault the request still waits.
+    // Takes the bytes that are left in `ahead`, and then reads a link, at most `reads` times, until a line settles a request that
+    // waits, and subtracts from `reads` the reads that were answered. Bytes after that line stay in `ahead` for the next request.
+    // The faults are `TooManyReads`, `Read` and `LinkClosed`, as `run_ask` has them; after a fault the request still waits.
     pub(crate) fn hear_reply<L: Link>(
         &mut self,
         link: &mut L,

@@ -1,14 +1,11 @@
 //! Asking and serving over real connections, to their ends. How a connection is made is in `gc_links`.
 
-ghost use Rattle.std.specs.Prelude.{◌≡◌, ◌≤◌, Result};
-ghost use Rattle.gc_lines.specs.declared.served.Served.{Served};
-ghost use Rattle.gc_lines.specs.declared.served.ServeFault.{ServeFault};
+ghost use Rattle.std.specs.Prelude.{◌≡◌, ◌≤◌};
 ghost use Rattle.gc_ask.specs.AskRuns.{AskRunsAt, AsksOverOne};
 ghost use Rattle.gc_ask.specs.Asking.{taken_by};
 ghost use Rattle.gc_ask.specs.Looping.{LoopRunsAt, LoopsOverOne};
 ghost use Rattle.gc_ask.specs.Places.{IsFaultOfPlace, fault_of_reason};
 ghost use Rattle.gc_texts.specs.Faults.{end_of_serving};
-ghost use Rattle.gc_lines.specs.Answering.{ports_of};
 ghost use Rattle.gc_texts.specs.WholeTexts.{input_of};
 ghost use Rattle.gc_texts.specs.declared.fault.RunFault.{RunFault};
 
@@ -20,7 +17,7 @@ use crate::instrument_end::InstrumentEnd;
 use crate::link::Remote;
 use crate::looped::Loop;
 use crate::simulated::Simulates;
-use gc_instrument::{Instrument, ServeFault};
+use gc_instrument::{Instrument, ServeFault, Served};
 use gc_lines::{Answers, FromReader, Sink, Source, ToWriter};
 use gc_links::{Place, Unusable, accept, both_ends, connect_here, wire_to};
 use gc_texts::{Command, RunFault, read_command_text};
@@ -37,8 +34,8 @@ pub const MOST_CONNECTIONS: u32 = 1000;
 /// Reads the whole command text of a source, binds a free port of 127.0.0.1, connects to it, and asks the commands over that one
 /// connection, with an instrument at its other end, in at most `max_reads` reads of both ends together.
 ///
-/// The faults come as `run_loop_on` says, and `Socket` comes where a bind, a connect or an accept failed. No socket is opened
-/// before the whole text was read.
+/// The faults come as `run_loop_on` says, and `Socket` comes where the connection couldn't be made. No socket is opened before
+/// the whole text was read.
 pub fn loop_tcp_on<
     R: Net<Listener = TcpListener, Stream = TcpStream>,
     S: Source,
@@ -72,8 +69,8 @@ pub fn loop_tcp_on<
     )
 }
 
-// Asks commands over a connection that was just made: `near` is the client's end, and at `far` the instrument answers. At most `max_reads`
-// reads of both ends are made, and the faults are those of `ask_all`.
+// Asks commands over a connection that was just made: `near` is the client's end, and at `far` the instrument answers. At
+// most `max_reads` reads of both ends together are made, and the faults are those of `ask_all`.
 fn loop_over<K: Sink, T: Answers + Drop>(
     commands: &[Command],
     instrument: T,
@@ -121,10 +118,12 @@ pub fn loop_tcp<R: Net<Listener = TcpListener, Stream = TcpStream>, S: Source, K
 }
 
 /// Listens at an address, accepts `connections` connections one after the other, and serves each with the instrument, which is
-/// restarted for it, in at most `max_reads` reads. `clock` is the clock of an instrument whose replies take time.
+/// restarted for it, in at most `max_reads` reads. `clock` is the clock of an instrument whose replies take time. A silent caller is
+/// waited for without end.
 ///
-/// `Socket` comes where a bind or an accept failed. A fault of a connection ends the call with it: `Read`, `Write` and
-/// `TooManyReads` as `serve` has them. The instrument is left in the state after the lines that it answered last.
+/// `Socket` comes where the address can't be listened at, or an accept failed. A fault of a connection ends the call with it:
+/// `Read`, `Write` and `TooManyReads` as `serve` has them. The instrument is left as the last connection that was served left
+/// it, and as it was where none was served.
 pub fn serve_tcp<R: Net<Listener = TcpListener, Stream = TcpStream> + Clock, I: Simulates>(
     rt: &R,
     address: Address<'_>,
@@ -143,11 +142,12 @@ pub fn serve_tcp<R: Net<Listener = TcpListener, Stream = TcpStream> + Clock, I: 
 }
 
 /// Accepts `connections` connections of a port one after the other, and serves each with the instrument, which is restarted for
-/// it, in at most `max_reads` reads. `clock` is the clock of an instrument whose replies take time. Further callers wait in the
-/// system's queue.
+/// it, in at most `max_reads` reads. `clock` is the clock of an instrument whose replies take time. A silent caller is waited for
+/// without end; further callers wait in the system's queue.
 ///
-/// `Socket` comes where an accept failed. A fault of a connection ends the call with it: `Read`, `Write` and `TooManyReads` as
-/// `serve` has them. The instrument is left in the state after the lines that it answered last.
+/// `Socket` comes where an accept failed. A fault of a connection ends the call with it: `Read`, `Write` and `TooManyReads`
+/// as `serve` has them. The instrument is left as the last connection that was served left it, and as it was where none was
+/// served.
 pub fn serve_on<R: Clock, I: Simulates>(
     rt: &R,
     listener: &TcpListener,
@@ -163,21 +163,21 @@ pub fn serve_on<R: Clock, I: Simulates>(
             return Err(RunFault::Socket);
         };
         let end = End::Stream(&stream, None);
-        serve_connection(
-            instrument,
+        let served = instrument.serve_anew(
             &mut RequestReader::new(rt, &end, clock),
             &mut ToWriter::new(ReplyWriter::new(rt, &end, clock)),
             max_reads,
-        )?;
+        );
+        end_of_serving(served)?;
     }
     Ok(())
 }
 
 /// Reads the whole command text of a source, connects to a port of 127.0.0.1, and asks the commands over that connection, in at
-/// most `max_reads` reads of it.
+/// most `max_reads` reads of it. Each read waits until something comes or the connection ends, however long that takes.
 ///
-/// The faults come as `run_ask` says, and `Socket` comes where no connection could be had. No connection is made before the
-/// whole text was read.
+/// The faults come as `run_ask` says, and `Socket` comes where no connection could be made within ten seconds. No connection is made
+/// before the whole text was read.
 pub fn ask_tcp<R: Net<Listener = TcpListener, Stream = TcpStream>, S: Source, K: Sink>(
     rt: &R,
     alloc: Global,
@@ -202,8 +202,8 @@ pub fn ask_tcp<R: Net<Listener = TcpListener, Stream = TcpStream>, S: Source, K:
 
 /// Asks the commands of a source as `ask_tcp` does, at a place: connects to it, or opens it where it is a device.
 ///
-/// The faults come as `run_ask` says, and one of `fault_of_reason` comes where no connection could be had. No connection is made before the
-/// whole text was read.
+/// The faults come as `run_ask` says, and one of `fault_of_reason` comes where no connection could be made. None is made before
+/// the whole text was read.
 pub fn ask_at<
     R: Net<Listener = TcpListener, Stream = TcpStream> + Files<File = File> + Clock,
     S: Source,
@@ -263,21 +263,12 @@ pub fn fault_of_reason(reason: Option<Unusable>) -> RunFault
     }
 }
 
-/// Restarts an instrument, and serves one connection with it: `source` and `sink` are its two directions. It fails with `Read`,
-/// `Write` or `TooManyReads` as `serve` does.
-pub(crate) fn serve_connection<I: Simulates, S: Source, K: Sink>(
-    instrument: &mut I,
-    source: &mut S,
-    sink: &mut K,
-    max_reads: u32,
-) -> Result<(), RunFault>
-    ensures { (end : Result Served ServeFault) × I.serving instrument.old instrument.new
-        (ports_of S.Source source.old K.Sink sink.old)
-        (ports_of S.Source source.new K.Sink sink.new)
-        max_reads end
-        × (result ≡ end_of_serving end) }
+/// How a connection that was served ended, as the end of a run: well, or with the fault of serving it, which is `Read`, `Write`
+/// or `TooManyReads`.
+pub(crate) fn end_of_serving(end: Result<Served, ServeFault>) -> Result<(), RunFault>
+    ensures { result ≡ end_of_serving end }
 {
-    match instrument.serve_anew(source, sink, max_reads) {
+    match end {
         Ok(_) => Ok(()),
         Err(ServeFault::Read { .. }) => Err(RunFault::Read),
         Err(ServeFault::Write { replies, bytes }) => Err(RunFault::Write { replies, bytes }),

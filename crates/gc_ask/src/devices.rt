@@ -5,9 +5,9 @@ ghost use Rattle.gc_ask.specs.Keeping.{ServesCallers, most_callers};
 ghost use Rattle.gc_ask.specs.Places.{IsFaultOfDevice};
 
 use crate::busy_clock::BusyClock;
-use crate::caller::{End, ReplyWriter, RequestReader, serve_caller};
-use crate::callers::{CallerFault, Callers, PAUSE, keep};
-use crate::connections::{fault_of_reason, serve_connection};
+use crate::caller::{End, ReplyWriter, RequestReader};
+use crate::callers::{CallerFault, Callers, PAUSE, end_of_caller, keep};
+use crate::connections::{end_of_serving, fault_of_reason};
 use crate::kept_port::Keeping;
 use crate::simulated::Simulates;
 use gc_lines::ToWriter;
@@ -22,8 +22,9 @@ use std::time::{Clock, Duration};
 /// Opens a device `connections` times, one after the other. Each time the instrument is restarted, and serves the device until its
 /// end, in at most `max_reads` reads. `clock` is the clock of an instrument whose replies take time.
 ///
-/// A fault ends the call: one of `fault_of_reason` where the device couldn't be opened, else `Read`, `Write` or `TooManyReads` as `serve`
-/// has them. The instrument is left in the state after the lines that it answered last.
+/// A fault ends the call: one of `fault_of_reason` where the device couldn't be opened, else `Read`, `Write` or
+/// `TooManyReads` as `serve` has them. The instrument is left as the last connection that was served left it, and as it was
+/// where none was served.
 pub fn serve_device<R: Files<File = File> + Clock, I: Simulates>(
     rt: &R,
     path: &str,
@@ -40,23 +41,25 @@ pub fn serve_device<R: Files<File = File> + Clock, I: Simulates>(
             Err(reason) => return Err(fault_of_reason(reason)),
         };
         let end = End::Device(&wire);
-        serve_connection(
-            instrument,
+        let served = instrument.serve_anew(
             &mut RequestReader::new(rt, &end, clock),
             &mut ToWriter::new(ReplyWriter::new(rt, &end, clock)),
             max_reads,
-        )?;
+        );
+        end_of_serving(served)?;
     }
     Ok(())
 }
 
-/// Serves a device each time that it is there, as often as `keeping` says, and writes the line of each fault on `messages`. Returns
-/// whether all of these lines were written. `clock` is the clock of an instrument whose replies take time. A device has one caller
-/// alone, who may be silent for as long as he likes, so `keeping.idle` is not used.
+/// Serves a device each time that it is there, as often as `keeping` says, each time with the instrument, which is restarted
+/// for it, and writes the line of each fault on `messages`. Returns whether all of these lines were written. `clock` is the
+/// clock of an instrument whose replies take time. A device has one caller alone, who may be silent for as long as he likes,
+/// so `keeping.idle` is not used.
 ///
-/// Where the device is there at first and can't be used, the call fails as `fault_of_reason` says, and nothing was written. A device that
-/// isn't there, or that ended, is looked for each second; one that is there by then and can't be used counts as a caller with the fault
-/// `Socket`.
+/// Where the device can't be used at first for a reason with a name (`Unusable`), the call fails as
+/// `fault_of_reason` says, and nothing was written. A device that isn't there, that can't be opened, locked or set up for a
+/// reason without a name, or whose serving ended, with a fault or without, is looked for each second. One that can't be used by
+/// then for a reason with a name counts as a caller with the fault `Socket`.
 pub fn keep_device<R: Files<File = File> + Clock, I: Simulates, E: Write>(
     rt: &R,
     path: &str,
@@ -97,8 +100,9 @@ struct DeviceCallers<'a, R, I> {
 }
 
 impl<'a, R: Files<File = File> + Clock, I> DeviceCallers<'a, R, I> {
-    // Opens the device, which is looked for each second until it is there. The first call returns the device that was opened already, if it
-    // was. `Socket`: the device is there and can't be used, or wasn't there in 2^64 - 1 tries.
+    // Opens the device, which is looked for each second until it is there. The first call returns the device that was opened
+    // already, if it was. `Socket`: the device is there and can't be used, or 2^64 - 1 tries gave neither the device nor a
+    // reason with a name.
     fn wait(&mut self) -> Result<Wire<'a, R>, CallerFault> {
         if let Some(first) = self.first.take() {
             return Ok(first);
@@ -113,18 +117,18 @@ impl<'a, R: Files<File = File> + Clock, I> DeviceCallers<'a, R, I> {
         Err(CallerFault::Socket)
     }
 
-    // Serves the device, opened as `wire`, until its end. `Err`: the fault that ended it before.
+    // Serves the device, opened as `wire`, until its end. `Err`: the fault that ended the serving before that.
     fn serve(&mut self, wire: Wire<'a, R>) -> Result<(), CallerFault>
     where
         I: Simulates,
     {
         let end = End::Device(&wire);
-        serve_caller(
-            self.instrument,
+        let served = self.instrument.serve_anew(
             &mut RequestReader::new(self.rt, &end, self.clock),
             &mut ToWriter::new(ReplyWriter::new(self.rt, &end, self.clock)),
             self.max_reads,
-        )
+        );
+        end_of_caller(served)
     }
 
     // Sleeps for `PAUSE` seconds.

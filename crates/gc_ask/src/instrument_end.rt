@@ -28,9 +28,10 @@ impl<T: Answers> InstrumentEnd<T> {
         }
     }
 
-    // Reads, at most `reads` times, until one line is answered, writes that reply, and subtracts from `reads` the reads that were answered.
-    // Bytes after that line stay for the next call. `Err`: `TooManyReads` where no read is left, `Read` where one failed, `LinkClosed` at
-    // the end of what comes, and `Write` where the reply couldn't be written whole, which counts `place` replies before it.
+    // Takes the bytes that the last call left, and then reads, at most `reads` times, until one line is answered, writes that
+    // reply, and subtracts from `reads` the reads that were answered. Bytes after that line stay for the next call. `Err`:
+    // `TooManyReads` where no read is left, `Read` where one failed, `LinkClosed` at the end of what comes, and `Write` where
+    // the reply couldn't be written whole; that fault counts `place` replies before this one.
     pub(crate) fn answer_line<I: Source, O: Sink>(
         &mut self,
         place: usize,

@@ -6,8 +6,8 @@ ghost use Rattle.gc_texts.specs.declared.fault.RunFault.{RunFault};
 
 use crate::address::Address;
 use crate::busy_clock::BusyClock;
-use crate::caller::{End, ReplyWriter, RequestReader, serve_caller};
-use crate::callers::{CallerFault, Callers, PAUSE, keep};
+use crate::caller::{End, ReplyWriter, RequestReader};
+use crate::callers::{CallerFault, Callers, PAUSE, end_of_caller, keep};
 use crate::simulated::Simulates;
 use gc_lines::ToWriter;
 use gc_links::accept;
@@ -40,12 +40,13 @@ impl Keeping {
     }
 }
 
-/// Listens at an address, and serves its connections one after the other, each with the instrument, which is restarted for it.
-/// `clock` is the clock of an instrument whose replies take time. A fault of a connection ends that connection alone, and its
-/// line is written on `messages`. Returns whether all of these lines were written.
+/// Listens at an address, and serves its connections one after the other, as many as `keeping` says, each with the instrument,
+/// which is restarted for it. `clock` is the clock of an instrument whose replies take time. A fault of a connection ends that
+/// connection alone, and its line is written on `messages`. Returns whether all of these lines were written.
 ///
-/// `Socket` comes where the bind failed, and nothing was written. A connection that couldn't be accepted counts as one, with this
-/// fault, and a pause of a second follows it. The instrument is left in the state after the lines that it answered last.
+/// `Socket` comes where the address can't be listened at, and nothing was written. A connection that couldn't be accepted, or
+/// whose time-outs couldn't be set, counts as one, with this fault; where none could be accepted, a pause of a second
+/// follows. The instrument is left as the last connection that was served left it, and as it was where none was served.
 pub fn keep_tcp<R: Net<Listener = TcpListener, Stream = TcpStream> + Clock, I: Simulates, E: Write>(
     rt: &R,
     address: Address<'_>,
@@ -113,12 +114,12 @@ impl<'a, R: Clock, I: Simulates> Callers for PortCallers<'a, R, I> {
         };
         let connection = End::Stream(&stream, Some(self.idle));
         let mut reader = RequestReader::new(self.rt, &connection, self.clock);
-        let end = serve_caller(
-            self.instrument,
+        let served = self.instrument.serve_anew(
             &mut reader,
             &mut ToWriter::new(ReplyWriter::new(self.rt, &connection, self.clock)),
             self.max_reads,
         );
+        let end = end_of_caller(served);
         match end {
             Err(CallerFault::Read) if reader.is_idle() => Err(CallerFault::Idle),
             _ => end,

@@ -41,8 +41,8 @@ pub(crate) trait Link {
         ensures too_many { result ≡ Err RunFault.TooManyReads → reads.new ≡ 0 }
         ensures held { held self.new ≡ held self.old };
 
-    /// Reads the client's end once into `ahead`, in place of what was left there. Returns false at the end of the stream. `Err`: the source
-    /// failed.
+    /// Reads the client's end once into `ahead`, in place of what was left there. Returns false at the end of the stream,
+    /// where nothing is left in `ahead`. `Err`: the source failed.
     fn read(&mut self, ahead: &mut Unused) -> Result<bool, PortFailed>
         ensures few { length ahead.new ≤ ROOM }
         ensures end { result ≡ Ok false → ahead.new ≡ [] }

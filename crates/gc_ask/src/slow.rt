@@ -53,7 +53,8 @@ impl<'a> Slow<'a> {
     }
 }
 
-// A line counts as having come when the last bytes did. With each reply the clock gets the moment until which the instrument is busy.
+// A line counts as having come when the last bytes did (`BusyClock::came`). With each reply the clock gets the moment until which
+// the instrument is busy.
 impl<'a> Answers for Slow<'a> {
     ghost use Rattle.gc_scenes.specs.Slow.{HearsSometime};
 

@@ -57,7 +57,8 @@ impl Unused {
         self.at += used;
     }
 
-    // Reads once, in place of what was left. Returns false at the end of the stream. `Err`: the source failed, and nothing is left.
+    // Reads once, in place of what was left. Returns false at the end of the stream, where nothing is left. `Err`: the source
+    // failed, and nothing is left either.
     pub(crate) fn read<S: Source>(&mut self, source: &mut S) -> Result<bool, PortFailed>
         ensures few { length self.new ≤ ROOM }
         ensures end { result ≡ Ok false → self.new ≡ [] }

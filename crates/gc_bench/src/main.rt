@@ -11,7 +11,8 @@ use std::process::ExitCode;
 use std::{env, io};
 
 // Does what the words of the command line ask for: what, how often, and for rows in which file. The sum is printed so that the
-// compiler can't leave out any work as useless. The status is 2 where `sum_of` gives none.
+// compiler can't leave out any work as useless. The status is 2 where `sum_of` gives none, and otherwise 0. `Err`: a word isn't
+// UTF-8, memory ran out for the words, or the sum can't be printed.
 fn main(rt: HostRuntime) -> io::Result<ExitCode> {
     let words: Vec<String> = env::args(&rt)?.collect(rt.alloc())?;
     match sum_of(&rt, words.as_slice()) {

@@ -11,8 +11,8 @@ const HEAD: &[u8] =
 const ROW: &[u8] =
     b"2026-11-22T23:08:00.000Z,2026-11-22T23:08:27.103Z,2026-11-22T23:08:27.123Z,1,0,7,,5003,answered,,0,0,123456,ok,1\n";
 
-/// Appends `count` rows to the file of this path, with a sync after each where `sync` is true. It returns for how many rows both
-/// succeeded, and 0 where the file can't be opened.
+/// Appends `count` rows to the file of this path, with a sync after each where `sync` is true. It returns how many rows were
+/// written whole and, with `sync`, synced: 0 where `open_at` refuses the file. At the end the file is closed as `end_at` says.
 pub fn append(rt: &HostRuntime, path: &str, count: u32, sync: bool) -> u64 {
     match open_at(rt, rt.alloc(), path, HEAD, HEAD, sync) {
         Ok((mut rows, _)) => {
@@ -24,8 +24,8 @@ pub fn append(rt: &HostRuntime, path: &str, count: u32, sync: bool) -> u64 {
     }
 }
 
-// Appends `count` rows to an open file, and syncs it after each where it was opened with `sync`. It returns for how many rows
-// both succeeded.
+// Appends `count` rows to an open file, and syncs it after each where it was opened with `sync`. It returns how many rows were
+// written whole and, with `sync`, synced.
 fn append_to(rows: &mut RowsFile<SystemFile>, count: u32) -> u64 {
     let mut sum = 0u64;
     for _ in 0..count {

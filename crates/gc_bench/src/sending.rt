@@ -5,7 +5,7 @@ use gc_catalogue::{Answer, Call, Reading};
 use gc_client::{Client, Outcome, Settlement, WINDOW, Window};
 use gc_lines::Line;
 
-// Replies to a simple measurement, with the request's id, 0 to 7.
+// Replies to a simple measurement, one for each id of a request, 0 to 7 in order.
 const REPLIES: [&[u8]; 8] = [
     b"%R1P,0,0:0,0.512345678901,1.512345678901,25.1252",
     b"%R1P,0,1:0,0.512345678901,1.512345678901,25.1252",
@@ -57,7 +57,7 @@ fn hear_reply<W: Window<Asked = Call>>(
     scale_of(settled.as_slice())
 }
 
-// The scale of the distance in the first settlement's answer, and 0 where there is no settlement, or none in it.
+// The scale of the distance in the first settlement's answer; 0 if there is no settlement, or no distance in it.
 fn scale_of(settled: &[Settlement<Call>]) -> u64 {
     let Some(settlement) = settled.first() else {
         return 0;

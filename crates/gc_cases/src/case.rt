@@ -31,13 +31,15 @@ impl<'a> Case<'a> {
         None
     }
 
-    /// The number that the first line with this key has as its value; `or` if there is no such line, or its value is no number.
+    /// The number that the first line with this key has as its value; `or` if there is no such line, or its value is no number of 64
+    /// bits (`number_or`).
     pub fn number(&self, key: &str, or: u64) -> u64 {
         number_or(self.value(key), or)
     }
 }
 
-// The value of a line that has this key; a line of the key alone has an empty one. `None`: the line has another key.
+// The value of a line that has this key; a line of the key alone has an empty one. `None`: the line has another key,
+// or none.
 fn value_of<'a>(line: &'a str, key: &str) -> Option<&'a str> {
     let rest = line.strip_prefix(key)?;
     if rest.is_empty() {
@@ -46,8 +48,8 @@ fn value_of<'a>(line: &'a str, key: &str) -> Option<&'a str> {
     rest.strip_prefix(' ')
 }
 
-/// The first case of a text, from its first `== ` on, and the text after it, which begins before the next case's `== ` or is empty.
-/// `None`: the text has no case.
+/// The first case of a text, which the first `== ` begins, and the text after it: from the LF before the next case's `== ` on, or an
+/// empty one if there is no further case. `None`: the text has no case.
 pub fn cut_case(text: &str) -> Option<(Case<'_>, &str)> {
     let (_, cases) = text.split_once("== ")?;
     let case = cases.split_once("\n== ").map_or(cases, |cut| cut.0);

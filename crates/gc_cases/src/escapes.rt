@@ -45,8 +45,8 @@ fn next_byte(value: &[u8]) -> Option<(u8, &[u8])> {
 }
 
 // The byte that a backslash and the text `rest` after it stand for, and the text after that: `n`, `r` and `t` stand for LF, CR and
-// a tab, `x` and the two bytes after it for the byte that these write in hexadecimal (`digit_of`), any other byte for itself, and a
-// backslash at the end of the text for itself.
+// a tab, `x` and the two bytes after it for the byte that these write in hexadecimal (`digit_of`), any other byte, and an `x` with fewer
+// than two bytes after it, for itself, and a backslash at the end of the text for itself.
 fn escape_of(rest: &[u8]) -> (u8, &[u8]) {
     match rest {
         [b'n', behind @ ..] => (b'\n', behind),

@@ -22,5 +22,5 @@ pub use escapes::{bytes_of, push_bytes_of};
 pub use input::input_of;
 pub use playing::{Player, names_of, play_folder};
 pub use rows::{Rows, bytes_behind, cut_word, play_rows};
-pub use stand_ins::{in_use, millis_of, not_found, port_of};
+pub use stand_ins::{in_use, not_found, port_of};
 pub use told::{Told, number_or};

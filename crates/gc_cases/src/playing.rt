@@ -9,14 +9,16 @@ use std::{fs, io};
 /// Plays the cases of files.
 pub trait Player {
     /// Plays a case, and appends a line to `wrong` for each key or row where something else came than the case expects (`Case::tell`,
-    /// `play_rows`). After an `Err` the case counts as one that came to something else.
+    /// `play_rows`). `Err`: an error of the system; the case counts as one that came to something else.
     fn play(&self, rt: &HostRuntime, case: &Case<'_>, wrong: &mut Told) -> io::Result<()>;
 }
 
-/// Plays each file of a folder with this ending, as `.stations`, in the order of their names. For each it prints what differs from what
-/// its cases expect, and a line with the counts. It returns whether all cases of all files came to what they expect, and `true` where
-/// there is no such file. `Err`: the folder or a file can't be read, a line can't be printed, or memory ran out; then no further file is
-/// played.
+/// Plays each file of a folder whose name has this ending, as `.stations`, in the order of their names. For each it prints what
+/// differs from what its cases expect, and a line with the counts. It returns whether all cases of all files came to what they
+/// expect, and `true` where there is no such file. Where memory runs out for what came of a case, the case counts as one that
+/// came to something else; where it runs out for a line of what differs, so does each later case of the file. `Err`: the folder
+/// or a file can't be read, a file isn't UTF-8, a line can't be printed, or memory ran out for the names or a file's text; then
+/// no further file is played.
 pub fn play_folder<P: Player>(
     rt: &HostRuntime,
     folder: &str,
@@ -27,8 +29,8 @@ pub fn play_folder<P: Player>(
     play_files(rt, folder, names.as_slice(), player)
 }
 
-/// The names of a folder's files that have an ending, in order; of all with an empty ending. `Err`: the folder can't be read, or memory
-/// ran out.
+/// The names in a folder that have an ending, in order, of files and of folders in it; all of them if the ending is empty. `Err`: the
+/// folder can't be read, or memory ran out.
 pub fn names_of(rt: &HostRuntime, folder: &str, ending: &str) -> io::Result<Vec<String>> {
     let mut names = Vec::new(rt.alloc());
     add_names(rt, folder, ending, &mut names)?;
@@ -36,7 +38,8 @@ pub fn names_of(rt: &HostRuntime, folder: &str, ending: &str) -> io::Result<Vec<
     Ok(names)
 }
 
-// Appends the names of a folder's files that have an ending, in the order in which the system lists them.
+// Appends the names in a folder that have an ending, in the order in which the system lists them. `Err`: the folder can't be
+// read, or memory ran out; some names may be appended.
 fn add_names(
     rt: &HostRuntime,
     folder: &str,
@@ -49,7 +52,7 @@ fn add_names(
     Ok(())
 }
 
-// Appends a file's name, if it has the ending.
+// Appends a name, if it has the ending. `Err`: memory ran out, and nothing was appended.
 fn add_name(
     alloc: Global,
     name: &str,
@@ -62,7 +65,8 @@ fn add_name(
     Ok(())
 }
 
-// Plays these files of a folder, and returns whether all their cases came to what they expect.
+// Plays these files of a folder, and returns whether all their cases came to what they expect. `Err`: that of `play_file`; no
+// further file is played then.
 fn play_files<P: Player>(
     rt: &HostRuntime,
     folder: &str,
@@ -76,8 +80,9 @@ fn play_files<P: Player>(
     Ok(are_right)
 }
 
-// Plays a file of a folder, prints how it went, and returns whether all its cases came to what they expect. Where what differs isn't
-// UTF-8, `no text` is printed in its place.
+// Plays a file of a folder, prints how it went, and returns whether all its cases came to what they expect. Where what differs
+// isn't UTF-8, `no text` is printed in its place. `Err`: the file can't be read or isn't UTF-8, memory ran out for its text, or
+// how it went can't be printed.
 fn play_file<P: Player>(
     rt: &HostRuntime,
     folder: &str,
@@ -91,14 +96,14 @@ fn play_file<P: Player>(
     tell_file(rt, name, count, right, wrong)
 }
 
-// Reads the text of a file of a folder.
+// Reads the text of a file of a folder. `Err`: the file can't be read or isn't UTF-8, or memory ran out.
 fn text_of_file(rt: &HostRuntime, folder: &str, name: &str) -> io::Result<String> {
     let path = format!(in rt.alloc(); "{folder}/{name}")?;
     fs::read_to_string(rt, path.as_str())
 }
 
-// Prints `wrong`, the text of what differs from what a file's cases expect, and a line with the counts: `right` of its `count` cases came
-// to what they expect. It returns whether all did.
+// Prints `wrong`, the text of what differs from what a file's cases expect, and a line with the counts: `right` of its `count`
+// cases came to what they expect. It returns whether all did. `Err`: it can't be printed.
 fn tell_file(
     rt: &HostRuntime,
     name: &str,
@@ -111,7 +116,7 @@ fn tell_file(
     Ok(otherwise == 0)
 }
 
-// Plays the cases of a text, and returns how many there are, and how many came to what they expect. A text has fewer cases than bytes.
+// Plays the cases of a text, and returns how many there are, and how many came to what they expect. A text has no more cases than bytes.
 fn play_text<P: Player>(rt: &HostRuntime, text: &str, player: &P, wrong: &mut Told) -> (u64, u64) {
     let mut count = 0u64;
     let mut right = 0u64;
@@ -129,12 +134,13 @@ fn play_text<P: Player>(rt: &HostRuntime, text: &str, player: &P, wrong: &mut To
     (count, right)
 }
 
-// Plays a case, and returns whether it came to what it expects: nothing was appended to `wrong`, and memory didn't run out for a line
-// of it. A line is appended where the player returns an error, too.
+// Plays a case, and returns whether it came to what it expects: nothing was appended to `wrong`, and `wrong` lacks no part
+// afterwards. Once memory ran out for a line of a case, `wrong` lacks a part, and so `false` is returned for each later case. A
+// line is appended where the player returns an error, too.
 fn play_case<P: Player>(rt: &HostRuntime, player: &P, case: &Case<'_>, wrong: &mut Told) -> bool {
-    let before = wrong.size();
+    let before = wrong.as_bytes().len();
     if player.play(rt, case, wrong).is_err() {
         case.tell_wrong("end", b"an error of the system", wrong);
     }
-    wrong.size() == before
+    !wrong.is_lacking() && wrong.as_bytes().len() == before
 }

@@ -10,14 +10,15 @@ const MOST_ROWS: usize = 10_000;
 
 /// What plays the rows of a case.
 pub trait Rows {
-    /// Plays a row: `word` is its first word, `what` the text from there to the arrow, and `bytes` the bytes for which that text
-    /// stands. It appends what came to `came`, which is to be nothing for a row without an arrow.
+    /// Plays a row: `word` is its first word, `what` the text between the space after that word and the ` -> `, or the row's end
+    /// if it has no arrow, and `bytes` the bytes for which that text stands. It appends what came to `came`, which is to be
+    /// nothing for a row without an arrow.
     fn play(&mut self, alloc: Global, word: &str, what: &str, bytes: &[u8], came: &mut Told);
 }
 
-/// Plays the rows of a case, and none after the first 10,000. Where something else came than what follows a row's arrow, a line with it
-/// is appended to `wrong`; so is one for a case without rows. Once memory ran out for what came of a row, there is one for each row from
-/// there on.
+/// Plays the rows of a case, and none after the first 10,000. Where something else came than what follows a row's arrow, a line
+/// with what came is appended to `wrong`. If the case has no row, or an empty one first, none is played, and a line says so. Once
+/// memory ran out for a row's bytes or for what came of the row, there is a line for that row and each later one.
 pub fn play_rows<R: Rows>(alloc: Global, case: &Case<'_>, rows: &mut R, wrong: &mut Told) {
     if case.value("do").is_empty() {
         return case.tell_wrong("rows", b"none", wrong);
@@ -32,7 +33,8 @@ pub fn play_rows<R: Rows>(alloc: Global, case: &Case<'_>, rows: &mut R, wrong: &
     }
 }
 
-// Plays one row of a case, and where something else came than what follows its arrow, appends a line with it to `wrong`.
+// Plays one row of a case. Where something else came than what follows the row's arrow, or `came`, which is empty before the row,
+// lacks a part, it appends a line with what came to `wrong`.
 fn play_row<R: Rows>(
     alloc: Global,
     case: &Case<'_>,
@@ -48,7 +50,8 @@ fn play_row<R: Rows>(
     }
 }
 
-// Plays what is before a row's arrow, a word and the text after it. `came` lacks a part if memory ran out for that text's bytes.
+// Plays what is before a row's arrow, a word and the text after it. If memory runs out for that text's bytes, nothing is played,
+// and `came` lacks a part.
 fn play_given<R: Rows>(alloc: Global, given: &str, rows: &mut R, came: &mut Told) {
     let (word, what) = cut_word(given);
     match bytes_of(alloc, what) {
@@ -57,7 +60,8 @@ fn play_given<R: Rows>(alloc: Global, given: &str, rows: &mut R, came: &mut Told
     }
 }
 
-// Appends a line to `wrong` for a row of which something else came than the case expects: the row, and what came.
+// Appends a line to `wrong` for a row of which something else came than the case expects: what is before the row's arrow (`given`), and
+// what came.
 fn tell_row(case: &Case<'_>, given: &str, came: &Told, wrong: &mut Told) {
     wrong.text(case.name);
     wrong.text(": do is ");

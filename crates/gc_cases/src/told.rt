@@ -33,22 +33,17 @@ impl Told {
         &mut self.bytes
     }
 
-    /// Whether memory ran out for a part of the text.
+    /// Whether memory ran out for a part of the text, even if the text was emptied since (`clear`).
     pub fn is_lacking(&self) -> bool {
         self.lacks
     }
 
-    /// Whether the text lacks no part, and a value of a case stands for it.
+    /// Whether the text lacks no part, and this value of a case stands for it.
     pub fn is(&self, value: &str) -> bool {
         !self.lacks && spells(value, self.as_bytes())
     }
 
-    /// How many bytes the text has, and one more where it lacks a part.
-    pub(crate) fn size(&self) -> usize {
-        self.bytes.len().saturating_add(usize::from(self.lacks))
-    }
-
-    /// Empties the text. Whether it lacks a part stays as it is.
+    /// Empties the text. One that lacks a part goes on to count as lacking.
     pub fn clear(&mut self) {
         self.bytes.clear();
     }

@@ -1,20 +1,17 @@
--- One reading for a reply.
+-- One reading for a reply, and which values of an answer are rounded when it is written.
 use Rattle.std.specs.Prelude.{◌≡◌, ℕ, List, [], ◌∷◌, Some, refl}
 use Rattle.std.proofs.Common.{sym, ◌∙◌, ap}
-use Rattle.gc_lines.specs.Replies.{ReplyFields}
 use Rattle.gc_values.specs.declared.fault.ValueFault.{ValueFault}
 use Rattle.gc_values.specs.declared.value.Value.{Value}
 use Rattle.gc_values.specs.declared.value.Value.TheVariants as value
 use Rattle.gc_catalogue.specs.declared.answer.Answer.{Answer}
-use Rattle.gc_catalogue.specs.declared.answer.Reading.{Reading}
 use Rattle.gc_catalogue.specs.declared.answer.Reading.TheVariants as reading
 use Rattle.gc_catalogue.specs.declared.call.Call.{Call}
-use Rattle.gc_catalogue.specs.Answers.{answer_fields, IsAnswer, IsFittingAnswer, IsUnreadable}
-use Rattle.gc_catalogue.specs.Laws.{AreShown, DoublesAreRounded}
+use Rattle.gc_catalogue.specs.Answers.{answer_fields, IsAnswer, IsUnreadable}
+use Rattle.gc_catalogue.specs.Laws.{AreShown, DoublesAreRounded, OneReading}
 use Rattle.gc_catalogue.specs.Lists.{shown_values}
-use Rattle.gc_catalogue.specs.Readings.{IsReading}
 use Rattle.gc_values.proofs.RoundedDecimals.{rounded_rounds}
-use Rattle.gc_values.proofs.ListLaws.{no_list_fault, one_list_fault, one_values, params_fit}
+use Rattle.gc_values.proofs.ListLaws.{no_list_fault, one_list_fault, one_values}
 use Rattle.gc_catalogue.proofs.Table.{answer_kinds, few_answer_values, same_answer, same_answer_kinds, shape-rounded, values-rounded}
 
 -- parameters are read as at most one answer of a call
@@ -28,13 +25,13 @@ pub no_unreadable : (call : Call) (params : List ℕ) (a : Answer) (e : ValueFau
 no_unreadable call params a e x y =
     no_list_fault (answer_fields a).values params e (few_answer_values a) x.values (rw (same_answer_kinds a y.0 (x.of_call ∙ sym y.1)) y.2)
 
--- parameters that are unreadable for a call have one fault
+-- parameters are unreadable for a call because of at most one fault
 pub one_unreadable : (call : Call) (params : List ℕ) (e f : ValueFault) → IsUnreadable call params e → IsUnreadable call params f → e ≡ f
 one_unreadable call params e f x y =
     one_list_fault (answer_kinds x.0) params e f x.2 (rw (same_answer_kinds x.0 y.0 (x.1 ∙ sym y.1)) y.2)
 
 -- a reply has at most one reading for a call
-pub one_reading : (call : Call) (r : ReplyFields) (x y : Reading) → IsReading call r x → IsReading call r y → x ≡ y
+pub one_reading : OneReading
 one_reading call r (reading.ComFault a) (reading.ComFault b) x y = ap (λ n. reading.ComFault n) (x.1 ∙ sym y.1)
 one_reading call r (reading.ComFault a) (reading.Refused b) x y = absurd (x.0 y.0)
 one_reading call r (reading.ComFault a) (reading.Value b) x y = absurd (x.0 y.0)
@@ -52,10 +49,6 @@ one_reading call r (reading.Unreadable a) (reading.Refused b) x y = absurd (y.1 
 one_reading call r (reading.Unreadable a) (reading.Value b) x y = absurd (no_unreadable call r.params b a y.2 x.2)
 one_reading call r (reading.Unreadable a) (reading.Unreadable b) x y = ap (λ z. reading.Unreadable z) (one_unreadable call r.params a b x.2 y.2)
 
--- an answer as which parameters are read has its values in their ranges
-pub answer_fits : (call : Call) (params : List ℕ) (answer : Answer) → IsAnswer call params answer → IsFittingAnswer answer
-answer_fits call params answer x = params_fit (answer_fields answer).values params x.values
-
 -- `AreShown` holds between values and the same values with each double rounded
 all_shown : (places : ℕ) (vs : List Value) → AreShown places vs (shown_values (Some places) vs)
 all_shown places [] = tt
@@ -66,6 +59,6 @@ all_shown places (value.Byte n ∷ vs) = (refl, all_shown places vs)
 all_shown places (value.Bool b ∷ vs) = (refl, all_shown places vs)
 all_shown places (value.Text t ∷ vs) = (refl, all_shown places vs)
 
--- an answer is written with every double rounded and every other value as it is
+-- an answer is written with every double rounded, and with its shape and every other value as it is
 pub doubles_are_rounded : DoublesAreRounded
 doubles_are_rounded = λ places answer. (shape-rounded places answer, rw (values-rounded places answer) (all_shown places (answer_fields answer).values))

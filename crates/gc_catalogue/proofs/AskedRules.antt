@@ -1,17 +1,15 @@
 -- What is asked: one thing for a number and parameters, and one for a line; and one reading for a reply.
-use Rattle.std.proofs.Common.{◌≡◌, ◌<◌, ℕ, List, refl, sym, ap, ◌∙◌, subst}
-use Rattle.std.specs.Prelude.{Option, IfSome}
+use Rattle.std.proofs.Common.{◌≡◌, ℕ, List, refl, sym, ap, ◌∙◌, subst}
+use Rattle.std.specs.Prelude.{Option}
 use Rattle.gc_lines.proofs.Written.{request_back}
-use Rattle.gc_lines.specs.Replies.{ReplyFields}
 use Rattle.gc_lines.specs.Requests.{RequestFields}
 use Rattle.gc_lines.specs.Readers.{request_at}
-use Rattle.gc_catalogue.specs.Asked.{asked_line, asked_request, raw_params, raw_request, IsAsked, IsAskedFitting, IsAskedReading}
-use Rattle.gc_catalogue.specs.AskedLaws.{ReadsBackAsked}
+use Rattle.gc_catalogue.specs.Asked.{asked_request, raw_params, raw_request, IsAsked}
+use Rattle.gc_catalogue.specs.AskedLaws.{AskedReadBack, EachReplyIsReadForAsked, OneAsked, OneAskedForALine, OneAskedReading}
 use Rattle.gc_catalogue.specs.Calls.{IsCall}
 use Rattle.gc_catalogue.specs.RawProps.{IsRawCall-prop}
 use Rattle.gc_catalogue.specs.RawTexts.{raw_bytes}
 use Rattle.gc_catalogue.specs.Raws.{IsRawCall}
-use Rattle.gc_catalogue.specs.declared.answer.Reading.{Reading}
 use Rattle.gc_catalogue.specs.declared.asked.Asked.{Asked}
 use Rattle.gc_catalogue.specs.declared.asked.Asked.TheVariants.{Table, Raw}
 use Rattle.gc_catalogue.specs.declared.call.Call.{Call}
@@ -24,11 +22,12 @@ use Rattle.gc_catalogue.proofs.LineLaws.{call_again, read_once}
 use Rattle.gc_catalogue.proofs.SameText.{same_text}
 use Rattle.gc_catalogue.proofs.RawRules.{each_raw_reply, one_raw_reading}
 
--- the request for a procedure that isn't in the table, made of its number, its parameters and the proof that they may be asked for
+-- the request for a procedure that isn't in the table, made of its number, its parameters and the proof that they may be asked
+-- for
 abbrev raw_call_of : (rpc : ℕ) (params : RawText) → IsRawCall rpc (raw_bytes params) → RawCall
 raw_call_of rpc params is = record { rpc = rpc; params = params; is = is }
 
--- requests of one number and the same parameters are equal whatever the proofs are that they may be asked for
+-- requests with the same number and the same parameters are equal whatever the proofs are that they may be asked for
 same_fields : (rpc : ℕ) (params : RawText) (is : IsRawCall rpc (raw_bytes params)) (other : ℕ) (text : RawText) → rpc ≡ other → params ≡ text
     → (so : IsRawCall other (raw_bytes text)) → raw_call_of rpc params is ≡ raw_call_of other text so
 same_fields rpc params is other text e f =
@@ -36,23 +35,24 @@ same_fields rpc params is other text e f =
     let Q : RawText → Type 0 = λ t. (so : IsRawCall rpc (raw_bytes t)) → raw_call_of rpc params is ≡ raw_call_of rpc t so in
     subst P e (subst Q f (λ so. ap (raw_call_of rpc params) (IsRawCall-prop rpc (raw_bytes params) is so)))
 
--- requests of one number and the same parameters are equal
+-- requests with the same number and the same parameters' bytes are equal
 pub same_raw : (a b : RawCall) → a.rpc ≡ b.rpc → raw_params a ≡ raw_params b → a ≡ b
 same_raw a b e f = same_fields a.rpc a.params a.is b.rpc b.params e (same_text a.params b.params f) b.is
 
--- no call has the number of a procedure that isn't in the table
+-- a request for a call doesn't have the number of a procedure that isn't in the table
 pub no_call_is_raw : (rpc : ℕ) (params : List ℕ) (call : Call) (raw : RawCall) → IsCall rpc params call → raw.rpc ≡ rpc → ⊥
 no_call_is_raw rpc params call raw is e = raw.is.no_procedure call (is.number ∙ sym e)
 
 -- a number and parameters ask for at most one thing
-pub one_asked : (rpc : ℕ) (params : List ℕ) (a b : Asked) → IsAsked rpc params a → IsAsked rpc params b → a ≡ b
+pub one_asked : OneAsked
 one_asked rpc params (Table c) (Table d) x y = ap (λ z. Table z) (one_call rpc params c d x y)
 one_asked rpc params (Table c) (Raw s) x y = absurd (no_call_is_raw rpc params c s x y.0)
 one_asked rpc params (Raw r) (Table d) x y = absurd (no_call_is_raw rpc params d r y x.0)
 one_asked rpc params (Raw r) (Raw s) x y = ap (λ z. Raw z) (same_raw r s (x.0 ∙ sym y.0) (x.1 ∙ sym y.1))
 
--- the line of what is asked reads back as what was asked
-pub asked_again : (id : Option ℕ) (asked : Asked) → IfSome id (λ n. n < 8) → IsAskedFitting asked → ReadsBackAsked id asked
+-- the line of what is asked, if that is allowed (`IsAskedFitting`), with an id below 8 or without one, reads back as what was
+-- asked
+pub asked_again : AskedReadBack
 asked_again id (Table call) i fits = let again = call_again id call i fits in record { line = again.line; is_asked = again.is_call }
 asked_again id (Raw raw) i fits = record { line = request_back (raw_request id raw) (record { rpc = raw.is.bound; id = i }); is_asked = (refl, refl) }
 
@@ -61,9 +61,9 @@ asked_id : (id : Option ℕ) (asked : Asked) → (asked_request id asked).id ≡
 asked_id id (Table call) = refl
 asked_id id (Raw raw) = refl
 
--- requests with the same line ask for the same thing, and have the same id
-pub one_asked_for_a_line : (i j : Option ℕ) (a b : Asked) → IfSome i (λ n. n < 8) → IfSome j (λ n. n < 8) → IsAskedFitting a → IsAskedFitting b
-    → asked_line i a ≡ asked_line j b → (i ≡ j) × (a ≡ b)
+-- requests with the same line, for what is allowed, each with an id below 8 or without one, ask for the same thing, and have the
+-- same id
+pub one_asked_for_a_line : OneAskedForALine
 one_asked_for_a_line i j a b x y f g e =
     let one = asked_again i a x f in
     let two = asked_again j b y g in
@@ -73,11 +73,11 @@ one_asked_for_a_line i j a b x y f g e =
     )
 
 -- a reply has at most one reading for what was asked
-pub one_asked_reading : (asked : Asked) (reply : ReplyFields) (x y : Reading) → IsAskedReading asked reply x → IsAskedReading asked reply y → x ≡ y
+pub one_asked_reading : OneAskedReading
 one_asked_reading (Table call) reply x y f g = one_reading call reply x y f g
 one_asked_reading (Raw raw) reply x y f g = one_raw_reading reply x y f g
 
--- each reply has a reading for what was asked
-pub each_asked_reply : (asked : Asked) (reply : ReplyFields) → (reading : Reading) × IsAskedReading asked reply reading
+-- each reply has a reading for whatever was asked
+pub each_asked_reply : EachReplyIsReadForAsked
 each_asked_reply (Table call) reply = each_reply call reply
 each_asked_reply (Raw raw) reply = each_raw_reply reply

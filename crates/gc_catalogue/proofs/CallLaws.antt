@@ -15,7 +15,7 @@ one_call n params c d x y =
     let number = x.number ∙ sym y.number in
     same_call c d number (one_values _ _ params (same_number_alike c d number).kinds x.values y.values)
 
--- parameters of a call are not refused
+-- the number and the parameters of a call have no refusal
 pub no_refusal : (n : ℕ) (params : List ℕ) (c : Call) (e : CallFault) → IsCall n params c → IsRefusal n params e → ⊥
 no_refusal n params c Unknown x h = h c x.number
 no_refusal n params c (Parameters e) x h =
@@ -29,21 +29,26 @@ one_refusal n params (Parameters e) Unknown x y = absurd (y x.0 x.1)
 one_refusal n params (Parameters e) (Parameters f) x y =
     ap (λ z. Parameters z) (one_list_fault (call_kinds x.0) params e f x.2 (rw (same_number_alike x.0 y.0 (x.1 ∙ sym y.1)).kinds y.2))
 
--- a reading made call `d` or gave a refusal. Where the parameters are those of a call, it refused nothing and made that call
-pub only_call : (n : ℕ) (params : List ℕ) (r : Result ⊤ CallFault) (d : Call) → OnOk r (IsCall n params d) → IfErr r (λ e. IsRefusal n params e) → (c : Call) → IsCall n params c → IsOk r × (d ≡ c)
+-- a reading `r` of a number and parameters made their call `d`, or gave a refusal of them. Where they are those of a call `c`,
+-- `r` is no refusal, and d is c
+pub only_call : (n : ℕ) (params : List ℕ) (r : Result ⊤ CallFault) (d : Call) → OnOk r (IsCall n params d)
+    → IfErr r (λ e. IsRefusal n params e) → (c : Call) → IsCall n params c → IsOk r × (d ≡ c)
 only_call n params (Ok u) d x f c y = (refl, one_call n params d c x y)
 only_call n params (Err e) d x f c y = absurd (no_refusal n params c e y f)
 
--- a reading made call `d` or gave a refusal. Where the parameters have a refusal, the reading gave that one
-pub only_refusal : (n : ℕ) (params : List ℕ) (r : Result ⊤ CallFault) (d : Call) → OnOk r (IsCall n params d) → IfErr r (λ e. IsRefusal n params e) → (e : CallFault) → IsRefusal n params e → r ≡ Err e
+-- a reading `r` of a number and parameters made their call `d`, or gave a refusal of them. Where they have a refusal, `r` is that
+-- one
+pub only_refusal : (n : ℕ) (params : List ℕ) (r : Result ⊤ CallFault) (d : Call) → OnOk r (IsCall n params d)
+    → IfErr r (λ e. IsRefusal n params e) → (e : CallFault) → IsRefusal n params e → r ≡ Err e
 only_refusal n params (Ok u) d x f e y = absurd (no_refusal n params d e x y)
 only_refusal n params (Err g) d x f e y = ap (λ z. Err z) (one_refusal n params g e f y)
 
--- the texts of a call's values, joined by commas, are parameters of that call
+-- the texts of a call's values, if these are in range, joined by commas, are parameters of that call
 pub written_is_call : (c : Call) → IsFitting c → IsCall (call_fields c).number (params_of (call_fields c).values) c
 written_is_call c h = record { number = refl; values = written_reads (call_fields c).values h }
 
--- a call that was read has its values in their ranges
+-- where a reading `r` of a number and parameters made their call `d` or gave a fault, and r is no fault, d's values are in their
+-- ranges
 pub fits_where_found : (n : ℕ) (params : List ℕ) (r : Result ⊤ CallFault) (d : Call) → OnOk r (IsCall n params d) → OnOk r (IsFitting d)
 fits_where_found n params (Ok u) d x = params_fit (call_fields d).values params x.values
 fits_where_found n params (Err e) d x = tt

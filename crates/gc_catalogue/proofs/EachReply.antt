@@ -1,11 +1,11 @@
--- Each reply says something of each call: its parameters are an answer of the call's shape, or there is a reason why they aren't.
+-- Each reply has a reading for each call: where both codes are 0, the parameters are read as an answer of the call, or there is a
+-- fault for which they can't be.
 use Rattle.std.proofs.Common.{◌≡◌, ℕ, List, [], ◌∷◌, refl, sym, ap, ◌∙◌, subst, ◌⊎◌, inl, inr}
 use Rattle.std.specs.Prelude.{pos}
 use Rattle.std.proofs.lemmas.Bool.{cases_eq}
-use Rattle.gc_lines.specs.Replies.{ReplyFields}
 use Rattle.gc_values.specs.Decimals.{zero}
 use Rattle.gc_values.specs.Item.{kind_of}
-use Rattle.gc_values.specs.Lists.{kinds_of, AreParams, IsListFault}
+use Rattle.gc_values.specs.Lists.{kinds_of, AreParams}
 use Rattle.gc_values.specs.declared.decimal.Decimal.{Decimal}
 use Rattle.gc_values.specs.declared.value.Kind.{Kind}
 use Rattle.gc_values.specs.declared.value.Kind.TheVariants as kind
@@ -15,16 +15,14 @@ use Rattle.gc_values.proofs.EachItem.{each_list}
 use Rattle.gc_catalogue.specs.Answers.{answer_fields, IsAnswer, IsUnreadable}
 use Rattle.gc_catalogue.specs.Calls.{call_fields}
 use Rattle.gc_catalogue.specs.Laws.{EachReplyIsRead}
-use Rattle.gc_catalogue.specs.Readings.{IsReading}
 use Rattle.gc_catalogue.specs.declared.answer.Answer.{Answer}
 use Rattle.gc_catalogue.specs.declared.answer.Answer.TheVariants as answer
-use Rattle.gc_catalogue.specs.declared.answer.Reading.{Reading}
 use Rattle.gc_catalogue.specs.declared.answer.Reading.TheVariants as reading
 use Rattle.gc_catalogue.specs.declared.answer.Shape.{Shape}
 use Rattle.gc_catalogue.specs.declared.answer.Shape.TheVariants as shape
 use Rattle.gc_catalogue.specs.declared.call.Call.{Call}
 
--- the first value of a list, which is of kind k, and those after it
+-- the list vs is a first value, of kind k, and the values after it, of the kinds ks
 record FirstValue (k : Kind) (ks : List Kind) (vs : List Value) : Type 0 where
   first : Value
   behind : List Value
@@ -32,7 +30,7 @@ record FirstValue (k : Kind) (ks : List Kind) (vs : List Value) : Type 0 where
   kind : kind_of first ≡ k
   kinds : kinds_of behind ≡ ks
 
--- a list of values whose kinds begin with k begins with a value of kind k
+-- a list of values whose kinds are k and then ks has a first value of kind k, and after it values of the kinds ks
 first_value : (k : Kind) (ks : List Kind) (vs : List Value) → kinds_of vs ≡ k ∷ ks → FirstValue k ks vs
 first_value k ks [] e = absurd (cc)
 first_value k ks (v ∷ vs) e = record { first = v; behind = vs; is = refl; kind = cc; kinds = cc }
@@ -42,7 +40,7 @@ none_left : (vs : List Value) → kinds_of vs ≡ [] → [] ≡ vs
 none_left [] e = refl
 none_left (v ∷ vs) e = absurd (cc)
 
--- a value of the kind `Double` is a decimal
+-- a value of the kind `Double` is `Double` of a decimal
 a_double : (v : Value) → kind_of v ≡ kind.Double → (d : Decimal) × (value.Double d ≡ v)
 a_double (value.Double d) e = (d, refl)
 a_double (value.Long z) e = absurd (cc)
@@ -51,7 +49,7 @@ a_double (value.Byte n) e = absurd (cc)
 a_double (value.Bool b) e = absurd (cc)
 a_double (value.Text t) e = absurd (cc)
 
--- a value of the kind `Long` is a whole number
+-- a value of the kind `Long` is `Long` of a whole number
 a_long : (v : Value) → kind_of v ≡ kind.Long → (z : _) × (value.Long z ≡ v)
 a_long (value.Double d) e = absurd (cc)
 a_long (value.Long z) e = (z, refl)
@@ -60,7 +58,7 @@ a_long (value.Byte n) e = absurd (cc)
 a_long (value.Bool b) e = absurd (cc)
 a_long (value.Text t) e = absurd (cc)
 
--- a value of the kind `Short` is a whole number
+-- a value of the kind `Short` is `Short` of a whole number
 a_short : (v : Value) → kind_of v ≡ kind.Short → (z : _) × (value.Short z ≡ v)
 a_short (value.Double d) e = absurd (cc)
 a_short (value.Long z) e = absurd (cc)
@@ -69,7 +67,7 @@ a_short (value.Byte n) e = absurd (cc)
 a_short (value.Bool b) e = absurd (cc)
 a_short (value.Text t) e = absurd (cc)
 
--- a value of the kind `Byte` is a byte
+-- a value of the kind `Byte` is `Byte` of a number
 a_byte : (v : Value) → kind_of v ≡ kind.Byte → (n : ℕ) × (value.Byte n ≡ v)
 a_byte (value.Double d) e = absurd (cc)
 a_byte (value.Long z) e = absurd (cc)
@@ -78,7 +76,7 @@ a_byte (value.Byte n) e = (n, refl)
 a_byte (value.Bool b) e = absurd (cc)
 a_byte (value.Text t) e = absurd (cc)
 
--- a value of the kind `Text` is a text
+-- a value of the kind `Text` is `Text` of some bytes
 a_text : (v : Value) → kind_of v ≡ kind.Text → (t : List ℕ) × (value.Text t ≡ v)
 a_text (value.Double d) e = absurd (cc)
 a_text (value.Long z) e = absurd (cc)
@@ -87,31 +85,29 @@ a_text (value.Byte n) e = absurd (cc)
 a_text (value.Bool b) e = absurd (cc)
 a_text (value.Text t) e = (t, refl)
 
--- an answer of a shape that has these values
+-- there is an answer of this shape with these values
 abbrev HasAnswer : Shape → List Value → Type 0
 HasAnswer s vs = (a : Answer) × ((answer_fields a).shape ≡ s) × ((answer_fields a).values ≡ vs)
 
--- a shape has one list of kinds, some answer, and an answer for each list of values of these kinds
+-- `some` is an answer of the shape, and for each list of values of the same kinds as the values of `some`, there is an answer of
+-- the shape with just these values
 record ShapeIsAnswered (s : Shape) : Type 0 where
   some : Answer
   shape : (answer_fields some).shape ≡ s
   each : (vs : List Value) → kinds_of vs ≡ kinds_of (answer_fields some).values → HasAnswer s vs
 
--- where `say` gives answers of the shape s with just one value, which is of kind k and which `make` gives, there is an answer of
--- that shape for each list of one value of that kind
-one_value_answer : {X : Type 0} (k : Kind) (make : X → Value) (say : X → Answer) (s : Shape) → ((v : Value) → kind_of v ≡ k → (x : X) × (make x ≡ v))
-    → ((x : X) → (answer_fields (say x)).shape ≡ s) → ((x : X) → (answer_fields (say x)).values ≡ make x ∷ []) → (vs : List Value) → kinds_of vs ≡ k ∷ [] → HasAnswer s vs
+-- where `make` gives each value of kind k, and `say` gives answers of the shape s with just the value that `make` gives, there is
+-- an answer of that shape for each list of one value of that kind
+one_value_answer : {X : Type 0} (k : Kind) (make : X → Value) (say : X → Answer) (s : Shape)
+    → ((v : Value) → kind_of v ≡ k → (x : X) × (make x ≡ v))
+    → ((x : X) → (answer_fields (say x)).shape ≡ s) → ((x : X) → (answer_fields (say x)).values ≡ make x ∷ []) → (vs : List Value)
+    → kinds_of vs ≡ k ∷ [] → HasAnswer s vs
 one_value_answer k make say s is shape values vs e =
     let p = first_value k [] vs e in
     let x = is p.first p.kind in
     (say x.0, shape x.0, values x.0 ∙ ap (λ v. v ∷ []) x.1 ∙ ap (λ ws. p.first ∷ ws) (none_left p.behind p.kinds) ∙ p.is)
 
--- where an answer of a shape has one decimal, there is such an answer for each decimal
-one_double : (say : Decimal → Answer) (s : Shape) → ((d : Decimal) → (answer_fields (say d)).shape ≡ s)
-    → ((d : Decimal) → (answer_fields (say d)).values ≡ value.Double d ∷ []) → (vs : List Value) → kinds_of vs ≡ kind.Double ∷ [] → HasAnswer s vs
-one_double say s is values = one_value_answer kind.Double (λ d. value.Double d) say s a_double is values
-
--- every shape has a list of kinds, and an answer for each list of values of these kinds
+-- `ShapeIsAnswered` holds of every shape
 shape_is_answered : (s : Shape) → ShapeIsAnswered s
 shape_is_answered shape.Nothing = record { some = answer.Nothing; shape = refl; each = λ vs e. (answer.Nothing, refl, none_left vs e) }
 shape_is_answered shape.Short = record {
@@ -120,10 +116,30 @@ shape_is_answered shape.Short = record {
   each = one_value_answer kind.Short (λ z. value.Short z) (λ z. answer.Short z) shape.Short a_short
       (λ z. refl) (λ z. refl);
 }
-shape_is_answered shape.Long = record { some = answer.Long (pos 0); shape = refl; each = one_value_answer kind.Long (λ z. value.Long z) (λ z. answer.Long z) shape.Long a_long (λ z. refl) (λ z. refl) }
-shape_is_answered shape.Name = record { some = answer.Name []; shape = refl; each = one_value_answer kind.Text (λ t. value.Text t) (λ t. answer.Name t) shape.Name a_text (λ t. refl) (λ t. refl) }
-shape_is_answered shape.Temperature = record { some = answer.Temperature zero; shape = refl; each = one_double (λ d. answer.Temperature d) shape.Temperature (λ d. refl) (λ d. refl) }
-shape_is_answered shape.Height = record { some = answer.Height zero; shape = refl; each = one_double (λ d. answer.Height d) shape.Height (λ d. refl) (λ d. refl) }
+shape_is_answered shape.Long = record {
+  some = answer.Long (pos 0);
+  shape = refl;
+  each = one_value_answer kind.Long (λ z. value.Long z) (λ z. answer.Long z) shape.Long a_long
+      (λ z. refl) (λ z. refl);
+}
+shape_is_answered shape.Name = record {
+  some = answer.Name [];
+  shape = refl;
+  each = one_value_answer kind.Text (λ t. value.Text t) (λ t. answer.Name t) shape.Name a_text
+      (λ t. refl) (λ t. refl);
+}
+shape_is_answered shape.Temperature = record {
+  some = answer.Temperature zero;
+  shape = refl;
+  each = one_value_answer kind.Double (λ d. value.Double d) (λ d. answer.Temperature d) shape.Temperature a_double
+      (λ d. refl) (λ d. refl);
+}
+shape_is_answered shape.Height = record {
+  some = answer.Height zero;
+  shape = refl;
+  each = one_value_answer kind.Double (λ d. value.Double d) (λ d. answer.Height d) shape.Height a_double
+      (λ d. refl) (λ d. refl);
+}
 shape_is_answered shape.Version = record { some = answer.Version (pos 0) (pos 0) (pos 0); shape = refl; each = version } where
   -- each list of three Shorts is the values of an answer of the shape `Version`
   version : (vs : List Value) → kinds_of vs ≡ kind.Short ∷ kind.Short ∷ kind.Short ∷ [] → HasAnswer shape.Version vs

@@ -2,6 +2,7 @@
 use Rattle.std.specs.Prelude.{◌≡◌, ◌≢◌, ◌<◌, ◌-◌, ◌++◌, ℕ, List, [], ◌∷◌, Option, length, take, refl}
 use Rattle.std.specs.Fmt.{decimal}
 use Rattle.std.proofs.Common.{sym, ◌∙◌, ap, arith, append_assoc, append-nil, length-append}
+use Rattle.std.proofs.lemmas.List.{same_from_push}
 use Rattle.std.proofs.lemmas.List.Folds.{flat_map-map}
 use Rattle.std.proofs.Math.Seq.{take-append_seam}
 use Rattle.gc_lines.specs.Replies.{params_text, reply_text}
@@ -11,13 +12,12 @@ use Rattle.gc_values.specs.Item.{text}
 use Rattle.gc_values.specs.declared.value.Value.{Value}
 use Rattle.gc_catalogue.specs.Lists.{before_commas, behind_commas, params_of}
 use Rattle.gc_values.proofs.TextShape.{text_is_some}
-use Rattle.gc_values.proofs.Trimming.{last_same}
 
--- joined values are the first one's text and the others after commas
+-- values joined by commas are the first one's text, and then the others' texts, each after a comma
 pub params_of-cons : (v : Value) (vs : List Value) → params_of (v ∷ vs) ≡ text v ++ behind_commas vs
 params_of-cons v vs = ap (λ rest. text v ++ rest) (flat_map-map (λ (u : List ℕ). 44 ∷ u) text vs)
 
--- parameters of at least one byte follow a comma
+-- what is written in a reply of parameters of at least one byte is a comma and then the parameters
 params_text-some : (bytes : List ℕ) → 0 < length bytes → params_text bytes ≡ 44 ∷ bytes
 params_text-some [] h = absurd (omega arith)
 params_text-some (b ∷ bs) h = refl
@@ -27,17 +27,17 @@ append_not_empty : (xs ys : List ℕ) → 0 < length xs → 0 < length (xs ++ ys
 append_not_empty [] ys h = absurd (omega arith)
 append_not_empty (x ∷ xs) ys h = omega arith
 
--- a reply's parameters follow a comma, where there are any
+-- what is written in a reply of parameters joined from these values is the values' texts, each after a comma
 pub params_text-params_of : (vs : List Value) → params_text (params_of vs) ≡ behind_commas vs
 params_text-params_of [] = refl
 params_text-params_of (v ∷ vs) = ap params_text (params_of-cons v vs) ∙ params_text-some (text v ++ behind_commas vs) (append_not_empty (text v) (behind_commas vs) (text_is_some v))
 
--- values before commas are the values joined, and a comma after them
+-- the texts of at least one value, each before a comma, are the values joined by commas, and a comma after them
 before-params : (v : Value) (vs : List Value) → before_commas (v ∷ vs) ≡ params_of (v ∷ vs) ++ 44 ∷ []
 before-params v [] = simp append-nil
 before-params v (w ∷ vs) = rw (before-params w vs) (simp append_assoc)
 
--- a comma and values before commas are the values after commas, and a comma
+-- a comma and then values, each before a comma, are the values, each after a comma, and then a comma
 pub behind-before : (vs : List Value) → 44 ∷ before_commas vs ≡ behind_commas vs ++ 44 ∷ []
 behind-before [] = refl
 behind-before (v ∷ vs) =
@@ -50,8 +50,8 @@ without_last xs a =
     let n : length (xs ++ a ∷ []) - 1 ≡ length xs = omega (arith, length-append xs (a ∷ [])) in
     ap (λ k. take k (xs ++ a ∷ [])) n ∙ take-append_seam xs (a ∷ [])
 
--- where `begun` is a head and a comma, `old` has values before commas after that, and `new` is `old` without its last byte,
--- `new` is the head and the values after commas
+-- where `begun` is a head and a comma, `old` is `begun` and then values, each before a comma, and `new` is `old` without its last
+-- byte, `new` is the head and then the values, each after a comma
 pub comma_list : (head : List ℕ) (vs : List Value) (begun old new : List ℕ) → begun ≡ head ++ 44 ∷ [] → old ≡ begun ++ before_commas vs
     → new ≡ take (length old - 1) old → new ≡ head ++ behind_commas vs
 comma_list head vs begun old new start is cut =
@@ -60,24 +60,26 @@ comma_list head vs begun old new start is cut =
     ∙ sym (append_assoc head (behind_commas vs) (44 ∷ [])) in
     cut ∙ ap (λ bytes. take (length bytes - 1) bytes) all ∙ without_last (head ++ behind_commas vs) 44
 
--- where `old` is a head, a colon and values before commas, and `new` is `old` without a comma at its end, if one is there,
--- `new` is the head, the colon and the values joined by commas
+-- where `old` is a head, a colon and then values, each before a comma, and `new` is `old` without a comma at its end, if one is
+-- there, `new` is the head, the colon and the values joined by commas
 colon_list : (head : List ℕ) (vs : List Value) (old new : List ℕ) → old ≡ (head ++ 58 ∷ []) ++ before_commas vs
     → ((front : List ℕ) → old ≡ front ++ 44 ∷ [] → new ≡ front) → (((front : List ℕ) → old ≢ front ++ 44 ∷ []) → new ≡ old)
     → new ≡ (head ++ 58 ∷ []) ++ params_of vs
 colon_list head [] old new is comma other =
-    other (λ front e. let same : 58 ≡ 44 = last_same head front 58 44 (sym (append-nil (head ++ 58 ∷ [])) ∙ sym is ∙ e) in omega (arith, same)) ∙ is
+    other (λ front e. let same : 58 ≡ 44 = (same_from_push head front 58 44 (sym (append-nil (head ++ 58 ∷ [])) ∙ sym is ∙ e)).1 in omega (arith, same)) ∙ is
 colon_list head (v ∷ vs) old new is comma other =
     comma ((head ++ 58 ∷ []) ++ params_of (v ∷ vs)) (is ∙ ap (λ bytes. (head ++ 58 ∷ []) ++ bytes) (before-params v vs) ∙ sym (append_assoc (head ++ 58 ∷ []) (params_of (v ∷ vs)) (44 ∷ [])))
 
 -- a request without parameters is its signature, number and id, and a colon
-bare_head : (rpc : ℕ) (id : Option ℕ) → request_text (record { rpc = rpc; id = id; params = [] }) ≡ (request_signature ++ (decimal rpc ++ id_text id)) ++ 58 ∷ []
+bare_head : (rpc : ℕ) (id : Option ℕ)
+    → request_text (record { rpc = rpc; id = id; params = [] }) ≡ (request_signature ++ (decimal rpc ++ id_text id)) ++ 58 ∷ []
 bare_head rpc id = simp append_assoc
 
--- where `old` ends in a request's head and values before commas, and `new` is `old` without a comma at its end, if one is
--- there, `new` ends in the request with these values as its parameters
+-- where `old` is `front`, a request without parameters, and then values, each before a comma, and `new` is `old` without a comma
+-- at its end, if one is there, `new` is `front` and then the request with these values as its parameters
 pub request_ends : (front : List ℕ) (rpc : ℕ) (id : Option ℕ) (vs : List Value) (old new : List ℕ)
-    → old ≡ front ++ (request_text (record { rpc = rpc; id = id; params = [] }) ++ before_commas vs) → ((list : List ℕ) → old ≡ list ++ 44 ∷ [] → new ≡ list)
+    → old ≡ front ++ (request_text (record { rpc = rpc; id = id; params = [] }) ++ before_commas vs)
+    → ((list : List ℕ) → old ≡ list ++ 44 ∷ [] → new ≡ list)
     → (((list : List ℕ) → old ≢ list ++ 44 ∷ []) → new ≡ old) → new ≡ front ++ request_text (record { rpc = rpc; id = id; params = params_of vs })
 request_ends front rpc id vs old new is comma other =
     let head : List ℕ = front ++ (request_signature ++ (decimal rpc ++ id_text id)) in

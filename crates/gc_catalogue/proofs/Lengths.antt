@@ -1,4 +1,4 @@
--- Lines that are written are short.
+-- How long the parameters of a line that is written are at most.
 use Rattle.std.specs.Prelude.{◌≤◌, ◌*◌, List, [], ◌∷◌, length}
 use Rattle.std.proofs.Common.{arith, length-append, lit≤}
 use Rattle.gc_values.proofs.TextShape.{text_is_short}
@@ -7,7 +7,7 @@ use Rattle.gc_values.specs.declared.value.Value.{Value}
 use Rattle.gc_values.specs.Lists.{AreValues}
 use Rattle.gc_catalogue.specs.Lists.{behind_commas}
 
--- the texts of values, each after a comma, have at most 67 bytes for each value
+-- the texts of values in range, each after a comma, have at most 67 bytes for each value
 pub behind_short : (vs : List Value) → AreValues vs → length (behind_commas vs) ≤ 67 * length vs
 behind_short [] h = lit≤ tt
 behind_short (v ∷ vs) h = omega (arith, length-append (44 ∷ text v) (behind_commas vs), text_is_short v h.0, behind_short vs h.1)

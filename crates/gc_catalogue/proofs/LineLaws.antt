@@ -12,25 +12,24 @@ use Rattle.gc_catalogue.specs.declared.answer.Answer.TheVariants.{Nothing}
 use Rattle.gc_catalogue.specs.declared.answer.Reading.TheVariants as reading
 use Rattle.gc_catalogue.specs.declared.call.Call.{Call}
 use Rattle.gc_catalogue.specs.Answers.{answer_fields, IsAnswer, IsAnswerOf, IsFittingAnswer, rounded_answer}
-use Rattle.gc_catalogue.specs.Calls.{IsFitting}
-use Rattle.gc_catalogue.specs.Laws.{ReadsBackAnswer, ReadsBackCall}
+use Rattle.gc_catalogue.specs.Laws.{CallsReadBack, OneCallForALine, ReadsBackAnswer}
 use Rattle.gc_values.specs.Lists.{AreValues}
 use Rattle.gc_catalogue.specs.Lists.{params_of, shown_values}
-use Rattle.gc_catalogue.specs.Texts.{reply_of, request_line, request_of}
+use Rattle.gc_catalogue.specs.Texts.{reply_of, request_of}
 use Rattle.gc_catalogue.proofs.CallLaws.{one_call, written_is_call}
 use Rattle.gc_values.proofs.ListLaws.{written_reads}
 use Rattle.gc_catalogue.proofs.Table.{number_fits, shape-rounded, values-rounded}
 
--- a call's line reads back as the call
-pub call_again : (id : Option ℕ) (call : Call) → IfSome id (λ n. n < 8) → IsFitting call → ReadsBackCall id call
+-- the line of a call with values in range, with an id below 8 or without one, reads back as the call
+pub call_again : CallsReadBack
 call_again id call i fits = record { line = request_back (request_of id call) (record { rpc = number_fits call; id = i }); is_call = written_is_call call fits }
 
--- a result is `Ok` of at most one value: if it is `Ok` of p and of q, these are equal
+-- where a result is `Ok p` and is `Ok q`, p and q are equal
 pub read_once : (r : Result RequestFields LineFault) (p q : RequestFields) → r ≡ Ok p → r ≡ Ok q → p ≡ q
 read_once r p q e f = cc
 
--- calls with the same line are the same call, and have the same id
-pub one_call_for_a_line : (i j : Option ℕ) (c d : Call) → IfSome i (λ n. n < 8) → IfSome j (λ n. n < 8) → IsFitting c → IsFitting d → request_line i c ≡ request_line j d → (i ≡ j) × (c ≡ d)
+-- calls with values in range and the same line, each with an id below 8 or without one, are the same call, and have the same id
+pub one_call_for_a_line : OneCallForALine
 one_call_for_a_line i j c d x y f g e =
     let one = call_again i c x f in
     let two = call_again j d y g in
@@ -51,7 +50,7 @@ shown_fit places (value.Text t ∷ vs) h = (h.0, shown_fit places vs h.1)
 pub rounded_fits : (places : ℕ) (answer : Answer) → IsFittingAnswer answer → IsFittingAnswer (rounded_answer places answer)
 rounded_fits places answer h = rw (values-rounded places answer) (shown_fit places (answer_fields answer).values h)
 
--- the parameters written for a rounded answer read as that answer of the call
+-- the parameters written for a rounded answer of the call, with values in range, read as that answer
 pub written_is_answer : (call : Call) (answer : Answer) (places : ℕ) → IsAnswerOf call answer → IsFittingAnswer (rounded_answer places answer)
     → IsAnswer call (params_of (answer_fields (rounded_answer places answer)).values) (rounded_answer places answer)
 written_is_answer call answer places of_call fits = record {
@@ -59,15 +58,17 @@ written_is_answer call answer places of_call fits = record {
   values = written_reads _ fits;
 }
 
--- an answer's line reads back as the answer with its doubles rounded
-pub answer_again : (call : Call) (id : ℕ) (answer : Answer) (places : ℕ) → id < 8 → IsAnswerOf call answer → IsFittingAnswer (rounded_answer places answer)
+-- the line of a call's answer, with an id below 8 and the return code 0, reads back as the answer with its doubles rounded, if
+-- the values are then in range
+pub answer_again : (call : Call) (id : ℕ) (answer : Answer) (places : ℕ) → id < 8 → IsAnswerOf call answer
+    → IsFittingAnswer (rounded_answer places answer)
     → ReadsBackAnswer call id 0 answer places (reading.Value (rounded_answer places answer))
 answer_again call id answer places i of_call fits = record {
   line = reply_back (reply_of id 0 answer places) (record { rc_com = lit< tt; id = i; rc = lit< tt });
   is_reading = (refl, refl, written_is_answer call answer places of_call fits);
 }
 
--- a refusal's line reads back as the refusal
+-- the line of a refusal, with an id below 8 and a return code of 16 bits other than 0, reads back as the refusal
 pub refusal_again : (call : Call) (id rc places : ℕ) → id < 8 → 0 < rc → rc < 65536 → ReadsBackAnswer call id rc Nothing places (reading.Refused rc)
 refusal_again call id rc places i some fits = record {
   line = reply_back (reply_of id rc Nothing places) (record { rc_com = lit< tt; id = i; rc = fits });

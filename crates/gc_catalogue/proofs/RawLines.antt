@@ -1,6 +1,6 @@
 -- Lines of procedures that aren't in the table: how long they are, and that they fit.
-use Rattle.std.proofs.Common.{◌≡◌, ◌+◌, ◌-◌, ◌<◌, ◌≤◌, ◌++◌, ℕ, List, [], ◌∷◌, length, take, drop, replicate, ap, ◌∙◌, arith, length-append, append_assoc}
-use Rattle.std.specs.Prelude.{Option, Some, None, IfSome}
+use Rattle.std.proofs.Common.{◌≡◌, ◌+◌, ◌-◌, ◌<◌, ◌≤◌, ◌++◌, ℕ, List, ◌∷◌, length, take, drop, replicate, ap, ◌∙◌, arith, length-append}
+use Rattle.std.specs.Prelude.{Option, Some, None}
 use Rattle.std.specs.Fmt.{decimal}
 use Rattle.std.proofs.lemmas.Fmt.{decimal_nonempty}
 use Rattle.std.proofs.lemmas.List.{length-replicate}
@@ -8,13 +8,13 @@ use Rattle.std.proofs.Math.Seq.{take-append_seam, drop-append_seam}
 use Rattle.gc_lines.proofs.Plain.{request_plain}
 use Rattle.gc_lines.specs.Headers.{id_text}
 use Rattle.gc_lines.specs.Requests.{request_signature, request_text}
-use Rattle.gc_catalogue.specs.AskedLaws.{FitsALine}
+use Rattle.gc_catalogue.specs.AskedLaws.{RawLinesFit}
 use Rattle.gc_catalogue.specs.Asked.{raw_params, raw_request}
 use Rattle.gc_catalogue.specs.Raws.{line_length}
-use Rattle.gc_catalogue.specs.declared.raw.RawCall.{RawCall}
 
 -- how long a request's line is: a signature of five bytes and a colon, beside number, id and parameters
-length-request : (rpc : ℕ) (id : Option ℕ) (params : List ℕ) → length (request_text (record { rpc = rpc; id = id; params = params })) ≡ 6 + length (decimal rpc) + length (id_text id) + length params
+length-request : (rpc : ℕ) (id : Option ℕ) (params : List ℕ)
+    → length (request_text (record { rpc = rpc; id = id; params = params })) ≡ 6 + length (decimal rpc) + length (id_text id) + length params
 length-request rpc id params =
     omega (
       arith,
@@ -28,36 +28,29 @@ id_short : (id : Option ℕ) → length (id_text id) ≤ 2
 id_short None = omega arith
 id_short (Some i) = omega arith
 
--- if a request's line has at most 512 bytes with the id 0, it has at most 512 with any other id, and without one
-pub short_with : (rpc : ℕ) (id : Option ℕ) (params : List ℕ) → line_length rpc params ≤ 512 → length (request_text (record { rpc = rpc; id = id; params = params })) ≤ 512
+-- if a request's line has at most 512 bytes with the id 0, it has at most 512 with any id, and without one
+pub short_with : (rpc : ℕ) (id : Option ℕ) (params : List ℕ) → line_length rpc params ≤ 512
+    → length (request_text (record { rpc = rpc; id = id; params = params })) ≤ 512
 short_with rpc id params short = omega (arith, short, length-request rpc (Some 0) params, length-request rpc id params, id_short id)
 
--- the line's head without parameters, and the parameters, have at most 512 bytes together
-pub fits_behind : (rpc : ℕ) (id : Option ℕ) (params : List ℕ) → line_length rpc params ≤ 512 → length (request_text (record { rpc = rpc; id = id; params = [] })) + length params ≤ 512
-fits_behind rpc id params short = omega (arith, short, length-request rpc (Some 0) params, length-request rpc id [], id_short id)
-
--- the line's head with the parameters after it is the line
-pub head-params : (rpc : ℕ) (id : Option ℕ) (params : List ℕ) → request_text (record { rpc = rpc; id = id; params = [] }) ++ params ≡ request_text (record { rpc = rpc; id = id; params = params })
-head-params rpc id params = simp append_assoc
-
--- parameters of a line that has at most 512 bytes with an id are at most 503
+-- where the line of a request has at most 512 bytes with an id, and its number has 16 bits, its parameters have at most 503 bytes
 pub params_short : (rpc : ℕ) (params : List ℕ) → rpc < 65536 → line_length rpc params ≤ 512 → length params ≤ 503
 params_short rpc params bound short = omega (arith, short, length-request rpc (Some 0) params, decimal_nonempty rpc (omega arith))
 
--- in bytes filled up with zeros, all after the bytes are the zeros
+-- where `all` is `bytes`, filled up to 503 with zeros, what is after `bytes` in it is these zeros
 pub filled_zeros : (bytes all : List ℕ) → all ≡ bytes ++ replicate (503 - length bytes) 0 → drop (length bytes) all ≡ replicate (503 - length bytes) 0
 filled_zeros bytes all e = ap (drop (length bytes)) e ∙ drop-append_seam bytes (replicate (503 - length bytes) 0)
 
--- in bytes filled up with zeros, the bytes are before the zeros
+-- where `all` is `bytes`, filled up to 503 with zeros, it begins with `bytes`
 pub filled_front : (bytes all : List ℕ) → all ≡ bytes ++ replicate (503 - length bytes) 0 → take (length bytes) all ≡ bytes
 filled_front bytes all e = ap (take (length bytes)) e ∙ take-append_seam bytes (replicate (503 - length bytes) 0)
 
--- bytes filled up with zeros are 503 bytes
+-- where `all` is at most 503 bytes, filled up to 503 with zeros, it has 503 bytes
 pub filled_long : (bytes all : List ℕ) → all ≡ bytes ++ replicate (503 - length bytes) 0 → length bytes ≤ 503 → length all ≡ 503
 filled_long bytes all e few = ap length e ∙ omega (arith, length-append bytes (replicate (503 - length bytes) 0), length-replicate {A = ℕ} (503 - length bytes) 0)
 
--- the request line of a procedure that isn't in the table fits in a line
-pub raw_fits : (id : Option ℕ) (raw : RawCall) → IfSome id (λ n. n < 8) → FitsALine id raw
+-- `FitsALine` holds of each request for a procedure that isn't in the table, with each id below 8 and without one
+pub raw_fits : RawLinesFit
 raw_fits id raw i = record {
   plain = request_plain (raw_request id raw) (record { rpc = raw.is.bound; id = i }) raw.is.plain;
   short = short_with raw.rpc id (raw_params raw) raw.is.short;

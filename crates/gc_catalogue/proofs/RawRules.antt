@@ -27,7 +27,7 @@ few_always params few items is = subst (λ (xs : List (List ℕ)). length xs ≤
 not_many : (params : List ℕ) → ((items : List (List ℕ)) → IsParams params items → length items ≤ 16) → AreTooMany params → ⊥
 not_many params few many = let f = few many.0 many.1 in let m = many.2 in omega (arith, f, m)
 
--- parameters of at most 16 items have no refusal
+-- parameters of at most 16 items have no fault for which they aren't
 no_items_refusal : (params : List ℕ) (e : ValueFault) → AreFewItems params → IsItemsRefusal params e → ⊥
 no_items_refusal params e few (inl odd) = even_not_odd _ (few_closed params few) odd.1
 no_items_refusal params e few (inr many) = not_many params (few_always params few) many.1
@@ -39,23 +39,23 @@ one_items_refusal params e f (inl x) (inr y) = absurd (even_not_odd _ (params_ev
 one_items_refusal params e f (inr x) (inl y) = absurd (even_not_odd _ (params_even params x.1.0 x.1.1) y.1)
 one_items_refusal params e f (inr x) (inr y) = x.0 ∙ sym y.0
 
--- parameters that split are at most 16 items, or there is a reason why they aren't
+-- parameters that split into items are at most 16 items, or there is a fault for which they aren't
 by_count : (params : List ℕ) (items : List (List ℕ)) → IsParams params items → AreFewItems params ⊎ ((e : ValueFault) × IsItemsRefusal params e)
 by_count params items is = elim (cases_lt 16 (length items)) [
   | inl many ↦ inr (fault.TooMany, inr (refl, (items, is, many)))
   | inr few ↦ inl (items, is, few)
 ]
 
--- parameters with a fault for no kinds are at most 16 items, or there is a reason why they aren't
+-- parameters that can't be read as a list of no values are at most 16 items, or there is a fault for which they aren't
 by_fault : (params : List ℕ) (e : ValueFault) → IsListFault [] params e → AreFewItems params ⊎ ((f : ValueFault) × IsItemsRefusal params f)
 by_fault params e (open_quote is odd) = inr (fault.OpenQuote, inl (refl, odd))
 by_fault params e (faulty_items items is faulty) = by_count params items is
 
--- parameters are at most 16 items, or there is a reason why they aren't
+-- parameters are at most 16 items, or there is a fault for which they aren't
 few_or_not : (params : List ℕ) → AreFewItems params ⊎ ((e : ValueFault) × IsItemsRefusal params e)
 few_or_not params = elim (each_list [] params) [ inl read ↦ by_count params read.2.items read.2.split | inr faulty ↦ by_fault params faulty.0 faulty.1 ]
 
--- a procedure that may be asked for has no refusal
+-- a number and parameters that may be asked for as they are have no refusal
 pub no_raw_refusal : (rpc : ℕ) (params : List ℕ) (e : RawFault) → IsRawCall rpc params → IsRawRefusal rpc params e → ⊥
 no_raw_refusal rpc params InTable is why = is.no_procedure why.0 why.1
 no_raw_refusal rpc params NotPlain is why = why.1 is.plain

@@ -1,5 +1,5 @@
--- What holds of every row of the definition's tables. The prover goes through the rows itself: a new row needs no line
--- here.
+-- What holds of every row of the tables of calls and answers (`call_fields`, `answer_fields`). The prover goes through the rows
+-- itself: a new row needs no line here.
 use Rattle.std.specs.Prelude.{◌≡◌, ◌≤◌, ◌<◌, ℕ, List, Some, length}
 use Rattle.std.proofs.Common.{arith}
 use Rattle.gc_values.specs.Lists.{kinds_of}
@@ -55,8 +55,9 @@ same_answer_kinds a b e = grind arith
 pub same_answer : (a b : Answer) → (answer_fields a).shape ≡ (answer_fields b).shape → (answer_fields a).values ≡ (answer_fields b).values → a ≡ b
 same_answer a b shape values = grind arith
 
--- a rounded answer's values are the answer's, each rounded
-pub values-rounded : (places : ℕ) (answer : Answer) → (answer_fields (rounded_answer places answer)).values ≡ shown_values (Some places) (answer_fields answer).values
+-- a rounded answer's values are the answer's, with each double rounded
+pub values-rounded : (places : ℕ) (answer : Answer)
+    → (answer_fields (rounded_answer places answer)).values ≡ shown_values (Some places) (answer_fields answer).values
 values-rounded places answer = grind arith
 
 -- a rounded answer has the shape of the answer

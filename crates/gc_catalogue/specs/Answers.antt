@@ -22,7 +22,10 @@ pub record AnswerFields : Type 0 where
 abbrev pub answer_fields : Answer → AnswerFields
 answer_fields Nothing = record { shape = shape.Nothing; values = [] }
 answer_fields (Short n) = record { shape = shape.Short; values = value.Short n ∷ [] }
-answer_fields (Version release version subversion) = record { shape = shape.Version; values = value.Short release ∷ value.Short version ∷ value.Short subversion ∷ [] }
+answer_fields (Version release version subversion) = record {
+  shape = shape.Version;
+  values = value.Short release ∷ value.Short version ∷ value.Short subversion ∷ [];
+}
 answer_fields (Long n) = record { shape = shape.Long; values = value.Long n ∷ [] }
 answer_fields (Name name) = record { shape = shape.Name; values = value.Text name ∷ [] }
 answer_fields (Date d) = record { shape = shape.Date; values = date_values d }
@@ -30,8 +33,14 @@ answer_fields (Temperature t) = record { shape = shape.Temperature; values = val
 answer_fields (Place s) = record { shape = shape.Place; values = station_values s }
 answer_fields (Height h) = record { shape = shape.Height; values = value.Double h ∷ [] }
 answer_fields (Angles hz v) = record { shape = shape.Angles; values = value.Double hz ∷ value.Double v ∷ [] }
-answer_fields (Measured hz v distance) = record { shape = shape.Measured; values = value.Double hz ∷ value.Double v ∷ value.Double distance ∷ [] }
-answer_fields (MeasuredMode hz v distance mode) = record { shape = shape.MeasuredMode; values = value.Double hz ∷ value.Double v ∷ value.Double distance ∷ value.Long mode ∷ [] }
+answer_fields (Measured hz v distance) = record {
+  shape = shape.Measured;
+  values = value.Double hz ∷ value.Double v ∷ value.Double distance ∷ [];
+}
+answer_fields (MeasuredMode hz v distance mode) = record {
+  shape = shape.MeasuredMode;
+  values = value.Double hz ∷ value.Double v ∷ value.Double distance ∷ value.Long mode ∷ [];
+}
 
 -- the answer has the shape of the call's answers
 abbrev pub IsAnswerOf : Call → Answer → Type 0
@@ -51,9 +60,10 @@ abbrev pub IsFittingAnswer : Answer → Type 0
 IsFittingAnswer answer = AreValues (answer_fields answer).values
 
 -- the answer with each double rounded to the places
-abbrev pub rounded_answer : ℕ → Answer → Answer
+abbrev pub rounded_answer : (places : ℕ) → Answer → Answer
 rounded_answer places (Temperature t) = Temperature (rounded t places)
-rounded_answer places (Place s) = Place (record { e0 = rounded s.e0 places; n0 = rounded s.n0 places; h0 = rounded s.h0 places; hi = rounded s.hi places })
+rounded_answer places (Place s) =
+    Place (record { e0 = rounded s.e0 places; n0 = rounded s.n0 places; h0 = rounded s.h0 places; hi = rounded s.hi places })
 rounded_answer places (Height h) = Height (rounded h places)
 rounded_answer places (Angles hz v) = Angles (rounded hz places) (rounded v places)
 rounded_answer places (Measured hz v distance) = Measured (rounded hz places) (rounded v places) (rounded distance places)

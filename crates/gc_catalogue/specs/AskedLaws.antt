@@ -9,8 +9,8 @@ use Rattle.gc_catalogue.specs.declared.raw.RawCall.{RawCall}
 use Rattle.gc_catalogue.specs.Asked.{asked_line, asked_request, raw_line, IsAsked, IsAskedFitting, IsAskedReading}
 use Rattle.gc_catalogue.specs.Calls.{IsNoProcedure}
 
--- the request line of a procedure that isn't in the table has at most 512 bytes without CR and LF, and no procedure of the table has its
--- number
+-- the request line of a procedure that isn't in the table has at most 512 bytes, none of which is CR or LF, and no procedure of the table
+-- has its number
 pub record FitsALine (id : Option ℕ) (raw : RawCall) : Type 0 where
   pub plain : IsPlain (raw_line id raw)
   pub short : length (raw_line id raw) ≤ 512
@@ -30,7 +30,7 @@ abbrev pub OneAskedForALine : Type 0
 OneAskedForALine = (i j : Option ℕ) (a b : Asked) → IfSome i (λ n. n < 8) → IfSome j (λ n. n < 8) → IsAskedFitting a → IsAskedFitting b
     → asked_line i a ≡ asked_line j b → (i ≡ j) × (a ≡ b)
 
--- the line of what is asked reads as its request, whose number and parameters ask for it
+-- the line of what is asked reads as the request for it, whose number and parameters ask for just that
 pub record ReadsBackAsked (id : Option ℕ) (asked : Asked) : Type 0 where
   pub line : request_at (asked_line id asked) ≡ Ok (asked_request id asked)
   pub is_asked : IsAsked (asked_request id asked).rpc (asked_request id asked).params asked

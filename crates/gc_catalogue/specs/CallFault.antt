@@ -4,12 +4,13 @@ use Rattle.gc_values.specs.ValueFault.{fault_number, fault_text}
 use Rattle.gc_catalogue.specs.declared.fault.CallFault.{CallFault}
 use Rattle.gc_catalogue.specs.declared.fault.CallFault.TheVariants.{Unknown, Parameters}
 
--- the number of each fault
+-- the number of each fault by itself: one number for all faults of parameters
 abbrev pub call_fault_number : CallFault → ℕ
 call_fault_number Unknown = 21
 call_fault_number (Parameters e) = 22
 
--- the number that users see: 21 where no procedure has the number, else that of the parameters' fault, 11 to 15
+-- the fault's number as users see it: 21 where no procedure has the request's number, else that of the parameters' fault, 11 to
+-- 15
 abbrev pub refusal_number : CallFault → ℕ
 refusal_number Unknown = call_fault_number Unknown
 refusal_number (Parameters e) = fault_number e

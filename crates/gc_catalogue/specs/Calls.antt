@@ -66,11 +66,23 @@ call_fields GetPrism = record { number = 17009; values = []; answer = shape.Long
 -- BAP_MeasDistanceAngle
 call_fields (MeasDistance mode) = record { number = 17017; values = Long mode ∷ []; answer = shape.MeasuredMode }
 -- AUT_MakePositioning
-call_fields (Position hz v pos_mode atr_mode dummy) = record { number = 9027; values = Double hz ∷ Double v ∷ Long pos_mode ∷ Long atr_mode ∷ Bool dummy ∷ []; answer = shape.Nothing }
+call_fields (Position hz v pos_mode atr_mode dummy) = record {
+  number = 9027;
+  values = Double hz ∷ Double v ∷ Long pos_mode ∷ Long atr_mode ∷ Bool dummy ∷ [];
+  answer = shape.Nothing;
+}
 -- AUT_ChangeFace
-call_fields (ChangeFace pos_mode atr_mode dummy) = record { number = 9028; values = Long pos_mode ∷ Long atr_mode ∷ Bool dummy ∷ []; answer = shape.Nothing }
+call_fields (ChangeFace pos_mode atr_mode dummy) = record {
+  number = 9028;
+  values = Long pos_mode ∷ Long atr_mode ∷ Bool dummy ∷ [];
+  answer = shape.Nothing;
+}
 -- AUT_FineAdjust
-call_fields (FineAdjust area_hz area_v dummy) = record { number = 9037; values = Double area_hz ∷ Double area_v ∷ Bool dummy ∷ []; answer = shape.Nothing }
+call_fields (FineAdjust area_hz area_v dummy) = record {
+  number = 9037;
+  values = Double area_hz ∷ Double area_v ∷ Bool dummy ∷ [];
+  answer = shape.Nothing;
+}
 
 -- a procedure of the table has the number
 abbrev pub IsProcedure : ℕ → Type 0
@@ -88,9 +100,10 @@ pub record IsCall (rpc : ℕ) (params : List ℕ) (call : Call) : Type 0 where
 
 -- the fault for which the number and the parameters are no call's: no procedure has the number, or the parameters can't be read as those
 -- of the procedure with the number
-abbrev pub IsRefusal : ℕ → List ℕ → CallFault → Type 0
+abbrev pub IsRefusal : (rpc : ℕ) → (params : List ℕ) → CallFault → Type 0
 IsRefusal rpc params Unknown = IsNoProcedure rpc
-IsRefusal rpc params (Parameters e) = (call : Call) × ((call_fields call).number ≡ rpc) × IsListFault (kinds_of (call_fields call).values) params e
+IsRefusal rpc params (Parameters e) =
+    (call : Call) × ((call_fields call).number ≡ rpc) × IsListFault (kinds_of (call_fields call).values) params e
 
 -- the call's numbers are in the ranges of their types
 abbrev pub IsFitting : Call → Type 0

@@ -29,12 +29,12 @@ pub record NumbersDiffer : Type 0 where
   pub same : (c d : Call) → (call_fields c).number ≡ (call_fields d).number → (call_fields c).values ≡ (call_fields d).values → c ≡ d
 
 -- `shown` is the value `v` as it is written: a double is rounded to the places, and any other value is unchanged
-abbrev pub IsShown : ℕ → Value → Value → Type 0
+abbrev pub IsShown : (places : ℕ) → (v shown : Value) → Type 0
 IsShown places (value.Double d) (value.Double shown) = IsRounded (fraction d) places shown.digits shown.scale
 IsShown places v shown = v ≡ shown
 
--- the second list is the first as it is written, value for value: each double rounded to the places, and any other value unchanged
-abbrev pub AreShown : ℕ → List Value → List Value → Type 0
+-- `shown` are the values as they are written, one for one (`IsShown`): each double rounded to the places, and any other value unchanged
+abbrev pub AreShown : (places : ℕ) → (values shown : List Value) → Type 0
 AreShown places [] [] = Unit {0}
 AreShown places [] (shown ∷ rest) = ⊥
 AreShown places (v ∷ vs) [] = ⊥
@@ -52,7 +52,8 @@ abbrev pub OneCallForALine : Type 0
 OneCallForALine = (i j : Option ℕ) (c d : Call) → IfSome i (λ n. n < 8) → IfSome j (λ n. n < 8) → IsFitting c → IsFitting d
     → request_line i c ≡ request_line j d → (i ≡ j) × (c ≡ d)
 
--- the number and the parameters of a request are those of at most one call and have at most one refusal, and never both
+-- the number and the parameters of a request are those of at most one call, and have at most one refusal; if they are those of a
+-- call, they have none
 pub record OneCallOrRefusal : Type 0 where
   pub call : (rpc : ℕ) (params : List ℕ) (c d : Call) → IsCall rpc params c → IsCall rpc params d → c ≡ d
   pub refusal : (rpc : ℕ) (params : List ℕ) (e f : CallFault) → IsRefusal rpc params e → IsRefusal rpc params f → e ≡ f
@@ -75,23 +76,24 @@ pub record ReadsBackCall (id : Option ℕ) (call : Call) : Type 0 where
 abbrev pub CallsReadBack : Type 0
 CallsReadBack = (id : Option ℕ) (call : Call) → IfSome id (λ n. n < 8) → IsFitting call → ReadsBackCall id call
 
--- the line of a reply with this return code and answer reads as that reply, which has this reading for the call
+-- the line of a reply with this id, return code and answer, whose doubles are rounded to the places, reads as that reply, which
+-- has this reading for the call
 pub record ReadsBackAnswer (call : Call) (id rc : ℕ) (answer : Answer) (places : ℕ) (reading : Reading) : Type 0 where
   pub line : reply_at (reply_line id rc answer places) ≡ Ok (reply_of id rc answer places)
   pub is_reading : IsReading call (reply_of id rc answer places) reading
 
 -- if the return code is 0, the reply line with this answer reads back, for each call of which it is an answer, as the answer with its
 -- doubles rounded
-abbrev pub ReadsBackValue : ℕ → ℕ → Answer → ℕ → Type 0
+abbrev pub ReadsBackValue : (id rc : ℕ) → Answer → (places : ℕ) → Type 0
 ReadsBackValue id rc answer places =
     (call : Call) → rc ≡ 0 → IsAnswerOf call answer → ReadsBackAnswer call id rc answer places (reading.Value (rounded_answer places answer))
 
 -- if the return code isn't 0, the reply line reads back, for each call, as the refusal with that code
-abbrev pub ReadsBackRefusal : ℕ → ℕ → Answer → ℕ → Type 0
+abbrev pub ReadsBackRefusal : (id rc : ℕ) → Answer → (places : ℕ) → Type 0
 ReadsBackRefusal id rc answer places = (call : Call) → rc ≢ 0 → ReadsBackAnswer call id rc answer places (reading.Refused rc)
 
--- the line of a call's answer with values in range, with the return code 0, reads back as the answer with its doubles rounded, and that of
--- another return code, below 65536, with the answer `Nothing` as the refusal with that code; ids are below 8
+-- with an id below 8, the line of a call's answer with values in range and the return code 0 reads back as the answer with its doubles
+-- rounded (`value`), and the line of the answer `Nothing` and another return code, below 65536, as the refusal with that code (`refused`)
 pub record AnswersReadBack : Type 0 where
   pub value : (call : Call) (id : ℕ) (answer : Answer) (places : ℕ) → id < 8 → IsAnswerOf call answer → IsFittingAnswer answer
       → ReadsBackAnswer call id 0 answer places (reading.Value (rounded_answer places answer))

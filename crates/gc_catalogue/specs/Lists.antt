@@ -23,21 +23,21 @@ abbrev pub before_commas : List Value → List ℕ
 before_commas values = flat_map (λ v. text v ++ 44 ∷ []) values
 
 -- a value as it is written: a double is rounded to the places, if places are given, and any other value is unchanged
-abbrev pub shown : Option ℕ → Value → Value
+abbrev pub shown : (places : Option ℕ) → Value → Value
 shown None v = v
 shown (Some places) (value.Double d) = value.Double (rounded d places)
 shown (Some places) v = v
 
 -- the values as they are written: each double rounded to the places, if places are given
-abbrev pub shown_values : Option ℕ → List Value → List Value
+abbrev pub shown_values : (places : Option ℕ) → List Value → List Value
 shown_values places vs = map (λ v. shown places v) vs
 
--- parameters are asked for one by one, which took them from `old` to `new`: if none are left, those asked for read as these values, by the
--- relation `reads` of the trait `Parameters`
-abbrev pub ReadsAll : {P : Type 0} → (reads : P → List Value → Type 0) → (old new : P) → List Value → Type 0
+-- parameters were taken one by one, which led from `old` to `new`: if `new` reads as the empty list of values, `old` reads as
+-- these values, by the relation `reads` of the trait `Parameters`
+abbrev pub ReadsAll : {P : Type 0} → (reads : P → List Value → Type 0) → (old new : P) → (values : List Value) → Type 0
 ReadsAll reads old new values = reads new [] → reads old values
 
--- parameters of the kinds of these values are asked for one by one, which took them from `old` to `new`: if none are asked for after them,
--- each fault of `new` is one of `old`, by the relation `fails` of the trait `Parameters`
-abbrev pub FailsAll : {P : Type 0} → (fails : P → List Kind → ValueFault → Type 0) → (old new : P) → List Value → Type 0
+-- parameters of the kinds of these values were taken one by one, which led from `old` to `new`: each fault of `new`, if no more are to be
+-- taken, is a fault of `old` with all these kinds to be taken, by the relation `fails` of the trait `Parameters`
+abbrev pub FailsAll : {P : Type 0} → (fails : P → List Kind → ValueFault → Type 0) → (old new : P) → (values : List Value) → Type 0
 FailsAll fails old new values = (e : ValueFault) → fails new [] e → fails old (kinds_of values) e

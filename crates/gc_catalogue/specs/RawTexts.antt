@@ -1,4 +1,4 @@
--- The bytes of parameters as they are: this project's own.
+-- The bytes of a `RawText`, the parameters of a procedure that isn't in the table: this project's own.
 use Rattle.std.specs.Prelude.{ℕ, List, take}
 use Rattle.gc_catalogue.specs.declared.raw_text.RawText.{RawText}
 

@@ -15,7 +15,7 @@ use Rattle.gc_catalogue.specs.declared.raw.RawFault.TheVariants.{InTable, NotPla
 use Rattle.gc_catalogue.specs.Calls.{IsNoProcedure, IsProcedure}
 
 -- the length, in bytes, of the line of a request with this number, these parameters and an id
-abbrev pub line_length : ℕ → List ℕ → ℕ
+abbrev pub line_length : (rpc : ℕ) → (params : List ℕ) → ℕ
 line_length rpc params = length (request_text (record { rpc = rpc; id = Some 0; params = params }))
 
 -- the parameters are a list of at most 16 items, of any kinds
@@ -26,8 +26,8 @@ AreFewItems params = (items : List (List ℕ)) × IsParams params items × (leng
 abbrev pub IsItemsRefusal : List ℕ → ValueFault → Type 0
 IsItemsRefusal params e = ((e ≡ fault.OpenQuote) × HasOpenQuote params) ⊎ ((e ≡ fault.TooMany) × AreTooMany params)
 
--- this number may be asked for with these parameters: no procedure of the table has it, the parameters have neither CR nor LF, the
--- request's line has at most 512 bytes with an id, the double quotes are in pairs, and there are at most 16 items
+-- this number may be asked for with these parameters: it is at most 65535, no procedure of the table has it, the parameters have neither CR
+-- nor LF, the request's line has at most 512 bytes with an id, the number of double quotes is even, and there are at most 16 items
 pub record IsRawCall (rpc : ℕ) (params : List ℕ) : Type 0 where
   pub bound : rpc < 65536
   pub no_procedure : IsNoProcedure rpc
@@ -36,7 +36,8 @@ pub record IsRawCall (rpc : ℕ) (params : List ℕ) : Type 0 where
   pub closed : quotes params % 2 ≡ 0
   pub few : (items : List (List ℕ)) → IsParams params items → length items ≤ 16
 
--- the fault for which a number and parameters may not be asked for as they are: the first that holds, in this order
+-- the fault for which a number and parameters may not be asked for as they are: the first that holds, in this order. Numbers above 65535,
+-- which no request can carry, have no fault of their own
 abbrev pub IsRawRefusal : ℕ → List ℕ → RawFault → Type 0
 IsRawRefusal rpc params InTable = IsProcedure rpc
 IsRawRefusal rpc params NotPlain = IsNoProcedure rpc × (¬ IsPlain params)
@@ -48,8 +49,9 @@ IsRawRefusal rpc params TooMany = IsNoProcedure rpc × IsPlain params × (line_l
 abbrev pub GivesRawRefusal : {A : Type 0} → ℕ → List ℕ → Result A RawFault → Type 0
 GivesRawRefusal rpc params result = (e : RawFault) → IsRawRefusal rpc params e → result ≡ Err e
 
--- the reply has this reading for a procedure that isn't in the table: a communication fault if the communication code isn't 0, else a
--- refusal if the return code isn't 0, else the answer `Nothing` if its parameters are at most 16 items, else the fault of its parameters
+-- the reply has this reading for a procedure that isn't in the table: a communication fault if the communication code isn't 0,
+-- else a refusal if the return code isn't 0, else the fault of its parameters (`IsItemsRefusal`) if they have one, else the
+-- answer `Nothing`
 abbrev pub IsRawReading : ReplyFields → Reading → Type 0
 IsRawReading r (ComFault code) = (r.rc_com ≢ 0) × (code ≡ r.rc_com)
 IsRawReading r (Refused code) = (r.rc_com ≡ 0) × (r.rc ≢ 0) × (code ≡ r.rc)

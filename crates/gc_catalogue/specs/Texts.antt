@@ -13,13 +13,18 @@ abbrev pub request_of : Option ℕ → Call → RequestFields
 request_of id call = record { rpc = (call_fields call).number; id = id; params = params_of (call_fields call).values }
 
 -- the fields of a reply with the communication code 0, an id, a return code and an answer, whose doubles are rounded to the places
-abbrev pub reply_of : ℕ → ℕ → Answer → ℕ → ReplyFields
-reply_of id rc answer places = record { rc_com = 0; id = Some id; rc = rc; params = params_of (answer_fields (rounded_answer places answer)).values }
+abbrev pub reply_of : (id rc : ℕ) → Answer → (places : ℕ) → ReplyFields
+reply_of id rc answer places = record {
+  rc_com = 0;
+  id = Some id;
+  rc = rc;
+  params = params_of (answer_fields (rounded_answer places answer)).values;
+}
 
 -- the request line of a call, with an id or without one
 abbrev pub request_line : Option ℕ → Call → List ℕ
 request_line id call = request_text (request_of id call)
 
 -- the reply line with an id, a return code and an answer, whose doubles are rounded to the places
-abbrev pub reply_line : ℕ → ℕ → Answer → ℕ → List ℕ
+abbrev pub reply_line : (id rc : ℕ) → Answer → (places : ℕ) → List ℕ
 reply_line id rc answer places = reply_text (reply_of id rc answer places)

@@ -3,10 +3,11 @@
 use crate::call::{DateTime, Station};
 use gc_values::{Decimal, Text, ValueFault};
 
-/// What an instrument sends where the return code is 0. Angles are in radians, lengths in metres.
+/// What an instrument sends where both codes are 0. Where there is no answer, `Nothing` stands. Angles are in radians, lengths in
+/// metres.
 #[derive(Clone, Copy, Debug, PartialEq, Eq)]
 pub enum Answer {
-    /// No parameters.
+    /// No values.
     Nothing,
     Short(i16),
     /// Release, version and subversion.
@@ -53,15 +54,17 @@ pub enum Shape {
     MeasuredMode,
 }
 
-/// What a reply says in answer to a call.
+/// What a reply says in answer to a call, or to a request for a procedure that isn't in the table.
 #[derive(Clone, Copy, Debug, PartialEq, Eq)]
 pub enum Reading {
-    /// The procedure succeeded, with this answer.
+    /// Both codes are 0: the procedure succeeded, with this answer. For a procedure that isn't in the table the answer is
+    /// `Answer::Nothing`, whatever the parameters of the reply are.
     Value(Answer),
     /// The return code, which isn't 0; parameters beside it are not read.
     Refused(u16),
     /// The communication code, which isn't 0; nothing else is read.
     ComFault(u16),
-    /// Both codes are 0, and the parameters can't be read as the call's answer.
+    /// Both codes are 0, and the parameters can't be read: as the call's answer, or, for a procedure that isn't in the
+    /// table, as at most 16 items.
     Unreadable(ValueFault),
 }

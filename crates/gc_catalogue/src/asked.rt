@@ -92,8 +92,8 @@ pub fn encode_asked_onto<const N: usize>(out: &mut ArrayVec<u8, N>, id: Option<u
     }
 }
 
-/// Writes the request line of what is asked, without its CR LF, with the id, 0 to 7, or without one. It always fits in a line, and reads
-/// back as what is asked.
+/// Writes the request line of what is asked, without its CR LF, with the id, 0 to 7, or without one. It has at most 512 bytes, and
+/// reads back as what is asked.
 pub fn encode_asked(id: Option<u8>, asked: &Asked) -> Line
     requires { ForSome id (λ i. i < 8) }
     ensures line { result.items ≡ asked_line id asked.now }
@@ -121,8 +121,9 @@ pub fn decode_asked(request: &Request<'_>) -> Option<Asked>
     }
 }
 
-// Reads what a reply says in answer to a request for a procedure that isn't in the table, into `reading`. With both codes 0 that is
-// `Answer::Nothing` if the reply's parameters are at most 16 items, whatever these are, and else the fault of the parameters.
+// Reads what a reply says in answer to a request for a procedure that isn't in the table, into `reading`. Codes other than 0 are
+// read as by `decode_answer`. With both codes 0 the reading is `Unreadable` with the fault that `items_fault` finds in the
+// reply's parameters, or the value `Answer::Nothing` if it finds none.
 fn decode_raw_into(reply: &Reply<'_>, reading: &mut Reading)
     ensures { IsRawReading (reply_seen reply.now) reading.new }
 {
@@ -138,8 +139,10 @@ fn decode_raw_into(reply: &Reply<'_>, reading: &mut Reading)
     }
 }
 
-/// Reads what a reply says in answer to what was asked, into `reading`: in answer to a call of the table as `decode_answer` does. The
-/// answer to another procedure is `Answer::Nothing`, if both codes are 0 and there are at most 16 parameters, whose values aren't read.
+/// Reads what a reply says in answer to what was asked, into `reading`. Where a call of the table was asked for, or a code isn't
+/// 0, the reading is as in `decode_answer`. Otherwise it is `Unreadable` with `OpenQuote` if the reply's parameters have an odd
+/// number of double quotes, else `Unreadable` with `TooMany` if there are more than 16, and else the value `Answer::Nothing`,
+/// whatever the parameters are.
 #[inline]
 pub fn decode_asked_into(asked: &Asked, reply: &Reply<'_>, reading: &mut Reading)
     ensures found { IsAskedReading asked.now (reply_seen reply.now) reading.new }

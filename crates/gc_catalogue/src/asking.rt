@@ -23,7 +23,7 @@ pub trait Asking: Copy + Drop {
     ghost use Rattle.gc_lines.specs.Replies.{ReplyFields};
     ghost use Rattle.gc_catalogue.specs.declared.answer.Reading.{Reading};
 
-    /// The value in the unused places of a window.
+    /// A value for a place in which nothing has been put yet.
     ghost blank: { Self };
 
     /// The request line, with an id or without one.
@@ -35,11 +35,11 @@ pub trait Asking: Copy + Drop {
     /// The values of the request are within their ranges.
     ghost fits: { Self → Type 0 };
 
-    /// The value in the unused places of a window.
+    /// A value for a place in which nothing has been put yet.
     fn blank() -> Self
         ensures { result ≡ blank };
 
-    /// Writes the request line, with the id or without one, into `out`, which has to be empty.
+    /// Writes the request line, without its CR LF, with the id, 0 to 7, or without one, into `out`, which has to be empty.
     fn write_onto(&self, out: &mut Line, id: Option<u8>)
         requires id { ForSome id (λ i. i < 8) }
         requires room { array_vec_len out.old + 512 ≤ 512 }

@@ -9,12 +9,14 @@ pub fn numbers_differ()
     ensures { NumbersDiffer }
 {}
 
-/// Two calls with the same request line, each with an id below 8 or without one, are the same call, and have the same id.
+/// Two calls with values in their ranges and with the same request line, each with an id below 8 or without one, are the same
+/// call, and have the same id.
 pub fn one_call_for_a_line()
     ensures { OneCallForALine }
 {}
 
-/// The number and the parameters of a request are those of at most one call and have at most one refusal, and never both.
+/// The number and the parameters of a request are those of at most one call, and have at most one refusal; if they are those of a
+/// call, they have none.
 pub fn one_call_or_refusal()
     ensures { OneCallOrRefusal }
 {}
@@ -29,18 +31,20 @@ pub fn each_reply_is_read()
     ensures { EachReplyIsRead }
 {}
 
-/// The request line of a call, with an id below 8 or without one, reads back as that call.
+/// The request line of a call with values in their ranges, and with an id below 8 or without one, reads back as that call.
 pub fn calls_read_back()
     ensures { CallsReadBack }
 {}
 
-/// The reply line of a call's answer, with the return code 0 and an id below 8, reads back as that answer with its doubles rounded. The
-/// reply line of a refusal, with the answer `Nothing` and another return code, reads back as that refusal.
+/// The reply line of a call's answer with values in their ranges, and with the return code 0 and an id below 8, reads back as
+/// that answer with its doubles rounded. The reply line of the answer `Nothing`, with a return code from 1 to 65535 and an id
+/// below 8, reads back as the refusal with that code.
 pub fn answers_read_back()
     ensures { AnswersReadBack }
 {}
 
-/// An answer is written with each double rounded to the precision, and with every other value unchanged.
+/// Rounding an answer to a number of places, as writing it does, rounds each of its doubles to that many places. Its shape and
+/// every other value stay.
 pub fn doubles_are_rounded()
     ensures { DoublesAreRounded }
 {}
@@ -56,12 +60,13 @@ pub fn one_asked()
     ensures { OneAsked }
 {}
 
-/// Two requests with the same line, each with an id below 8 or without one, ask for the same thing, and have the same id.
+/// Two requests for what may be asked (`IsAskedFitting`) with the same line, each with an id below 8 or without one, ask for the
+/// same thing, and have the same id.
 pub fn one_asked_for_a_line()
     ensures { OneAskedForALine }
 {}
 
-/// The request line of whatever is asked, with an id below 8 or without one, reads back as what was asked.
+/// The request line of whatever may be asked (`IsAskedFitting`), with an id below 8 or without one, reads back as what was asked.
 pub fn asked_read_back()
     ensures { AskedReadBack }
 {}

@@ -1,10 +1,11 @@
-//! Calls and answers and their lines. A procedure is one row for reading, in `reading`, and one for writing, in
-//! `writing`; everything else is written and proved once, over kinds of parameters.
+//! Calls and answers and their lines. A procedure is a variant of `Call`, and a row each in `reading`, `writing` and
+//! `names`; everything else is written and proved once, over kinds of parameters.
 #![tactic(auto)]
 
 mod answer;
 mod asked;
 mod asking;
+mod calendar;
 mod call;
 mod fault;
 pub mod laws;
@@ -20,6 +21,7 @@ mod writing;
 pub use answer::{Answer, Reading};
 pub use asked::{Asked, decode_asked, decode_asked_into, encode_asked, encode_asked_onto};
 pub use asking::Asking;
+pub use calendar::is_leap;
 pub use call::{Call, DateTime, Station};
 pub use fault::CallFault;
 pub use names::procedure_name;

@@ -10,7 +10,7 @@ use crate::reading::read_row;
 use gc_values::Quick;
 
 impl Call {
-    /// The name of the call's procedure.
+    /// The name of the call's procedure, as the manual's tables have it.
     pub fn name(&self) -> &'static str
         ensures { result.now ≡ call_name self.now }
     {
@@ -44,13 +44,13 @@ impl Call {
     }
 }
 
-/// The manual's name of the procedure with this number. `None`: no procedure of the table has it.
+/// The manual's name of the procedure with this number. `None`: no procedure of the table has this number.
 pub fn procedure_name(rpc: u16) -> Option<&'static str>
     ensures name { (call : Call) → (call_fields call).number ≡ rpc → option_map (λ name. name.now) result ≡ Some (call_name call) }
     ensures known { IfSome result (λ _. IsProcedure rpc) }
     ensures none { IfNone result (IsNoProcedure rpc) }
 {
-    // A call with this number, whose parameters don't matter.
+    // `read_row` makes this a call with the number, if there is one. The parameters don't matter.
     let mut call = Call::NullProc;
     if !read_row(rpc, &mut Quick::new(b""), &mut call) {
         return None;

@@ -36,7 +36,8 @@ pub enum RawFault {
 }
 
 impl RawFault {
-    // The `RawFault` of the same name for a fault that `items_fault` found, which is `OpenQuote` or `TooMany`; no other fault comes here.
+    // The `RawFault` of the same name for `OpenQuote` and `TooMany`, which are the faults of `items_fault`; `TooMany` for any
+    // other fault.
     fn of_items(fault: ValueFault) -> RawFault
         ensures open_quote { fault ≡ ValueFault.OpenQuote → result ≡ RawFault.OpenQuote }
         ensures too_many { fault ≡ ValueFault.TooMany → result ≡ RawFault.TooMany }
@@ -48,8 +49,8 @@ impl RawFault {
     }
 }
 
-/// The fault of a list of parameters, whatever their kinds are: `OpenQuote` for an odd number of double quotes, `TooMany` for more than
-/// 16 items. `None`: the list has at most 16 items.
+/// The fault of a list of parameters, whatever their kinds are: `OpenQuote` for an odd number of double quotes, and else
+/// `TooMany` for more than 16 items. `None`: the number of double quotes is even, and there are at most 16 items.
 pub(crate) fn items_fault(params: &[u8]) -> Option<ValueFault>
     ensures found { IfSome result (λ e. IsItemsRefusal params.now e) }
     ensures none { IfNone result (AreFewItems params.now) }
@@ -87,8 +88,9 @@ fn raw_fault(rpc: u16, params: &[u8]) -> Option<RawFault>
     }
 }
 
-/// The request for a procedure that isn't in the table, with these parameters exactly as they are. If it may not be asked for, the result
-/// is the first fault that holds, in this order: `InTable`, `NotPlain`, `TooLong`, `OpenQuote`, `TooMany`.
+/// Makes the request for a procedure that isn't in the table. The parameters are the bytes after the colon of its line, exactly as they
+/// are. If the procedure may not be asked for so, the result is the first fault that holds, in this order: `InTable`, `NotPlain`,
+/// `TooLong`, `OpenQuote`, `TooMany`.
 pub fn raw_call(rpc: u16, params: &[u8]) -> Result<RawCall, RawFault>
     ensures found { IfOk result (λ raw. (raw.rpc ≡ rpc) × (raw_bytes raw.params ≡ params.now)) }
     ensures allowed { IsRawCall rpc params.now → IsOk result }
@@ -113,7 +115,7 @@ impl RawCall {
         self.rpc
     }
 
-    /// The parameters, as they are in the request's line.
+    /// The parameters, exactly as they are after the colon of the request's line.
     pub fn params(&self) -> &[u8]
         ensures { result.now ≡ raw_bytes self.now.params }
     {

@@ -17,7 +17,7 @@ pub struct RawText {
     pub ghost zeros: { drop len bytes ≡ replicate (503 - len) 0 },
 }
 
-// The bytes, followed by as many zeros as make them 503 bytes.
+// The bytes, at most 503, followed by as many zeros as make them 503 bytes.
 fn filled_up(bytes: &[u8]) -> [u8; RAW_BYTES]
     requires { length bytes.now ≤ 503 }
     ensures { result ≡ bytes.now ++ replicate (503 - length bytes.now) 0 }
@@ -30,7 +30,7 @@ fn filled_up(bytes: &[u8]) -> [u8; RAW_BYTES]
 impl RawText {
     ghost use Rattle.gc_catalogue.specs.RawTexts.{raw_bytes};
 
-    // Makes the text of these bytes, with zeros in its unused places.
+    // Makes the text of these bytes, at most 503, with zeros in its unused places.
     pub(crate) fn new(bytes: &[u8]) -> RawText
         requires { length bytes.now ≤ 503 }
         ensures { raw_bytes result ≡ bytes.now }

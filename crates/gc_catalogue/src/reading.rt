@@ -17,8 +17,8 @@ use crate::call::{Call, DateTime, Station};
 use gc_values::Parameters;
 
 /// Reads the parameters of the procedure with this number, and makes a call of them in `call`. It returns `false` if no procedure has the
-/// number; `call` may then be any call. `true` doesn't say that the parameters were read: for one that is missing or can't be read, a zero
-/// of its kind stands in the call, and `Quick::is_done` or `Listed::finish` tells so afterwards.
+/// number; `call` may then be any call. `true` doesn't say that the parameters were read: for one that wasn't, a zero of its kind (or
+/// `false`) stands in the call. Whether all were, and none is left, `Quick::is_done` or `Listed::finish` says afterwards.
 pub(crate) fn read_row<P: Parameters>(rpc: u16, params: &mut P, call: &mut Call) -> bool
     ensures found { IsTrue result → (call_fields call.new).number ≡ rpc }
     ensures reads { IsTrue result → ReadsAll P.reads params.old params.new (call_fields call.new).values }
@@ -143,8 +143,8 @@ fn read_fine_adjust<P: Parameters>(params: &mut P, call: &mut Call)
     };
 }
 
-/// Reads the values of an answer of this shape, and makes an answer of them in `answer`. As in `read_row`, zeros stand in it for values
-/// that are missing or can't be read, and `Quick::is_done` or `Listed::finish` tells so afterwards.
+/// Reads the values of an answer of this shape, and makes an answer of them in `answer`. As in `read_row`, a zero (or an empty string)
+/// stands in it for each value that wasn't read. Whether all were, and none is left, `Quick::is_done` or `Listed::finish` says afterwards.
 pub(crate) fn read_answer_row<P: Parameters>(shape: Shape, params: &mut P, answer: &mut Answer)
     ensures found { (answer_fields answer.new).shape ≡ shape }
     ensures reads { ReadsAll P.reads params.old params.new (answer_fields answer.new).values }
@@ -260,7 +260,7 @@ fn read_measured_mode<P: Parameters>(params: &mut P, answer: &mut Answer)
     };
 }
 
-// Reads the six parameters of a date, and makes a date of them.
+// Reads the six parameters of a date and time of day, and makes a `DateTime` of them. As in `read_row`, zeros stand for those not read.
 fn read_date<P: Parameters>(params: &mut P) -> DateTime
     ensures reads { (vs : List Value) → P.reads params.new vs → P.reads params.old (date_values result ++ vs) }
     ensures fails { (ks : List Kind) (e : ValueFault) → P.fails params.new ks e → P.fails params.old (kinds_of (date_values result) ++ ks) e }
@@ -275,7 +275,7 @@ fn read_date<P: Parameters>(params: &mut P) -> DateTime
     }
 }
 
-// Reads the four parameters of a station, and makes a station of them.
+// Reads the four parameters of a station, and makes a station of them. As in `read_row`, zeros stand for those not read.
 fn read_station<P: Parameters>(params: &mut P) -> Station
     ensures reads { (vs : List Value) → P.reads params.new vs → P.reads params.old (station_values result ++ vs) }
     ensures fails { (ks : List Kind) (e : ValueFault) → P.fails params.new ks e → P.fails params.old (kinds_of (station_values result) ++ ks) e }

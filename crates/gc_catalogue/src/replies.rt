@@ -45,8 +45,9 @@ pub fn encode_answer_onto<const N: usize>(
 }
 
 /// Writes the reply line of an answer, without its CR LF, with the communication code 0, an id from 0 to 7, and each double rounded to
-/// `places` places, at most 15. With a return code other than 0, `answer` has to be `Nothing`. The line always fits. It reads back as
-/// the refusal with the return code, or, for a call that has answers of this shape, as the rounded answer.
+/// `places` places, at most 15. With a return code other than 0, `answer` has to be `Nothing`, and the line reads back as the
+/// refusal with that code. With the code 0 it reads back as the rounded answer, for each call that has answers of this shape. It has at
+/// most 512 bytes.
 pub fn encode_answer(id: u8, rc: u16, answer: &Answer, places: u8) -> Line
     requires id { id < 8 }
     requires places { places ≤ 15 }
@@ -61,8 +62,8 @@ pub fn encode_answer(id: u8, rc: u16, answer: &Answer, places: u8) -> Line
     line
 }
 
-// Reads parameters in the common spelling as the call's answer, into `reading`. It returns `false` if they can't be read so, which they
-// may still be in another spelling; `reading` may then be any reading.
+// Reads parameters in the common spelling as the call's answer, into `reading`. It returns `false` if they can't be read so;
+// in another spelling they may be an answer of the call. After `false`, `reading` may be any reading.
 fn read_quickly(call: &Call, params: &[u8], reading: &mut Reading) -> bool
     ensures { IsTrue result → IsReading call.now (successful_reply params.now) reading.new }
 {

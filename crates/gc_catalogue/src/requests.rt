@@ -28,8 +28,8 @@ pub fn encode_call_onto<const N: usize>(out: &mut ArrayVec<u8, N>, id: Option<u8
     end_list(out);
 }
 
-/// Writes the request line of a call, without its CR LF, with the id, 0 to 7, or without one. It fits in a line, whatever the call is, and
-/// reads back as the call.
+/// Writes the request line of a call, without its CR LF, with the id, 0 to 7, or without one. It has at most 512 bytes, whatever the
+/// call is, and reads back as the call.
 pub fn encode_call(id: Option<u8>, call: &Call) -> Line
     requires { ForSome id (λ i. i < 8) }
     ensures line { result.items ≡ request_line id call.now }
@@ -42,7 +42,7 @@ pub fn encode_call(id: Option<u8>, call: &Call) -> Line
     line
 }
 
-// Removes the comma at the end, if there is one. There is one after a call's last value, since each value is written with a comma after it.
+// Removes the comma at the end, if there is one. Each value was written with a comma after it; a line without values ends in its colon.
 fn end_list<const N: usize>(out: &mut ArrayVec<u8, N>)
     ensures comma { (front : List ℕ) → out.old.items ≡ front ++ 44 ∷ [] → out.new.items ≡ front }
     ensures other { ((front : List ℕ) → out.old.items ≢ front ++ 44 ∷ []) → out.new.items ≡ out.old.items }
@@ -53,7 +53,7 @@ fn end_list<const N: usize>(out: &mut ArrayVec<u8, N>)
 }
 
 // Reads a number and parameters in the common spelling as a call, into `call`. It returns `false` if no procedure has the number, or the
-// parameters can't be read so, which they may still be in another spelling; `call` may then be any call.
+// parameters aren't those of the procedure in that spelling; they may be in another one. After `false`, `call` may be any call.
 fn read_quickly(rpc: u16, params: &[u8], call: &mut Call) -> bool
     ensures { IsTrue result → IsCall rpc params.now call.new }
 {
@@ -61,7 +61,8 @@ fn read_quickly(rpc: u16, params: &[u8], call: &mut Call) -> bool
     read_row(rpc, &mut quick, call) && quick.is_done()
 }
 
-// Reads a number and parameters in any spelling as a call, into `call`, or names the first fault; `call` may then be any call.
+// Reads a number and parameters in any spelling as a call, into `call`. After a fault, the first in the order of `decode_call`, `call` may
+// be any call.
 #[inline(never)]
 fn read_any_spelling(rpc: u16, params: &[u8], call: &mut Call) -> Result<(), CallFault>
     ensures found { OnOk result (IsCall rpc params.now call.new) }

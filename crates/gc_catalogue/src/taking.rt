@@ -20,7 +20,7 @@ use gc_values::{
 /// A taker of a call's number, with the request's id, and of values, from the left. Each method's clause `takes` says what was taken
 /// from the state before the method up to some later state `t`: the method's own value, and then what was taken after it.
 pub(crate) trait Taker {
-    /// How many values can still be taken.
+    /// How many values can still be taken; a procedure's number counts as one. Taking one lowers this by one at most.
     ghost room: { Self → ℕ };
 
     /// From the first state to the last, these values were taken.
@@ -113,7 +113,7 @@ impl Taker for NumberAlone {
     fn text(&mut self, _v: &Text) {}
 }
 
-/// `number` appends a request through its colon, and each other method its value's text with a comma after it.
+/// `number` appends the front of a request line, up to and with its colon; each other method appends its value's text and a comma.
 impl<const N: usize> Taker for ArrayVec<u8, N> {
     // A value's text has at most 66 bytes, and a comma follows it.
     ghost room = { λ s. (N - length s.items) / 67 };

@@ -13,8 +13,9 @@ use crate::call::{Call, DateTime, Station};
 use crate::taking::{NumberAlone, Taker};
 
 impl Call {
-    /// Hands over the call's number with the request's id, and then the call's values, in their order on the line. It returns the shape
-    /// of the call's answers. It is the table of procedures, a row for each; the definition's is `call_fields`.
+    /// Hands over the call's number with the request's id, 0 to 7, if there is one, and then the call's values, in their order on the
+    /// line. It returns the shape of the call's answers. This is the code's table of procedures, a row for each; the specification's is
+    /// `call_fields`.
     pub(crate) fn write_row<T: Taker>(&self, id: Option<u8>, to: &mut T) -> Shape
         requires room { 7 ≤ T.room to.old }
         requires id { ForSome id (λ i. i < 8) }
@@ -232,8 +233,8 @@ impl DateTime {
 }
 
 impl Answer {
-    /// Hands over the answer's values, in their order on the line, with doubles rounded to `places` places. It is the table of answers;
-    /// the definition's is `answer_fields`.
+    /// Hands over the answer's values, in their order on the line, with doubles rounded to `places` places, at most 15. This is the
+    /// code's table of answers; the specification's is `answer_fields`.
     pub(crate) fn write_row<T: Taker>(&self, places: u8, to: &mut T)
         requires places { places ≤ 15 }
         requires room { 6 ≤ T.room to.old }

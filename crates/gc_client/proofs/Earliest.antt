@@ -1,4 +1,5 @@
--- For the loop that looks for the earliest deadline: what one more request adds to the deadlines seen so far.
+-- For the loops that look for the earliest deadline and count the requests that haven't timed out: what one more request adds to
+-- the deadlines seen so far.
 use Rattle.std.proofs.Common.{◌≡◌, ℕ, suc, ◌+◌, true, false, not, List, [], ◌∷◌, ◌++◌, map, filter, take, Some, refl, ap, ◌∙◌, arith}
 use Rattle.std.specs.Prelude.{slice_get}
 use Rattle.std.proofs.lemmas.List.{map-append, append-nil}
@@ -20,13 +21,13 @@ module _ {Q : Type 0} (k : ℕ) (ws : List (Pending Q)) (p : Pending Q) (here : 
   -- where the request at place k hasn't timed out, the deadlines of the first k + 1 have its deadline at their end
   pub one_more_deadline : not p.given_up ≡ true → deadlines (take (k + 1) ws) ≡ deadlines (take k ws) ++ p.deadline ∷ []
   one_more_deadline b = next_deadlines ∙ ap (λ ds. deadlines (take k ws) ++ ds) (one b) where
-    -- a request that hasn't timed out has one deadline in the list, its own
+    -- where p hasn't timed out, the list of the deadlines of p alone is p's deadline
     one : not p.given_up ≡ true → deadlines (p ∷ []) ≡ p.deadline ∷ []
     one b = rw b refl
 
-  -- where the request at place k has timed out, it adds no deadline
+  -- where the request at place k has timed out, the deadlines of the first k + 1 requests are those of the first k
   pub same_deadlines : not p.given_up ≡ false → deadlines (take (k + 1) ws) ≡ deadlines (take k ws)
   same_deadlines b = next_deadlines ∙ ap (λ ds. deadlines (take k ws) ++ ds) (none b) ∙ append-nil _ where
-    -- a request that has timed out has no deadline in the list
+    -- where p has timed out, the list of the deadlines of p alone is empty
     none : not p.given_up ≡ false → deadlines (p ∷ []) ≡ []
     none b = rw b refl

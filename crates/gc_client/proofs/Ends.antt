@@ -1,24 +1,23 @@
 -- What a reply settles.
-use Rattle.std.proofs.Common.{◌≡◌, ℕ, zero, suc, ◌≤◌, Bool, true, false, List, [], ◌∷◌, ◌++◌, length, map, take, drop, Option, Some, None, Ok, sym, ap, ap₂, ◌∙◌, arith, length-drop, if◌then◌else◌}
-use Rattle.std.proofs.lemmas.Option.{cond_some, none-some}
+use Rattle.std.proofs.Common.{◌≡◌, ℕ, zero, suc, ◌≤◌, Bool, false, List, [], ◌∷◌, ◌++◌, length, map, take, drop, Ok, sym, ap, ap₂, ◌∙◌, arith, length-drop, if◌then◌else◌}
 use Rattle.gc_lines.specs.Replies.{ReplyFields}
 use Rattle.gc_lines.specs.Readers.{reply_at}
 use Rattle.gc_lines.proofs.Replies.{reply_found}
 use Rattle.gc_client.specs.declared.pending.Pending.{Pending}
 use Rattle.gc_client.specs.declared.settlement.Outcome.{Outcome}
 use Rattle.gc_client.specs.declared.settlement.Outcome.TheVariants.{Answered, Late, Lost}
-use Rattle.gc_client.specs.Rule.{ById, lost, settled_by_line, settle, id_in, heard, id_settled, hears}
-use Rattle.gc_client.specs.Places.{place_heard}
+use Rattle.gc_client.specs.Rule.{lost, settled_by_line, settle}
 use Rattle.gc_client.specs.Rule
 use Rattle.gc_client.specs.Settlements.{Says, IsAnsweredBy, IsSettledBy}
 
--- the rule's settlement of a request by a reply line, where the request had timed out (true) or hadn't
-abbrev settled_when : {Q : Type 0} → Pending Q → List ℕ → Bool → Rule.Settlement Q
+-- the rule's settlement of a request by a reply line: late if the request had timed out (`given_up`), else answered
+abbrev settled_when : {Q : Type 0} → Pending Q → (line : List ℕ) → (given_up : Bool) → Rule.Settlement Q
 settled_when p line given_up = record { target = p.target; call = p.call; outcome = if given_up then Rule.Late else Rule.Answered line }
 
 -- where a request hadn't timed out, and an outcome is the answer that this reply line gives it, the request with that
 -- outcome is the settlement that the rule makes of it by that line
-pub answered_is : {Q : Type 0} (says : Says Q) (p : Pending Q) (line : List ℕ) (fields : ReplyFields) (o : Outcome) → p.given_up ≡ false → reply_at line ≡ Ok fields
+pub answered_is : {Q : Type 0} (says : Says Q) (p : Pending Q) (line : List ℕ) (fields : ReplyFields) (o : Outcome) → p.given_up ≡ false
+    → reply_at line ≡ Ok fields
     → IsAnsweredBy says p.call fields line o → IsSettledBy says (record { target = p.target; call = p.call; outcome = o }) (settled_by_line p line)
 answered_is says p line fields (Answered reading copy) given_up reads (same, is_said) =
     record {
@@ -28,7 +27,7 @@ answered_is says p line fields (Answered reading copy) given_up reads (same, is_
 answered_is says p line fields Late given_up reads is = absurd is
 answered_is says p line fields Lost given_up reads is = absurd is
 
--- settling through place k settles the first k requests as lost, and the one at place k by the line
+-- where p is the request at place k, settling through place k settles the first k requests as lost, and p by the line
 pub settle_is : {Q : Type 0} (k : ℕ) (line : List ℕ) (ws : List (Pending Q)) (p : Pending Q) (left : List (Pending Q)) → drop k ws ≡ p ∷ left
     → settle k line ws ≡ map lost (take k ws) ++ settled_by_line p line ∷ []
 settle_is zero line [] p left e = cc
@@ -36,16 +35,6 @@ settle_is (suc k) line [] p left e = cc
 settle_is zero line (w ∷ ws) p left e = let same : w ≡ p = cc in ap (λ x. settled_by_line x line ∷ []) same
 settle_is (suc k) line (w ∷ ws) p left e = ap (λ rs. lost w ∷ rs) (settle_is k line ws p left e)
 
--- a reply with the id of the request at place k settles the requests up to that one
-hears_at : {Q : Type 0} (c : ById Q) (line : List ℕ) (id : Option ℕ) (k : ℕ) → place_heard c.next (length c.waiting) id ≡ Some k → hears c line id ≡ id_settled c line k true
-hears_at c line None k e = absurd (none-some k e)
-hears_at c line (Some id) k e = let at = cond_some _ _ k e in ap₂ (λ q b. id_settled c line q b) at.1 at.0
-
--- a line that reads as a reply to the request at place k settles the requests up to that one
-pub settles : {Q : Type 0} (c : ById Q) (line : List ℕ) (fields : ReplyFields) (k : ℕ) → reply_at line ≡ Ok fields → place_heard c.next (length c.waiting) fields.id ≡ Some k
-    → hears c line (heard line) ≡ id_settled c line k true
-settles c line fields k reads fit = ap (λ r. hears c line (id_in r)) reads ∙ hears_at c line fields.id k fit
-
--- where at most `width` requests wait, at most as many are left after place k
+-- where at most `width` elements are in a list that has one at place k, at most `width` are left after place k
 pub fewer_left : {A : Type 0} (width k : ℕ) (ws : List A) (p : A) (left : List A) → drop k ws ≡ p ∷ left → length ws ≤ width → length left ≤ width
 fewer_left width k ws p left next few = let same = ap length next in omega (arith, same, length-drop k ws)

@@ -11,16 +11,17 @@ use Rattle.gc_client.specs.Rule.{expired, is_expiring, expiring, given_up_at}
 use Rattle.gc_client.proofs.Lists.{take_turn, drop_turn}
 
 -- the requests that wait once the loop has looked at the first k of them: these have timed out if their deadlines were reached
-abbrev pub expired_up_to : {Q : Type 0} → ℕ → ℕ → List (Pending Q) → List (Pending Q)
+abbrev pub expired_up_to : {Q : Type 0} → (now k : ℕ) → (ws : List (Pending Q)) → List (Pending Q)
 expired_up_to now k ws = map (expired now) (take k ws) ++ drop k ws
 
 -- once the loop has looked at the first k requests, the one at place k is still the one that was there at the start
-pub same_at : {Q : Type 0} (now k : ℕ) (ws : List (Pending Q)) (p : Pending Q) → slice_get (expired_up_to now k ws) k ≡ Some p → slice_get ws k ≡ Some p
+pub same_at : {Q : Type 0} (now k : ℕ) (ws : List (Pending Q)) (p : Pending Q) → slice_get (expired_up_to now k ws) k ≡ Some p
+    → slice_get ws k ≡ Some p
 same_at now zero ws p e = e
 same_at now (suc k) [] p e = e
 same_at now (suc k) (w ∷ ws) p e = same_at now k ws p e
 
--- a request that times out at this moment is the same request, marked as timed out
+-- what `expired` makes of a request that times out at this moment is the same request, marked as timed out
 expired_is : {Q : Type 0} (now : ℕ) (p : Pending Q) → is_expiring now p ≡ true → expired now p ≡ record p { given_up = true }
 expired_is now p e = ap (λ b. record p { given_up = b }) (flag (nat_le p.deadline now) p.given_up e) where
   -- of a request that is due and hasn't timed out yet, the new mark is true
@@ -29,7 +30,7 @@ expired_is now p e = ap (λ b. record p { given_up = b }) (flag (nat_le p.deadli
   flag true false e = refl
   flag false false e = e
 
--- a request that doesn't time out at this moment stays as it is
+-- what `expired` makes of a request that doesn't time out at this moment is the request as it is
 expired_unchanged : {Q : Type 0} (now : ℕ) (p : Pending Q) → is_expiring now p ≡ false → expired now p ≡ p
 expired_unchanged now p e = ap (λ b. record p { given_up = b }) (flag (nat_le p.deadline now) p.given_up e) where
   -- of a request that isn't due, or has timed out already, the new mark is the old one
@@ -38,15 +39,16 @@ expired_unchanged now p e = ap (λ b. record p { given_up = b }) (flag (nat_le p
   flag true false e = e
   flag false false e = refl
 
--- timing out the request at place k, once the loop has looked at the first k, leaves those, that one marked as timed out, and
--- the others
+-- marking the request at place k as timed out, once the loop has looked at the first k, leaves the first k as the loop made them,
+-- then the one at place k, marked, and then those after it as they were at the start
 given_up_in : {Q : Type 0} (now k : ℕ) (ws : List (Pending Q)) (p : Pending Q) → slice_get ws k ≡ Some p
     → given_up_at k (expired_up_to now k ws) ≡ map (expired now) (take k ws) ++ record p { given_up = true } ∷ drop (suc k) ws
 given_up_in now k [] p e = cc
 given_up_in {Q} now zero (w ∷ ws) p e = let same : w ≡ p = cc in ap (λ (x : Pending Q). record x { given_up = true } ∷ ws) same
 given_up_in now (suc k) (w ∷ ws) p e = ap (λ qs. expired now w ∷ qs) (given_up_in now k ws p e)
 
--- once the loop has looked at the first k + 1 requests, it has made of them what it made of the first k and of the one at place k
+-- once the loop has looked at the first k + 1 requests, there are the first k as the loop made them, then the one at place k as
+-- the loop made it, and then those after it as they were at the start
 expired_one_more : {Q : Type 0} (now k : ℕ) (ws : List (Pending Q)) (p : Pending Q) → slice_get ws k ≡ Some p
     → expired_up_to now (suc k) ws ≡ map (expired now) (take k ws) ++ expired now p ∷ drop (suc k) ws
 expired_one_more now k [] p e = cc
@@ -55,7 +57,8 @@ expired_one_more now (suc k) (w ∷ ws) p e = ap (λ qs. expired now w ∷ qs) (
 
 -- the targets of the requests that time out at the moment among the first k + 1 are those among the first k, and that of the
 -- one at place k if it times out
-next_expiring : {Q : Type 0} (now k : ℕ) (ws : List (Pending Q)) (p : Pending Q) → slice_get ws k ≡ Some p → expiring now (take (suc k) ws) ≡ expiring now (take k ws) ++ expiring now (p ∷ [])
+next_expiring : {Q : Type 0} (now k : ℕ) (ws : List (Pending Q)) (p : Pending Q) → slice_get ws k ≡ Some p
+    → expiring now (take (suc k) ws) ≡ expiring now (take k ws) ++ expiring now (p ∷ [])
 next_expiring now k ws p e =
     ap (expiring now) (take_turn ws k p e)
     ∙ ap (map (λ p. p.target)) (filter-append (is_expiring now) (take k ws) (p ∷ []))
@@ -63,7 +66,7 @@ next_expiring now k ws p e =
 
 -- One turn of the loop: it has looked at the first k requests, and looks at the request p at place k.
 module _ {Q : Type 0} (now k : ℕ) (ws qs : List (Pending Q)) (p : Pending Q) (done : qs ≡ expired_up_to now k ws) (here : slice_get qs k ≡ Some p) where
-  -- the request at place k of all that wait is p
+  -- the request at place k of those that waited at the start is p
   at_k : slice_get ws k ≡ Some p
   at_k = same_at now k ws p (subst (λ l. slice_get l k ≡ Some p) done here)
 
@@ -71,24 +74,25 @@ module _ {Q : Type 0} (now k : ℕ) (ws qs : List (Pending Q)) (p : Pending Q) (
   suc_k : suc k ≡ k + 1
   suc_k = omega arith
 
-  -- where the request at place k times out at the moment, and `qs'` are the requests with that one marked, they are what the loop
-  -- makes of the first k + 1
+  -- where p times out at the moment, and `qs'` are the requests qs with the one at place k marked, `qs'` are the requests that
+  -- wait once the loop has looked at the first k + 1
   pub due_done : (qs' : List (Pending Q)) → is_expiring now p ≡ true → qs' ≡ given_up_at k qs → qs' ≡ expired_up_to now (k + 1) ws
   due_done qs' b e =
       e ∙ ap (given_up_at k) done ∙ given_up_in now k ws p at_k
       ∙ ap (λ x. map (expired now) (take k ws) ++ x ∷ drop (suc k) ws) (sym (expired_is now p b))
       ∙ sym (expired_one_more now k ws p at_k) ∙ ap (λ m. expired_up_to now m ws) suc_k
 
-  -- where the request at place k doesn't time out at the moment, the requests stay as they are, and are what the loop makes of the
-  -- first k + 1
+  -- where p doesn't time out at the moment, qs are the requests that wait once the loop has looked at the first k + 1
   pub not_due_done : is_expiring now p ≡ false → qs ≡ expired_up_to now (k + 1) ws
   not_due_done b =
       done ∙ ap (λ l. map (expired now) (take k ws) ++ l) (drop_turn ws k p at_k)
       ∙ ap (λ x. map (expired now) (take k ws) ++ x ∷ drop (suc k) ws) (sym (expired_unchanged now p b))
       ∙ sym (expired_one_more now k ws p at_k) ∙ ap (λ m. expired_up_to now m ws) suc_k
 
-  -- where the request at place k times out at the moment, its target is the next in the list
-  pub due_listed : (targets : List ℕ) → targets ≡ expiring now (take k ws) → is_expiring now p ≡ true → targets ++ p.target ∷ [] ≡ expiring now (take (k + 1) ws)
+  -- where `targets` are those of the requests that time out among the first k, and p times out, `targets` and then p's target are
+  -- those of the requests that time out among the first k + 1
+  pub due_listed : (targets : List ℕ) → targets ≡ expiring now (take k ws) → is_expiring now p ≡ true
+      → targets ++ p.target ∷ [] ≡ expiring now (take (k + 1) ws)
   due_listed targets listed b =
       ap₂ (λ xs ys. xs ++ ys) listed (sym (one b)) ∙ sym (next_expiring now k ws p at_k) ∙ ap (λ m. expiring now (take m ws)) suc_k
     where
@@ -96,7 +100,8 @@ module _ {Q : Type 0} (now k : ℕ) (ws qs : List (Pending Q)) (p : Pending Q) (
       one : is_expiring now p ≡ true → expiring now (p ∷ []) ≡ p.target ∷ []
       one b = rw b refl
 
-  -- where the request at place k doesn't time out at the moment, the list of targets stays as it is
+  -- where `targets` are those of the requests that time out among the first k, and p doesn't time out, `targets` are those of the
+  -- requests that time out among the first k + 1
   pub not_due_listed : (targets : List ℕ) → targets ≡ expiring now (take k ws) → is_expiring now p ≡ false → targets ≡ expiring now (take (k + 1) ws)
   not_due_listed targets listed b =
       listed ∙ sym (append-nil _) ∙ ap (λ ys. expiring now (take k ws) ++ ys) (sym (none b)) ∙ sym (next_expiring now k ws p at_k) ∙ ap (λ m. expiring now (take m ws)) suc_k
@@ -117,6 +122,6 @@ is_not_due now p early =
     let b : leb p.deadline now ≡ false = lt-leb _ _ early in
     rw b refl
 
--- a request that had timed out before doesn't time out again
+-- a request that had timed out before doesn't time out at this moment
 pub is_given_up : {Q : Type 0} (now : ℕ) (p : Pending Q) → not p.given_up ≡ false → is_expiring now p ≡ false
 is_given_up now p given_up = and_right (leb p.deadline now) (not p.given_up) given_up

@@ -30,7 +30,7 @@ left_turn ws k p qs qs' rest first =
     let tails : qs' ≡ drop (suc k) ws = cc in
     tails ∙ ap (λ m. drop m ws) n
 
--- an option that is `None` isn't `Some`
+-- an option that is `None` isn't a `Some`
 pub none_there : {A : Type 0} (o : Option A) → o ≡ None → IsSome o → ⊥
 none_there None e is = cc
 none_there (Some x) e is = cc

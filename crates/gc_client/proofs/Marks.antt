@@ -9,19 +9,21 @@ use Rattle.gc_client.specs.Rule.{given_up_at}
 abbrev pub marked_timed_out : {Q : Type 0} → Pending Q → Pending Q
 marked_timed_out p = record p { given_up = true }
 
--- writing the marked request over the one at place k times out the one at place k
-pub set_is_given_up : {Q : Type 0} (ps : List (Pending Q)) (k : ℕ) (d : Pending Q) → k < length ps → set ps k (marked_timed_out (get_or ps k d)) ≡ given_up_at k ps
+-- where a request is at place k, writing this request, marked, over place k makes the requests that `given_up_at k` makes
+pub set_is_given_up : {Q : Type 0} (ps : List (Pending Q)) (k : ℕ) (d : Pending Q) → k < length ps
+    → set ps k (marked_timed_out (get_or ps k d)) ≡ given_up_at k ps
 set_is_given_up [] k d lt = absurd (omega arith)
 set_is_given_up (p ∷ ps) zero d lt = refl
 set_is_given_up (p ∷ ps) (suc k) d lt = ap (λ qs. p ∷ qs) (set_is_given_up ps k d (omega arith))
 
--- where p is the request at place k, writing p, marked, over that place times out the request there
-pub set_some_is_given_up : {Q : Type 0} (ps : List (Pending Q)) (k : ℕ) (p : Pending Q) → slice_get ps k ≡ Some p → set ps k (marked_timed_out p) ≡ given_up_at k ps
+-- where p is the request at place k, writing p, marked, over place k makes the requests that `given_up_at k` makes
+pub set_some_is_given_up : {Q : Type 0} (ps : List (Pending Q)) (k : ℕ) (p : Pending Q) → slice_get ps k ≡ Some p
+    → set ps k (marked_timed_out p) ≡ given_up_at k ps
 set_some_is_given_up [] k p e = cc
 set_some_is_given_up (q ∷ ps) zero p e = let same : p ≡ q = cc in ap (λ x. marked_timed_out x ∷ ps) same
 set_some_is_given_up (q ∷ ps) (suc k) p e = ap (λ qs. q ∷ qs) (set_some_is_given_up ps k p e)
 
--- a place at which nothing was read is past the end
+-- a place at which no request was read is past the last request
 pub none_is_past : {Q : Type 0} (ps : List (Pending Q)) (k : ℕ) → slice_get ps k ≡ None → length ps ≤ k
 none_is_past [] k e = omega arith
 none_is_past (p ∷ ps) zero e = absurd (none-some p (sym e))

@@ -7,7 +7,7 @@ use Rattle.std.proofs.lemmas.Bool.{cases_lt}
 use Rattle.std.proofs.lemmas.Grind.{common_steps}
 use Rattle.gc_client.specs.Places.{waiting_in}
 
--- a number below 2 N, brought into the ring by the remainder at N, is itself or N less
+-- the remainder at N of a number below 2 N is the number itself if that is below N, and else N less
 mod_wraps_once : (N j : ℕ) → j < N + N → ((j < N) × (j % N ≡ j)) ⊎ ((N ≤ j) × (j % N ≡ j - N))
 mod_wraps_once N j below = elim (cases_lt j N) [
   | inl low ↦ inl (low, mod-eq_of_lt low)
@@ -19,7 +19,7 @@ module _ {A : Type 0} (N k n : ℕ) (xs : List A) (start : k < N) (fits : n ≤ 
   pub length-waiting : length (waiting_in k n xs) ≡ n
   length-waiting = length-take-le n _ (simp (length-append, length-drop) (omega (arith, length-take-le k xs (omega arith))))
 
-  -- the request that is the i-th from the oldest is in place (k + i) % N
+  -- the request that is i requests after the oldest is in place (k + i) % N
   pub get_or-waiting : (i : ℕ) (d : A) → i < n → get_or (waiting_in k n xs) i d ≡ get_or xs ((k + i) % N) d
   get_or-waiting i d in_range =
       let length_tail = length-drop k xs in
@@ -30,7 +30,7 @@ module _ {A : Type 0} (N k n : ℕ) (xs : List A) (start : k < N) (fits : n ≤ 
 
 -- A second block, because these use the lemmas above at other windows.
 module _ {A : Type 0} (N k n : ℕ) (xs : List A) (start : k < N) (fits : n ≤ N) (length_xs : length xs ≡ N) where
-  -- writing x in the place after the youngest request appends x to those that wait
+  -- where fewer than N requests wait, writing x in the place after theirs, (k + n) % N, appends x to them
   pub waiting_after_push : (x : A) → n < N → waiting_in k (n + 1) (set xs ((k + n) % N) x) ≡ waiting_in k n xs ++ x ∷ []
   waiting_after_push x has_room =
       let ys = set xs ((k + n) % N) x in
@@ -46,7 +46,8 @@ module _ {A : Type 0} (N k n : ℕ) (xs : List A) (start : k < N) (fits : n ≤ 
         get_or-waiting N k (n + 1) ys start (omega arith) length_ys i d,
       ))
 
-  -- the requests that wait are the oldest, and then those of the window that begins one place further and has one fewer
+  -- where at least one request waits, those that wait are the oldest, at place k, and then those of the window that begins one
+  -- place further and has one fewer
   pub waiting_before_take : (d : A) → 0 < n → waiting_in k n xs ≡ get_or xs k d ∷ waiting_in ((k + 1) % N) (n - 1) xs
   waiting_before_take d nonempty =
       let next_in_range : (k + 1) % N < N = grind (arith, mod_wraps_once N (k + 1) (omega arith)) in
@@ -62,7 +63,7 @@ module _ {A : Type 0} (N k n : ℕ) (xs : List A) (start : k < N) (fits : n ≤ 
         get_or-waiting N _ (n - 1) xs next_in_range (omega arith) length_xs i e,
       )))
 
-  -- writing x in the place of the i-th request replaces that request by x, and no other
+  -- writing x in the place of the request that is i requests after the oldest replaces that request by x, and no other
   pub waiting_after_set : (i : ℕ) (x : A) → i < n → waiting_in k n (set xs ((k + i) % N) x) ≡ set (waiting_in k n xs) i x
   waiting_after_set i x in_range =
       let ys = set xs ((k + i) % N) x in

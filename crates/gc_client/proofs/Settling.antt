@@ -15,8 +15,10 @@ well_read_one : {Q : Type 0} (says : Says Q) (s : Settlement Q) → IsReadBy say
 well_read_one says s read zero d lt = read
 well_read_one says s read (suc k) d lt = absurd (omega arith)
 
--- where settlements are the rule's, and one more is the rule's next one, all together are the rule's
-one_more : {Q : Type 0} (says : Says Q) (ss : List (Settlement Q)) (rs : List (Rule.Settlement Q)) (s : Settlement Q) (r : Rule.Settlement Q) → AreSettledBy says ss rs → IsSettledBy says s r
+-- where the settlements ss are the rule's settlements rs (`AreSettledBy`), and s is the rule's r (`IsSettledBy`), ss and then s
+-- are rs and then r
+one_more : {Q : Type 0} (says : Says Q) (ss : List (Settlement Q)) (rs : List (Rule.Settlement Q)) (s : Settlement Q) (r : Rule.Settlement Q)
+    → AreSettledBy says ss rs → IsSettledBy says s r
     → AreSettledBy says (ss ++ s ∷ []) (rs ++ r ∷ [])
 one_more says ss rs s r are is =
     record {
@@ -24,13 +26,16 @@ one_more says ss rs s r are is =
       read = All-append (λ s. IsReadBy says s.call s.outcome) ss (s ∷ []) are.read (well_read_one says s is.read);
     }
 
--- where the first k settlements are the rule's, and the one at place k is written as the rule's next, the first k + 1 are
-pub one_written : {Q : Type 0} (says : Says Q) (ss : List (Settlement Q)) (k : ℕ) (rs : List (Rule.Settlement Q)) (s : Settlement Q) (r : Rule.Settlement Q) → k < length ss
+-- where the first k settlements of ss, which has more than k, are the rule's rs, and s is the rule's r, the first k + 1, once s
+-- is written over the one at place k, are rs and then r
+pub one_written : {Q : Type 0} (says : Says Q) (ss : List (Settlement Q)) (k : ℕ) (rs : List (Rule.Settlement Q)) (s : Settlement Q) (r : Rule.Settlement Q)
+    → k < length ss
     → AreSettledBy says (take k ss) rs → IsSettledBy says s r → AreSettledBy says (take (k + 1) (set ss k s)) (rs ++ r ∷ [])
 one_written says ss k rs s r lt are is =
     subst (λ xs. AreSettledBy says xs (rs ++ r ∷ [])) (sym (take_more_set ss k s lt)) (one_more says (take k ss) rs s r are is)
 
--- the first k + 1 requests, settled as lost, are the first k, settled as lost, and the request p, which is taken out next
+-- the first k + 1 requests, settled as lost, are the first k, settled as lost, and then p, settled as lost, where p is the first
+-- of the requests from place k on
 pub next_lost : {Q : Type 0} (ws : List (Pending Q)) (k : ℕ) (p : Pending Q) (qs qs' : List (Pending Q)) → qs ≡ drop k ws → qs ≡ p ∷ qs'
     → map lost (take (k + 1) ws) ≡ map lost (take k ws) ++ lost p ∷ []
 next_lost ws k p qs qs' rest first =

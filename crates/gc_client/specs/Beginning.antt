@@ -6,13 +6,14 @@ use Rattle.gc_catalogue.specs.declared.call.Call.TheVariants.{NullProc}
 use Rattle.gc_catalogue.specs.Texts.{request_line}
 use Rattle.gc_client.specs.Rule.{heard}
 
--- The word: the ids of the null procedures, in order. It goes downward, because the ids of a run that measures go upward; and its last id
--- is the one before that of the first command.
+-- The word: the ids of the null procedures, in order. Each is one less than the id before it, and 7 comes after 0, because in a
+-- run that measures each id is one more than the id before it, and 0 comes after 7. The word's last id is the one before that of
+-- the first command.
 abbrev pub the_word : List ℕ
 the_word = 6 ∷ 5 ∷ 4 ∷ 3 ∷ 2 ∷ 1 ∷ 0 ∷ 7 ∷ []
 
--- the first list is a subsequence of the second: its ids are in the second list in the same order, with any others between
-abbrev pub IsSubsequence : List ℕ → List ℕ → Type 0
+-- `word` is a subsequence of `ids`: its ids are in `ids` in the same order, with any others before, between and after them
+abbrev pub IsSubsequence : (word ids : List ℕ) → Type 0
 IsSubsequence [] ids = Unit {0}
 IsSubsequence (w ∷ word) [] = ⊥
 IsSubsequence (w ∷ word) (i ∷ ids) = ((w ≡ i) × IsSubsequence word ids) ⊎ IsSubsequence (w ∷ word) ids
@@ -21,29 +22,29 @@ IsSubsequence (w ∷ word) (i ∷ ids) = ((w ≡ i) × IsSubsequence word ids) �
 -- has begun.
 
 -- the line of the null procedure with the first id that isn't answered; none if all are answered
-abbrev pub asks : List ℕ → Option (List ℕ)
+abbrev pub asks : (left : List ℕ) → Option (List ℕ)
 asks [] = None
 asks (asked ∷ rest) = Some (request_line (Some asked) NullProc)
 
--- whether a reply with this id, or a line without one (`None`), answers the null procedure with the first id that isn't answered: it does
--- if it has that id
-abbrev pub is_answered : List ℕ → Option ℕ → Bool
+-- whether a reply with this id, or a line without one (`None`), answers the null procedure with the first id that isn't answered:
+-- it does if it has that id. If all are answered, no line answers one
+abbrev pub is_answered : (left : List ℕ) → (id : Option ℕ) → Bool
 is_answered [] id = false
 is_answered (asked ∷ rest) None = false
 is_answered (asked ∷ rest) (Some id) = nat_eq id asked
 
 -- the ids that aren't answered yet, of `asked` and `rest`: `rest` alone if `asked` was answered (true), else both
-abbrev pub left_by_one : Bool → ℕ → List ℕ → List ℕ
+abbrev pub left_by_one : (answered : Bool) → (asked : ℕ) → (rest : List ℕ) → List ℕ
 left_by_one true asked rest = rest
 left_by_one false asked rest = asked ∷ rest
 
 -- the ids that aren't answered yet after a reply with this id, or a line without one: a line that doesn't answer changes nothing
-abbrev pub left_by : List ℕ → Option ℕ → List ℕ
+abbrev pub left_by : (left : List ℕ) → (id : Option ℕ) → List ℕ
 left_by [] id = []
 left_by (asked ∷ rest) id = left_by_one (is_answered (asked ∷ rest) id) asked rest
 
--- which of the ids `word` aren't answered yet after these lines, in order: each line answers the first id that is left if it has that id,
--- and otherwise none
-abbrev pub unanswered_after : List ℕ → List (List ℕ) → List ℕ
+-- which of the ids `word` aren't answered yet after these lines came, one after the other: a line answers the first id that is
+-- left then, if the line has that id, and otherwise none
+abbrev pub unanswered_after : (word : List ℕ) → (lines : List (List ℕ)) → List ℕ
 unanswered_after word [] = word
 unanswered_after word (line ∷ others) = unanswered_after (left_by word (heard line)) others

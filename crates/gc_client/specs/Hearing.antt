@@ -18,26 +18,27 @@ settlements_in (Settled settlements) = settlements.items
 settlements_in Stray = []
 settlements_in (Unread fault) = []
 
--- what a client reports of a line is right: `old` is the client before the line, and `new` after it. `Settled`: a request waits with the
--- line's id; what is then settled is in `AreSettledByLine`, and the client after it in `IsAfterLine`. A stray and a line that is no
--- reply settle nothing and change nothing
-abbrev pub HearsInto : {Q : Type 0} → ById Q → List ℕ → Hearing → List (Settlement Q) → ById Q → Type 0
+-- what a client reports of a line is right: `old` is the client before the line, and `new` after it. `Settled`: a request waits
+-- with the line's id; what is then settled is in `AreSettledByLine`, and the client after it in `IsAfterLine`. `Stray`: the line
+-- is a reply that no request waits for. `Unread`: it is no reply, and has the fault. Both settle nothing and change nothing
+abbrev pub HearsInto : {Q : Type 0} → (old : ById Q) → (line : List ℕ) → Hearing → List (Settlement Q) → (new : ById Q) → Type 0
 HearsInto old line kind.Settled settlements new = fits old (heard line) ≡ true
 HearsInto old line kind.Stray settlements new = IsOk (reply_at line) × (fits old (heard line) ≡ false) × (settlements ≡ []) × (new ≡ old)
 HearsInto old line (kind.Unread fault) settlements new = (reply_at line ≡ Err fault) × (settlements ≡ []) × (new ≡ old)
 
 -- the same as `HearsInto`, of a report that contains the settlements
-abbrev pub HearsAs : {Q : Type 0} → ById Q → List ℕ → Heard Q → ById Q → Type 0
+abbrev pub HearsAs : {Q : Type 0} → (old : ById Q) → (line : List ℕ) → Heard Q → (new : ById Q) → Type 0
 HearsAs old line (Settled settlements) new = fits old (heard line) ≡ true
 HearsAs old line Stray new = IsOk (reply_at line) × (fits old (heard line) ≡ false) × (new ≡ old)
 HearsAs old line (Unread fault) new = (reply_at line ≡ Err fault) × (new ≡ old)
 
--- these settlements, read by the relation `says`, are those that the rule makes of the line in the client `old`
+-- these settlements are those that the rule makes of the line in the client `old`. By the relation `says` an answer's reading is that of
+-- its line
 abbrev pub AreSettledByLine : {Q : Type 0} → Says Q → ById Q → (line : List ℕ) → List (Settlement Q) → Type 0
 AreSettledByLine says old line settlements = AreSettledBy says settlements (hears old line (heard line)).settlements
 
 -- the client `new` is what the rule makes of `old` by the line
-abbrev pub IsAfterLine : {Q : Type 0} → Windowed Q → (line : List ℕ) → Windowed Q → Type 0
+abbrev pub IsAfterLine : {Q : Type 0} → (old : Windowed Q) → (line : List ℕ) → (new : Windowed Q) → Type 0
 IsAfterLine old line new = new ≡ record old { ids = (hears old.ids line (heard line)).client }
 
 -- by the rule the line settles nothing in this client
@@ -48,18 +49,19 @@ SettlesNone c line = (hears c line (heard line)).settlements ≡ []
 abbrev pub LeavesUnchanged : {Q : Type 0} → ById Q → (line : List ℕ) → Type 0
 LeavesUnchanged c line = (hears c line (heard line)).client ≡ c
 
--- a line of more than 512 bytes is reported as too long, there are no settlements, and the client `new` is `old`
-abbrev pub IsOverlong : {Q : Type 0} → Hearing → List (Settlement Q) → (old new : Windowed Q) → Type 0
-IsOverlong hearing settlements old new = (hearing ≡ kind.Unread TooLong) × (settlements ≡ []) × (new ≡ old)
+-- a line is reported as too long, with no settlements, and the client `new` is `old`
+abbrev pub ReportsTooLong : {Q : Type 0} → Hearing → List (Settlement Q) → (old new : Windowed Q) → Type 0
+ReportsTooLong hearing settlements old new = (hearing ≡ kind.Unread TooLong) × (settlements ≡ []) × (new ≡ old)
 
--- these settlements, read by the relation `says`, are those of the client's request at place k by the line, and of those before it as lost
+-- where a request of the client waits at place k: these settlements are those of the requests before it, as lost, and then that
+-- of this request, by the line. By the relation `says` an answer's reading is that of its line
 abbrev pub AreSettledAt : {Q : Type 0} → Says Q → ById Q → (line : List ℕ) → (k : ℕ) → List (Settlement Q) → Type 0
 AreSettledAt says old line k settlements = AreSettledBy says settlements (id_settled old line k true).settlements
 
 -- the client `new` is what is left of `old` when its request at place k, and those before it, are settled by the line
-abbrev pub IsAfterSettling : {Q : Type 0} → Windowed Q → (line : List ℕ) → (k : ℕ) → Windowed Q → Type 0
+abbrev pub IsAfterSettling : {Q : Type 0} → (old : Windowed Q) → (line : List ℕ) → (k : ℕ) → (new : Windowed Q) → Type 0
 IsAfterSettling old line k new = new ≡ record old { ids = (id_settled old.ids line k true).client }
 
--- the first `count` settlements are those of the first `count` requests as lost, read by the relation `says`
+-- the first `count` settlements are those of the first `count` requests as lost; `says` is the relation of replies and their readings
 abbrev pub AreFirstLost : {Q : Type 0} → Says Q → (count : ℕ) → List (Pending Q) → List (Settlement Q) → Type 0
 AreFirstLost says count requests settlements = AreSettledBy says (take count settlements) (map lost (take count requests))

@@ -34,24 +34,28 @@ pub record Course (Q : Type 0) : Type 0 where
 abbrev pub begun : {Q : Type 0} → Course Q
 begun = record { sent = []; settlements = []; client = fresh }
 
--- the course after a send with this result; a refusal (`None`) changes nothing
-abbrev pub sent_on : {Q : Type 0} → Course Q → ℕ → Q → Option (Sending (ById Q)) → Course Q
+-- the course after a send of this call to this target, with this result; a refusal (`None`) changes nothing
+abbrev pub sent_on : {Q : Type 0} → Course Q → (target : ℕ) → Q → Option (Sending (ById Q)) → Course Q
 sent_on x target call None = x
-sent_on x target call (Some s) = record { sent = x.sent ++ record { target = target; call = call } ∷ []; settlements = x.settlements; client = s.client }
+sent_on x target call (Some s) = record {
+  sent = x.sent ++ record { target = target; call = call } ∷ [];
+  settlements = x.settlements;
+  client = s.client;
+}
 
 -- the course after a line or a restart that settled this
 abbrev pub settled_on : {Q : Type 0} → Course Q → Settled Q (ById Q) → Course Q
 settled_on x s = record { sent = x.sent; settlements = x.settlements ++ s.settlements; client = s.client }
 
 -- the course after one step, by the client's rule with a window of this width
-abbrev pub course_after : {Q : Type 0} → ℕ → Course Q → Step Q → Course Q
+abbrev pub course_after : {Q : Type 0} → (width : ℕ) → Course Q → Step Q → Course Q
 course_after width x (Send target call deadline) = sent_on x target call (sends width x.client target call deadline)
 course_after width x (Hear line) = settled_on x (hears x.client line (heard line))
 course_after width x (Expire now) = record { sent = x.sent; settlements = x.settlements; client = expires x.client now }
 course_after width x Restart = settled_on x (restarts x.client)
 
--- the course after all steps, in order
-abbrev pub course : {Q : Type 0} → ℕ → Course Q → List (Step Q) → Course Q
+-- the course after all these steps, in order, with a window of this width
+abbrev pub course : {Q : Type 0} → (width : ℕ) → Course Q → List (Step Q) → Course Q
 course width x [] = x
 course width x (step ∷ steps) = course width (course_after width x step) steps
 

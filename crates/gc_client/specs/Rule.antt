@@ -8,8 +8,8 @@ use Rattle.gc_lines.specs.Readers.{reply_at}
 use Rattle.gc_client.specs.declared.window.TheConstants.{WINDOW, IDS}
 use Rattle.gc_client.specs.declared.pending.Pending.{Pending}
 
--- how a request ended: by a reply line, which is its bytes; by a reply line that came after the request had timed out; or
--- without a reply
+-- how a request ended: by a reply line, given as its bytes, that came before the request had timed out; by one that came after
+-- that; or without a reply
 pub data Outcome : Type 0 where
   Answered : (line : List ℕ) → Outcome
   Late : Outcome
@@ -52,19 +52,19 @@ IsWidth width = (1 ≤ width) × (width ≤ WINDOW)
 -- Pendings.
 
 -- a request that has just been sent, with this target, call and deadline
-abbrev pub pending_of : {Q : Type 0} → ℕ → Q → ℕ → Pending Q
+abbrev pub pending_of : {Q : Type 0} → (target : ℕ) → Q → (deadline : ℕ) → Pending Q
 pending_of target call deadline = record { target = target; call = call; deadline = deadline; given_up = false }
 
 -- the request as it is after this moment: timed out if it had timed out before, or if its deadline is at most this moment
-abbrev pub expired : {Q : Type 0} → ℕ → Pending Q → Pending Q
+abbrev pub expired : {Q : Type 0} → (now : ℕ) → Pending Q → Pending Q
 expired now p = record p { given_up = p.given_up || nat_le p.deadline now }
 
 -- whether a request times out now: it hasn't timed out before, and its deadline is at most this moment
-abbrev pub is_expiring : {Q : Type 0} → ℕ → Pending Q → Bool
+abbrev pub is_expiring : {Q : Type 0} → (now : ℕ) → Pending Q → Bool
 is_expiring now p = nat_le p.deadline now && not p.given_up
 
 -- the targets of the requests that time out now (`is_expiring`), in order
-abbrev pub expiring : {Q : Type 0} → ℕ → List (Pending Q) → List ℕ
+abbrev pub expiring : {Q : Type 0} → (now : ℕ) → List (Pending Q) → List ℕ
 expiring now ps = map (λ p. p.target) (filter (is_expiring now) ps)
 
 -- the deadlines of the requests that haven't timed out, in order
@@ -76,8 +76,8 @@ abbrev pub IsEarliest : List ℕ → Option ℕ → Type 0
 IsEarliest ds None = ds ≡ []
 IsEarliest ds (Some d) = Contains ds d × All (λ e. d ≤ e) ds
 
--- the requests, with the one at place k marked as timed out
-abbrev pub given_up_at : {Q : Type 0} → ℕ → List (Pending Q) → List (Pending Q)
+-- the requests, with the one at place k, if there is one, marked as timed out
+abbrev pub given_up_at : {Q : Type 0} → (k : ℕ) → List (Pending Q) → List (Pending Q)
 given_up_at k [] = []
 given_up_at zero (p ∷ ps) = record p { given_up = true } ∷ ps
 given_up_at (suc k) (p ∷ ps) = p ∷ given_up_at k ps
@@ -89,31 +89,35 @@ abbrev pub lost : {Q : Type 0} → Pending Q → Settlement Q
 lost p = record { target = p.target; call = p.call; outcome = Lost }
 
 -- the settlement of a request by this reply line: late if the request had timed out, else answered
-abbrev pub settled_by_line : {Q : Type 0} → Pending Q → List ℕ → Settlement Q
+abbrev pub settled_by_line : {Q : Type 0} → Pending Q → (line : List ℕ) → Settlement Q
 settled_by_line p line = record { target = p.target; call = p.call; outcome = if p.given_up then Late else Answered line }
 
--- the settlements of the first k of these requests as lost, and of the next one by this reply line
-abbrev pub settle : {Q : Type 0} → ℕ → List ℕ → List (Pending Q) → List (Settlement Q)
+-- the settlements of the first k of these requests as lost, and of the next one by this reply line; if there are k or fewer, of
+-- all of them as lost
+abbrev pub settle : {Q : Type 0} → (k : ℕ) → (line : List ℕ) → List (Pending Q) → List (Settlement Q)
 settle k line [] = []
 settle zero line (p ∷ ps) = settled_by_line p line ∷ []
 settle (suc k) line (p ∷ ps) = lost p ∷ settle k line ps
 
 -- Ids.
 
--- how far an id lies after the id of the oldest of `waiting` requests, going round at the number of ids
-abbrev pub place : ℕ → ℕ → ℕ → ℕ
+-- how far an id lies after the id of the oldest of `waiting` requests, or after the next id if none waits, going round at the
+-- number of ids; `next` is the next id
+abbrev pub place : (next waiting id : ℕ) → ℕ
 place next waiting id = (id + IDS - (next + IDS - waiting) % IDS) % IDS
 
--- how far an id lies after that of the client's oldest request: the place of the request with this id, if one waits
-abbrev pub place_in : {Q : Type 0} → ById Q → ℕ → ℕ
+-- how far an id lies after that of the client's oldest request, or after the next id if none waits: the place of the request with
+-- this id, if one waits
+abbrev pub place_in : {Q : Type 0} → ById Q → (id : ℕ) → ℕ
 place_in c id = place c.next (length c.waiting) id
 
--- whether a request waits with this id; a reply without an id (`None`) fits no request
+-- whether a request waits with this id, which is from 0 to 7 as in every reply (a greater one would count as its remainder by 8).
+-- A reply without an id (`None`) fits no request
 abbrev pub fits : {Q : Type 0} → ById Q → Option ℕ → Bool
 fits c None = false
 fits c (Some id) = nat_lt (place_in c id) (length c.waiting)
 
--- the id of a line that was read as a reply
+-- the id of a line by what it reads as: that of the reply, if it has one; none if the line is no reply
 abbrev pub id_in : Result ReplyFields LineFault → Option ℕ
 id_in (Ok reply) = reply.id
 id_in (Err fault) = None
@@ -126,7 +130,7 @@ heard line = id_in (reply_at line)
 
 -- what a send gives, by whether the window is full: if it is (true), none, which is a refusal, and else the request's id and the client
 -- after the send
-abbrev pub id_send : {Q : Type 0} → ById Q → ℕ → Q → ℕ → Bool → Option (Sending (ById Q))
+abbrev pub id_send : {Q : Type 0} → ById Q → (target : ℕ) → Q → (deadline : ℕ) → (full : Bool) → Option (Sending (ById Q))
 id_send c target call deadline true = None
 id_send c target call deadline false =
     Some (record {
@@ -136,17 +140,20 @@ id_send c target call deadline false =
 
 -- what a send gives: none, which is a refusal, where as many requests wait as the window is wide, and else the request's id and
 -- the client after the send
-abbrev pub sends : {Q : Type 0} → ℕ → ById Q → ℕ → Q → ℕ → Option (Sending (ById Q))
+abbrev pub sends : {Q : Type 0} → (width : ℕ) → ById Q → (target : ℕ) → Q → (deadline : ℕ) → Option (Sending (ById Q))
 sends width c target call deadline = id_send c target call deadline (nat_eq (length c.waiting) width)
 
--- the rule accepts a send of this call, which leads the client from `old` to `new`, and `line` is the request line with the id that was
--- next, where `line_of` gives the request line of a call with an id
-abbrev pub IsAcceptedSend : {Q : Type 0} → (Option ℕ → Q → List ℕ) → Windowed Q → ℕ → Q → ℕ → Windowed Q → List ℕ → Type 0
+-- the rule accepts a send of this call to this target, with this deadline, and takes what the client stores (`ids`) from that in
+-- `old` to that in `new`. `line` is the request line with the id that was next, where `line_of` gives the request line of a call,
+-- with an id or without one. Nothing is said here of the width of `new`
+abbrev pub IsAcceptedSend : {Q : Type 0} → (line_of : Option ℕ → Q → List ℕ) → (old : Windowed Q) → (target : ℕ) → Q → (deadline : ℕ)
+    → (new : Windowed Q) → (line : List ℕ) → Type 0
 IsAcceptedSend line_of old target call deadline new line =
-    (sends old.width old.ids target call deadline ≡ Some (record { id = old.ids.next; client = new.ids })) × (line ≡ line_of (Some old.ids.next) call)
+    (sends old.width old.ids target call deadline ≡ Some (record { id = old.ids.next; client = new.ids }))
+    × (line ≡ line_of (Some old.ids.next) call)
 
 -- the rule refuses a send of this call to this target, with this deadline
-abbrev pub IsRefusedSend : {Q : Type 0} → Windowed Q → ℕ → Q → ℕ → Type 0
+abbrev pub IsRefusedSend : {Q : Type 0} → Windowed Q → (target : ℕ) → Q → (deadline : ℕ) → Type 0
 IsRefusedSend old target call deadline = sends old.width old.ids target call deadline ≡ None
 
 -- as many requests wait as the client's window is wide
@@ -155,17 +162,20 @@ IsFull c = length c.ids.waiting ≡ c.width
 
 -- what a reply line does, by the place k of its id. If a request waits at that place (true), it is settled by the line, and those
 -- before it as lost. If none does (false), nothing changes
-abbrev pub id_settled : {Q : Type 0} → ById Q → List ℕ → ℕ → Bool → Settled Q (ById Q)
+abbrev pub id_settled : {Q : Type 0} → ById Q → (line : List ℕ) → (k : ℕ) → (waits : Bool) → Settled Q (ById Q)
 id_settled c line k false = record { settlements = []; client = c }
-id_settled c line k true = record { settlements = settle k line c.waiting; client = record { next = c.next; waiting = drop (k + 1) c.waiting } }
+id_settled c line k true = record {
+  settlements = settle k line c.waiting;
+  client = record { next = c.next; waiting = drop (k + 1) c.waiting };
+}
 
 -- what a line with this id settles, and the client after it; a line without an id settles nothing
-abbrev pub hears : {Q : Type 0} → ById Q → List ℕ → Option ℕ → Settled Q (ById Q)
+abbrev pub hears : {Q : Type 0} → ById Q → (line : List ℕ) → (id : Option ℕ) → Settled Q (ById Q)
 hears c line None = record { settlements = []; client = c }
 hears c line (Some id) = id_settled c line (place_in c id) (nat_lt (place_in c id) (length c.waiting))
 
 -- the client after this moment: each request whose deadline is at most the moment has timed out, and goes on waiting
-abbrev pub expires : {Q : Type 0} → ById Q → ℕ → ById Q
+abbrev pub expires : {Q : Type 0} → ById Q → (now : ℕ) → ById Q
 expires c now = record { next = c.next; waiting = map (expired now) c.waiting }
 
 -- what a restart settles, and the client after it: all requests that wait are lost, and the ids begin again at 0

@@ -16,7 +16,7 @@ outcome_seen (Answered reading line) = Rule.Answered line.items
 outcome_seen Late = Rule.Late
 outcome_seen Lost = Rule.Lost
 
--- a settlement as the rule has it: the same, with its outcome as the rule has that
+-- a settlement as the rule has it: with the same target and call, and with the outcome that `outcome_seen` gives
 abbrev pub settlement_seen : {Q : Type 0} → Settlement Q → Rule.Settlement Q
 settlement_seen s = record { target = s.target; call = s.call; outcome = outcome_seen s.outcome }
 
@@ -31,7 +31,7 @@ pub record ReadsBy {Q : Type 0} (says : Says Q) (call : Q) (line : List ℕ) (re
   pub is_reading : says call reply reading
 
 -- the line is a reply with this reading for the call
-abbrev pub ReadsAs : Call → List ℕ → Reading → Type 0
+abbrev pub ReadsAs : Call → (line : List ℕ) → Reading → Type 0
 ReadsAs call line reading = ReadsBy IsReading call line reading
 
 -- if the outcome is an answer, its reading is that of its line for what was asked
@@ -53,7 +53,7 @@ pub record IsSettledBy {Q : Type 0} (says : Says Q) (s : Settlement Q) (ruled : 
   pub seen : settlement_seen s ≡ ruled
   pub read : IsReadBy says s.call s.outcome
 
--- these settlements are the rule's, one for one
+-- these settlements are the rule's, one for one, each as `IsSettledBy` says
 pub record AreSettledBy {Q : Type 0} (says : Says Q) (settlements : List (Settlement Q)) (ruled : List (Rule.Settlement Q)) : Type 0 where
   pub seen : map settlement_seen settlements ≡ ruled
   pub read : AreReadBy says settlements
@@ -63,7 +63,7 @@ abbrev pub AreSettlements : List (Settlement Call) → List (Rule.Settlement Cal
 AreSettlements settlements ruled = AreSettledBy IsReading settlements ruled
 
 -- the outcome is an answer with these bytes as its line, and the reading of this reply for what was asked
-abbrev pub IsAnsweredBy : {Q : Type 0} → Says Q → Q → ReplyFields → List ℕ → Outcome → Type 0
+abbrev pub IsAnsweredBy : {Q : Type 0} → (says : Says Q) → (call : Q) → ReplyFields → (bytes : List ℕ) → Outcome → Type 0
 IsAnsweredBy says call reply bytes (Answered reading line) = (line.items ≡ bytes) × says call reply reading
 IsAnsweredBy says call reply bytes Late = ⊥
 IsAnsweredBy says call reply bytes Lost = ⊥

@@ -24,6 +24,6 @@ abbrev pub hears_all : {Q : Type 0} → ById Q → List (List ℕ) → Settled Q
 hears_all c [] = record { settlements = []; client = c }
 hears_all c (line ∷ lines) = preceded_by (hears c line (heard line)).settlements (hears_all (hears c line (heard line)).client lines)
 
--- a list of lines and that list without its foreign lines give the same settlements and the same client
-abbrev pub IsSilent : {Q : Type 0} → ById Q → List (List ℕ) → Type 0
-IsSilent c lines = hears_all c lines ≡ hears_all c (filter is_ours lines)
+-- from this client on, a list of lines and that list without its foreign lines give the same settlements and the same client
+abbrev pub IgnoresForeign : {Q : Type 0} → ById Q → (lines : List (List ℕ)) → Type 0
+IgnoresForeign c lines = hears_all c lines ≡ hears_all c (filter is_ours lines)

@@ -19,8 +19,8 @@ pub const WORD: [u8; 8] = [6, 5, 4, 3, 2, 1, 0, 7];
 /// 1. Where the connection is new, write a line feed, which clears half a request.
 /// 2. Write the line of `ask`, with CR LF, and read until a deadline. Hand each line that came to `hear`.
 /// 3. Where the deadline passed without an answer, write the line of `ask` again: it has the same id. Where the connection
-///    fails, keep the beginning, and go on over a new one at 1.
-/// 4. Where `hear` answered, go on at 2 with the next null procedure. Once `has_begun`, make the client and send: its first
+///    fails, keep the beginning, and go on at 1 over a new connection.
+/// 4. Where `hear` returned true, go on at 2 with the next null procedure. Once `has_begun`, make the client and send: its first
 ///    id is 0.
 ///
 /// The connection has to keep its lines in order; it may lose, delay or repeat any of them in place. Nothing from before is
@@ -84,8 +84,8 @@ impl Beginning {
     }
 
     /// Takes a line that came, without its CR LF, and returns whether it answers the first null procedure that isn't answered yet: a
-    /// reply with the id of that null procedure does, whatever its codes and parameters are. Every other line is ignored, and so is
-    /// one of more than 512 bytes.
+    /// reply with the id of that null procedure does, whatever its codes and parameters are. Every other line is ignored, and so are
+    /// lines of more than 512 bytes, and all lines once all null procedures are answered.
     pub fn hear(&mut self, line: &[u8]) -> bool
         ensures left { length line.now ≤ 512 → self.new ≡ left_by self.old (heard line.now) }
         ensures answers { length line.now ≤ 512 → result ≡ is_answered self.old (heard line.now) }

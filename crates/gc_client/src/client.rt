@@ -8,7 +8,7 @@ ghost use Rattle.gc_lines.specs.Readers.{reply_at};
 ghost use Rattle.gc_client.specs.Rule.{fresh, IsAcceptedSend, IsFull, IsRefusedSend, deadlines, IsEarliest, expires, expiring, restarts};
 ghost use Rattle.gc_client.specs.Places.{IsPlaceHeard, place_heard};
 ghost use Rattle.gc_client.specs.Settlements.{AreSettledBy};
-ghost use Rattle.gc_client.specs.Hearing.{AreSettledAt, AreSettledByLine, HearsAs, HearsInto, IsAfterLine, IsAfterSettling, IsOverlong, LeavesUnchanged, SettlesNone, settlements_in};
+ghost use Rattle.gc_client.specs.Hearing.{AreSettledAt, AreSettledByLine, HearsAs, HearsInto, IsAfterLine, IsAfterSettling, LeavesUnchanged, ReportsTooLong, SettlesNone, settlements_in};
 ghost use Rattle.gc_client.specs.declared.heard.Hearing.TheVariants.{Unread};
 ghost use Rattle.gc_lines.specs.declared.fault.LineFault.TheVariants.{TooLong};
 
@@ -49,7 +49,7 @@ impl fmt::Display for WindowFull {
 
 impl Error for WindowFull {}
 
-/// A client over any window. It settles each request once, in the order of sending. The connection has to keep its
+/// A client over any window. It settles requests in the order of sending, and none of them twice. The connection has to keep its
 /// lines in order; it may lose, delay or repeat any of them in place.
 ///
 /// Its width is how many requests it lets wait, from one to seven. It is chosen once, and no call changes it.
@@ -61,15 +61,16 @@ impl Error for WindowFull {}
 ///    `current` than the instrument can take.
 /// 2. Read, waiting until [`next_deadline`](Client::next_deadline) at most.
 /// 3. Hand the moment after the read to `expire`, on the clock of the deadlines. Then hand each line that came, without
-///    its CR LF, to `on_line`. So a reply that came past its deadline is late. Go on at 1.
-/// 4. Where the connection fails, close it, keep the client, and go on over a new one: ids go on. Only where as many wait as
-///    the width, and all have timed out, finish a new `Beginning` and then `restart`: ids begin at 0 again (`docs/LIBRARY.md`).
-///    By calling `restart` the caller vouches that no line is in flight.
+///    its CR LF, to `on_line`. So a reply that came at its request's deadline, or after it, is late, unless the clock went back.
+///    Go on at 1.
+/// 4. Where the connection fails, close it, keep the client, and go on over a new connection: ids go on. Only where as many
+///    wait as the width, and all have timed out, finish a new `Beginning` and then `restart`: ids begin at 0 again
+///    (`docs/LIBRARY.md`). By calling `restart` the caller vouches that no line is in flight.
 ///
 /// What to do at each outcome:
 ///
 /// - `Answered`: take the reading, which may be a refusal or a fault.
-/// - `Late`: the instrument has dealt with the request. Nothing may rest on what it said.
+/// - `Late`: the instrument has dealt with the request. Nothing may rest on what its reply said.
 /// - `Lost`: it isn't known whether the instrument acted. Look at it before you send a call again that moves it. A call
 ///   that only asks may be sent again at once.
 #[derive(Drop)]
@@ -101,7 +102,7 @@ impl<W: Window> Client<W> {
         Client::with_width(window, WINDOW as u8)
     }
 
-    /// Makes a client as `new` does, but one that lets `width` requests wait. A narrower client is as safe, but a
+    /// Makes a client as `new` does, but one that lets `width` requests wait, from 1 to 7. A narrower client is as safe, but a
     /// single lost reply fills one of width 1. With an instrument that takes fewer requests at once than the width, send while
     /// fewer are `current` than it takes.
     pub fn with_width(mut window: W, width: u8) -> Client<W>
@@ -113,7 +114,8 @@ impl<W: Window> Client<W> {
         Client::resume(window, width, 0)
     }
 
-    /// Makes a client again from the parts of another one: the window with the requests that wait, the width, and the next id.
+    /// Makes a client again from the parts of another one: the window with the requests that wait, the width, 1 to 7, and the next id,
+    /// 0 to 7. At most as many requests may wait in the window as the width says.
     pub fn resume(window: W, width: u8, next: u8) -> Client<W>
         requires least { 1 ≤ width }
         requires most { width ≤ WINDOW }
@@ -128,8 +130,8 @@ impl<W: Window> Client<W> {
         }
     }
 
-    /// Takes the client apart: the window with the requests that wait, the width, and the id that would come next.
-    /// `resume` makes the client again of these.
+    /// Takes the client apart: the window with the requests that wait, the width, and the next id. `resume` makes the client
+    /// again of these.
     pub fn into_parts(self) -> (W, u8, u8)
         ensures waiting { W.pendings result.0 ≡ self.ids.waiting }
         ensures width { result.1 ≡ self.width }
@@ -144,7 +146,7 @@ impl<W: Window> Client<W> {
 
     // Getters.
 
-    /// How many requests the client lets wait.
+    /// How many requests the client lets wait, 1 to 7.
     pub fn width(&self) -> u8
         ensures width { result ≡ self.now.width }
         ensures least { 1 ≤ result }
@@ -176,7 +178,7 @@ impl<W: Window> Client<W> {
         current
     }
 
-    /// The id that the next request will have.
+    /// The id that the next request gets, 0 to 7, unless `restart` comes before it.
     pub fn next_id(&self) -> u8
         ensures next { result ≡ self.now.ids.next }
         ensures digit { result < IDS }
@@ -203,7 +205,7 @@ impl<W: Window> Client<W> {
 
     /// Takes a line that came, without its CR LF.
     ///
-    /// A reply settles the request that waits with its id, and each one that was sent before it. The earlier ones are lost.
+    /// A reply settles the request that waits with its id, and those that wait and were sent before it. The earlier ones are lost.
     /// The request itself is late if it had timed out, and else answered. A reply that no request waits for is a stray,
     /// and so is a reply without an id. A line that is no reply is unread. Strays and unread lines leave the client unchanged.
     pub fn on_line(&mut self, line: &Line) -> Heard<W::Asked>
@@ -222,8 +224,8 @@ impl<W: Window> Client<W> {
     /// Takes a line as `on_line` does, given as bytes, and writes the settlements into the list `settled`.
     ///
     /// Afterwards the list holds this line's settlements alone: none after a stray or an unread line. Its places are
-    /// written over, so it is fastest to use one list for all lines. More than 512 bytes are unread, with the fault
-    /// `LineFault::TooLong`.
+    /// written over, so it is fastest to use one list for all lines. A line of more than 512 bytes is unread, with
+    /// the fault `LineFault::TooLong`.
     pub fn hear(
         &mut self,
         line: &[u8],
@@ -232,7 +234,7 @@ impl<W: Window> Client<W> {
         ensures heard { length line.now ≤ 512 → HearsInto self.old.ids line.now result settled.new.items self.new.ids }
         ensures settled { length line.now ≤ 512 → AreSettledByLine W.Asked.says self.old.ids line.now settled.new.items }
         ensures client { length line.now ≤ 512 → IsAfterLine self.old line.now self.new }
-        ensures overlong { 512 < length line.now → IsOverlong result settled.new.items self.old self.new }
+        ensures overlong { 512 < length line.now → ReportsTooLong result settled.new.items self.old self.new }
     {
         match self.find_request(line) {
             Ok((k, reply)) => {
@@ -247,9 +249,9 @@ impl<W: Window> Client<W> {
     }
 
     /// Times out each outstanding request whose deadline is at most `now`, a moment on the clock of the deadlines. It returns the
-    /// targets of those that hadn't timed out before, in order.
+    /// targets of those that hadn't timed out before, in the order of sending.
     ///
-    /// A request that has timed out stays outstanding, and a reply that arrives for it settles it as late. If the time lies
+    /// A request that has timed out stays outstanding, and a reply that arrives for it settles it as late. If `now` lies
     /// before that of an earlier call, no time-out is undone.
     pub fn expire(&mut self, now: u64) -> ArrayVec<u32, WINDOW>
         ensures targets { result.items ≡ expiring now self.old.ids.waiting }
@@ -321,10 +323,11 @@ impl<W: Window> Client<W> {
         Ok(())
     }
 
-    /// Settles all outstanding requests as lost, in order, and starts again at id 0, with the same width.
+    /// Settles all outstanding requests as lost, and starts again at id 0, with the same width. It returns the settlements, in the
+    /// order of sending.
     ///
     /// The caller has to make sure that no line is in flight in either direction. An instrument that still retains the reply
-    /// to its last request would take a new request with that id for a repeat, and not execute it. So either the instrument
+    /// to its last request would take a new request with the same id for a repeat, and not execute it. So either the instrument
     /// restarts too, or a new [`Beginning`](crate::Beginning) is finished before this call (`docs/LIBRARY.md`).
     pub fn restart(&mut self) -> ArrayVec<Settlement<W::Asked>, WINDOW>
         ensures settled { AreSettledBy W.Asked.says result.items (restarts self.old.ids).settlements }
@@ -338,8 +341,8 @@ impl<W: Window> Client<W> {
         settled
     }
 
-    // The place of the request that a line replies to, counted from the oldest, and the reply. `Err`: what to report of a line that
-    // settles nothing, which is a stray or unread.
+    // The place of the request that a line replies to, and the reply; the oldest request is at place 0. `Err`: the line settles
+    // nothing, and the error is what is to be reported of it, `Stray` or `Unread`.
     #[inline]
     fn find_request<'a>(&self, line: &'a [u8]) -> Result<(usize, Reply<'a>), Hearing>
         ensures reads { IfOk result (λ found. reply_at line.now ≡ Ok (reply_seen found.1)) }
@@ -391,7 +394,8 @@ impl<W: Window> Client<W> {
     }
 }
 
-// The place, counted from the oldest, of the request that waits for a reply with this id. `None`: no request waits for such a reply.
+// The place of the request that waits with this id; the oldest request is at place 0. `None`: no request waits with this id, or
+// `id` is `None`.
 #[inline]
 fn place_of(next: u8, waiting: usize, id: Option<u8>) -> Option<usize>
     requires next { next < IDS }
@@ -400,7 +404,7 @@ fn place_of(next: u8, waiting: usize, id: Option<u8>) -> Option<usize>
     ensures within { IfSome result (λ k. k < waiting) }
 {
     let ids = usize::from(IDS);
-    // The id of the oldest request that waits; its place is 0, and ids go up by one, modulo 8, from place to place.
+    // The id of the request at place 0, or the next id, if none waits. Ids go up by one, modulo 8, from place to place.
     let oldest = (usize::from(next) + ids - waiting) % ids;
     let k = (usize::from(id?) + ids - oldest) % ids;
     if k < waiting { Some(k) } else { None }

@@ -15,9 +15,10 @@ use crate::settlement::{Outcome, Settlement};
 use crate::window::{WINDOW, Window};
 use arrayvec::ArrayVec;
 use gc_catalogue::{Asking, Reading};
-use gc_lines::{Line, Reply, append};
+use gc_lines::{Line, Reply, append, line_from};
 
-/// Cuts or fills a list to `count` settlements. Their values don't matter, since the caller writes over them.
+/// Cuts or fills a list to `count` settlements, at most 7. Each is to be written over: those that are kept stay as they were, and
+/// new ones stand for no request.
 #[inline(always)]
 pub(crate) fn make_places<Q: Asking>(settled: &mut ArrayVec<Settlement<Q>, WINDOW>, count: usize)
     requires { count ≤ WINDOW }
@@ -29,8 +30,8 @@ pub(crate) fn make_places<Q: Asking>(settled: &mut ArrayVec<Settlement<Q>, WINDO
     }
 }
 
-// Appends a settlement, which the caller writes over. Its outcome is `Answered`, so that an answer can be written into its parts. The
-// function has a frame of its own, because a settlement is large.
+// Appends a settlement that stands for no request and is to be written over. Its outcome is `Answered`, so that an answer can be
+// written into its parts. The function has a frame of its own, because a settlement is large.
 #[inline(never)]
 fn push_place<Q: Asking>(settled: &mut ArrayVec<Settlement<Q>, WINDOW>)
     requires { array_vec_len settled.old < WINDOW }
@@ -43,7 +44,8 @@ fn push_place<Q: Asking>(settled: &mut ArrayVec<Settlement<Q>, WINDOW>)
     });
 }
 
-/// Takes the first `count` requests out of a window, and writes their settlements as lost into the first `count` places of a list.
+/// Takes the first `count` requests out of a window, and writes their settlements as lost into the first `count` places of a list,
+/// which has at least that many. The list keeps its length.
 #[inline]
 pub(crate) fn lose<W: Window>(
     window: &mut W,
@@ -129,16 +131,5 @@ fn set_answered_anew<Q: Asking>(call: &Q, reply: &Reply<'_>, line: &[u8], outcom
 {
     let mut reading = Reading::Refused(0);
     call.read_into(reply, &mut reading);
-    *outcome = Outcome::Answered(reading, line_of(line));
-}
-
-// A line of these bytes.
-#[inline]
-fn line_of(bytes: &[u8]) -> Line
-    requires { length bytes.now ≤ 512 }
-    ensures { result.items ≡ bytes.now }
-{
-    let mut line = Line::new();
-    append(&mut line, bytes);
-    line
+    *outcome = Outcome::Answered(reading, line_from(line));
 }

@@ -5,7 +5,7 @@ ghost use Rattle.std.specs.Prelude.{◌≡◌, ℕ, ◌<◌, ◌≤◌, ◌↔�
 ghost use Rattle.gc_client.specs.declared.window.TheConstants.{WINDOW, IDS};
 ghost use Rattle.gc_client.specs.Rule.{ById};
 ghost use Rattle.gc_client.specs.Ids.{FitsWaiting, IdsDiffer, IdsHavePlaces, SendKeepsIds, SettlingKeepsIds, HearsByGrammar};
-ghost use Rattle.gc_client.specs.Silence.{IsReplyWithId, is_ours, IsSilent};
+ghost use Rattle.gc_client.specs.Silence.{IsReplyWithId, is_ours, IgnoresForeign};
 ghost use Rattle.gc_client.specs.OneForOne.{Step, begun, course, IsOneForOne};
 
 /// The widest window lets seven requests wait, and there are eight ids.
@@ -20,8 +20,8 @@ pub fn ids_last()
     ensures settling { (next waiting : ℕ) → waiting ≤ WINDOW → SettlingKeepsIds next waiting }
 {}
 
-/// The outstanding requests have different ids. A reply fits exactly if a request with its id is outstanding, and then it settles
-/// that request.
+/// The outstanding requests have different ids. A reply with an id fits (`fits` of the rule) exactly if a request with its id is
+/// outstanding, and the rule finds that request at its place.
 pub fn ids_tell_requests_apart<Q>()
     ensures differ { (c : ById Q) → IdsDiffer c }
     ensures place { (c : ById Q) → IdsHavePlaces c }
@@ -36,7 +36,7 @@ pub fn ids_are_heard()
 /// Lines that are no replies, and replies without an id, are ignored: over a list of lines the client settles the same, and is
 /// the same afterwards, as over that list without them.
 pub fn foreign_lines_are_silent<Q>()
-    ensures silent { (c : ById Q) (lines : List (List ℕ)) → IsSilent c lines }
+    ensures silent { (c : ById Q) (lines : List (List ℕ)) → IgnoresForeign c lines }
     ensures ours { (line : List ℕ) → (is_ours line ≡ true) ↔ IsReplyWithId line }
 {}
 

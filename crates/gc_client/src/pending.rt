@@ -9,6 +9,6 @@ pub struct Pending<Q> {
     pub call: Q,
     /// The moment from which on `expire` times it out, on the caller's own clock.
     pub deadline: u64,
-    /// Whether it has timed out. It goes on waiting then, and a reply settles it as late.
+    /// Whether it has timed out. It goes on waiting then, and a reply to it settles it as late.
     pub given_up: bool,
 }

@@ -1,4 +1,4 @@
-//! Settlements: how a request ended. Each request is settled once, in the order of sending.
+//! Settlements: how a request ended. Requests are settled in the order of sending, and none of them twice.
 
 ghost use Rattle.std.specs.Prelude.{◌≡◌};
 ghost use Rattle.gc_client.specs.declared.settlement.Outcome.TheVariants.{Lost};
@@ -9,13 +9,13 @@ use gc_lines::Line;
 /// How a request ended.
 #[derive(Debug, PartialEq, Eq, Drop)]
 pub enum Outcome {
-    /// Its reply came in time: the reading of the reply, and its line. A reply whose parameters can't be read is an answer, too,
-    /// with the reading `Unreadable`.
+    /// Its reply came before it had timed out: the reading of the reply, and its line. A reply whose parameters can't be read is
+    /// an answer, too, with the reading `Unreadable`.
     Answered(Reading, Line),
     /// A reply to it came after it had timed out. The reply is discarded.
     Late,
     /// A reply to a later request came first, or the client was restarted. A reply to it that comes now is a stray, unless a new
-    /// request waits with its id. It isn't known whether the instrument acted on it.
+    /// request waits with its id. It isn't known whether the instrument acted on the lost request.
     Lost,
 }
 

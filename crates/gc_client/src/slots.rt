@@ -16,7 +16,7 @@ const PLACES: usize = IDS as usize;
 #[derive(Drop)]
 pub struct SlotsOf<Q: Asking> {
     places: [Pending<Q>; PLACES],
-    // The place of the oldest request.
+    // The place of the oldest request; if none waits, that of the next one.
     oldest: usize,
     // How many requests wait: the oldest, and those at the places after it, going round.
     len: usize,
@@ -39,7 +39,7 @@ impl<Q: Asking> Model for SlotsOf<Q> {
     ghost invariant = { λ s. (s.oldest < PLACES) × (s.len ≤ WINDOW) × (length s.places ≡ PLACES) };
 }
 
-// The value in an unused place.
+// The value of a place in which no request has been put yet.
 #[inline(always)]
 fn vacant<Q: Asking>() -> Pending<Q> {
     Pending {
@@ -86,7 +86,7 @@ impl<Q: Asking> Window for SlotsOf<Q> {
         self.places[(self.oldest + k) % PLACES]
     }
 
-    // The request goes to the place after the youngest, going round.
+    // The request goes to the place after the youngest, going round; if none waits, to the place `oldest`.
     fn push(&mut self, p: Pending<Q>)
         requires { length self.old < WINDOW }
         ensures { self.new ≡ self.old ++ p ∷ [] }

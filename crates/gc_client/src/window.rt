@@ -28,22 +28,22 @@ pub trait Window: Drop {
         ensures len { result ≡ length (pendings self.now) }
         ensures within { result ≤ WINDOW };
 
-    /// The request at place k, counted from the oldest.
+    /// The request at place k; the oldest one is at place 0.
     fn get(&self, k: usize) -> Pending<Self::Asked>
         requires { k < length (pendings self.now) }
         ensures { slice_get (pendings self.now) k ≡ Some result };
 
-    /// Appends a request after the youngest.
+    /// Appends a request, which is then the youngest.
     fn push(&mut self, p: Pending<Self::Asked>)
         requires { length (pendings self.old) < WINDOW }
         ensures { pendings self.new ≡ pendings self.old ++ p ∷ [] };
 
-    /// Takes the oldest request out.
+    /// Takes the oldest request out, and returns it. The others move up by one place.
     fn take_first(&mut self) -> Pending<Self::Asked>
         requires { 0 < length (pendings self.old) }
         ensures { pendings self.old ≡ result ∷ pendings self.new };
 
-    /// Marks the request at place k as timed out. It stays where it is.
+    /// Marks the request at place k as timed out. It stays at its place.
     fn give_up(&mut self, k: usize)
         requires { k < length (pendings self.old) }
         ensures { pendings self.new ≡ given_up_at k (pendings self.old) };

@@ -36,7 +36,8 @@ pub(crate) fn run_asking<
     job: ClientJob<'_>,
     mut streams: Streams<S, K, E>,
 ) -> (Streams<S, K, E>, io::Result<ExitCode>)
-    // If a stream is closed, that is reported with status 1, and nothing was read or written.
+    // If a stream is closed, that is reported with status 1 (without a line if the messages are closed), and input and output
+    // weren't used.
     ensures closed { are_open standard ≡ false → IfOk result.1 (λ status. ReportsClosed standard (exit_status status) (E.contents streams.messages) (E.contents result.0.messages)) }
     ensures untouched { are_open standard ≡ false → (result.0.input ≡ streams.input) × (result.0.output ≡ streams.output) }
     ensures bound { IfOk result.1 (λ status. exit_status status ≤ 2) }
@@ -129,8 +130,8 @@ fn run_ask_job<
     (streams, ended)
 }
 
-// Measures at a site, and reports how that ended. A message that can't be written is lost, and the status stays. If the
-// system's last error doesn't explain the fault, `rt` forgets it. The streams are handed back.
+// Measures at a site, and reports how that ended. A message that can't be written is lost, which doesn't change the status. If
+// the system's last error doesn't explain the fault, `rt` forgets it. The streams are handed back.
 fn measure_site<
     R: Net<Listener = TcpListener, Stream = TcpStream> + Clock + Files<File = File>,
     S: Source,
@@ -216,7 +217,7 @@ fn lossy_of<S, K, E>(streams: Streams<S, K, E>) -> Streams<S, K, Lossy<E>> {
     }
 }
 
-// The streams as they were before `lossy_of`.
+// These streams without what `lossy_of` added: a message that can't be written is an error again.
 fn lossless_of<S, K, E>(lossy: Streams<S, K, Lossy<E>>) -> Streams<S, K, E> {
     let Streams {
         input,

@@ -1,4 +1,4 @@
-//! The program `geocom`: a command line over standard streams. What the crates below offer has its name here, too.
+//! The program `geocom`: a command line over standard streams. Main items of the crates below have a name here, too.
 #![tactic(auto)]
 
 mod asking;

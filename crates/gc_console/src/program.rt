@@ -30,9 +30,13 @@ use std::process::ExitCode;
 use std::rt::Files;
 use std::time::Clock;
 
-/// Runs a command line, whose first word is the program's name, over the net, the clock and the files of `rt`, and over `streams`.
-/// The exit status is 0 if it is done, or asked for help or the version; 1 after a fault, of which the messages have a line, and for
-/// some faults more; and 2 for words that don't parse. It fails itself only if the messages can't be written.
+/// Runs a command line, whose first word is the program's name, over the net, the clock and the files of `rt`, and over
+/// `streams`. The exit status is 0 if it is done, or asked for help or the version; 1 after a fault, of which the messages have a
+/// line, and for some faults more, unless they are closed; and 2 for words that don't parse, or that ask for what can't be done.
+/// Where `words` is an error, that is reported: with status 1 if memory ran out, and else with status 2.
+///
+/// `Err`: the lines of a fault, or those on why the words are refused, couldn't be written. A station that measures loses such
+/// lines without an error, and any other message that can't be written is lost so, too.
 ///
 /// `standard` says which of the three streams are open. If one isn't, `station`, `ask` and `loop` only report it, and `serve`
 /// fills its place.
@@ -56,7 +60,7 @@ pub fn run_program<
     }
 }
 
-// Runs what these words ask for, or answers words that ask for no subcommand.
+// Runs what these words ask for, or answers words that ask for no run of a subcommand.
 fn run_words<
     R: Net<Listener = TcpListener, Stream = TcpStream> + Clock + Files<File = File>,
     I: Read + Drop,
@@ -196,7 +200,8 @@ fn run_drill_job<R: Files, I: Read + Drop, O: Write + Drop, E: Write + Drop>(
     )
 }
 
-// Rehearses the station whose text is on the input, and reports how that ended; after a fault also what the system refused last, and why.
+// Rehearses the station whose text is on the input, and reports how that ended; after a fault also what the system refused last,
+// and why, if that is noted.
 fn run_rehearse_job<R: Files, I: Read + Drop, O: Write + Drop, E: Write + Drop>(
     rt: &R,
     alloc: Global,
@@ -211,7 +216,7 @@ fn run_rehearse_job<R: Files, I: Read + Drop, O: Write + Drop, E: Write + Drop>(
     noting.report(standard, ended, &mut ports.messages)
 }
 
-// Serves a simulator, and reports how that ended; after a fault also what the system refused last, and why.
+// Serves a simulator, and reports how that ended; after a fault also what the system refused last, and why, if that is noted.
 fn run_serve_job<
     R: Net<Listener = TcpListener, Stream = TcpStream> + Clock + Files<File = File>,
     I: Drop,
@@ -231,7 +236,8 @@ fn run_serve_job<
     noting.report(standard, ended, &mut streams.messages)
 }
 
-// Runs `loop`, `ask` or `station`, and reports how that ended; after a fault also what the system refused last, and why.
+// Runs `loop`, `ask` or `station`, and reports how that ended; after a fault also what the system refused last, and why, if that
+// is noted.
 fn run_client_job<
     R: Net<Listener = TcpListener, Stream = TcpStream> + Clock + Files<File = File>,
     I: Read + Drop,
@@ -251,8 +257,9 @@ fn run_client_job<
     noting.report(standard, ended, &mut ports.messages)
 }
 
-// Reports why words ask for no subcommand: memory ran out (status 1), they don't parse (status 2), or they ask for the help or the
-// version (status 0, or 1 if the output fails). `reads` says whether they name a subcommand that reads a text.
+// Answers words that ask for no run of a subcommand: reports that memory ran out (status 1) or why they don't parse (status 2),
+// or writes the help or the version that they ask for (status 0, or 1 if the output fails). `reads` says whether they name a
+// subcommand that reads a text.
 fn answer_words<O: Write, E: Write>(
     error: &Error,
     reads: bool,

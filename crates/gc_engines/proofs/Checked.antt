@@ -1,5 +1,6 @@
 -- What a judge writes of frames, one after the other, is the lines of their verdicts. A frame is ended where a line feed has
--- ended it.
+-- ended it. Throughout, s, t and u are states of the judge, which count the frames so far, and a and b what the sink had taken
+-- before and has taken after.
 use Rattle.std.proofs.Common.{◌≡◌, ℕ, ◌+◌, ◌-◌, ◌<◌, ◌≤◌, ◌^◌, min, Bool, true, false, cond, List, [], ◌∷◌, ◌++◌, length, take, map, Option, Some, Result, Ok, Err, refl, sym, ap, ◌∙◌, subst, arith, append_assoc, length-append}
 use Rattle.std.proofs.lemmas.List.{length-map}
 use Rattle.std.specs.Option.{option_to_list}
@@ -24,8 +25,10 @@ AreEnded (Cleared ∷ later) = AreEnded later
 AreEnded (Overlong ∷ later) = AreEnded later
 AreEnded (More ∷ later) = ⊥
 
--- the frame of a piece is cleared, overlong or a line, by two tests; whichever it is, a line feed has ended it
-ended_piece : (a b : Bool) (line : Frame) (later : List Frame) → (AreEnded later → AreEnded (line ∷ later)) → AreEnded later → AreEnded (cond a (cond b Overlong line) Cleared ∷ later)
+-- the frame of a piece is cleared, overlong or `line`, by two tests; where the later frames are ended, so are this one and they,
+-- if that holds with `line` in front
+ended_piece : (a b : Bool) (line : Frame) (later : List Frame) → (AreEnded later → AreEnded (line ∷ later)) → AreEnded later
+    → AreEnded (cond a (cond b Overlong line) Cleared ∷ later)
 unfolding AreEnded
 ended_piece true true line later is h = h
 ended_piece true false line later is h = is h
@@ -64,8 +67,8 @@ record Judged (n : ℕ) (seen : List Frame) (texts : List (List ℕ)) : Type 0 w
   are : AreVerdicts seen verdicts
   numbered : texts ≡ verdict_lines_from (n + 1) verdicts
 
--- where frame n + 1 was judged, so that its verdict's line was written and the count grew by one, and the later frames got
--- their verdicts' lines, too, numbered from n + 2 on, all of these frames got theirs
+-- where n + 1 is below 2^64, frame n + 1 was judged, so that its verdict's line was written and the count grew by one, and the
+-- later frames are `Judged` from n + 1 on, this frame and they are `Judged` from n on
 judged_next : (s u : Judge) (frame : Frame) (later : List Frame) (v : Verdict) (text : Option (List ℕ)) (rest texts : List (List ℕ)) (n : ℕ) → (at : s.frames ≡ n)
     → (few : n + 1 < 2 ^ 64) → (is : IsVerdict frame v) → (counts : u.frames ≡ min (s.frames + 1) (2 ^ 64 - 1)) → (told : text ≡ Some (verdict_line u.frames v))
     → (are : texts ≡ option_to_list text ++ rest) → (next : u.frames ≡ n + 1 → Judged (n + 1) later rest) → Judged n (frame ∷ later) texts
@@ -78,7 +81,7 @@ judged_next s u frame later v text rest texts n at few is counts told are next =
       numbered = are ∙ ap (λ (o : Option (List ℕ)). option_to_list o ++ rest) told ∙ ap (λ (m : ℕ). verdict_line m v ∷ rest) more ∙ ap (λ (ts : List (List ℕ)). verdict_line (n + 1) v ∷ ts) k.numbered;
     }
 
--- frames that were judged in order got the lines of their verdicts
+-- ended frames that were judged in order, from the count n on, got the lines of their verdicts, as long as 64 bits can count them
 judged : (s t : Judge) (seen : List Frame) (texts : List (List ℕ)) (n : ℕ) → s.frames ≡ n → n + length seen < 2 ^ 64 → AreEnded seen
     → AnswersInOrder Judge JudgesFrame s seen t texts → Judged n seen texts
 unfolding AreEnded
@@ -91,13 +94,15 @@ judged s t (Overlong ∷ later) texts n at few ended h = judged_next s h.0 Overl
     (λ more. judged h.0 t later h.2 (n + 1) more (omega (arith, few)) ended h.4)
 judged s t (More ∷ later) texts n at few ended h = absurd ended
 
--- frames that were judged from the first on got the lines of their verdicts
-lines_of : (s t : Judge) (seen : List Frame) (texts : List (List ℕ)) → s.frames ≡ 0 → length seen < 2 ^ 64 → AreEnded seen → AnswersInOrder Judge JudgesFrame s seen t texts → AreLinesOf seen texts
+-- ended frames that were judged from the first on got the lines of their verdicts, if they are fewer than 2 ^ 64
+lines_of : (s t : Judge) (seen : List Frame) (texts : List (List ℕ)) → s.frames ≡ 0 → length seen < 2 ^ 64 → AreEnded seen
+    → AnswersInOrder Judge JudgesFrame s seen t texts → AreLinesOf seen texts
 lines_of s t seen texts at few ended h =
     let k = judged s t seen texts 0 at (omega (arith, few)) ended h in
     record { verdicts = k.verdicts; are = k.are; numbered = k.numbered }
 
--- where all frames of the bytes were judged, and the lines of their verdicts went out, the check is as `ChecksAll` has it
+-- where all frames of fewer than 2 ^ 64 bytes were judged from the first on, and the lines of their verdicts went out, the
+-- check is as `ChecksAll` has it
 all_checked : (s t : Judge) (given : List ℕ) (a b : Option (List ℕ)) (count : ℕ) → s.frames ≡ 0 → length given < 2 ^ 64
     → AnswersAll JudgesFrame s t (frames given) a b 0 count → ChecksAll given a b count
 all_checked s t given a b count at few all = record {
@@ -107,8 +112,8 @@ all_checked s t given a b count at few all = record {
   took = all.took;
 }
 
--- where the first frames of the bytes were judged, and of the last verdict's line a front went out, the check is as `ChecksPart`
--- has it
+-- where the first frames of fewer than 2 ^ 64 bytes were judged from the first on, and the lines of their verdicts went out, but
+-- of the last line only a front that isn't all of it, the check is as `ChecksPart` has it
 part_checked : (s t : Judge) (given : List ℕ) (a b : Option (List ℕ)) (count bytes : ℕ) → s.frames ≡ 0 → length given < 2 ^ 64
     → AnswersPart JudgesFrame s t (frames given) a b 0 count bytes → ChecksPart given a b count bytes
 part_checked s t given a b count bytes at few part =
@@ -130,7 +135,8 @@ part_checked s t given a b count bytes at few part =
       took = part.took;
     }
 
--- what went out of the lines of the frames that were judged, by the result, is what `Checks` says
+-- where the frames of fewer than 2 ^ 64 bytes were judged from the first on, what went out of their verdicts' lines, by the
+-- result, is what `Checks` says
 pub checked : (s t : Judge) (given : List ℕ) (a b : Option (List ℕ)) (r : Result Served ServeFault) → s.frames ≡ 0 → length given < 2 ^ 64
     → AnswersFrames JudgesFrame s t (frames given) a b r → Checks given a b r
 checked s t given a b (Ok served) at few h = all_checked s t given a b served.replies at few h
@@ -138,7 +144,7 @@ checked s t given a b (Err (Read n)) at few h = all_checked s t given a b n at f
 checked s t given a b (Err (Write n bytes)) at few h = part_checked s t given a b n bytes at few h
 checked s t given a b (Err (TooManyReads n)) at few h = all_checked s t given a b n at few h
 
--- no more reads were made than are allowed
+-- no more reads were answered than are allowed
 pub few_reads : (old new : Ports) (most : ℕ) (r : Result Served ServeFault) → EndsBecause old new most r → new.reads ≤ old.reads + most
 few_reads old new most (Ok served) h = h.1
 few_reads old new most (Err (Read n)) h = omega (arith, h.0)
@@ -146,14 +152,17 @@ few_reads old new most (Err (Write n bytes)) h = h.1
 few_reads old new most (Err (TooManyReads n)) h = omega (arith, h.0)
 
 -- where a frame has this verdict, and the count grows by one, the line of the verdict is what `JudgesFrame` has the judge write
-pub judged_frame : (s u : Judge) (frame : Frame) (v : Verdict) → IsVerdict frame v → u.frames ≡ min (s.frames + 1) (2 ^ 64 - 1) → JudgesFrame s frame u (Some (verdict_line u.frames v))
+pub judged_frame : (s u : Judge) (frame : Frame) (v : Verdict) → IsVerdict frame v → u.frames ≡ min (s.frames + 1) (2 ^ 64 - 1)
+    → JudgesFrame s frame u (Some (verdict_line u.frames v))
 judged_frame s u (Line line) v is counts = (v, is, counts, refl)
 judged_frame s u Cleared v is counts = (v, is, counts, refl)
 judged_frame s u Overlong v is counts = (v, is, counts, refl)
 judged_frame s u More v is counts = absurd is
 
--- digits, a space, a verdict and a line feed, appended to `old` one after the other, are the line of the verdict behind it
-pub line_of_parts : (old a b c d digits verdict : List ℕ) → a ≡ old ++ digits → b ≡ a ++ 32 ∷ [] → c ≡ b ++ verdict → d ≡ c ++ 10 ∷ [] → d ≡ old ++ (digits ++ 32 ∷ [] ++ verdict ++ 10 ∷ [])
+-- where digits, a space, a verdict and a line feed were appended to `old`, one after the other, the line of the verdict was
+-- appended to it
+pub line_of_parts : (old a b c d digits verdict : List ℕ) → a ≡ old ++ digits → b ≡ a ++ 32 ∷ [] → c ≡ b ++ verdict → d ≡ c ++ 10 ∷ []
+    → d ≡ old ++ (digits ++ 32 ∷ [] ++ verdict ++ 10 ∷ [])
 line_of_parts old a b c d digits verdict first second third last =
     let whole : d ≡ old ++ digits ++ 32 ∷ [] ++ verdict ++ 10 ∷ [] = last
     ∙ ap (λ (xs : List ℕ). xs ++ 10 ∷ []) (third ∙ ap (λ (xs : List ℕ). xs ++ verdict) (second ∙ ap (λ (xs : List ℕ). xs ++ 32 ∷ []) first)) in

@@ -11,22 +11,24 @@ use Rattle.gc_texts.proofs.Cutting.{cut_found, digits_lack_spaces}
 use Rattle.std.proofs.lemmas.Option.{same_Some}
 use Rattle.gc_engines.specs.Schedule.{IsNumbered, IsRequested, IsSend, IsEvent, IsNumberedEvent, SendsRequested}
 
--- where a line is a word and `rest`, and `r` is the number that `rest` is, or `None` where it is none, `r` is the number behind
--- the word in the line, too
+-- where a line is `word` and `rest`, and r is the number up to `max` that `rest` is, or `None` where it is none, r is the
+-- number after `word` in the line, too
 pub numbered_is : (word line rest : List ℕ) (max : ℕ) (r : Option ℕ) → line ≡ word ++ rest
     → MatchOption r ((n : ℕ) → IsNumber rest n max → ⊥) (λ n. IsNumber rest n max)
     → MatchOption r ((n : ℕ) → IsNumbered word line n max → ⊥) (λ n. IsNumbered word line n max)
 numbered_is word line rest max None e none = λ n found. none n (subst (λ (ds : List ℕ). IsNumber ds n max) (append_cancel_left word found.digits rest (sym found.line_is ∙ e)) found.number)
 numbered_is word line rest max (Some n) e number = record { digits = rest; line_is = e; number = number }
 
--- the parts of a text that requests a call: a target, a deadline, and a procedure with its parameters, with spaces between them
+-- the parts of a text that requests a call: a target (t), a deadline (d), and a procedure with its parameters, with spaces
+-- between them
 module _ (text : List ℕ) (t : ℕ) (call : Call) (d : ℕ) (r : IsRequested text t call d) where
-  -- the first space stands behind the target
+  -- the first space stands after the target
   first_cut : (target : List ℕ) (rest : Option (List ℕ)) → Cuts 32 text target rest → (target ≡ r.target_text) × (rest ≡ Some (r.deadline_text ++ 32 ∷ r.procedure))
   first_cut target rest cut = cut_found 32 text target rest r.target_text (r.deadline_text ++ 32 ∷ r.procedure) cut r.text_is (digits_lack_spaces r.target_text r.target_is.names.digits)
 
-  -- the second space stands behind the deadline
-  second_cut : (target rest deadline : List ℕ) (behind : Option (List ℕ)) → Cuts 32 text target (Some rest) → Cuts 32 rest deadline behind → (deadline ≡ r.deadline_text) × (behind ≡ Some r.procedure)
+  -- the second space stands after the deadline
+  second_cut : (target rest deadline : List ℕ) (behind : Option (List ℕ)) → Cuts 32 text target (Some rest) → Cuts 32 rest deadline behind
+      → (deadline ≡ r.deadline_text) × (behind ≡ Some r.procedure)
   second_cut target rest deadline behind cut next =
       let first = first_cut target (Some rest) cut in
       cut_found 32 rest deadline behind r.deadline_text r.procedure next (same_Some rest (r.deadline_text ++ 32 ∷ r.procedure) first.1) (digits_lack_spaces r.deadline_text r.deadline_is.names.digits)
@@ -39,17 +41,18 @@ module _ (text : List ℕ) (t : ℕ) (call : Call) (d : ℕ) (r : IsRequested te
   pub no_second_space : (target rest deadline : List ℕ) → Cuts 32 text target (Some rest) → Cuts 32 rest deadline None → ⊥
   no_second_space target rest deadline cut next = let second = second_cut target rest deadline None cut next in let bad : None ≡ Some r.procedure = second.1 in cc
 
-  -- what stands before the first space is a target
+  -- what stands before the first space is a target, a number of 32 bits
   pub has_target : (target rest : List ℕ) → Cuts 32 text target (Some rest) → ((n : ℕ) → IsNumber target n 4294967295 → ⊥) → ⊥
   has_target target rest cut none = none t (subst (λ (ds : List ℕ). IsNumber ds t 4294967295) (sym (first_cut target (Some rest) cut).0) r.target_is)
 
-  -- what stands between the spaces is a deadline
+  -- what stands between the first two spaces is a deadline, a number of 64 bits
   pub has_deadline : (target rest deadline : List ℕ) (behind : Option (List ℕ)) → Cuts 32 text target (Some rest) → Cuts 32 rest deadline behind
       → ((n : ℕ) → IsNumber deadline n 18446744073709551615 → ⊥) → ⊥
   has_deadline target rest deadline behind cut next none = none d (subst (λ (ds : List ℕ). IsNumber ds d 18446744073709551615) (sym (second_cut target rest deadline behind cut next).0) r.deadline_is)
 
-  -- what stands behind the second space is a procedure and its parameters
-  pub has_procedure : (target rest deadline procedure : List ℕ) → Cuts 32 text target (Some rest) → Cuts 32 rest deadline (Some procedure) → ((c : Call) → IsProcedure procedure c → ⊥) → ⊥
+  -- what stands after the second space is a procedure and its parameters
+  pub has_procedure : (target rest deadline procedure : List ℕ) → Cuts 32 text target (Some rest) → Cuts 32 rest deadline (Some procedure)
+      → ((c : Call) → IsProcedure procedure c → ⊥) → ⊥
   has_procedure target rest deadline procedure cut next none =
       none call (subst (λ (p : List ℕ). IsProcedure p call) (sym (same_Some procedure r.procedure (second_cut target rest deadline (Some procedure) cut next).1)) r.procedure_is)
 

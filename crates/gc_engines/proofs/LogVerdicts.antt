@@ -1,15 +1,17 @@
--- The verdicts on the lines of a log, written piece by piece. `rest` is the bytes since the last line feed, and `p` and `q` are pieces
--- that come behind it. `WritesVerdicts`: the verdicts on the lines that end in a piece went out. `WritesVerdictsInPart`: only a front
--- of them did. `KeepsLine`: what is kept of the bytes since the last line feed.
+-- The verdicts on the lines of a log, written piece by piece. `rest` is the bytes since the last line feed, and `p` and `q` are
+-- pieces that come after it. `WritesVerdicts`: the verdicts on the lines that end in a piece went out. `WritesVerdictsInPart`:
+-- only a front of them did. `KeepsLine`: what is kept of the bytes since the last line feed. a, b and c are what the sink had
+-- taken at three moments, in order, and n, m and k how many verdicts had gone out by then.
 use Rattle.std.proofs.Common.{◌≡◌, ℕ, ◌+◌, ◌*◌, ◌<◌, ◌≤◌, get_or, Bool, true, false, cond, List, [], ◌∷◌, ◌++◌, length, take, drop, Option, refl, sym, ap, subst, ◌∙◌, arith, append_assoc, append-nil, length-append}
 use Rattle.std.specs.Io.KnownBytes.{Appends, Consumes}
 use Rattle.std.proofs.lemmas.List.{take_more, take-append-drop}
+use Rattle.std.proofs.KnownBytes.{Appends-trans, Consumes-trans}
 use Rattle.gc_lines.specs.Answering.{all_of}
 use Rattle.gc_lines.specs.Frames.{is_line_feed, pieces_behind, rest_behind}
 use Rattle.gc_lines.specs.Ports.{TakesFront}
 use Rattle.gc_lines.proofs.Cutting.{pieces-append, rest-append}
 use Rattle.gc_lines.proofs.InOrder.{all_of-append}
-use Rattle.gc_lines.proofs.Known.{Appends-append, Appends-is, Consumes-append}
+use Rattle.gc_lines.proofs.Known.{Appends-is}
 use Rattle.gc_engines.specs.LogChecking.{IsLogVerdict, AreLogVerdicts, KeepsLine, WritesVerdicts, WritesVerdictsInPart}
 use Rattle.gc_engines.specs.declared.check_log.PartialLine.{PartialLine}
 
@@ -20,16 +22,17 @@ log_verdicts_append [] ms (t ∷ ts) us h k = absurd h
 log_verdicts_append (l ∷ ls) ms [] us h k = absurd h
 log_verdicts_append (l ∷ ls) ms (t ∷ ts) us h k = (h.0, log_verdicts_append ls ms ts us h.1 k)
 
--- where `WritesVerdicts` is true of p, and then of q behind it, it is true of `p ++ q`
-pub verdicts_then : (rest p q : List ℕ) (a b c : Option (List ℕ)) (n m k : ℕ) → WritesVerdicts rest p a b n m → WritesVerdicts (rest_behind rest p) q b c m k → WritesVerdicts rest (p ++ q) a c n k
+-- where `WritesVerdicts` is true of p, and then of q after it, it is true of `p ++ q`
+pub verdicts_then : (rest p q : List ℕ) (a b c : Option (List ℕ)) (n m k : ℕ) → WritesVerdicts rest p a b n m
+    → WritesVerdicts (rest_behind rest p) q b c m k → WritesVerdicts rest (p ++ q) a c n k
 verdicts_then rest p q a b c n m k one next = record {
   texts = one.texts ++ next.texts;
   are = subst (λ ls. AreLogVerdicts ls (one.texts ++ next.texts)) (sym (pieces-append rest p q)) (log_verdicts_append _ _ _ _ one.are next.are);
-  took = Appends-is a c (all_of one.texts ++ all_of next.texts) (all_of (one.texts ++ next.texts)) (sym (all_of-append one.texts next.texts)) (Appends-append a b c _ _ one.took next.took);
+  took = Appends-is a c (all_of one.texts ++ all_of next.texts) (all_of (one.texts ++ next.texts)) (sym (all_of-append one.texts next.texts)) (Appends-trans a b c _ _ one.took next.took);
   counts = omega (arith, one.counts, next.counts, length-append one.texts next.texts);
 }
 
--- where `WritesVerdicts` is true of p, and then `WritesVerdictsInPart` of q behind it, `WritesVerdictsInPart` is true of `p ++ q`
+-- where `WritesVerdicts` is true of p, and then `WritesVerdictsInPart` of q after it, `WritesVerdictsInPart` is true of `p ++ q`
 pub part_then : (rest p q : List ℕ) (a b c : Option (List ℕ)) (n m k bytes : ℕ) → WritesVerdicts rest p a b n m
     → WritesVerdictsInPart (rest_behind rest p) q b c m k bytes → WritesVerdictsInPart rest (p ++ q) a c n k bytes
 part_then rest p q a b c n m k bytes one next = record {
@@ -43,11 +46,12 @@ part_then rest p q a b c n m k bytes one next = record {
   not_all = next.not_all;
   took = Appends-is a c _ _
       (sym (append_assoc (all_of one.texts) (all_of next.whole) (take bytes next.line))
-      ∙ ap (λ l. l ++ take bytes next.line) (sym (all_of-append one.texts next.whole))) (Appends-append a b c _ _ one.took next.took);
+      ∙ ap (λ l. l ++ take bytes next.line) (sym (all_of-append one.texts next.whole))) (Appends-trans a b c _ _ one.took next.took);
 }
 
 -- where `WritesVerdictsInPart` is true of p, it is true of `p ++ q`: what comes after a failed write changes nothing
-pub part_before : (rest p q : List ℕ) (a b : Option (List ℕ)) (n k bytes : ℕ) → WritesVerdictsInPart rest p a b n k bytes → WritesVerdictsInPart rest (p ++ q) a b n k bytes
+pub part_before : (rest p q : List ℕ) (a b : Option (List ℕ)) (n k bytes : ℕ) → WritesVerdictsInPart rest p a b n k bytes
+    → WritesVerdictsInPart rest (p ++ q) a b n k bytes
 part_before rest p q a b n k bytes one = record {
   seen = one.seen;
   later = one.later ++ pieces_behind (rest_behind rest p) q;
@@ -65,8 +69,8 @@ pieces_one : (rest : List ℕ) (b : ℕ) (feed : Bool) → feed ≡ true → (co
 pieces_one rest b true feeds = (refl, refl)
 pieces_one rest b false feeds = let bad : false ≡ true = feeds in cc
 
--- where a line feed came, and the verdict on the line that it ends went out, `WritesVerdicts` is true of this one byte, and nothing
--- is kept of the next line
+-- where a line feed came, and the verdict on the line that it ends went out, `WritesVerdicts` is true of this one byte, and
+-- nothing is kept of the next line
 pub byte_verdict : (rest : List ℕ) (b : ℕ) (a c : Option (List ℕ)) (n m : ℕ) (kept : PartialLine) (text : List ℕ) → (feeds : is_line_feed b ≡ true)
     → (keeps : KeepsLine kept []) → (verdict : IsLogVerdict rest text) → (took : Appends a c text) → (more : m ≡ n + 1)
     → KeepsLine kept (rest_behind rest (b ∷ [])) × WritesVerdicts rest (b ∷ []) a c n m
@@ -81,8 +85,8 @@ byte_verdict rest b a c n m kept text feeds keeps verdict took more =
       },
     )
 
--- where a line feed came, and only a front of the verdict on the line that it ends went out, `WritesVerdictsInPart` is true of this
--- one byte
+-- where a line feed came, and only a front of the verdict on the line that it ends went out, `WritesVerdictsInPart` is true of
+-- this one byte
 pub byte_part : (rest : List ℕ) (b : ℕ) (a c : Option (List ℕ)) (n bytes : ℕ) (text : List ℕ) → is_line_feed b ≡ true → IsLogVerdict rest text
     → TakesFront a c bytes text → WritesVerdictsInPart rest (b ∷ []) a c n n bytes
 byte_part rest b a c n bytes text feeds verdict took = record {
@@ -97,8 +101,9 @@ byte_part rest b a c n bytes text feeds verdict took = record {
   took = took.1;
 }
 
--- the first i + 1 bytes of a piece are the first i and the next, and behind them stands the rest
-pub piece_more : (bs : List ℕ) (i : ℕ) → i < length bs → (take (i + 1) bs ≡ take i bs ++ get_or bs i 0 ∷ []) × (bs ≡ (take i bs ++ get_or bs i 0 ∷ []) ++ drop (i + 1) bs)
+-- the first i + 1 bytes of a piece are the first i and the next, and a piece is these and then the rest
+pub piece_more : (bs : List ℕ) (i : ℕ) → i < length bs
+    → (take (i + 1) bs ≡ take i bs ++ get_or bs i 0 ∷ []) × (bs ≡ (take i bs ++ get_or bs i 0 ∷ []) ++ drop (i + 1) bs)
 piece_more bs i within =
     let more = take_more bs i 0 within in
     (more, sym (take-append-drop (i + 1) bs) ∙ ap (λ l. l ++ drop (i + 1) bs) more)
@@ -106,7 +111,8 @@ piece_more bs i within =
 -- one turn of the loop over the bytes `bs` of a piece, at byte i: `kept` is what is kept of the incomplete line before it, and
 -- `next` after it
 module _ (kept next : PartialLine) (rest bs : List ℕ) (i : ℕ) (within : i < length bs) (a b c : Option (List ℕ)) (n m k : ℕ) where
-  -- where `WritesVerdicts` is true of the first i bytes of a piece, and of the next byte, it is true of the first i + 1
+  -- where `KeepsLine` and `WritesVerdicts` are true of the first i bytes of a piece, and then of the next byte, they are true of
+  -- the first i + 1
   pub loop_on : KeepsLine kept (rest_behind rest (take i bs)) × WritesVerdicts rest (take i bs) a b n m
       → ((r : List ℕ) → KeepsLine kept r → KeepsLine next (rest_behind r (get_or bs i 0 ∷ [])) × WritesVerdicts r (get_or bs i 0 ∷ []) b c m k)
       → KeepsLine next (rest_behind rest (take (i + 1) bs)) × WritesVerdicts rest (take (i + 1) bs) a c n k
@@ -117,8 +123,8 @@ module _ (kept next : PartialLine) (rest bs : List ℕ) (i : ℕ) (within : i < 
         subst (λ l. WritesVerdicts rest l a c n k) (sym more) (verdicts_then rest (take i bs) (get_or bs i 0 ∷ []) a b c n m k so.1 it.1),
       )
 
-  -- where `WritesVerdicts` is true of the first i bytes of a piece, and the sink failed at the next byte, `WritesVerdictsInPart` is
-  -- true of the piece
+  -- where `WritesVerdicts` is true of the first i bytes of a piece, and the sink failed at the next byte,
+  -- `WritesVerdictsInPart` is true of the piece
   pub loop_fails : (bytes : ℕ) → KeepsLine kept (rest_behind rest (take i bs)) × WritesVerdicts rest (take i bs) a b n m
       → ((r : List ℕ) → KeepsLine kept r → WritesVerdictsInPart r (get_or bs i 0 ∷ []) b c m k bytes) → WritesVerdictsInPart rest bs a c n k bytes
   loop_fails bytes so byte =
@@ -126,8 +132,8 @@ module _ (kept next : PartialLine) (rest bs : List ℕ) (i : ℕ) (within : i < 
       (part_before rest (take i bs ++ get_or bs i 0 ∷ []) (drop (i + 1) bs) a c n k bytes
       (part_then rest (take i bs) (get_or bs i 0 ∷ []) a b c n m k bytes so.1 (byte (rest_behind rest (take i bs)) so.0)))
 
--- how far a check has come, by the bytes that were given so far: `kept` is what is kept of the incomplete line, and the verdicts on
--- the `count` whole lines went out
+-- how far a check has come, by the bytes that were given so far, at most 256 at each of `reads` reads: `kept` is what is kept
+-- of the incomplete line, and the verdicts on the whole lines, `count` in number, went out
 pub record VerdictsSoFar (source_old source_new sink_old sink_new : Option (List ℕ)) (kept : PartialLine) (reads count : ℕ) : Type 0 where
   pub given : List ℕ
   pub gave : Consumes source_old source_new given
@@ -135,28 +141,33 @@ pub record VerdictsSoFar (source_old source_new sink_old sink_new : Option (List
   pub keeps : KeepsLine kept (rest_behind [] given)
   pub written : WritesVerdicts [] given sink_old sink_new 0 count
 
--- one more read of a check: the source gave `piece` (`a'` and `a''` are what it had before and then), and the sink had taken
--- `b'`
+-- one more read of a check: the source gave `piece`. a, a' and a'' are what the source had still to give at first, before this
+-- read and after it; b, b' and b'' are what the sink had taken then; and n and m are how many verdicts had gone out before and
+-- after it
 module _ (a a' a'' b b' b'' : Option (List ℕ)) (kept next : PartialLine) (reads n m : ℕ) (piece : List ℕ) (so : VerdictsSoFar a a' b b' kept reads n) (gave : Consumes a' a'' piece) where
-  -- `VerdictsSoFar` stays true when one more piece was read and the verdicts on its lines went out
-  pub so_far_more : length piece ≤ 256 → ((r : List ℕ) → KeepsLine kept r → KeepsLine next (rest_behind r piece) × WritesVerdicts r piece b' b'' n m) → VerdictsSoFar a a'' b b'' next (reads + 1) m
+  -- `VerdictsSoFar` stays true when one more piece, of at most 256 bytes, was read, the verdicts on the lines that end in it went
+  -- out, and `next` is what is kept after it
+  pub so_far_more : length piece ≤ 256
+      → ((r : List ℕ) → KeepsLine kept r → KeepsLine next (rest_behind r piece) × WritesVerdicts r piece b' b'' n m)
+      → VerdictsSoFar a a'' b b'' next (reads + 1) m
   so_far_more short piece_written =
       let it = piece_written (rest_behind [] so.given) so.keeps in
       record {
         given = so.given ++ piece;
-        gave = Consumes-append a a' a'' so.given piece so.gave gave;
+        gave = Consumes-trans a a' a'' so.given piece so.gave gave;
         few = omega (arith, so.few, short, length-append so.given piece);
         keeps = subst (λ l. KeepsLine next l) (sym (rest-append [] so.given piece)) it.0;
         written = verdicts_then [] so.given piece b b' b'' 0 n m so.written it.1;
       }
 
-  -- one more piece was read, and the sink failed: it took a part of the verdicts on the lines of all bytes so far
+  -- where one more piece, of at most 256 bytes, was read, and the sink failed in it, the source has given some bytes, at most 256
+  -- for each read, and the sink has taken a part of the verdicts on their lines
   pub so_far_part : (bytes : ℕ) → length piece ≤ 256 → ((r : List ℕ) → KeepsLine kept r → WritesVerdictsInPart r piece b' b'' n m bytes)
       → (given : List ℕ) × Consumes a a'' given × (length given ≤ 256 * (reads + 1)) × WritesVerdictsInPart [] given b b'' 0 m bytes
   so_far_part bytes short piece_written =
       let it = piece_written (rest_behind [] so.given) so.keeps in (
         so.given ++ piece,
-        Consumes-append a a' a'' so.given piece so.gave gave,
+        Consumes-trans a a' a'' so.given piece so.gave gave,
         omega (arith, so.few, short, length-append so.given piece),
         part_then [] so.given piece b b' b'' 0 n m bytes so.written it,
       )

@@ -33,7 +33,7 @@ abbrev sends : Event → Option (ℕ × Call × ℕ)
 sends (Send target call deadline) = Some (target, call, deadline)
 sends _ = None
 
--- the third part of an event is the number behind its words, or 0 where it has none
+-- the third part of an event is the number after its words, or 0 if it has none
 abbrev count : Event → ℕ
 count (UpLose k) = k
 count (UpRepeat k) = k
@@ -44,7 +44,7 @@ count (UpBytes n) = n
 count (DownBytes n) = n
 count _ = 0
 
--- the event of these three parts: a kind, what it sends if it is a send, and the number behind its words
+-- the event of these three parts: a kind, what it sends if it is a send, and the number after its words
 abbrev joined : ℕ → Option (ℕ × Call × ℕ) → ℕ → Event
 joined k (Some s) n = Send s.0 s.1 s.2
 joined k None n =
@@ -66,13 +66,13 @@ joined_is RestartInstrument = refl
 joined_is (UpBytes n) = refl
 joined_is (DownBytes n) = refl
 
--- the kind of an `up` or a `down` line, by the first byte of the word behind that: `deliver` has the kind `from`, `lose` the
--- next, `bytes` the kind `bytes`, and `repeat` the kind `from + 2`
-abbrev way_kind : ℕ → ℕ → ℕ → ℕ
+-- the kind of an `up` or a `down` line, by b, the first byte of the next word: `deliver` has the kind `from`, `lose` the next,
+-- `bytes` the kind `bytes`, and `repeat` the kind `from + 2`
+abbrev way_kind : (from bytes b : ℕ) → ℕ
 way_kind from bytes b = if b == 100 then from else if b == 108 then from + 1 else if b == 98 then bytes else from + 2
 
--- the kind of event that a line's bytes show: the first byte tells `send`, `expire`, `up` and `down`, and byte 8 tells `restart
--- client` from `restart instrument`
+-- the kind of event that a line's bytes show: the first byte tells `send`, `expire`, `up` and `down`, and byte 8, counted from
+-- 0, tells `restart client` from `restart instrument`
 abbrev kind_in : List ℕ → ℕ
 kind_in line =
     if get_or line 0 0 == 115 then 0 else if get_or line 0 0 == 101 then 7 else if get_or line 0 0 == 117 then way_kind 1 10 (get_or line 3 0)
@@ -93,13 +93,13 @@ kind_is line RestartInstrument h = ap kind_in h
 kind_is line (UpBytes n) h = ap kind_in h.line_is
 kind_is line (DownBytes n) h = ap kind_in h.line_is
 
--- the number that a line of this kind has behind its words; 0 for a kind without a number
-abbrev count_in : ℕ → List ℕ → ℕ
+-- the number that a line of the kind k has after its words; 0 for a kind without a number
+abbrev count_in : (k : ℕ) → (line : List ℕ) → ℕ
 count_in k line =
     if k == 2 then number (drop 8 line) else if k == 3 then number (drop 10 line) else if k == 5 then number (drop 10 line)
     else if k == 6 then number (drop 12 line) else if k == 7 then number (drop 7 line) else if k == 10 then number (drop 9 line) else if k == 11 then number (drop 11 line) else 0
 
--- an event has the number that stands behind the words of its kind
+-- an event has the number that its line has after the words of its kind, or 0 where the kind has none
 count_is : (line : List ℕ) (e : Event) → IsEvent line e → count_in (kind e) line ≡ count e
 count_is line (Send target call deadline) h = refl
 count_is line UpDeliver h = refl
@@ -115,7 +115,8 @@ count_is line (UpBytes n) h = ap (count_in 10) h.line_is ∙ sym h.number.names.
 count_is line (DownBytes n) h = ap (count_in 11) h.line_is ∙ sym h.number.names.value
 
 -- a text asks for one target, one call and one deadline at most
-one_requested : (text : List ℕ) (t u : ℕ) (c d : Call) (m n : ℕ) → IsRequested text t c m → IsRequested text u d n → (t ≡ u) × (c ≡ d) × (m ≡ n)
+one_requested : (text : List ℕ) (t u : ℕ) (c d : Call) (m n : ℕ) → IsRequested text t c m → IsRequested text u d n
+    → (t ≡ u) × (c ≡ d) × (m ≡ n)
 one_requested text t u c d m n r s =
     let first = one_front 32 r.target_text s.target_text (r.deadline_text ++ 32 ∷ r.procedure) (s.deadline_text ++ 32 ∷ s.procedure) (sym r.text_is ∙ s.text_is)
     (digits_lack_spaces r.target_text r.target_is.names.digits) (digits_lack_spaces s.target_text s.target_is.names.digits) in
@@ -126,7 +127,7 @@ one_requested text t u c d m n r s =
       one_number s.deadline_text m n 18446744073709551615 (subst (λ (x : List ℕ). IsNumber x m 18446744073709551615) second.0 r.deadline_is) s.deadline_is,
     )
 
--- what a `send` line sends
+-- what a `send` line with this target, call and deadline sends
 abbrev sent : ℕ → Call → ℕ → Option (ℕ × Call × ℕ)
 sent t c m = Some (t, c, m)
 
@@ -155,7 +156,7 @@ sends_nothing RestartInstrument k h = refl
 sends_nothing (UpBytes n) k h = refl
 sends_nothing (DownBytes n) k h = refl
 
--- the event of a `send` line sends what the line says
+-- an event of a `send` line, if it is a send, sends what the line says
 sends_this : (line : List ℕ) (t : ℕ) (c : Call) (m : ℕ) (e : Event) → IsSend line t c m → IsEvent line e → 0 ≡ kind e → sent t c m ≡ sends e
 sends_this line t c m (Send u d n) x y h = one_send line t u c d m n x y
 sends_this line t c m UpDeliver x y h = absurd (omega (arith, h))

@@ -1,4 +1,4 @@
--- A frame has one verdict, and a stream one list of their lines.
+-- A frame has one verdict at most, and a stream one list of verdicts' lines.
 use Rattle.std.proofs.Common.{◌≡◌, ℕ, List, [], ◌∷◌, Result, Ok, Err, drop, slice_index, arith, refl, sym, ap, ◌∙◌, subst}
 use Rattle.gc_lines.specs.Frames.{frames}
 use Rattle.gc_lines.specs.Readers.{request_at, reply_at}
@@ -8,7 +8,7 @@ use Rattle.gc_lines.specs.declared.fault.LineFault.{LineFault}
 use Rattle.gc_lines.specs.declared.frame.Frame.{Frame}
 use Rattle.gc_lines.specs.declared.frame.Frame.TheVariants.{Line, Cleared, Overlong, More}
 use Rattle.gc_lines.proofs.Requests.{one_request, request_again, request_bad}
-use Rattle.gc_lines.proofs.Replies.{reply_one, reply_again, reply_bad}
+use Rattle.gc_lines.proofs.Replies.{one_reply, reply_again, reply_bad}
 use Rattle.gc_catalogue.proofs.CallLaws.{one_refusal, no_refusal}
 use Rattle.gc_catalogue.specs.declared.fault.CallFault.{CallFault}
 use Rattle.gc_engines.specs.Laws.{OneVerdict}
@@ -24,7 +24,7 @@ one_fault r e f is other = cc
 no_ok_and_fault : {A : Type 0} (r : Result A LineFault) (x : A) (f : LineFault) → r ≡ Ok x → r ≡ Err f → ⊥
 no_ok_and_fault r x f is other = cc
 
--- bytes that begin with `Q,`, as a request does behind `%R1`, don't begin with `P,`, as a reply does there
+-- bytes that begin with `Q,`, as a request does after `%R1`, don't begin with `P,`, as a reply does there
 other_letter : (xs ys : List ℕ) → 81 ∷ 44 ∷ xs ≡ 80 ∷ 44 ∷ ys → ⊥
 other_letter xs ys e = let same : ◌≡◌ {A = ℕ} 81 80 = ap (λ (zs : List ℕ). slice_index zs 0) e in omega arith
 
@@ -51,7 +51,7 @@ one_of_line line v w (request q is says) (reply r other tells) = absurd (no_both
 one_of_line line v w (request q is says) (no_reply f so bad tells) = absurd (no_both line q is so)
 one_of_line line v w (request q is says) (no_request f none bad tells) = absurd (no_ok_and_fault (request_at line) q f (request_again line q is) (request_bad line f bad))
 one_of_line line v w (reply r is says) (request q other tells) = absurd (no_both line q other (begins line r is))
-one_of_line line v w (reply r is says) (reply p other tells) = says ∙ ap (λ (f : ReplyFields). verdict.Reply f.rc_com f.rc) (reply_one line r p is other) ∙ sym tells
+one_of_line line v w (reply r is says) (reply p other tells) = says ∙ ap (λ (f : ReplyFields). verdict.Reply f.rc_com f.rc) (one_reply line r p is other) ∙ sym tells
 one_of_line line v w (reply r is says) (no_reply f so bad tells) = absurd (no_ok_and_fault (reply_at line) r f (reply_again line r is) (reply_bad line f bad))
 one_of_line line v w (reply r is says) (no_request f none bad tells) = absurd (none (begins line r is))
 one_of_line line v w (no_reply e so bad says) (request q other tells) = absurd (no_both line q other so)

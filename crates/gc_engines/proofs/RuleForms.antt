@@ -11,6 +11,7 @@ use Rattle.gc_scenes.specs.declared.rules.Noise.{Noise}
 use Rattle.gc_scenes.specs.declared.ways.Way.{Way}
 use Rattle.gc_texts.specs.Cuts.{before, behind}
 use Rattle.gc_texts.specs.Procedures.{IsNumber}
+use Rattle.gc_texts.specs.Words.{second_word, after_two_words}
 use Rattle.gc_texts.proofs.Procedures.{one_number}
 use Rattle.gc_engines.specs.Scenes.{IsSerial, IsName, IsTarget}
 use Rattle.gc_engines.specs.RuleScenes.{Begins, IsAnswer, IsFault, IsBlocked, IsDrift, IsNoise, IsRuleLine, Scripts, way_line}
@@ -19,8 +20,8 @@ use Rattle.gc_engines.specs.declared.rule_line.RuleLine.TheVariants as says
 use Rattle.gc_engines.specs.declared.rule_line.Blocked.{Blocked}
 use Rattle.gc_engines.specs.declared.rule_line.Drift.{Drift}
 
--- `Scripts` holds of the reply r that was made of a request of this procedure with these parameters: r is `None` only if they are too
--- long for a reply
+-- if r is the reply that was made, with this return code, of a request of this procedure with these parameters, `Scripts` holds
+-- of r; r is `None` only if the parameters are too long for a reply, with more than 490 bytes
 pub scripts : (rpc rc : ℕ) (params : List ℕ) (call : RawCall) (r : Option Scripted) → call.rpc ≡ rpc → raw_bytes call.params ≡ params
     → IfSome r (λ s. (s.rpc ≡ call.rpc) × (s.with ≡ Some call) × (s.rc ≡ rc)) → IfNone r (490 < length (raw_bytes call.params)) → Scripts rpc rc params r
 scripts rpc rc params call None number bytes made long = λ a other same with_is own its.
@@ -29,19 +30,19 @@ scripts rpc rc params call None number bytes made long = λ a other same with_is
     omega (arith, subst (λ (x : List ℕ). length x ≤ 490) one short, long)
 scripts rpc rc params call (Some s) number bytes made long = (made.0 ∙ number, made.2, (call, made.1, number, bytes))
 
--- where a line is `answer` with this procedure, this return code and these parameters, and r is the reply made of them, r is what the
--- line is read as
+-- where a line is `answer` with this procedure, this return code and these parameters, and r is the reply made of them, r is
+-- what the line is read as
 pub answer_is : (line params : List ℕ) (rpc rc : ℕ) (r : Option Scripted) → (word : Begins (codes "answer") line)
-    → (rpc_is : IsNumber (before 32 (behind 32 line)) rpc 65535) → (rc_is : IsNumber (before 44 (behind 32 (behind 32 line))) rc 65535)
-    → (params_is : params ≡ behind 44 (behind 32 (behind 32 line))) → Scripts rpc rc params r
+    → (rpc_is : IsNumber (second_word line) rpc 65535) → (rc_is : IsNumber (before 44 (after_two_words line)) rc 65535)
+    → (params_is : params ≡ behind 44 (after_two_words line)) → Scripts rpc rc params r
     → MatchOption r ((a : Scripted) → IsAnswer line a → ⊥) (λ a. IsAnswer line a)
 answer_is line params rpc rc None word rpc_is rc_is params_is none = λ a h.
-    let same : a.rpc ≡ rpc = one_number (before 32 (behind 32 line)) a.rpc rpc 65535 h.rpc rpc_is in
+    let same : a.rpc ≡ rpc = one_number (second_word line) a.rpc rpc 65535 h.rpc rpc_is in
     none a h.call same h.with_is (h.number ∙ same) (h.params ∙ sym params_is)
 answer_is line params rpc rc (Some a) word rpc_is rc_is params_is made = record {
   word = word;
-  rpc = subst (λ (n : ℕ). IsNumber (before 32 (behind 32 line)) n 65535) (sym made.0) rpc_is;
-  rc = subst (λ (n : ℕ). IsNumber (before 44 (behind 32 (behind 32 line))) n 65535) (sym made.1) rc_is;
+  rpc = subst (λ (n : ℕ). IsNumber (second_word line) n 65535) (sym made.0) rpc_is;
+  rc = subst (λ (n : ℕ). IsNumber (before 44 (after_two_words line)) n 65535) (sym made.1) rc_is;
   call = made.2.0;
   with_is = made.2.1;
   number = made.2.2 ∙ sym made.0;

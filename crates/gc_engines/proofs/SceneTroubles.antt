@@ -28,7 +28,8 @@ no_word first s n t f a b d x r h l u word.Behave e = h e
 no_word first s n t f a b d x r h l u word.Delay e = l e
 no_word first s n t f a b d x r h l u word.Busy e = u e
 
--- what is at fault in the parameters of a reply is at fault in its line
+-- in a line `answer` with this procedure's number and these parameters, what is at fault in the parameters of the reply
+-- (`IsReplyTrouble`) is at fault in the line
 pub reply_fault : (line number params : List ℕ) (rpc : ℕ) (t : SceneTrouble) → (has : BeginsWith word.Answer line) → (at : number ≡ second_word line)
     → (behind_is : params ≡ behind 44 (after_two_words line)) → (is : IsNumber number rpc 65535) → (h : IsReplyTrouble rpc params t) → IsSceneTrouble line t
 reply_fault line number params rpc (trouble.InTable n) has at behind_is is h =

@@ -21,19 +21,21 @@ use Rattle.std.proofs.lemmas.Option.{same_Some}
 -- where a line is `target ` and `rest`, and `o` is the target that `rest` says, or `None` where it says none, `o` is what the
 -- line says, too
 pub target_is : (line rest : List ℕ) (o : Option Target) → line ≡ codes "target " ++ rest
-    → MatchOption o ((t : Target) → IsTargetWords rest t → ⊥) (λ t. IsTargetWords rest t) → MatchOption o ((t : Target) → IsTarget line t → ⊥) (λ t. IsTarget line t)
+    → MatchOption o ((t : Target) → IsTargetWords rest t → ⊥) (λ t. IsTargetWords rest t)
+    → MatchOption o ((t : Target) → IsTarget line t → ⊥) (λ t. IsTarget line t)
 target_is line rest None e none =
     λ t found. none t (subst (λ (ws : List ℕ). IsTargetWords ws t) (append_cancel_left (codes "target ") found.words rest (sym found.line_is ∙ e)) found.words_say)
 target_is line rest (Some t) e said = record { words = rest; line_is = e; words_say = said }
 
 -- the parts of a text `HZ V DISTANCE`, three decimals with a space between two of them
 module _ (words : List ℕ) (t : Target) (p : IsTargetWords words t) where
-  -- the first space stands behind HZ
+  -- the first space stands after HZ
   first_cut : (hz : List ℕ) (rest : Option (List ℕ)) → Cuts 32 words hz rest → (hz ≡ p.hz_text) × (rest ≡ Some (p.v_text ++ 32 ∷ p.distance_text))
   first_cut hz rest cut = cut_found 32 words hz rest p.hz_text (p.v_text ++ 32 ∷ p.distance_text) cut p.words_are p.hz_lacks
 
-  -- the second space stands behind V
-  second_cut : (hz rest v : List ℕ) (behind : Option (List ℕ)) → Cuts 32 words hz (Some rest) → Cuts 32 rest v behind → (v ≡ p.v_text) × (behind ≡ Some p.distance_text)
+  -- the second space stands after V
+  second_cut : (hz rest v : List ℕ) (behind : Option (List ℕ)) → Cuts 32 words hz (Some rest) → Cuts 32 rest v behind
+      → (v ≡ p.v_text) × (behind ≡ Some p.distance_text)
   second_cut hz rest v behind cut next =
       cut_found 32 rest v behind p.v_text p.distance_text next (same_Some rest (p.v_text ++ 32 ∷ p.distance_text) (first_cut hz (Some rest) cut).1) p.v_lacks
 
@@ -50,11 +52,13 @@ module _ (words : List ℕ) (t : Target) (p : IsTargetWords words t) where
   has_hz hz rest cut none = none t.hz (subst (λ (x : List ℕ). Spells x t.hz.digits t.hz.scale) (sym (first_cut hz (Some rest) cut).0) p.hz_is)
 
   -- what stands between the spaces is a decimal
-  pub has_v : (hz rest v : List ℕ) (behind : Option (List ℕ)) → Cuts 32 words hz (Some rest) → Cuts 32 rest v behind → ((d : Decimal) → Spells v d.digits d.scale → ⊥) → ⊥
+  pub has_v : (hz rest v : List ℕ) (behind : Option (List ℕ)) → Cuts 32 words hz (Some rest) → Cuts 32 rest v behind
+      → ((d : Decimal) → Spells v d.digits d.scale → ⊥) → ⊥
   has_v hz rest v behind cut next none = none t.v (subst (λ (x : List ℕ). Spells x t.v.digits t.v.scale) (sym (second_cut hz rest v behind cut next).0) p.v_is)
 
-  -- what stands behind the second space is a decimal
-  pub has_distance : (hz rest v distance : List ℕ) → Cuts 32 words hz (Some rest) → Cuts 32 rest v (Some distance) → ((d : Decimal) → Spells distance d.digits d.scale → ⊥) → ⊥
+  -- what stands after the second space is a decimal
+  pub has_distance : (hz rest v distance : List ℕ) → Cuts 32 words hz (Some rest) → Cuts 32 rest v (Some distance)
+      → ((d : Decimal) → Spells distance d.digits d.scale → ⊥) → ⊥
   has_distance hz rest v distance cut next none =
       none t.distance (subst (λ (x : List ℕ). Spells x t.distance.digits t.distance.scale) (sym (same_Some distance p.distance_text (second_cut hz rest v (Some distance) cut next).1)) p.distance_is)
 
@@ -97,7 +101,7 @@ one_target line t u x y =
     let words : x.words ≡ y.words = append_cancel_left (codes "target ") x.words y.words (sym x.line_is ∙ y.line_is) in
     one_target_of_words y.words t u (subst (λ (ws : List ℕ). IsTargetWords ws t) words x.words_say) y.words_say
 
--- a line says one serial number, one name or one target at most
+-- a line says at most one of these: a serial number, a name or a target
 one_line : (line : List ℕ) (a b : SceneLine) → IsSceneLine line a → IsSceneLine line b → a ≡ b
 one_line line a b x y = by_kind a b x y (sym (head_is line a x) ∙ head_is line b y) where
   -- where a line says a and says b, and the words of both begin with the same letter, a is b
@@ -120,7 +124,7 @@ one_lines text xs ys h k = one_list IsSceneLine one_line (filter is_kept (text_l
 pub one_state : (text : List ℕ) (s t : State) → IsScene text s → IsScene text t → s ≡ t
 one_state text s t x y = x.opens ∙ ap scene_opening (one_lines text x.lines y.lines x.are y.are) ∙ sym y.opens
 
--- a scene isn't one with too many targets
+-- a text that sets up an instrument isn't a scene of too many targets
 pub no_full : (text : List ℕ) (s : State) → IsScene text s → IsOverfullScene text → ⊥
 no_full text s x full =
     let same : length (targets_of x.lines) ≡ length (targets_of full.lines) = ap (λ ls. length (targets_of ls)) (one_lines text x.lines full.lines x.are full.are) in

@@ -20,8 +20,9 @@ use Rattle.gc_engines.specs.SceneDrill.{scene_drill_text}
 use Rattle.gc_engines.specs.Drill.{wire_text, drill_text_on}
 
 -- a function of six counts gives the same text for equal counts
-equal_by_six : (f : ℕ → ℕ → ℕ → ℕ → ℕ → ℕ → List ℕ) (a b c d e g a' b' c' d' e' g' : ℕ) → (ea : a ≡ a') → (eb : b ≡ b') → (ec : c ≡ c') → (ed : d ≡ d') → (ee : e ≡ e')
-    → (eg : g ≡ g') → f a b c d e g ≡ f a' b' c' d' e' g'
+equal_by_six : (f : ℕ → ℕ → ℕ → ℕ → ℕ → ℕ → List ℕ) (a b c d e g a' b' c' d' e' g' : ℕ)
+    → (ea : a ≡ a') → (eb : b ≡ b') → (ec : c ≡ c') → (ed : d ≡ d') → (ee : e ≡ e') → (eg : g ≡ g')
+    → f a b c d e g ≡ f a' b' c' d' e' g'
 equal_by_six f a b c d e g a' b' c' d' e' g' ea eb ec ed ee eg = cc
 
 -- two texts are the same where their settlements and their totals are
@@ -42,7 +43,8 @@ text_shown r w totals is =
     sent (ap length is.executed) made settled is.refused is.idle)
 
 -- what a drill writes of events is the text of the wire with which their run ends
-text_of_run : (opening : State) (width : ℕ) (events : List Event) (totals : Bool) → drill_text_on opening width events totals ≡ wire_text (played width opening events).wire totals
+text_of_run : (opening : State) (width : ℕ) (events : List Event) (totals : Bool)
+    → drill_text_on opening width events totals ≡ wire_text (played width opening events).wire totals
 text_of_run opening width events totals = unfold drill_text_on in refl
 
 -- the text of a report of an instrument's run is what a drill on that instrument writes
@@ -63,10 +65,11 @@ scene_text_shown r w totals is =
     is.counts.sent is.counts.executed is.counts.made settled is.counts.refused is.counts.idle)
 
 -- what a drill on a scene's instrument writes of events is the text of the wire with which their run ends
-scene_text_of_run : (opening : SceneState) (width : ℕ) (events : List Event) (totals : Bool) → scene_drill_text opening width events totals ≡ wire_text (scene_played width opening events).wire totals
+scene_text_of_run : (opening : SceneState) (width : ℕ) (events : List Event) (totals : Bool)
+    → scene_drill_text opening width events totals ≡ wire_text (scene_played width opening events).wire totals
 scene_text_of_run opening width events totals = unfold scene_drill_text in refl
 
 -- the text of a report of a run on a scene's instrument is what a drill on that instrument writes
-pub scene_drill_shown : (opening : SceneState) (width : ℕ) (events : List Event) (totals : Bool) (r : SceneReport) → IsSceneReport r (scene_played width opening events).wire
-    → scene_report_text r totals ≡ scene_drill_text opening width events totals
+pub scene_drill_shown : (opening : SceneState) (width : ℕ) (events : List Event) (totals : Bool) (r : SceneReport)
+    → IsSceneReport r (scene_played width opening events).wire → scene_report_text r totals ≡ scene_drill_text opening width events totals
 scene_drill_shown opening width events totals r is = scene_text_shown r (scene_played width opening events).wire totals is ∙ sym (scene_text_of_run opening width events totals)

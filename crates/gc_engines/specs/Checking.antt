@@ -42,7 +42,8 @@ Checks given old new (Err (TooManyReads count)) = ChecksAll given old new count
 
 -- a check of at most `most` reads took the ports from old to new, and gave this result
 pub record IsChecking (old new : Ports) (most : ℕ) (result : Result Served ServeFault) : Type 0 where
-  -- the sink took the lines of the verdicts on the bytes that the source gave, or the part of them that the fault says
+  -- the source gave some bytes, at most 256 at each read, and the sink took the lines of the verdicts on them, or the part of these that
+  -- the fault says
   pub checks : (given : List ℕ) × Consumes old.remaining new.remaining given
       × (length given ≤ 256 * (new.reads - old.reads)) × Checks given old.taken new.taken result
   -- why it ended, and what that says of the ports, as `HasEnded` has it
@@ -52,4 +53,5 @@ pub record IsChecking (old new : Ports) (most : ℕ) (result : Result Served Ser
 -- a frame that no line feed has ended it writes nothing. It serves the proofs of a check, and no promise speaks of it
 abbrev pub JudgesFrame : (before : Judge) → Frame → (after : Judge) → Option (List ℕ) → Type 0
 JudgesFrame before More after text = (after ≡ before) × (text ≡ None)
-JudgesFrame before frame after text = (v : Verdict) × IsVerdict frame v × (after.frames ≡ min (before.frames + 1) (2 ^ 64 - 1)) × (text ≡ Some (verdict_line after.frames v))
+JudgesFrame before frame after text =
+    (v : Verdict) × IsVerdict frame v × (after.frames ≡ min (before.frames + 1) (2 ^ 64 - 1)) × (text ≡ Some (verdict_line after.frames v))

@@ -29,7 +29,8 @@ ends_cleared bytes = nat_lt 0 (length bytes) && (get_or bytes (length bytes - 1)
 abbrev pub part_verdict : List ℕ → List ℕ
 part_verdict bytes = if ends_cleared bytes then verdict_text verdict.Cleared else codes "part"
 
--- the text is the verdict that the bytes of a log line get by its mark; the words of a line on the connection are repeated as in the log
+-- the text is the verdict that the bytes of a log line get by its mark. The words of a line about the connection or the log (`Link`) are
+-- repeated as in the log
 abbrev pub IsMarkedVerdict : LogMark → (bytes text : List ℕ) → Type 0
 IsMarkedVerdict mark.Went bytes text = IsWholeVerdict bytes text
 IsMarkedVerdict mark.WentPart bytes text = text ≡ part_verdict bytes
@@ -38,16 +39,17 @@ IsMarkedVerdict mark.CamePart bytes text = text ≡ part_verdict bytes
 IsMarkedVerdict mark.Link bytes text = text ≡ escaped bytes
 
 -- the text is what is written of a line of the checked log. If the line reads as a log line: its moment and its mark as they are, and
--- the verdict on its bytes. If it doesn't: that it is no log line. A line of more than 2100 bytes, or whose escapes stand for more than
--- 514, doesn't read
+-- the verdict on its bytes. If it doesn't: that it is no log line. A line of more than 2100 bytes, or of more than 514 bytes of the
+-- connection, doesn't read
 pub data IsLogVerdict (line text : List ℕ) : Type 0 where
-  reads : (moment words bytes : List ℕ) (mark : LogMark) → length line ≤ 2100 → length bytes ≤ 514 → IsLogLine line moment mark bytes → IsMarkedVerdict mark bytes words
+  reads : (moment words bytes : List ℕ) (mark : LogMark) → length line ≤ 2100 → length bytes ≤ 514 → IsLogLine line moment mark bytes
+      → IsMarkedVerdict mark bytes words
       → text ≡ moment ++ 32 ∷ (mark_text mark ++ 32 ∷ (words ++ 10 ∷ [])) → IsLogVerdict line text
   unread : (length line ≤ 2100 → (moment : List ℕ) (mark : LogMark) (bytes : List ℕ) → length bytes ≤ 514 → IsLogLine line moment mark bytes → ⊥)
       → text ≡ codes "no log line\n" → IsLogVerdict line text
 
 -- the texts are what is written of the lines of a checked log, one for one
-abbrev pub AreLogVerdicts : List (List ℕ) → List (List ℕ) → Type 0
+abbrev pub AreLogVerdicts : (lines texts : List (List ℕ)) → Type 0
 AreLogVerdicts [] [] = Unit {0}
 AreLogVerdicts [] (t ∷ ts) = ⊥
 AreLogVerdicts (l ∷ ls) [] = ⊥
@@ -58,16 +60,17 @@ pub record KeepsLine (kept : PartialLine) (rest : List ℕ) : Type 0 where
   pub whole : kept.is_long ≡ false → rest ≡ kept.bytes.items
   pub long : kept.is_long ≡ true → 2100 < length rest
 
--- a piece came behind the bytes `rest`, which no line feed had ended: the verdict on each line that ends in the piece went out, and
--- the count grew by these lines
+-- a piece came after the bytes `rest`, which no line feed had ended: the verdict on each line that ends in the piece went out,
+-- and the count of verdicts grew by as many, from `before` to `count`
 pub record WritesVerdicts (rest piece : List ℕ) (old new : Option (List ℕ)) (before count : ℕ) : Type 0 where
   pub texts : List (List ℕ)
   pub are : AreLogVerdicts (pieces_behind rest piece) texts
   pub took : Appends old new (all_of texts)
   pub counts : count ≡ before + length texts
 
--- a piece came behind the bytes `rest`, which no line feed had ended: the verdicts on the first lines that end in the piece went out
--- whole, and the count grew by these; of the verdict on one more line only the first `bytes` bytes went out
+-- a piece came after the bytes `rest`, which no line feed had ended: the verdicts on the first lines that end in the piece went
+-- out whole, and the count of verdicts grew by as many, from `before` to `count`; of the verdict on the next of those lines the
+-- first `bytes` bytes went out, which aren't all of it
 pub record WritesVerdictsInPart (rest piece : List ℕ) (old new : Option (List ℕ)) (before count bytes : ℕ) : Type 0 where
   pub seen : List (List ℕ)
   pub later : List (List ℕ)
@@ -85,13 +88,14 @@ abbrev pub TakesPiece : (kept kept' : PartialLine) → (piece : List ℕ) → (o
 TakesPiece kept kept' piece old new before count =
     (rest : List ℕ) → KeepsLine kept rest → KeepsLine kept' (rest_behind rest piece) × WritesVerdicts rest piece old new before count
 
--- a piece was checked until the sink failed, after the first `bytes` bytes of a verdict's line: whatever rest of a line was kept, only the
--- verdicts on the first lines that end in the piece went out
+-- a piece was checked until the sink failed, after the first `bytes` bytes of a verdict's line, and the count went from
+-- `before` to `count`: whatever rest of a line was kept, only the verdicts on the first lines that end in the piece went out
+-- (`WritesVerdictsInPart`)
 abbrev pub TakesPieceInPart : PartialLine → (piece : List ℕ) → (old new : Option (List ℕ)) → (before count bytes : ℕ) → Type 0
 TakesPieceInPart kept piece old new before count bytes = (rest : List ℕ) → KeepsLine kept rest → WritesVerdictsInPart rest piece old new before count bytes
 
 -- how much of the verdicts on the lines of a log went out, by the result: all of them, or at a failed write the front of them. Bytes
--- behind the last line feed are no line
+-- after the last line feed are no line
 abbrev pub ChecksLog : List ℕ → (old new : Option (List ℕ)) → Result Served ServeFault → Type 0
 ChecksLog given old new (Ok served) = WritesVerdicts [] given old new 0 served.replies
 ChecksLog given old new (Err (Read count)) = WritesVerdicts [] given old new 0 count
@@ -100,7 +104,9 @@ ChecksLog given old new (Err (TooManyReads count)) = WritesVerdicts [] given old
 
 -- a check of a log in at most `most` reads took the ports from old to new, and gave this result
 pub record IsCheckingLog (old new : Ports) (most : ℕ) (result : Result Served ServeFault) : Type 0 where
-  -- the sink took the verdicts on the lines of the bytes that the source gave, or the part of them that the fault says
-  pub checks : (given : List ℕ) × Consumes old.remaining new.remaining given × (length given ≤ 256 * (new.reads - old.reads)) × ChecksLog given old.taken new.taken result
+  -- the source gave some bytes, at most 256 at each read, and the sink took the verdicts on their lines, or the part of these that the
+  -- fault says
+  pub checks : (given : List ℕ) × Consumes old.remaining new.remaining given
+      × (length given ≤ 256 * (new.reads - old.reads)) × ChecksLog given old.taken new.taken result
   -- why it ended, and what that says of the ports, as `HasEnded` has it
   pub ended : HasEnded old new most result

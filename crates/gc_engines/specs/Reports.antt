@@ -12,14 +12,14 @@ totals_text sent executed made settled refused idle =
     codes "sent " ++ decimal sent ++ codes " executed " ++ decimal executed ++ codes " made " ++ decimal made
     ++ codes " settled " ++ decimal settled ++ codes " refused " ++ decimal refused ++ codes " idle " ++ decimal idle ++ codes "\n"
 
--- what is written of a report: its settlements, and behind them the totals where they are asked for
-abbrev pub report_text : Report → Bool → List ℕ
+-- what is written of a report: its settlements, and after them the totals if they are asked for
+abbrev pub report_text : Report → (totals : Bool) → List ℕ
 report_text r totals =
     settlement_lines (map settlement_seen r.settled)
     ++ (if totals then totals_text (length r.sent) (length r.executed) (length r.made) (length r.settled) r.refused_sends r.idle_events else [])
 
--- what is written of the report of a run on the instrument of a scene with rules, as `report_text`
-abbrev pub scene_report_text : SceneReport → Bool → List ℕ
+-- what is written of the report of a run on the instrument of a scene with rules: its settlements, and the totals, as in `report_text`
+abbrev pub scene_report_text : SceneReport → (totals : Bool) → List ℕ
 scene_report_text r totals =
     settlement_lines (map settlement_seen r.settled.items)
     ++ (if totals then totals_text r.counts.sent r.counts.executed r.counts.made (length r.settled.items) r.counts.refused_sends r.counts.idle_events else [])

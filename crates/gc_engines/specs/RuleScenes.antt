@@ -1,9 +1,10 @@
--- A scene's text with rules, and the instrument that it sets up: this project's own.
+-- A scene's text that may have rules, which is called a scene with rules, and the instrument that it sets up: this project's own.
 use Rattle.std.specs.Prelude.{◌≡◌, ◌⊎◌, ℕ, ℤ, suc, ◌==◌, ◌<◌, ◌≤◌, Bool, true, false, List, [], ◌∷◌, length, Option, Some, None, if◌then◌else◌, codes, MatchOption}
 use Rattle.gc_catalogue.specs.RawTexts.{raw_bytes}
 use Rattle.gc_catalogue.specs.declared.raw.RawCall.{RawCall}
 use Rattle.gc_instrument.specs.State.{opening, simulator_opening}
 use Rattle.gc_instrument.specs.declared.target.Target.{Target}
+use Rattle.gc_scenes.specs.Laws.{still}
 use Rattle.gc_scenes.specs.SceneState.{SceneState}
 use Rattle.gc_scenes.specs.declared.rules.Prism.{Prism}
 use Rattle.gc_scenes.specs.declared.rules.Offset.{Offset}
@@ -18,6 +19,7 @@ use Rattle.gc_texts.specs.Cuts.{before, behind}
 use Rattle.gc_texts.specs.LineForms.{Form, IsText, TextFault}
 use Rattle.gc_texts.specs.Nears.{IsDouble}
 use Rattle.gc_texts.specs.Procedures.{IsNumber}
+use Rattle.gc_texts.specs.Words.{first_word, second_word, third_word, after_two_words, after_three_words}
 use Rattle.gc_texts.specs.declared.fault.RunFault.{RunFault}
 use Rattle.gc_texts.specs.declared.fault.RunFault.TheVariants.{SceneFull}
 use Rattle.gc_texts.specs.declared.text.TheConstants.{TEXT_LIMIT}
@@ -28,75 +30,77 @@ use Rattle.gc_engines.specs.declared.rule_line.Blocked.{Blocked}
 use Rattle.gc_engines.specs.declared.rule_line.Drift.{Drift}
 use Rattle.gc_engines.specs.declared.rule_line.Span.{Span}
 
--- the greatest number of 32 bits, which stands for "without end"
+-- the greatest number of 32 bits, which as a fault's `times` stands for "without end": such a fault meets requests without end,
+-- except that one whose `after` is 0 ends once it has met 4294967295 requests
 abbrev pub no_end : ℕ
 no_end = 4294967295
 
 -- the first word of `words`, up to its first space, is `word`
 abbrev pub Begins : (word words : List ℕ) → Type 0
-Begins word words = before 32 words ≡ word
+Begins word words = first_word words ≡ word
 
--- how many requests a fault meets: the words are empty, and it meets requests without end; or they are `for COUNT`
-abbrev pub IsTimes : List ℕ → ℕ → Type 0
+-- how many requests a fault meets: the words are empty, and it meets requests without end (`no_end`); or they are `for COUNT`
+abbrev pub IsTimes : (words : List ℕ) → (times : ℕ) → Type 0
 IsTimes [] times = times ≡ no_end
 IsTimes (b ∷ bs) times = Begins (codes "for") (b ∷ bs) × IsNumber (behind 32 (b ∷ bs)) times 4294967295
 
 -- which requests a fault meets: the words are empty, `after COUNT`, `for COUNT`, or both in this order
-abbrev pub IsSpan : List ℕ → Span → Type 0
+abbrev pub IsSpan : (words : List ℕ) → Span → Type 0
 IsSpan words span =
-    (Begins (codes "after") words × IsNumber (before 32 (behind 32 words)) span.after 4294967295 × IsTimes (behind 32 (behind 32 words)) span.times)
+    (Begins (codes "after") words × IsNumber (second_word words) span.after 4294967295 × IsTimes (after_two_words words) span.times)
     ⊎ ((Begins (codes "after") words → ⊥) × (span.after ≡ 0) × IsTimes words span.times)
 
--- the line is `fault RPC RC [after COUNT] [for COUNT]`: a procedure is answered with a return code. No request has met the fault yet
+-- the line is `fault RPC RC [after COUNT] [for COUNT]`: a procedure is answered with a return code. Where the
+-- line has no `for`, it may end in a space. No request has met the fault yet
 pub record IsFault (line : List ℕ) (f : Fault) : Type 0 where
   pub word : Begins (codes "fault") line
-  pub rpc : IsNumber (before 32 (behind 32 line)) f.rpc 65535
-  pub rc : IsNumber (before 32 (behind 32 (behind 32 line))) f.rc 65535
-  pub span : IsSpan (behind 32 (behind 32 (behind 32 line))) (record { after = f.after; times = f.times })
+  pub rpc : IsNumber (second_word line) f.rpc 65535
+  pub rc : IsNumber (third_word line) f.rc 65535
+  pub span : IsSpan (after_three_words line) (record { after = f.after; times = f.times })
   pub met : f.met ≡ 0
 
--- the reply to this procedure with this return code and these parameters; `None` if no such reply can be made
-abbrev pub Scripts : (rpc rc : ℕ) → List ℕ → Option Scripted → Type 0
+-- `reply` is the reply to this procedure with this return code and these parameters; it is `None` only if no such reply can be made
+abbrev pub Scripts : (rpc rc : ℕ) → (params : List ℕ) → (reply : Option Scripted) → Type 0
 Scripts rpc rc params reply =
     MatchOption reply ((a : Scripted) (call : RawCall) → a.rpc ≡ rpc → a.with ≡ Some call → call.rpc ≡ rpc → raw_bytes call.params ≡ params → ⊥)
     (λ a. (a.rpc ≡ rpc) × (a.rc ≡ rc) × ((call : RawCall) × (a.with ≡ Some call) × (call.rpc ≡ rpc) × (raw_bytes call.params ≡ params)))
 
--- the line is `answer RPC RC[,PARAMS]`: a procedure that isn't in the table, and its reply
+-- the line is `answer RPC RC[,PARAMS]`: a procedure that isn't in the table, and its reply. The comma may also stand without parameters
 pub record IsAnswer (line : List ℕ) (a : Scripted) : Type 0 where
   pub word : Begins (codes "answer") line
-  pub rpc : IsNumber (before 32 (behind 32 line)) a.rpc 65535
-  pub rc : IsNumber (before 44 (behind 32 (behind 32 line))) a.rc 65535
+  pub rpc : IsNumber (second_word line) a.rpc 65535
+  pub rc : IsNumber (before 44 (after_two_words line)) a.rc 65535
   pub call : RawCall
   pub with_is : a.with ≡ Some call
   pub number : call.rpc ≡ a.rpc
-  pub params : raw_bytes call.params ≡ behind 44 (behind 32 (behind 32 line))
+  pub params : raw_bytes call.params ≡ behind 44 (after_two_words line)
 
--- the line is `blocked TARGET FROM TO`: a target is hidden from the first of these looks to the second, counted from 1
+-- the line is `blocked TARGET FROM TO`: a target is hidden from look FROM through look TO, where looks are counted from 1
 pub record IsBlocked (line : List ℕ) (b : Blocked) : Type 0 where
   pub word : Begins (codes "blocked") line
-  pub target : IsNumber (before 32 (behind 32 line)) b.target 32
-  pub from : IsNumber (before 32 (behind 32 (behind 32 line))) b.from 4294967295
-  pub to : IsNumber (behind 32 (behind 32 (behind 32 line))) b.to 4294967295
+  pub target : IsNumber (second_word line) b.target 32
+  pub from : IsNumber (third_word line) b.from 4294967295
+  pub to : IsNumber (after_three_words line) b.to 4294967295
 
 -- the words are `HZ V D`: two angles in radians and a distance in metres, as decimals
 pub record IsOffset (words : List ℕ) (o : Offset) : Type 0 where
-  pub hz : IsDouble (before 32 words) o.hz
-  pub v : IsDouble (before 32 (behind 32 words)) o.v
-  pub distance : IsDouble (behind 32 (behind 32 words)) o.distance
+  pub hz : IsDouble (first_word words) o.hz
+  pub v : IsDouble (second_word words) o.v
+  pub distance : IsDouble (after_two_words words) o.distance
 
 -- the line is `drift TARGET HZ V D`: a target moves by an offset with each measurement of it
 pub record IsDrift (line : List ℕ) (d : Drift) : Type 0 where
   pub word : Begins (codes "drift") line
-  pub target : IsNumber (before 32 (behind 32 line)) d.target 32
-  pub by : IsOffset (behind 32 (behind 32 line)) d.by
+  pub target : IsNumber (second_word line) d.target 32
+  pub by : IsOffset (after_two_words line) d.by
 
 -- the line is `noise HZ V D SEED`: the most by which measurements deviate, in radians and metres, and the seed of the deviations
 pub record IsNoise (line : List ℕ) (n : Noise) : Type 0 where
   pub word : Begins (codes "noise") line
-  pub hz : IsDouble (before 32 (behind 32 line)) n.hz
-  pub v : IsDouble (before 32 (behind 32 (behind 32 line))) n.v
-  pub distance : IsDouble (before 32 (behind 32 (behind 32 (behind 32 line)))) n.distance
-  pub seed : IsNumber (behind 32 (behind 32 (behind 32 (behind 32 line)))) n.seed 4294967295
+  pub hz : IsDouble (second_word line) n.hz
+  pub v : IsDouble (third_word line) n.v
+  pub distance : IsDouble (before 32 (after_three_words line)) n.distance
+  pub seed : IsNumber (behind 32 (after_three_words line)) n.seed 4294967295
 
 -- the line that gives the instrument a way of real instruments, or all of them (`Real`)
 abbrev pub way_line : Way → List ℕ
@@ -167,7 +171,7 @@ rules_noise n (says.Noise m ∷ rest) = rules_noise (Some m) rest
 rules_noise n (other ∷ rest) = rules_noise n rest
 
 -- whether the instrument answers a repeated request with the reply that it keeps: no if a line is `repeats no`, else `b`
-abbrev pub rules_repeat : Bool → List RuleLine → Bool
+abbrev pub rules_repeat : (b : Bool) → List RuleLine → Bool
 rules_repeat b [] = b
 rules_repeat b (says.NoRepeats ∷ rest) = rules_repeat false rest
 rules_repeat b (other ∷ rest) = rules_repeat b rest
@@ -191,10 +195,10 @@ rules_prism number [] p = p
 rules_prism number (line ∷ rest) p = rules_prism number rest (ruled number line p)
 
 -- the targets, of which the first has this number, as the lines change them. A target that no line changes is never hidden and
--- doesn't move
+-- doesn't move, and a line about a number that no target has changes nothing
 abbrev pub rules_prisms : List RuleLine → ℕ → List Target → List Prism
 rules_prisms lines number [] = []
-rules_prisms lines number (t ∷ ts) = rules_prism number lines (record { at = t; drift = None; from = 1; to = 0 }) ∷ rules_prisms lines (suc number) ts
+rules_prisms lines number (t ∷ ts) = rules_prism number lines (still t) ∷ rules_prisms lines (suc number) ts
 
 -- the opening state of the instrument that these lines set up. A serial number or a name that they don't say is the simulator's;
 -- targets, faults, replies and all else are those of the lines alone
@@ -236,8 +240,8 @@ pub record IsOverfullOf (form : Form RuleLine) (text : List ℕ) : Type 0 where
   pub are : IsText form text lines
   pub many : OverfillAnInstrument lines
 
--- why a text sets up no instrument, where its lines should be in this form: it is a scene of more than an instrument has room for; or
--- it is too long, or one of its lines hasn't the form; or memory was refused
+-- why a text sets up no instrument, where its lines should be in this form: it is a scene of more than an instrument has room
+-- for; or it is too long, or one of its lines that aren't skipped hasn't the form, or memory was refused (`TextFault`)
 abbrev pub SceneFaultOf : Form RuleLine → List ℕ → RunFault → Type 0
 SceneFaultOf form text SceneFull = (length text ≤ TEXT_LIMIT) × IsOverfullOf form text
 SceneFaultOf form text fault = TextFault form text fault

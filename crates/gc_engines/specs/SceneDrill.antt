@@ -8,10 +8,11 @@ use Rattle.gc_engines.specs.Drill.{DrillsAs, wire_text}
 use Rattle.gc_texts.specs.declared.fault.RunFault.{RunFault}
 
 -- what is written of events that are played on a scene's instrument with this opening state, with a window of this width
-unfoldable pub scene_drill_text : SceneState → ℕ → List Event → Bool → List ℕ
+unfoldable pub scene_drill_text : (opening : SceneState) → (width : ℕ) → List Event → (totals : Bool) → List ℕ
 scene_drill_text opening width events totals = wire_text (scene_played width opening events).wire totals
 
 -- what a drill on a scene's instrument with this opening state, with a window of this width, did with the bytes given as a
 -- schedule
-abbrev pub DrillsScene : SceneState → ℕ → List ℕ → Bool → (old new : Option (List ℕ)) → Result (Unit {0}) RunFault → Type 0
+abbrev pub DrillsScene : (opening : SceneState) → (width : ℕ) → (given : List ℕ) → (totals : Bool) → (old new : Option (List ℕ))
+    → Result (Unit {0}) RunFault → Type 0
 DrillsScene opening width given totals old new result = DrillsAs (scene_drill_text opening width) given totals old new result

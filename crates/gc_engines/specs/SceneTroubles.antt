@@ -10,6 +10,7 @@ use Rattle.gc_catalogue.specs.declared.raw.RawFault.TheVariants.{InTable}
 use Rattle.gc_texts.specs.Cuts.{before, behind}
 use Rattle.gc_texts.specs.Nears.{IsDouble}
 use Rattle.gc_texts.specs.Procedures.{IsNumber}
+use Rattle.gc_texts.specs.Troubles.{NoNumber}
 use Rattle.gc_texts.specs.Words.{first_word, second_word, third_word, after_two_words, after_three_words}
 use Rattle.gc_engines.specs.RuleScenes.{GivesClock}
 use Rattle.gc_engines.specs.declared.scene_trouble.SceneTrouble.{SceneTrouble}
@@ -55,25 +56,28 @@ BeginsWith w line = first_word line ≡ word_text w
 abbrev pub NeedsClock : List ℕ → Type 0
 NeedsClock line = GivesClock line ⊎ (BeginsWith word.Delay line ⊎ BeginsWith word.Busy line)
 
--- the text isn't a whole number of at most `max`, written in digits alone
-unfoldable pub NotNumber : List ℕ → ℕ → Type 0
-NotNumber text max = (n : ℕ) → IsNumber text n max → ⊥
+-- the text is no number up to this maximum (`NoNumber`); opaque to proofs that don't unfold it
+unfoldable pub NotNumber : (text : List ℕ) → (max : ℕ) → Type 0
+NotNumber text max = NoNumber text max
 
--- the text is no decimal as a scene writes angles and distances
+-- the text is no decimal as a scene writes angles and distances (`IsDouble`); opaque to proofs that don't unfold it
 unfoldable pub NoDecimal : List ℕ → Type 0
 NoDecimal text = (d : Decimal) → IsDouble text d → ⊥
 
 -- what may be at fault in a reply to the procedure with this number, with these parameters. `InTable`: the procedure is in the table.
--- `Params`: for this reason or another, no request can have them, and so no reply. `Form`: nothing is said of the parameters
-abbrev pub IsReplyTrouble : ℕ → List ℕ → SceneTrouble → Type 0
+-- `Params`: a request for this procedure with these parameters is refused for some reason (`IsRawRefusal`; `InTable` is one,
+-- too), and so is the reply. `Form`: nothing is said of the parameters
+abbrev pub IsReplyTrouble : (rpc : ℕ) → (params : List ℕ) → SceneTrouble → Type 0
 IsReplyTrouble rpc params (trouble.InTable n) = (n ≡ rpc) × IsRawRefusal rpc params InTable
 IsReplyTrouble rpc params trouble.Params = (fault : RawFault) × IsRawRefusal rpc params fault
 IsReplyTrouble rpc params (trouble.Form w) = w ≡ word.Answer
 IsReplyTrouble rpc params _ = ⊥
 
--- the line is `answer` and a procedure's number, and this is at fault in the parameters of the reply
+-- the line begins with `answer` and a procedure's number, and this may be at fault in the reply (`IsReplyTrouble`)
 abbrev pub IsAnswerTrouble : List ℕ → SceneTrouble → Type 0
-IsAnswerTrouble line t = BeginsWith word.Answer line × ((rpc : ℕ) × IsNumber (second_word line) rpc 65535 × IsReplyTrouble rpc (behind 44 (after_two_words line)) t)
+IsAnswerTrouble line t =
+    BeginsWith word.Answer line
+    × ((rpc : ℕ) × IsNumber (second_word line) rpc 65535 × IsReplyTrouble rpc (behind 44 (after_two_words line)) t)
 
 -- in a line that is known to be faulty, this may be at fault; more than one trouble may fit a line. `Form`: the line begins with
 -- that word, and none of its fields is named
@@ -84,11 +88,13 @@ IsSceneTrouble line (trouble.Form w) = BeginsWith w line
 IsSceneTrouble line trouble.Serial = BeginsWith word.Serial line × ((n : ℤ) → NamesWhole (behind 32 line) n → FitsLong n → ⊥)
 IsSceneTrouble line trouble.Name = BeginsWith word.Name line × (text.IsText (behind 32 line) → ⊥)
 IsSceneTrouble line trouble.Rpc = (BeginsWith word.Fault line ⊎ (BeginsWith word.Answer line ⊎ BeginsWith word.Delay line)) × NotNumber (second_word line) 65535
-IsSceneTrouble line trouble.Rc = (BeginsWith word.Fault line × NotNumber (third_word line) 65535) ⊎ (BeginsWith word.Answer line × NotNumber (before 44 (after_two_words line)) 65535)
+IsSceneTrouble line trouble.Rc = (BeginsWith word.Fault line × NotNumber (third_word line) 65535)
+    ⊎ (BeginsWith word.Answer line × NotNumber (before 44 (after_two_words line)) 65535)
 IsSceneTrouble line trouble.Target = (BeginsWith word.Blocked line ⊎ BeginsWith word.Drift line) × NotNumber (second_word line) 32
 IsSceneTrouble line trouble.From = BeginsWith word.Blocked line × NotNumber (third_word line) 4294967295
 IsSceneTrouble line trouble.To = BeginsWith word.Blocked line × NotNumber (after_three_words line) 4294967295
-IsSceneTrouble line trouble.Hz = ((BeginsWith word.Target line ⊎ BeginsWith word.Noise line) × NoDecimal (second_word line)) ⊎ (BeginsWith word.Drift line × NoDecimal (third_word line))
+IsSceneTrouble line trouble.Hz = ((BeginsWith word.Target line ⊎ BeginsWith word.Noise line) × NoDecimal (second_word line))
+    ⊎ (BeginsWith word.Drift line × NoDecimal (third_word line))
 IsSceneTrouble line trouble.V = ((BeginsWith word.Target line ⊎ BeginsWith word.Noise line) × NoDecimal (third_word line))
     ⊎ (BeginsWith word.Drift line × NoDecimal (before 32 (after_three_words line)))
 IsSceneTrouble line trouble.Distance = (BeginsWith word.Target line × NoDecimal (after_three_words line))
@@ -119,5 +125,5 @@ scene_trouble_text (trouble.InTable rpc) = decimal rpc ++ codes " is in the tabl
 scene_trouble_text trouble.Params = codes "PARAMS has more than 16 parameters, a double quote without its end, or too many bytes"
 
 -- the line that the program writes of the trouble of a scene's line with this number, counted from 1
-abbrev pub scene_trouble_line : ℕ → SceneTrouble → List ℕ
+abbrev pub scene_trouble_line : (line : ℕ) → SceneTrouble → List ℕ
 scene_trouble_line line t = (codes "geocom: line " ++ decimal line ++ codes " of the scene: ") ++ (scene_trouble_text t ++ codes "\n")

@@ -25,7 +25,7 @@ pub record IsName (line bytes : List ℕ) : Type 0 where
   pub line_is : line ≡ codes "name " ++ bytes
   pub text : text.IsText bytes
 
--- the words are `HZ V DISTANCE`: three decimals, with one space between two of them
+-- the words are `HZ V DISTANCE`: three decimals, with one space between each two
 pub record IsTargetWords (words : List ℕ) (target : Target) : Type 0 where
   pub hz_text : List ℕ
   pub v_text : List ℕ
@@ -88,8 +88,8 @@ pub record IsOverfullScene (text : List ℕ) : Type 0 where
   pub are : IsText IsSceneLine text lines
   pub many : 32 < length (targets_of lines)
 
--- why a text sets up no instrument: it is a scene of too many targets; or it is too long, or one of its lines has no form of a scene;
--- or memory was refused
+-- why a text sets up no instrument: it is a scene of too many targets; or it is too long, or one of its lines that aren't
+-- skipped has no form of a scene, or memory was refused (`TextFault`)
 abbrev pub SceneFault : List ℕ → RunFault → Type 0
 SceneFault text SceneFull = (length text ≤ TEXT_LIMIT) × IsOverfullScene text
 SceneFault text fault = TextFault IsSceneLine text fault

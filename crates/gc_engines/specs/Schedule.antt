@@ -10,7 +10,7 @@ use Rattle.gc_world.specs.declared.event.Event.TheVariants.{Send, UpDeliver, UpB
 abbrev pub count_max : ℕ
 count_max = 4294967295
 
--- a line is this word, and behind it the number `n`, which is at most `max`
+-- the line is `word`, which ends with a space, and after it the number `n`, which is at most `max`
 pub record IsNumbered (word line : List ℕ) (n max : ℕ) : Type 0 where
   pub digits : List ℕ
   pub line_is : line ≡ word ++ digits
@@ -32,13 +32,13 @@ abbrev pub SendsRequested : List ℕ → Event → Type 0
 SendsRequested text (Send target call deadline) = IsRequested text target call deadline
 SendsRequested text _ = ⊥
 
--- `send T D RPC` or `send T D RPC PARAMS`: the word, and behind it a request as `IsRequested` has it
+-- `send T D RPC` or `send T D RPC PARAMS`: the word, and after it a request as `IsRequested` has it
 pub record IsSend (line : List ℕ) (target : ℕ) (call : Call) (deadline : ℕ) : Type 0 where
   pub rest : List ℕ
   pub line_is : line ≡ codes "send " ++ rest
   pub requested : IsRequested rest target call deadline
 
--- the line is how a schedule writes this event: its words, and behind them its number or its request, if it has one
+-- the line is how a schedule writes this event: its words, and after them its number or its request, if it has one
 abbrev pub IsEvent : List ℕ → Event → Type 0
 IsEvent line (Send target call deadline) = IsSend line target call deadline
 IsEvent line UpDeliver = line ≡ codes "up deliver"
@@ -69,7 +69,7 @@ abbrev pub IsSchedule : List ℕ → List Event → Type 0
 IsSchedule text events = IsText IsEvent text events
 
 -- line number n, counted from 1, is the first that isn't skipped and has the form of no event
-abbrev pub IsFirstFaulty : List ℕ → ℕ → Type 0
+abbrev pub IsFirstFaulty : (text : List ℕ) → (n : ℕ) → Type 0
 IsFirstFaulty text n = FirstFaulty IsEvent text n
 
 -- some line has the form of an event, and no line before it is faulty: the reading comes to that line, and may want memory

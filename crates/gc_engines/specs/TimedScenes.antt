@@ -1,10 +1,11 @@
--- A scene's text with words that want a clock, which `serve` alone has, and the instrument that it sets up: this project's own.
+-- A scene's text for `serve`, which alone has the clock that some words want, and the instrument that it sets up: this project's own.
+-- A scene for `serve` needn't have any of these words.
 use Rattle.std.specs.Prelude.{◌≡◌, ◌⊎◌, ℕ, ◌<◌, ◌≤◌, Bool, true, false, List, [], ◌∷◌, length, codes}
 use Rattle.gc_scenes.specs.Slow.{SlowState}
 use Rattle.gc_scenes.specs.declared.delay.Delay.{Delay}
-use Rattle.gc_texts.specs.Cuts.{before, behind}
 use Rattle.gc_texts.specs.LineForms.{IsText, ReachesASoundLine, TextFault}
 use Rattle.gc_texts.specs.Procedures.{IsNumber}
+use Rattle.gc_texts.specs.Words.{second_word, after_two_words}
 use Rattle.gc_texts.specs.declared.fault.RunFault.{RunFault}
 use Rattle.gc_texts.specs.declared.fault.RunFault.TheVariants.{SceneFull, Memory}
 use Rattle.gc_texts.specs.declared.text.TheConstants.{TEXT_LIMIT}
@@ -16,8 +17,8 @@ use Rattle.gc_engines.specs.declared.timed_line.TimedLine.TheVariants as says
 -- the line is `delay RPC MS`: a procedure, and a delay in milliseconds of at most an hour
 pub record IsDelayLine (line : List ℕ) (d : Delay) : Type 0 where
   pub word : Begins (codes "delay") line
-  pub rpc : IsNumber (before 32 (behind 32 line)) d.rpc 65535
-  pub ms : IsNumber (behind 32 (behind 32 line)) d.ms 3600000
+  pub rpc : IsNumber (second_word line) d.rpc 65535
+  pub ms : IsNumber (after_two_words line) d.ms 3600000
 
 -- the line is written in the form of this item of a scene for `serve`
 abbrev pub IsTimedLine : List ℕ → TimedLine → Type 0
@@ -41,14 +42,14 @@ delays_of (says.Delay d ∷ rest) = d ∷ delays_of rest
 delays_of (other ∷ rest) = delays_of rest
 
 -- whether the instrument drops what comes while it is busy: as the last line `busy` says, or `b` if there is none
-abbrev pub drops_from : Bool → List TimedLine → Bool
+abbrev pub drops_from : (b : Bool) → List TimedLine → Bool
 drops_from b [] = b
 drops_from b (says.Queues ∷ rest) = drops_from false rest
 drops_from b (says.Drops ∷ rest) = drops_from true rest
 drops_from b (other ∷ rest) = drops_from b rest
 
 -- the opening state of the instrument that these lines set up: the one that their rules set up, their delays, and whether it drops
--- what comes while it is busy, by their last line `busy`. It isn't busy at first
+-- what comes while it is busy, by their last line `busy`: without such a line it doesn't. It isn't busy at first
 abbrev pub timed_opening : List TimedLine → SlowState
 timed_opening lines = record {
   scene = rules_opening (rules_of lines);
@@ -57,12 +58,12 @@ timed_opening lines = record {
   free_from = 0;
 }
 
--- the lines have more than an instrument has: more targets, faults or replies, or more delays
+-- the lines have more targets, faults, replies or delays than an instrument has room for
 abbrev pub OverfillATimedInstrument : List TimedLine → Type 0
 OverfillATimedInstrument lines = OverfillAnInstrument (rules_of lines) ⊎ (32 < length (delays_of lines))
 
--- the text is a scene with words that want a clock, of at most 32 targets, 32 faults, 16 replies and 32 delays, and this is the opening
--- state of its instrument
+-- the text is a scene for `serve`, of at most 32 targets, 32 faults, 16 replies and 32 delays, and this is the opening state of its
+-- instrument
 pub record IsTimedScene (text : List ℕ) (state : SlowState) : Type 0 where
   pub lines : List TimedLine
   pub are : IsText IsTimedLine text lines
@@ -70,7 +71,7 @@ pub record IsTimedScene (text : List ℕ) (state : SlowState) : Type 0 where
   pub few_delays : length (delays_of lines) ≤ 32
   pub opens : state ≡ timed_opening lines
 
--- the text is a scene with words that want a clock, with more targets, faults, replies or delays than an instrument has room for
+-- the text is a scene for `serve`, with more targets, faults, replies or delays than an instrument has room for
 pub record IsOverfullTimed (text : List ℕ) : Type 0 where
   pub lines : List TimedLine
   pub are : IsText IsTimedLine text lines
@@ -83,7 +84,8 @@ pub record GathersRules (text : List ℕ) : Type 0 where
   pub some : rules_of lines ≡ [] → ⊥
 
 -- why a text sets up no instrument: it is a scene of more than an instrument has room for; or memory was refused, at a line that has a
--- form or for a list of those that a scene with rules has, too (`GathersRules`); or the text is too long, or one of its lines has no form
+-- form or for the list of the lines that are lines of a scene with rules (`GathersRules`); or the text is too long, or one of
+-- its lines that aren't skipped has no form (`TextFault`)
 abbrev pub TimedFault : List ℕ → RunFault → Type 0
 TimedFault text SceneFull = (length text ≤ TEXT_LIMIT) × IsOverfullTimed text
 TimedFault text Memory = (length text ≤ TEXT_LIMIT) × (ReachesASoundLine IsTimedLine text ⊎ GathersRules text)

@@ -19,7 +19,7 @@ impl Answers for Judge {
 
     ghost answers = { JudgesFrame };
 
-    // If a line feed has ended the frame, appends the line with its number and its verdict, and returns true. Else returns false.
+    // If a line feed has ended the frame, appends a line with the frame's number and verdict, and returns true. Else returns false.
     fn answer(&mut self, frame: Lent<'_>, text: &mut Outgoing) -> bool {
         let Some(verdict) = verdict_of(frame) else {
             return false;
@@ -46,7 +46,7 @@ impl Answers for Judge {
 /// | another line that begins with `%R1P,` | `fault F`, F being its fault as a reply, 2 to 5 |
 /// | any other line | `fault F`, F being its fault as a request, 1 to 4 |
 ///
-/// Bytes behind the last line feed get no line. `replies` in the result, also in a fault, counts the lines that went out whole. The lines
+/// Bytes after the last line feed get no line. `replies` in the result, also in a fault, counts the lines that went out whole. The lines
 /// of one read go out together, before the next read. It takes no memory. N can't pass 2^40, because each frame has at least one byte
 /// and there are fewer than 2^32 reads.
 ///

@@ -58,9 +58,9 @@ impl PartialLine {
 /// | `>\|`, `<\|` | `cleared` where the bytes end in a line feed without a CR before it, else `part` |
 /// | `-` | the words as they are in the log |
 ///
-/// For a line that has no form of a log's lines, or more than 2100 bytes, or more than 514 bytes of the connection, it writes `no log
-/// line`. Bytes behind the last line feed get no line. `replies` in the result, also in a fault, counts the lines that went out whole. It
-/// takes no memory.
+/// For a line that hasn't the form of a log's lines, or has more than 2100 bytes, or whose text after the mark stands for more
+/// than 514 bytes, it writes `no log line`. Bytes after the last line feed get no line. `replies` in the result, also in a fault,
+/// counts the lines that went out whole. It takes no memory.
 ///
 /// It returns [`Served`] exactly where the last read was the end. Over ports that hadn't failed before, it fails with `Read` (42)
 /// exactly where the source failed, with `Write` (43) exactly where the sink did, and with `TooManyReads` (44) exactly where all
@@ -92,8 +92,9 @@ pub fn run_check_log<S: Source, K: Sink>(
     Err(ServeFault::TooManyReads { replies })
 }
 
-// Checks the lines of a log that end in a piece, and adds to `replies` how many verdicts went out whole. What is behind the last line feed
-// stays in `kept`. `Err(n)`: the sink took the first n bytes of one more verdict's line, which aren't all, and failed.
+// Checks the lines of a log that end in a piece, and adds to `replies` how many verdicts went out whole. After `Ok` what came
+// after the last line feed is in `kept`. `Err(n)`: the sink took the first n bytes of one more verdict's line, which aren't all,
+// and failed; what comes after that line in the piece isn't looked at.
 fn check_piece<K: Sink>(
     kept: &mut PartialLine,
     replies: &mut u64,
@@ -115,7 +116,8 @@ fn check_piece<K: Sink>(
 }
 
 // Takes one more byte of a log. A line feed ends a line of the log: that line's verdict is written and counted in `replies`, and the next
-// line begins. Any other byte is kept. `Err(n)`: the sink took the first n bytes of the verdict's line, which aren't all, and failed.
+// line begins. Any other byte goes to `PartialLine::keep`. `Err(n)`: the sink took the first n bytes of the verdict's line, which
+// aren't all, and failed; the verdict isn't counted then.
 fn check_byte<K: Sink>(
     kept: &mut PartialLine,
     replies: &mut u64,
@@ -141,8 +143,8 @@ fn check_byte<K: Sink>(
     Ok(())
 }
 
-// What is written of a complete line of the log, whose bytes are `kept`: its moment, mark and verdict, or `no log line`, as of each line
-// of more than 2100 bytes. It ends in a line feed.
+// What is written of a complete line of the log, whose bytes are `kept`: its moment, mark and verdict, or `no log line` if it has more
+// than 2100 bytes or doesn't read as a log line. The text ends in a line feed.
 fn log_verdict_of(kept: &PartialLine) -> Outgoing
     ensures { (rest : List ℕ) → KeepsLine kept.now rest → IsLogVerdict rest result.items }
 {
@@ -181,8 +183,8 @@ fn log_line_verdict(line: &LogLine<'_>) -> Outgoing
     text
 }
 
-// Appends what is written of a log line's bytes, by its mark: the verdict on a whole line or on a part of one, or the words about the
-// connection as they are in the log. There is room for it.
+// Appends what is written of a log line's bytes, by its mark: the verdict on a whole line, or on bytes that are no whole line; or
+// the words about the connection or the log, as they are in the log. There is room for it.
 fn push_marked_verdict(text: &mut Outgoing, mark: LogMark, bytes: &[u8])
     requires few { length bytes.now ≤ 514 }
     requires room { length text.old.items + 2100 ≤ 8192 }

@@ -15,12 +15,12 @@ use gc_world::{Event, play_width};
 use std::alloc::{AllocError, Global};
 
 /// Plays the schedule that a source gives, on an instrument and with a client that lets at most `width` requests wait at once. It writes
-/// a line for each settlement, and with `totals` one more line behind them. Nothing is written before the whole schedule was read and
+/// a line for each settlement, and with `totals` one more line after them. Nothing is written before the whole schedule was read and
 /// played, and the whole text made. The lines are this project's own.
 ///
 /// `Read`: the source failed. `InputTooLong`: it gave more than 65,536 bytes. `Schedule` names the first line that has the form
 /// of no event, counted from 1. `Memory`: memory was refused. After each of these the sink has taken nothing. `Output`: the sink
-/// failed, and has taken at most a part of the text.
+/// failed, and has taken a first part of the text, maybe no byte, and not all.
 pub fn run_drill_on<S: Source, K: Sink>(
     alloc: Global,
     instrument: Instrument,
@@ -32,8 +32,8 @@ pub fn run_drill_on<S: Source, K: Sink>(
     requires least { 1 ≤ width }
     requires most { width ≤ WINDOW }
 
-    // Which bytes the source gave, and how much of their schedule's output the sink took. Each read gave at least one byte,
-    // except a last one that was the end. After the end nothing was read.
+    // Which bytes the source gave, and how much of their schedule's output the sink took. Each answered read gave at least one
+    // byte, except a last one that was the end. After the end nothing was read.
     ensures drills { Gave (input_of S.Source source.old) (input_of S.Source source.new) (λ given.
         DrillsOn instrument width given totals (K.taken sink.old) (K.taken sink.new) result) }
 

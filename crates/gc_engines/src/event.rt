@@ -14,8 +14,8 @@ use gc_world::Event;
 // count, look and seed of a scene.
 pub(crate) const COUNT_MAX: u64 = 4294967295;
 
-// The number behind a word, which ends in the space before the number. `None`: the line isn't that word with a number of at most `max`
-// behind it.
+// The number after `word` in a line, where `word` has the space before the number at its end. `None`: the line isn't `word` and then a
+// number of at most `max`.
 fn number_behind(word: &[u8], line: &[u8], max: u64) -> Option<u64>
     ensures { MatchOption result ((n : ℕ) → IsNumbered word.now line.now n max → ⊥) (λ n. IsNumbered word.now line.now n max) }
 {
@@ -25,10 +25,10 @@ fn number_behind(word: &[u8], line: &[u8], max: u64) -> Option<u64>
     }
 }
 
-// Reads `T D RPC` or `T D RPC PARAMS` as the send of that call to the target T with the deadline D, into `event`, and returns whether
-// the text has such a form, with T a number of 32 bits and D one of 64. If it hasn't, `event` may have been overwritten all the same. As an
-// event has 176 bytes, the call isn't returned and moved: `event` is made a send of some call first, and then the call is read into its
-// place there.
+// Reads `T D RPC` or `T D RPC PARAMS` as the send of that call to the target T with the deadline D, into `event`. Returns whether
+// the text has this form, T is a number of 32 bits and D one of 64, a procedure of the table has the number RPC, and the
+// parameters read as its own. If not, `event` may have been overwritten all the same. As an event has 176 bytes, the call isn't
+// returned and moved: `event` is made a send of some call first, and then the call is read into its place there.
 fn read_requested(text: &[u8], event: &mut Event) -> bool
     ensures found { IsTrue result → SendsRequested text.now event.new }
     ensures none { IsFalse result → (t : ℕ) (call : Call) (d : ℕ) → IsRequested text.now t call d → ⊥ }
@@ -53,8 +53,8 @@ fn read_requested(text: &[u8], event: &mut Event) -> bool
     read_procedure_into(procedure, call)
 }
 
-// Reads `send T D RPC` or `send T D RPC PARAMS` into `event`, and returns whether the line has such a form. If it hasn't, `event` may
-// have been overwritten all the same.
+// Reads `send T D RPC` or `send T D RPC PARAMS` into `event`, and returns whether the line is `send `, and then what
+// `read_requested` reads. If it isn't, `event` may have been overwritten all the same.
 fn read_send(line: &[u8], event: &mut Event) -> bool
     ensures found { IsTrue result → IsEvent line.now event.new }
     ensures none { IsFalse result → (t : ℕ) (call : Call) (d : ℕ) → IsSend line.now t call d → ⊥ }
@@ -114,7 +114,7 @@ impl LineForm for EventForm {
         Event::UpDeliver
     }
 
-    // An event has 176 bytes, so it is written into its place in the list, and not returned.
+    // An event has 176 bytes, so it is written into `event`, and not returned and moved.
     fn read(line: &[u8], event: &mut Event) -> bool {
         if read_send(line, event) {
             return true;

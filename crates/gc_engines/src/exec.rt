@@ -1,4 +1,4 @@
-//! `exec`: the simulator behind a source and a sink.
+//! `exec`: the simulator, served over a source and a sink.
 
 ghost use Rattle.gc_instrument.specs.State.{State, simulator_opening};
 ghost use Rattle.gc_instrument.specs.Serving.{IsServing};
@@ -8,7 +8,7 @@ use gc_instrument::{Instrument, ServeFault, Served, serve};
 use gc_lines::{Sink, Source};
 
 /// Serves the requests of a source with [`Instrument::simulator`] until its end, in at most `max_reads` reads of at most
-/// 256 bytes. The replies go into a sink, each with its CR LF. Bytes behind the last line feed are discarded. It takes no memory.
+/// 256 bytes. The replies go into a sink, each with its CR LF. Bytes after the last line feed are discarded. It takes no memory.
 ///
 /// It returns [`Served`] and fails exactly where [`serve`] does: with `Read`, `Write` or `TooManyReads`. Each says how many replies went
 /// out whole, and `Write` also how many bytes of the next.

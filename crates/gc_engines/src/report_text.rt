@@ -21,7 +21,7 @@ struct Totals {
     idle: usize,
 }
 
-/// The lines of a report's settlements, and with `totals` the line of totals behind them. `Err`: memory was refused.
+/// The lines of a report's settlements, and with `totals` the line of totals after them. `Err`: memory was refused.
 pub(crate) fn text_of(alloc: Global, report: &Report, totals: bool) -> Result<Vec<u8>, AllocError>
     ensures { IfOk result (λ text. text.items ≡ report_text report.now totals) }
 {
@@ -65,7 +65,7 @@ pub(crate) fn scene_text_of(
     Ok(text)
 }
 
-// Appends the line of totals: six counts, each behind its word. `Err`: memory was refused.
+// Appends the line of totals: six counts, each after its word. `Err`: memory was refused.
 fn append_totals(text: &mut Vec<u8>, counts: Totals) -> Result<(), AllocError>
     ensures { OnOk result (text.new.items ≡ text.old.items ++ totals_text counts.sent counts.executed counts.made counts.settled counts.refused counts.idle) }
 {
@@ -78,7 +78,7 @@ fn append_totals(text: &mut Vec<u8>, counts: Totals) -> Result<(), AllocError>
     text.extend_from_slice(b"\n")
 }
 
-// Appends a word and a number in decimal behind it. `Err`: memory was refused.
+// Appends a word and a number in decimal after it. `Err`: memory was refused.
 fn append_number(text: &mut Vec<u8>, word: &[u8], n: usize) -> Result<(), AllocError>
     ensures { OnOk result (text.new.items ≡ text.old.items ++ (word.now ++ decimal n)) }
 {

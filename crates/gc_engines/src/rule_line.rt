@@ -18,7 +18,7 @@ use gc_scenes::{Fault, Noise, Offset, Scripted, Way};
 use gc_texts::{LineForm, before, behind, is_word, number_of, read_double};
 use gc_values::Text;
 
-// The count that stands for "without end".
+// The count that stands for "without end", which it is only where `after` isn't 0 (`Span`).
 const NO_END: u32 = 4294967295;
 
 // The greatest number of a procedure, and the greatest return code.
@@ -43,8 +43,9 @@ pub struct Drift {
     pub by: Offset,
 }
 
-/// Which requests of its procedure a fault meets: not the first `after`, but the next `times` behind them. The greatest count, 4294967295
-/// times, stands for "without end".
+/// Which requests of its procedure a fault meets: not the first `after`, but the next `times`. Requests are counted up to
+/// 4294967295, so a fault whose `after` and `times` add up to more never ends. Therefore 4294967295 `times` stand for "without
+/// end"; but if `after` is 0, the fault ends after as many.
 #[derive(Clone, Copy, Debug, PartialEq, Eq)]
 pub struct Span {
     pub after: u32,
@@ -115,13 +116,7 @@ impl LineForm for StillForm {
         if gives_clock(line) {
             return false;
         }
-        match read_rule_line(line) {
-            Some(found) => {
-                *says = found;
-                true
-            }
-            None => false,
-        }
+        RuleForm::read(line, says)
     }
 }
 
@@ -169,7 +164,7 @@ pub(crate) fn read_rule_line(line: &[u8]) -> Option<RuleLine>
     None
 }
 
-// How many requests a fault meets: reads `for COUNT`, or nothing, which means without end. `None`: the words have no such form.
+// How many requests a fault meets: reads `for COUNT`, or nothing, which gives `NO_END`. `None`: the words have no such form.
 fn read_times(words: &[u8]) -> Option<u32>
     ensures { MatchOption result ((n : ℕ) → IsTimes words.now n → ⊥) (λ n. IsTimes words.now n) }
 {
@@ -185,7 +180,7 @@ fn read_times(words: &[u8]) -> Option<u32>
     }
 }
 
-// Reads `COUNT [for COUNT]`, the words behind `after`. `None`: they have no such form.
+// Reads `COUNT [for COUNT]`, the words that follow `after`. `None`: they have no such form.
 fn read_after(words: &[u8]) -> Option<Span>
     ensures { MatchOption result ((span : Span) → IsNumber (before 32 words.now) span.after 4294967295 → IsTimes (behind 32 words.now) span.times → ⊥)
         (λ span. IsNumber (before 32 words.now) span.after 4294967295 × IsTimes (behind 32 words.now) span.times) }
@@ -215,8 +210,8 @@ fn read_span(words: &[u8]) -> Option<Span>
     }
 }
 
-// Reads `fault RPC RC [after COUNT] [for COUNT]`: a procedure, the return code that it is answered with, and which of its requests get
-// that. `None`: the line has no such form.
+// Reads `fault RPC RC [after COUNT] [for COUNT]`: a procedure, the return code that it is answered with, and which of its
+// requests get this code. Without `for` the line may end in a space. `None`: the line has no such form.
 fn read_fault(line: &[u8]) -> Option<Fault>
     ensures { MatchOption result ((f : Fault) → IsFault line.now f → ⊥) (λ f. IsFault line.now f) }
 {
@@ -258,8 +253,8 @@ fn scripted(rpc: u16, rc: u16, params: &[u8]) -> Option<Scripted>
     }
 }
 
-// Reads `answer RPC RC[,PARAMS]`: a procedure that isn't in the table, and its reply. `None`: the line has no such form, or no such reply
-// can be made (`scripted`).
+// Reads `answer RPC RC[,PARAMS]`: a procedure that isn't in the table, and its reply. The comma may also stand without
+// parameters. `None`: the line has no such form, or no such reply can be made (`scripted`).
 fn read_answer(line: &[u8]) -> Option<Scripted>
     ensures { MatchOption result ((a : Scripted) → IsAnswer line.now a → ⊥) (λ a. IsAnswer line.now a) }
 {
@@ -302,7 +297,8 @@ fn read_blocked(line: &[u8]) -> Option<Blocked>
     }
 }
 
-// Reads `HZ V D`: two angles in radians and a distance in metres. `None`: the words have no such form.
+// Reads `HZ V D`: two angles in radians and a distance in metres. `None`: the words have no such form, or `read_double` refuses
+// one of them, as one further than 10^13 from zero.
 fn read_offset(words: &[u8]) -> Option<Offset>
     ensures { MatchOption result ((o : Offset) → IsOffset words.now o → ⊥) (λ o. IsOffset words.now o) }
 {
@@ -319,8 +315,8 @@ fn read_offset(words: &[u8]) -> Option<Offset>
     }
 }
 
-// Reads `drift TARGET HZ V D`: a target, and the offset by which it moves with each measurement of it, in radians and metres. `None`: the
-// line has no such form.
+// Reads `drift TARGET HZ V D`: a target, and the offset by which it moves with each measurement of it, in radians and metres.
+// `None`: the line has no such form, or `read_offset` refuses the offset.
 fn read_drift(line: &[u8]) -> Option<Drift>
     ensures { MatchOption result ((d : Drift) → IsDrift line.now d → ⊥) (λ d. IsDrift line.now d) }
 {
@@ -340,8 +336,8 @@ fn read_drift(line: &[u8]) -> Option<Drift>
     }
 }
 
-// Reads `noise HZ V D SEED`: the most by which measurements deviate, in radians and metres, and the seed. `None`: the line has no such
-// form.
+// Reads `noise HZ V D SEED`: the most by which measurements deviate, in radians and metres, and the seed. `None`: the line has no
+// such form, or `read_double` refuses a number, as one further than 10^13 from zero.
 fn read_noise(line: &[u8]) -> Option<Noise>
     ensures { MatchOption result ((n : Noise) → IsNoise line.now n → ⊥) (λ n. IsNoise line.now n) }
 {

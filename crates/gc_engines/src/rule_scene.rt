@@ -9,21 +9,23 @@ ghost use Rattle.gc_scenes.specs.Ways.{no_ways};
 ghost use Rattle.gc_engines.specs.RuleScenes.{FitAnInstrument, OverfillAnInstrument, IsOverfullOf, IsRuleLine, IsRuleScene, IsStillLine, IsStillScene, SceneFaultOf, ruled, rules_answers, rules_faults, rules_name, rules_noise, rules_opening, rules_prism, rules_prisms, rules_repeat, rules_serial, rules_targets, rules_ways};
 
 use crate::rule_line::{RuleForm, RuleLine, StillForm};
-use crate::scene::simulator_name;
 use arrayvec::ArrayVec;
-use gc_instrument::Target;
-use gc_scenes::{Fault, Noise, Prism, SceneInstrument, Scripted, Ways};
+use gc_instrument::{Target, simulator_name};
+use gc_scenes::{Fault, Noise, Prism, SceneInstrument, SceneRules, Scripted, Ways};
 use gc_texts::{RunFault, read_items};
 use gc_values::Text;
 use std::alloc::Global;
 
 /// Reads the text of a scene with rules, and returns the instrument that it sets up, in its opening state.
 ///
-/// A line is one of a scene, or a rule: `fault RPC RC [after COUNT] [for COUNT]`, `answer RPC RC[,PARAMS]`,
-/// `blocked TARGET FROM TO`, `drift TARGET HZ V D`, `noise HZ V D SEED`, `repeats no`, or `behave` with one of the words `faces`,
-/// `aims`, `takes`, `values`, `clock` and `real`, which is all of them. Of several lines `blocked` or `drift` of one target, or `noise`,
-/// the last one counts; of several lines `answer` of one procedure the first; and of several lines `fault` of one procedure the first that
-/// meets the request. A line `blocked` or `drift` of a target that the scene doesn't have changes nothing.
+/// A line is one that [`read_scene`](crate::read_scene) takes, or a rule: `fault RPC RC [after COUNT] [for COUNT]`,
+/// `answer RPC RC[,PARAMS]`, `blocked TARGET FROM TO`, `drift TARGET HZ V D`, `noise HZ V D SEED`, `repeats no`, or `behave` with
+/// one of the words `faces`, `aims`, `takes`, `values`, `clock`, and `real`, which stands for these five. Empty lines and those
+/// that begin with `#` are skipped. Angles are in radians, and distances in metres; targets and looks are counted from 1.
+///
+/// Of several lines `blocked` or `drift` of one target, or `noise`, the last one counts; of several lines `answer` of one procedure the
+/// first; and of several lines `fault` of one procedure the first that meets the request. A line `blocked` or `drift` of a target that the
+/// scene doesn't have changes nothing.
 ///
 /// `InputTooLong` refuses a text of more than 65,536 bytes, before any line is read. `Schedule` names the first line that has no form,
 /// counted from 1. `SceneFull` refuses more than 32 targets, 32 faults or 16 replies, if each line has a form. `Memory` comes only
@@ -77,16 +79,15 @@ pub(crate) fn set_up(lines: &[RuleLine]) -> Option<SceneInstrument>
     let Some(answers) = answers_of(lines) else {
         return None
     };
-    Some(SceneInstrument::new(
-        serial_of(lines),
-        name_of(lines),
-        prisms_of(lines, targets.as_slice()),
+    let rules = SceneRules {
+        prisms: prisms_of(lines, targets.as_slice()),
         faults,
         answers,
-        noise_of(lines),
-        repeats(lines),
-        ways_of(lines),
-    ))
+        noise: noise_of(lines),
+        repeats: repeats(lines),
+        ways: ways_of(lines),
+    };
+    Some(SceneInstrument::new(serial_of(lines), name_of(lines), rules))
 }
 
 // The serial number of the last line `serial`, or the simulator's, 123456.

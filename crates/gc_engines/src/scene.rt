@@ -9,7 +9,7 @@ ghost use Rattle.gc_engines.specs.declared.scene_line.SceneLine.{SceneLine};
 
 use crate::scene_line::{SceneForm, SceneLine};
 use arrayvec::ArrayVec;
-use gc_instrument::{Instrument, SceneFull, Target};
+use gc_instrument::{Instrument, SceneFull, Target, simulator_name};
 use gc_texts::{RunFault, read_items};
 use gc_values::Text;
 use std::alloc::Global;
@@ -19,9 +19,10 @@ const MOST_TARGETS: usize = 32;
 
 /// Reads the text of a scene, and returns the instrument that it sets up, in its opening state.
 ///
-/// A line is `serial N`, `name TEXT` or `target HZ V DISTANCE`, with angles in radians and the slope distance in metres. Empty lines and
-/// those that begin with `#` are skipped. Of several serial numbers, or names, the last one counts. If there is none, the instrument has
-/// the simulator's. The targets are those of the text alone, in its order.
+/// A line is `serial N`, `name TEXT` or `target HZ V DISTANCE`, with angles in radians and the slope distance in metres, each a
+/// decimal at most 10^13 from zero. N is a whole number of 32 bits, and TEXT has at most 64 bytes, without a double quote or a
+/// CR. Empty lines and those that begin with `#` are skipped. Of several serial numbers, or names, the last one counts. If there
+/// is none, the instrument has the simulator's. The targets are those of the text alone, in its order.
 ///
 /// `InputTooLong` refuses a text of more than 65,536 bytes, before any line is looked at. `Schedule` names the first line that has none of
 /// these forms, counted from 1. `SceneFull` refuses more than 32 targets, where each line has a form. `Memory` comes only where the list
@@ -81,16 +82,6 @@ fn name_of(lines: &[SceneLine]) -> Text
         name = said;
     }
     name
-}
-
-// The simulator's name, which gc_instrument has in private, too. These ten plain bytes always make a text.
-pub(crate) fn simulator_name() -> Text
-    ensures { result ≡ simulator_opening.name }
-{
-    match Text::new(b"GEOCOM SIM") {
-        Ok(name) => name,
-        Err(_) => unreachable!(),
-    }
 }
 
 // The targets of these lines, in order. `None`: they are more than `MOST_TARGETS`.

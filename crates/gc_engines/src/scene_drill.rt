@@ -19,7 +19,8 @@ use std::alloc::{AllocError, Global};
 /// Plays the schedule that a source gives, as [`run_drill_on`](crate::run_drill_on) does, but on the instrument of a scene with rules.
 /// The lines that it writes, its faults and the meaning of its clauses are the same.
 ///
-/// What a run on that instrument promises is less than what one on the simulator does: [`play_scene`] says which parts.
+/// A run on the instrument of a scene with rules promises less than one on the simulator: [`play_scene`] says what it promises,
+/// and what it doesn't.
 pub fn run_drill_scene<S: Source, K: Sink>(
     alloc: Global,
     instrument: SceneInstrument,

@@ -100,7 +100,8 @@ fn name_from(bytes: &[u8]) -> Option<Text>
     }
 }
 
-// Reads `target HZ V DISTANCE`: a target's angles in radians and its slope distance in metres. `None`: the line has no such form.
+// Reads `target HZ V DISTANCE`: a target's angles in radians and its slope distance in metres. `None`: the line has no such form,
+// or `read_double` refuses a number, as one further than 10^13 from zero.
 pub(crate) fn read_target(line: &[u8]) -> Option<Target>
     ensures { MatchOption result ((target : Target) → IsTarget line.now target → ⊥) (λ target. IsTarget line.now target) }
 {
@@ -110,8 +111,8 @@ pub(crate) fn read_target(line: &[u8]) -> Option<Target>
     }
 }
 
-// Reads `HZ V DISTANCE`: where a target stands, by its angles in radians and its slope distance in metres. `None`: the words have
-// no such form.
+// Reads `HZ V DISTANCE`: where a target stands, by its angles in radians and its slope distance in metres. `None`: they aren't
+// three words, with one space between each two, or `read_double` refuses one of them.
 fn read_target_words(words: &[u8]) -> Option<Target>
     ensures { MatchOption result ((target : Target) → IsTargetWords words.now target → ⊥) (λ target. IsTargetWords words.now target) }
 {

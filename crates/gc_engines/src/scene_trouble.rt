@@ -2,14 +2,16 @@
 
 ghost use Rattle.std.specs.Prelude.{◌≡◌, ◌++◌, IsTrue, MatchOption, OnOk, codes};
 ghost use Rattle.std.specs.Io.KnownBytes.{Appends};
+ghost use Rattle.gc_texts.specs.Faults.{run_fault_text, fault_line};
 ghost use Rattle.gc_texts.specs.Words.{first_word};
+ghost use Rattle.gc_texts.specs.declared.fault.RunFault.{RunFault};
 ghost use Rattle.gc_engines.specs.SceneTroubles.{IsReplyTrouble, IsSceneTrouble, NeedsClock, NoDecimal, NotNumber, form_text, scene_trouble_text, scene_trouble_line, word_text};
 
 use crate::event::COUNT_MAX;
 use crate::rule_line::{CODE_MAX, SCENE_TARGET_MAX, gives_clock};
 use crate::timed_line::DELAY_MAX;
 use gc_catalogue::{RawFault, raw_call};
-use gc_texts::{before, behind, is_word, number_of, read_double};
+use gc_texts::{RunFault, before, behind, is_word, number_of, read_double};
 use gc_values::{Text, read_long};
 use std::io::{self, Write};
 
@@ -37,8 +39,9 @@ pub enum SceneTrouble {
     NoWord,
     /// The line needs a clock, which `serve` alone has.
     Clock,
-    /// The line begins with this word, but hasn't its form, and no single field is named: it has too few fields or too many, or what is
-    /// behind the fields doesn't read.
+    /// The line begins with this word, but hasn't its form, and no single field is named: it has too few fields or too many, or what
+    /// follows the fields doesn't read (of `repeats`, `behave` and `busy`, all that follows the word), or the parameters of `answer` are
+    /// too long for a reply.
     Form(SceneWord),
     /// The serial number is no whole number of 32 bits.
     Serial,
@@ -54,17 +57,17 @@ pub enum SceneTrouble {
     From,
     /// The last look of a line `blocked` is no number up to 4294967295.
     To,
-    /// The horizontal angle is no decimal.
+    /// The horizontal angle is no decimal, or more than 10^13 from zero, rounded to 24 places.
     Hz,
-    /// The vertical angle is no decimal.
+    /// The vertical angle is no decimal, or more than 10^13 from zero, rounded to 24 places.
     V,
-    /// The distance is no decimal.
+    /// The distance is no decimal, or more than 10^13 from zero, rounded to 24 places.
     Distance,
     /// The seed of a line `noise` is no number up to 4294967295.
     Seed,
     /// The delay is no number up to 3600000.
     Ms,
-    /// The procedure of a line `answer` is in the table, which has its replies.
+    /// The procedure of a line `answer`, which has this number, is in the table: `answer` is for other procedures.
     InTable(u16),
     /// The parameters of a line `answer` can't be those of any request, and so not of a reply.
     Params,
@@ -100,6 +103,16 @@ impl SceneTrouble {
     {
         write!(messages, "geocom: line {line} of the scene: ")?;
         self.tell_fault(messages)
+    }
+
+    /// Writes the fault of a scene whose line with this number, counted from 1, doesn't parse (`Schedule`), and then the trouble of that
+    /// line (`tell`). `Err`: they couldn't be written whole.
+    pub fn tell_with_fault<E: Write>(self, line: u32, messages: &mut E) -> io::Result<()>
+        ensures { OnOk result (Appends (E.contents messages.old) (E.contents messages.new)
+            (fault_line (run_fault_text (RunFault.Schedule line)) ++ scene_trouble_line line self)) }
+    {
+        RunFault::Schedule { line }.tell(messages)?;
+        self.tell(line, messages)
     }
 
     // Writes what is at fault, and a line feed.
@@ -151,9 +164,11 @@ fn tell_form<E: Write>(form: &str, messages: &mut E) -> io::Result<()>
 /// What is at fault in a faulty line of a scene. `has_clock`: the scene is read for `serve`, which has a clock. Of a line that isn't faulty
 /// the result says nothing.
 ///
-/// It is the first of these that holds: the line needs a clock, and `has_clock` isn't set; no line begins with the first word; there are
-/// too few fields or too many (`Form`), which isn't asked of `name` and `answer`; a field doesn't read, of which the first is named; and
-/// else `Form` again. The clause says only that the result fits the line, and not that nothing comes before it.
+/// It is the first of these that holds: the line needs a clock, and `has_clock` isn't set; no line of a scene begins with the
+/// line's first word; the line has too few fields, or too many (`Form`); a field doesn't read, of which the first is named; in a
+/// line `answer`, the procedure is in the table, or no request can have the parameters; and else `Form` again. It isn't asked
+/// whether `fault` has too many fields, nor whether `name` or `answer` has too few or too many. The clause says only that the
+/// result holds of the line, and not that it is the first.
 pub fn scene_trouble_of(line: &[u8], has_clock: bool) -> SceneTrouble
     ensures { IsSceneTrouble line.now result }
 {
@@ -239,7 +254,8 @@ fn trouble_behind(word: SceneWord, line: &[u8]) -> SceneTrouble
     }
 }
 
-// Whether these bytes are no decimal, as a scene writes angles and distances.
+// Whether these bytes are no decimal, as a scene writes angles and distances: whether `read_double` refuses them, also a number
+// further than 10^13 from zero.
 #[tactic(auto, unfolding(crate::specs::SceneTroubles::NoDecimal))]
 fn is_no_double(text: &[u8]) -> bool
     ensures { IsTrue result → NoDecimal text.now }
@@ -261,7 +277,7 @@ fn is_no_number(text: &[u8], max: u64) -> bool
     }
 }
 
-// How many fields a line has behind its first word: one for each space.
+// How many fields a line has after its first word: one for each space.
 fn fields_in(line: &[u8]) -> usize {
     line.iter().filter(|byte| **byte == b' ').count()
 }
@@ -348,8 +364,8 @@ fn answer_trouble(line: &[u8]) -> SceneTrouble
     }
 }
 
-// What is at fault in the parameters of a reply to the procedure with this number: `InTable` if the procedure is in the table, `Params` if
-// not even a request of it can have these parameters, or else `Form`, also where they are too long for a reply alone.
+// What is at fault in the parameters of a reply to the procedure with this number: `InTable` if the procedure is in the table; else
+// `Params` if no request of it can have these parameters; and else `Form`: a request can have them, but they may be too long for a reply.
 fn reply_trouble(rpc: u16, params: &[u8]) -> SceneTrouble
     ensures { IsReplyTrouble rpc params.now result }
 {

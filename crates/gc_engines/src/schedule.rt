@@ -12,6 +12,11 @@ use std::alloc::Global;
 
 /// Reads the text of a schedule: its events, in order. Empty lines and those that begin with `#` are skipped.
 ///
+/// A line is `send T D RPC` or `send T D RPC PARAMS`, with the target T, the deadline D, and the number and the parameters of a procedure
+/// of the table; `up deliver`, `up bytes N`, `up lose K`, `up repeat K`, or one of these with `down` in place of `up`; `expire M`, with
+/// the moment M; `restart client`; or `restart instrument`. D and M are numbers of 64 bits, and T, N and K of 32. [`Event`] says what each
+/// of them does.
+///
 /// `InputTooLong` refuses a text of more than 65,536 bytes, before any line is looked at. `Schedule` names the first line that
 /// has the form of no event, counted from 1. `Memory` comes only where the list of events couldn't grow, at a line that is an
 /// event.

@@ -12,20 +12,20 @@ use gc_texts::{LineForm, before, behind, is_word, number_of};
 // The longest delay in milliseconds: an hour.
 pub(crate) const DELAY_MAX: u64 = 3_600_000;
 
-/// What a line of a scene says that `serve` takes.
+/// What a line of a scene for `serve` says.
 #[derive(Clone, Copy, Debug, PartialEq, Eq)]
 pub enum TimedLine {
     /// A line of a scene with rules.
     Rule(RuleLine),
     /// The reply to a procedure goes out later, by a number of milliseconds.
     Delay(Delay),
-    /// What comes while a reply is awaited waits in order.
+    /// Lines that come while the instrument is busy wait in order.
     Queues,
-    /// What comes while a reply is awaited gets none.
+    /// Lines that come while the instrument is busy are discarded.
     Drops,
 }
 
-/// The form of the lines of a scene that `serve` takes.
+/// The form of the lines of a scene for `serve`.
 pub(crate) struct TimedForm;
 
 impl LineForm for TimedForm {

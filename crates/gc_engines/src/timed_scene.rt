@@ -14,11 +14,11 @@ use gc_texts::{RunFault, read_items};
 use std::alloc::{AllocError, Global};
 
 /// Reads the text of a scene for `serve`: a scene with rules that may also have lines `delay RPC MS`, `busy queue` and `busy drop`.
-/// Returns the instrument that the text sets up, in its opening state. Of several delays of one procedure, and of several lines
-/// `busy`, the last one counts.
+/// Returns the instrument that the text sets up, in its opening state. MS is in milliseconds, at most 3,600,000. Of several delays of one
+/// procedure, and of several lines `busy`, the last one counts. Without a line `busy` the instrument queues.
 ///
-/// The faults are those of `read_rule_scene`. `SceneFull` also refuses more than 32 delays. `Memory` also comes where all lines were read,
-/// and the list of those that `read_rule_scene` takes, too, couldn't grow.
+/// The faults are those of `read_rule_scene`. `SceneFull` also refuses more than 32 delays. `Memory` also comes after all lines
+/// were read, if memory is refused for a second list, of those lines that are lines of a scene with rules.
 pub fn read_timed_scene(alloc: Global, text: &[u8]) -> Result<SlowInstrument, RunFault>
     ensures found { IfOk result (λ slow. IsTimedScene text.now slow) }
     ensures too_long { RefusesLong text.now result }

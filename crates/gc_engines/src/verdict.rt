@@ -55,8 +55,8 @@ pub(crate) fn line_verdict(line: &[u8]) -> Verdict
     }
 }
 
-// The verdict on a line that is no reply; `fault` is the first fault that it has as one. If that is its first bytes (`Signature`), the line
-// is judged as a request.
+// The verdict on a line that is no reply; `fault` is its first fault as a reply. If `fault` is `Signature`, the line doesn't begin
+// as a reply, and is judged as a request.
 #[inline]
 fn verdict_on_no_reply(line: &[u8], fault: LineFault) -> Verdict
     requires { FirstBadOfReply line.now fault }
@@ -94,7 +94,7 @@ fn request_verdict(request: &Request<'_>) -> Verdict
     }
 }
 
-// Appends a verdict in words, at most 100 bytes, as `check` prints it behind the frame's number. There is room for it.
+// Appends a verdict in words, at most 100 bytes, as `check` prints it after the frame's number. There is room for it.
 #[inline]
 pub(crate) fn push_verdict(text: &mut Outgoing, verdict: Verdict)
     requires { length text.old.items + 100 ≤ 8192 }
@@ -120,7 +120,7 @@ pub(crate) fn push_verdict(text: &mut Outgoing, verdict: Verdict)
     }
 }
 
-// Appends a word, and a number in decimal behind it. There is room for both.
+// Appends a word, and a number in decimal after it. There is room for both.
 #[inline]
 fn push_number<I: Integer>(text: &mut Outgoing, word: &[u8], number: I)
     requires { length text.old.items + length word.now + 40 ≤ 8192 }

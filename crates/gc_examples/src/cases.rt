@@ -22,7 +22,7 @@ use texts::Texts;
 use world::World;
 
 /// Plays the cases of a folder, as `play_folder` does for each of the five endings, and returns whether all came to what they expect.
-/// Files with other endings are passed over. `Err`: the folder or a file can't be read, a line can't be printed, or memory ran out.
+/// Files with other endings are passed over. `Err`: as `play_folder`, and no further file is played.
 pub fn play_cases(rt: &HostRuntime, folder: &str) -> io::Result<bool> {
     let mut are_right = play_folder(rt, folder, ".engines", &Engines)?;
     are_right &= play_folder(rt, folder, ".failing", &Failing)?;

@@ -7,7 +7,7 @@ use std::{fs, io};
 /// The files of an example.
 #[derive(Drop)]
 pub struct Example {
-    /// The engine, and its input.
+    /// The engine, its input and, for an engine with a scene's instrument, the scene.
     pub setup: Setup,
     /// What the engine has to write.
     pub expected: Vec<u8>,
@@ -24,8 +24,8 @@ impl Example {
     }
 
     /// Gives the input whole, in single bytes, and cut in two at each place, and returns the first of these ways in which the run goes
-    /// wrong, in words that begin with a comma; empty if there is none. Given whole, it has to come to a good end and the expected
-    /// output; given otherwise, to the same as whole.
+    /// wrong, in words that begin with a comma; empty if there is none. Given whole, it has to come to a good end and the
+    /// expected output; given otherwise, to the same as whole. A run for which memory runs out goes wrong.
     pub fn fault(&self, alloc: Global) -> &'static str {
         let whole = self.setup.run(alloc, &[]);
         if !whole.wrote(self.expected.as_slice()) {

@@ -7,9 +7,10 @@ use gc_probes::{PieceSink, PieceSource, Pipe};
 use gc_texts::RunFault;
 use std::alloc::Global;
 
-/// Asks two commands over a link that gives a stray and then the two answers. Returns `Exact` if the run ended well, both requests
-/// were sent and both answers written; `NoMemory` if memory ran out before anything was sent or written; `PortLacksMemory` if it ran out
-/// for what the link or the output was given; and else `Other`.
+/// Asks two commands over a link that gives a stray and then the two answers. Returns `Exact` if the run ended well, both
+/// requests were sent and both answers written; `NoMemory` if memory ran out for the run, and nothing was sent or written;
+/// `PortLacksMemory` if the run ended because memory ran out for what was sent, or for the output, which took a first part of the
+/// answers, or nothing; and else `Other`.
 pub fn ask(alloc: Global) -> Outcome {
     let sent = b"%R1Q,5003,0:\r\n%R1Q,0,1:\r\n";
     let told = b"0 7 answered %R1P,0,0:0,123456\n1 8 answered %R1P,0,1:0\n";
@@ -34,8 +35,9 @@ pub fn ask(alloc: Global) -> Outcome {
 }
 
 /// Asks three commands of the simulator over two pipes. Returns `Exact` if the run ended well and the three answers were written;
-/// `NoMemory` if memory ran out, nothing was written and no byte is in a pipe; `PortLacksMemory` if it ran out for what a pipe or the
-/// output was given; and else `Other`.
+/// `NoMemory` if memory ran out for the run, nothing was written and no byte is in a pipe; `PortLacksMemory` if the run ended
+/// because memory ran out for what was sent over a pipe, or for the output, which took a first part of the answers, or nothing;
+/// and else `Other`.
 pub fn loop_commands(alloc: Global) -> Outcome {
     let told =
         b"0 7 answered %R1P,0,0:0,123456\n1 8 answered %R1P,0,1:0\n2 9 answered %R1P,0,2:0,1\n";
@@ -55,12 +57,12 @@ pub fn loop_commands(alloc: Global) -> Outcome {
     let has_failed = client_out.has_failed() || instrument_out.has_failed();
     match end {
         Err(RunFault::Write { .. }) if has_failed => Outcome::PortLacksMemory,
-        Err(RunFault::Memory) if !is_empty(&up) || !is_empty(&down) => Outcome::Other,
+        Err(RunFault::Memory) if !gives_nothing(&up) || !gives_nothing(&down) => Outcome::Other,
         _ => Outcome::of(end, &sink, told),
     }
 }
 
-// Whether a pipe holds no byte. If it holds some, the first is taken out of it.
-fn is_empty(pipe: &Pipe) -> bool {
+// Whether a read of this pipe finds no byte in it. If it finds some, it takes the first out.
+fn gives_nothing(pipe: &Pipe) -> bool {
     matches!(pipe.source(u64::MAX).read(&mut [0; 1]), Ok(0))
 }

@@ -1,8 +1,9 @@
 //! The examples, played: no part of the product. Each stream of requests goes through `exec`, that of a scene through the scene's
 //! instrument, each recording through `check` and each schedule through `drill --totals`, on the scene's instrument if there is one:
 //! whole, in single bytes, and cut in two at every place. What is written must be the file of the expected output each time. The
-//! folder in which it runs is read whole, so that no example is forgotten. Then each is played once more, and with the word `once`
-//! nothing else is done: that run can be refused memory. After them the cases of the folder `cases` are played.
+//! folder in which it runs is read whole, so that no example is forgotten. Then each is played once more, with some that have no
+//! files, and at last the cases of the folder `cases` are played. With the word `once` the examples are only played once more,
+//! and nothing else is done: that run can be refused memory.
 #![tactic(auto)]
 
 mod cases;
@@ -19,8 +20,9 @@ use once::play_once;
 use std::process::ExitCode;
 use std::{env, io};
 
-// Plays each example among these files of the folder whole and in all cuts, prints a line for each, and returns whether each gave what was
-// expected. Files that aren't the input of an example are passed over.
+// Plays each example among these files of the folder whole and in all cuts, prints a line for each, and returns whether each gave
+// what was expected. Files that aren't the input of an example are passed over. `Err`: a file can't be read, a line can't be
+// printed, or memory ran out for a file or its name; then no further example is played.
 fn play_cuts(rt: &HostRuntime, names: &[String]) -> io::Result<bool> {
     let mut is_right = true;
     for name in names {
@@ -32,7 +34,7 @@ fn play_cuts(rt: &HostRuntime, names: &[String]) -> io::Result<bool> {
 }
 
 // Prints the line of an example. `fault` is what `Example::fault` says of it: empty if the example gave what was expected in all cuts.
-// Returns whether it is empty.
+// Returns whether `fault` is empty.
 fn print_cuts(rt: &HostRuntime, name: &str, fault: &str) -> io::Result<bool> {
     if fault.is_empty() {
         println!(rt; "{name}: as expected, whole and in all cuts")?;
@@ -42,9 +44,9 @@ fn print_cuts(rt: &HostRuntime, name: &str, fault: &str) -> io::Result<bool> {
     Ok(false)
 }
 
-// Plays the examples, whole, cut and once, and the cases; with the word `once` only the examples, once. The status is 1 if anything
-// gave another output than the expected one. `Err`: the folder or a file can't be read, a line can't be printed, or memory ran out for
-// one of these.
+// Plays the examples, whole, cut and once, and the cases; if `once` is the first word after the program's name, only the
+// examples, once. The status is 1 if one of these came out wrong, and otherwise 0. `Err`: a word isn't UTF-8, a folder or a file
+// can't be read, a line can't be printed, or memory ran out for the words, a name or a file.
 fn main(rt: HostRuntime) -> io::Result<ExitCode> {
     let words: Vec<String> = env::args(&rt)?.collect(rt.alloc())?;
     let names = names_of(&rt, ".", "")?;

@@ -20,9 +20,10 @@ use gc_world::{Event, Report, play};
 use std::alloc::Global;
 use std::io;
 
-/// Plays each example once, those without files first, and prints a line for each, and two for a schedule without a scene. Returns
-/// `false` if one gave a wrong answer. An example that ran out of memory in its run gave no answer, and counts as right. `Err`: a line
-/// can't be printed, or a file can't be read, also where memory ran out for it. Then no further example is played.
+/// Plays each example once, those without files first, and prints a line for each, and two for a schedule without a scene.
+/// Returns whether none gave a wrong answer (`Outcome::Other`): one that gave no answer, because memory ran out for its run or a
+/// port (`NoMemory`, `PortLacksMemory`), counts as right. `Err`: a line can't be printed, a file can't be read, or memory ran out
+/// for a file or its name. Then no further example is played.
 pub fn play_once(rt: &HostRuntime, names: &[String]) -> io::Result<bool> {
     let mut is_right = play_without_files(rt)?;
     for name in names {
@@ -64,7 +65,8 @@ fn play_schedule(rt: &HostRuntime, name: &str, example: &Example) -> io::Result<
     Ok(is_drilled && is_same)
 }
 
-// Prints an example's name, what was done with it (`done`), and its outcome. Returns `false` if the answer was wrong (`Other`).
+// Prints an example's name, what was done with it (`done`), and its outcome. Returns whether the outcome isn't `Other`, a wrong
+// answer.
 fn print_outcome(rt: &HostRuntime, name: &str, done: &str, outcome: Outcome) -> io::Result<bool> {
     println!(rt; "{name}, {done}: {outcome}")?;
     Ok(outcome != Outcome::Other)
@@ -82,7 +84,7 @@ fn answer_stream(example: &Example) -> Outcome {
 }
 
 // Runs `check` on the example's input, or `exec` if its engine is another one, and writes the output into `taken`. Returns whether the run
-// ended well: it doesn't if `taken` is full.
+// ended well: it doesn't if `taken` has no room for the whole output.
 fn answer_stream_into(example: &Example, taken: &mut [u8]) -> bool {
     let mut source = PieceSource::new(example.setup.input.as_slice(), &[], u64::MAX);
     let mut sink = ToWriter::new(taken);
@@ -116,8 +118,8 @@ fn holds(taken: &[u8; ROOM], expected: &[u8]) -> bool {
     taken.starts_with(expected) && taken.get(expected.len()) == Some(&0)
 }
 
-// Drills the example's schedule on the simulator, as `drill --totals` does, into a sink that takes at most 5 bytes of a write. The outcome
-// is that of `Outcome::of`: `Exact` if the output is the expected one.
+// Drills the example's schedule on the simulator, as `drill --totals` does, into a sink that takes at most 5 bytes of a write.
+// The outcome is that of `Outcome::of`: `Exact` if the drill ended well with the expected output.
 fn drill_schedule(alloc: Global, example: &Example) -> Outcome {
     let mut source = PieceSource::new(example.setup.input.as_slice(), &[], u64::MAX);
     let mut sink = PieceSink::new(alloc, 5, u64::MAX);
@@ -134,8 +136,8 @@ fn drill_on_scene(alloc: Global, example: &Example) -> Outcome {
     }
 }
 
-// Drills the example's schedule on this instrument, with totals and a window of 7 requests, into a sink that takes at most 5 bytes of a
-// write. The outcome is that of `Outcome::of`: `Exact` if the output is the expected one.
+// Drills the example's schedule on this instrument, with totals and a window of 7 requests, into a sink that takes at most 5
+// bytes of a write. The outcome is that of `Outcome::of`: `Exact` if the drill ended well with the expected output.
 fn drill_on_instrument(alloc: Global, instrument: SceneInstrument, example: &Example) -> Outcome {
     let mut source = PieceSource::new(example.setup.input.as_slice(), &[], u64::MAX);
     let mut sink = PieceSink::new(alloc, 5, u64::MAX);
@@ -143,8 +145,8 @@ fn drill_on_instrument(alloc: Global, instrument: SceneInstrument, example: &Exa
     Outcome::of(end, &sink, example.expected.as_slice())
 }
 
-// Plays the example's schedule over a ring and over places: `Exact` if the two reports are the same, `NoMemory` if memory ran out for the
-// schedule or for a report, and `Other` if the reports differ, or the schedule can't be read.
+// Plays the example's schedule over a ring and over places: `Exact` if the two reports are the same, `NoMemory` if memory ran out
+// for the schedule, the ring or a report, and `Other` if the reports differ, or the schedule is refused for another reason.
 fn play_over_both(alloc: Global, example: &Example) -> Outcome {
     match read_schedule(alloc, example.setup.input.as_slice()) {
         Ok(events) => compare_windows(alloc, events.as_slice()),
@@ -161,7 +163,8 @@ fn compare_windows(alloc: Global, events: &[Event]) -> Outcome {
     outcome_of(&ring, &places)
 }
 
-// `Exact` if the report over a ring is the report over places, and else `Other`; `NoMemory` if memory ran out for either.
+// `NoMemory` if memory ran out for the report over a ring or the one over places; otherwise `Exact` if they are the same, and
+// `Other` if they differ.
 fn outcome_of(ring: &Told, places: &Told) -> Outcome {
     if ring.is_lacking() || places.is_lacking() {
         return Outcome::NoMemory;
@@ -190,7 +193,8 @@ fn append_over<W: Window<Asked = Call>>(
     }
 }
 
-// Appends a report, all but its instrument, and then how many requests the client has outstanding, and its next id.
+// Appends what `append_lists` and `append_counts` append of a report, and then how many requests the client has outstanding, and
+// its next id.
 fn append_report<W: Window<Asked = Call>>(report: &Report, client: &Client<W>, told: &mut Told) {
     append_lists(report, told);
     append_counts(report, told);
@@ -207,8 +211,8 @@ fn append_lists(report: &Report, told: &mut Told) {
     told.debug(&report.starts.as_slice());
 }
 
-// Appends what a report has beside its lists and its instrument: whether each direction is at the start of a line, how many sends were
-// refused, and how many events weren't possible.
+// Appends of a report whether each direction is at the start of a line, how many sends were refused, and how many events weren't
+// possible.
 fn append_counts(report: &Report, told: &mut Told) {
     told.counted(&report.up.at_start(), " ");
     told.counted(&report.down.at_start(), " ");

@@ -1,19 +1,21 @@
 -- How far the reading of a text has come, line by line. `left` is what is unread.
-use Rattle.std.proofs.Common.{◌≡◌, ℕ, ◌+◌, ◌<◌, ◌≤◌, List, [], ◌∷◌, ◌++◌, length, Option, None, Some, refl, ap, sym, subst, ◌∙◌, arith, append_assoc, append-nil, length-append, get_or}
+use Rattle.std.proofs.Common.{◌≡◌, ℕ, ◌+◌, ◌<◌, ◌≤◌, List, [], ◌∷◌, ◌++◌, length, Option, None, Some, refl, ap, sym, subst, ◌∙◌, arith, append_assoc, length-append, get_or}
 use Rattle.gc_texts.specs.Cuts.{Cuts}
 use Rattle.gc_texts.specs.LineForms.{text_lines, without_cr, line_at}
 use Rattle.gc_texts.proofs.TextLines.{lines_left, much_left, lines-cut}
-use Rattle.gc_fates.specs.Rules.{no_rules, Leads, LeadAll, AreRules, IsRuleFault, IsFirstFaultyRule, without_comment}
+use Rattle.gc_fates.specs.Rules.{no_rules, Leads, LeadAll, IsRuleFault, IsFirstFaultyRule, without_comment}
 use Rattle.gc_fates.specs.Spaced.{IsBlank}
 use Rattle.gc_fates.specs.declared.rules.Rules.{Rules}
 use Rattle.gc_fates.specs.declared.rule.RuleFault.{RuleFault}
 
 -- where lines lead from `old` to `mid`, and one more line from `mid` to `new`, all of them lead from `old` to `new`
-lead_more : (old mid new : Rules) (lines : List (List ℕ)) (line : List ℕ) → LeadAll old lines mid → Leads mid line new → LeadAll old (lines ++ line ∷ []) new
+lead_more : (old mid new : Rules) (lines : List (List ℕ)) (line : List ℕ)
+    → LeadAll old lines mid → Leads mid line new → LeadAll old (lines ++ line ∷ []) new
 lead_more old mid new [] line all leads = (new, subst (λ r. Leads r line new) all leads, refl)
 lead_more old mid new (first ∷ lines) line all leads = (all.0, all.1, lead_more all.0 mid new lines line all.2 leads)
 
--- how far the reading has come: `number` lines were read, and lead to `rules`, and the others are those of `left`
+-- how far the reading has come: `number` lines were read, and lead from no rules to `rules`, and the others are those of `left`;
+-- `number` and `much_left` of what is left are together at most the text's bytes and one more
 pub record Comes (text : List ℕ) (left : Option (List ℕ)) (number : ℕ) (rules : Rules) : Type 0 where
   pub read : List (List ℕ)
   pub lines_are : text_lines text ≡ read ++ lines_left left
@@ -21,34 +23,28 @@ pub record Comes (text : List ℕ) (left : Option (List ℕ)) (number : ℕ) (ru
   pub few : number + much_left left ≤ length text + 1
   pub lead : LeadAll no_rules read rules
 
--- before the first line, the reading has come to no rules
-pub comes_first : (text : List ℕ) → Comes text (Some text) 0 no_rules
-comes_first text = record { read = []; lines_are = refl; count = refl; few = omega arith; lead = refl }
-
--- what is left after the cut of a text is smaller than the text, by `much_left`, which counts the bytes and one more
-less_left : (now front : List ℕ) (rest : Option (List ℕ)) → Cuts 10 now front rest → 1 + much_left rest ≤ length now + 1
-less_left now front None cut = omega arith
-less_left now front (Some rest) cut =
+-- what follows the first line of what is left, `rest`, is less than what is left, `now`, by `much_left`
+pub left_falls : (now front : List ℕ) (rest : Option (List ℕ)) → Cuts 10 now front rest → much_left rest < much_left (Some now)
+left_falls now front None cut = omega arith
+left_falls now front (Some rest) cut =
     let all : length now ≡ length front + length (10 ∷ rest) = ap length cut.0 ∙ length-append front (10 ∷ rest) in
     omega (arith, all)
 
--- what is left gets less with each line
-pub left_falls : (now front : List ℕ) (rest : Option (List ℕ)) → Cuts 10 now front rest → much_left rest < much_left (Some now)
-left_falls now front rest cut = let less = less_left now front rest cut in omega (arith, less)
-
--- the first line of what is left is the one before the cut
+-- the first line of what is left is what is before the cut, without a CR at its end
 first_line : (now front : List ℕ) (rest : Option (List ℕ)) → Cuts 10 now front rest → line_at now 1 ≡ without_cr front
 first_line now front rest cut = ap (λ ls. get_or ls 0 []) (lines-cut now front rest cut)
 
--- the lines of what is left are the one before the cut, and those after it
+-- the lines of what is left are its first line, and then those of what follows the cut
 next_lines : (now front : List ℕ) (rest : Option (List ℕ)) → Cuts 10 now front rest → text_lines now ≡ line_at now 1 ∷ lines_left rest
 next_lines now front rest cut = lines-cut now front rest cut ∙ ap (λ l. l ∷ lines_left rest) (sym (first_line now front rest cut))
 
--- where the reading has come to a line that leads on, it goes on after that line, with the new rules
-pub comes_on : (text now front : List ℕ) (rest : Option (List ℕ)) (number : ℕ) (rules new : Rules) → Comes text (Some now) number rules → Cuts 10 now front rest
+-- where the reading has come to `now` (`Comes`), and the first line of `now` leads to the rules `new`, the reading has come to
+-- what follows that line, `rest`, with the rules `new` and one more line
+pub comes_on : (text now front : List ℕ) (rest : Option (List ℕ)) (number : ℕ) (rules new : Rules)
+    → Comes text (Some now) number rules → Cuts 10 now front rest
     → Leads rules (line_at now 1) new → Comes text rest (number + 1) new
 comes_on text now front rest number rules new c cut leads =
-    let less = less_left now front rest cut in record {
+    let less = left_falls now front rest cut in record {
       read = c.read ++ line_at now 1 ∷ [];
       lines_are = c.lines_are ∙ ap (λ ls. c.read ++ ls) (next_lines now front rest cut) ∙ sym (append_assoc c.read (line_at now 1 ∷ []) (lines_left rest));
       count = omega (arith, c.count, length-append c.read (line_at now 1 ∷ []));
@@ -56,8 +52,9 @@ comes_on text now front rest number rules new c cut leads =
       lead = lead_more no_rules rules new c.read (line_at now 1) c.lead leads;
     }
 
--- where the reading has come to a line that isn't blank and has a fault, that line is the first faulty one
-pub first_faulty : (text now front : List ℕ) (rest : Option (List ℕ)) (number : ℕ) (rules : Rules) (fault : RuleFault) → Comes text (Some now) number rules → Cuts 10 now front rest
+-- where the reading has come to a line that has a fault, and that isn't blank without its comment, it is the first faulty line
+pub first_faulty : (text now front : List ℕ) (rest : Option (List ℕ)) (number : ℕ) (rules : Rules) (fault : RuleFault)
+    → Comes text (Some now) number rules → Cuts 10 now front rest
     → IsRuleFault rules (line_at now 1) fault → (IsBlank (without_comment (line_at now 1)) → ⊥) → IsFirstFaultyRule text (number + 1) fault
 first_faulty text now front rest number rules fault c cut is worded = record {
   front = c.read;
@@ -70,9 +67,3 @@ first_faulty text now front rest number rules fault c cut is worded = record {
   worded = worded;
   fault_is = is;
 }
-
--- where nothing is left, the text has the rules that were read
-pub comes_last : (text : List ℕ) (left : Option (List ℕ)) (number : ℕ) (rules : Rules) → Comes text left number rules → left ≡ None → AreRules text rules
-comes_last text left number rules c end =
-    let all : text_lines text ≡ c.read = c.lines_are ∙ ap (λ l. c.read ++ lines_left l) end ∙ append-nil c.read in
-    subst (λ ls. LeadAll no_rules ls rules) (sym all) c.lead

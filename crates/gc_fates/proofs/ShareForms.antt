@@ -13,19 +13,21 @@ one_cut word f g None (Some s) x y = absurd (has_mark 46 g s f (sym y.0 ∙ x.0)
 one_cut word f g (Some r) None x y = absurd (has_mark 46 f r g (sym x.0 ∙ y.0) y.1)
 one_cut word f g (Some r) (Some s) x y = let both = one_front 46 f g r s (sym x.0 ∙ y.0) x.1 y.1 in (both.0, ap Some both.1)
 
--- the parts of a word that is a percentage are those at which it is cut
+-- where a word that is a percentage is cut at its first point (`Cuts`), what the cut gives are the parts of that percentage
+-- (`IsParts`)
 pub parts_at : (word whole : List ℕ) (places : Option (List ℕ)) (n : ℕ) → Cuts 46 word whole places → IsShare word n → IsParts whole places n
 parts_at word whole places n cut is =
     let both = one_cut word is.0 whole is.1 places is.2 cut in
     subst (λ w. IsParts w places n) both.0 (subst (λ p. IsParts is.0 p n) both.1 is.3)
 
--- without a whole number of at most 100 before its point a word is no percentage
+-- where what is before a word's point, or all of a word without one, is no whole number of at most 100, the word is no percentage
 pub no_whole : (whole : List ℕ) (places : Option (List ℕ)) (n : ℕ) → ((m : ℕ) → IsNumber whole m 100 → ⊥) → IsParts whole places n → ⊥
 no_whole whole None n none is = none is.0 is.1
 no_whole whole (Some places) n none is = none is.0 is.2
 
 -- where a word has a point, but not one to three digits after it, the word is no percentage
-pub no_thousandths : (whole : List ℕ) (places : Option (List ℕ)) (digits : List ℕ) (n : ℕ) → places ≡ Some digits → ((m : ℕ) → IsPlaces digits m → ⊥) → IsParts whole places n → ⊥
+pub no_thousandths : (whole : List ℕ) (places : Option (List ℕ)) (digits : List ℕ) (n : ℕ)
+    → places ≡ Some digits → ((m : ℕ) → IsPlaces digits m → ⊥) → IsParts whole places n → ⊥
 no_thousandths whole places digits n cut none is =
     let parts : IsParts whole (Some digits) n = subst (λ p. IsParts whole p n) cut is in none parts.1 parts.3
 
@@ -48,7 +50,8 @@ one_places digits m n x y =
     one_count (length digits) y.0 m n (subst (λ k. AreThousandths (length digits) k m) same x.2) y.2
 
 -- where the number before the point and the thousandths after it are together more than 100 percent, the word is no percentage
-pub too_much : (whole : List ℕ) (places : Option (List ℕ)) (digits : List ℕ) (w t n : ℕ) → (cut : places ≡ Some digits) → (number : IsNumber whole w 100)
+pub too_much : (whole : List ℕ) (places : Option (List ℕ)) (digits : List ℕ) (w t n : ℕ)
+    → (cut : places ≡ Some digits) → (number : IsNumber whole w 100)
     → (are : IsPlaces digits t) → (above : 100000 < w * 1000 + t) → (is : IsParts whole places n) → ⊥
 too_much whole places digits w t n cut number are above is =
     let parts : IsParts whole (Some digits) n = subst (λ p. IsParts whole p n) cut is in

@@ -27,7 +27,7 @@ abbrev pub start_of_kills : ℕ → ℕ
 start_of_kills seed = output_at ((seed + golden * 2 % 2 ^ 64) % 2 ^ 64)
 
 -- how many draws are before draw k of line n, both counted from 1: sixteen for each earlier line, and the earlier ones of the same
--- line
+-- line, modulo 2^64
 abbrev pub draws_before : (n k : ℕ) → ℕ
 draws_before n k = (16 * (n - 1) % 2 ^ 64 + (k - 1)) % 2 ^ 64
 

@@ -1,4 +1,5 @@
--- What happens to a line by the rules of a text and the draws of a seed: this project's own.
+-- What happens to a line by the rules of a text and the draws of a seed: this project's own. `start` is the state from which the
+-- draws begin, and `line` the number of the line, counted from 1.
 use Rattle.std.specs.Prelude.{ℕ, ◌%◌, Bool, true, false, not, ◌&&◌, nat_le, Option, None, Some, if◌then◌else◌}
 use Rattle.gc_fates.specs.Draws.{draw_at, happens, among}
 use Rattle.gc_fates.specs.Rules.{chance_of}
@@ -29,8 +30,9 @@ loses rules start line = hits (chance_of rules Lose) (draw_at start line 1)
 abbrev pub ends : Rules → (start line : ℕ) → Bool
 ends rules start line = not (loses rules start line) && hits (chance_of rules Close) (draw_at start line 5)
 
--- what happens to a line: each word has its own draw. An end is a reset if the lower 32 bits of its draw are in the upper half of their
--- range
+-- what happens to a line: each word has its own draw. A line that is lost, or in whose place the connection ends, isn't repeated,
+-- and only after such an end are connections refused. The end is a reset if the lower 32 bits of its draw are in the upper half
+-- of their range
 abbrev pub fate_of : Rules → (start line : ℕ) → Fate
 fate_of rules start line = record {
   wait = drawn (chance_of rules Delay) (draw_at start line 3);

@@ -86,7 +86,8 @@ pub record IsRule (text : List ℕ) (rule : Rule) : Type 0 where
   pub word : name_of rule.word ≡ first_word text
   pub chance : IsChance (shape_of rule.word) (other_words text) rule.chance
 
--- why a text is no rule: its first word is none of the words, or what follows the word hasn't the word's form
+-- why a text is no rule: its first word is none of the words, or what follows the word hasn't the word's form. `Again` is no such
+-- reason, as it depends on the lines before
 abbrev pub IsNoRule : List ℕ → RuleFault → Type 0
 IsNoRule text NoWord = (word : Word) → name_of word ≡ first_word text → ⊥
 IsNoRule text (Form word) = (name_of word ≡ first_word text) × ((chance : Chance) → IsChance (shape_of word) (other_words text) chance → ⊥)

@@ -28,8 +28,8 @@ with_rule rules rule = record { chances = slice_set rules.chances (place_of rule
 abbrev pub without_comment : List ℕ → List ℕ
 without_comment line = before 35 line
 
--- a line leads from the rules `old` of the lines before it to the rules `new`: it is blank and `new` are `old`, or it is a rule whose word
--- no earlier line has, and `new` are `old` with this rule
+-- a line leads from the rules `old` of the lines before it to the rules `new`: without its comment it is blank, and `new` are `old`, or it
+-- is a rule whose word no earlier line has, and `new` are `old` with this rule
 abbrev pub Leads : (old : Rules) → List ℕ → (new : Rules) → Type 0
 Leads old line new = (IsBlank (without_comment line) × (new ≡ old))
     ⊎ ((rule : Rule) × IsRule (without_comment line) rule × (chance_of old rule.word ≡ None) × (new ≡ with_rule old rule))
@@ -48,8 +48,8 @@ abbrev pub IsRuleFault : Rules → List ℕ → RuleFault → Type 0
 IsRuleFault rules line (Again word) = (rule : Rule) × IsRule (without_comment line) rule × (rule.word ≡ word) × (chance_of rules word ≡ None → ⊥)
 IsRuleFault rules line fault = IsNoRule (without_comment line) fault
 
--- line number n of a text, counted from 1, is its first faulty line, and has this fault: the lines before it lead to rules, and it is
--- neither blank nor a rule whose word is new
+-- line number n of a text, counted from 1, is its first faulty line, and has this fault: the lines before it lead to rules, and without its
+-- comment it is neither blank nor a rule whose word is new
 pub record IsFirstFaultyRule (text : List ℕ) (n : ℕ) (fault : RuleFault) : Type 0 where
   pub front : List (List ℕ)
   pub line : List ℕ

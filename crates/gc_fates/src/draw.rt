@@ -31,7 +31,7 @@ pub fn output_of_state(state: u64) -> u64
     generator.next_u64()
 }
 
-/// The draws of a seed for the lines of one direction.
+/// The draws of a seed for the lines of one direction, or for kills of the station.
 #[derive(Clone, Copy, Debug, PartialEq, Eq)]
 pub struct Draws {
     /// The state of splitmix64 before the first draw of line 1.
@@ -61,7 +61,8 @@ impl Draws {
         }
     }
 
-    /// The draw with number `place`, 1 to 16, of line number `line`, counted from 1. A 0 counts as 1.
+    /// The draw with number `place`, 1 to 16, of line number `line`, counted from 1. A `line` or a `place` of 0 counts as 1, and
+    /// draw 17 of a line is draw 1 of the next one.
     pub fn draw(self, line: u64, place: u64) -> u64
         ensures { result ≡ draw_at self.start line place }
     {
@@ -80,7 +81,8 @@ pub(crate) fn happens(draw: u64, share: u32) -> bool
     upper * WHOLE / 4_294_967_296 < u64::from(share)
 }
 
-/// The number from `least` to `most` that a draw gives: the lower 32 bits of the draw decide. It is `least` if `most` is below that.
+/// The number from `least` to `most` that a draw gives: the lower 32 bits of the draw decide. If `most` is below `least`, the
+/// number is `least`.
 pub fn among(draw: u64, least: u32, most: u32) -> u64
     ensures { result ≡ among draw least most }
 {

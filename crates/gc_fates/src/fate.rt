@@ -11,21 +11,23 @@ use crate::rules::Rules;
 /// What happens to a line. Times are in milliseconds.
 #[derive(Clone, Copy, Debug, PartialEq, Eq)]
 pub struct Fate {
-    /// How long it is on the way.
+    /// How long it is on the way at least. A hold or a line before it may keep it longer.
     pub wait: u64,
-    /// Whether it doesn't arrive.
+    /// Whether it is lost on the way. A line in whose place the connection ends (`closes`) isn't lost.
     pub is_lost: bool,
     /// Whether a second copy directly follows it.
     pub is_repeated: bool,
-    /// For how long nothing passes in either direction after it; 0 if it holds nothing up.
+    /// For how long from its setting out on neither it nor any line that sets out later arrives, in either direction; 0 if it holds
+    /// nothing up.
     pub hold: u64,
     /// Whether the connection ends in place of its arrival.
     pub closes: bool,
     /// Whether the connection ends by a reset. `false` if it doesn't end.
     pub is_reset: bool,
-    /// For how long no connection is made after that end; 0 if the connection doesn't end or none is refused.
+    /// For how long connections are refused after that end, from the next attempt to connect on; 0 if the connection doesn't end or
+    /// none is refused.
     pub refuse: u64,
-    /// Whether the instrument restarts when it arrives.
+    /// Whether the instrument restarts at it, whether it arrives or not.
     pub restarts: bool,
 }
 
@@ -63,11 +65,12 @@ pub fn restarts_at(rules: &Rules, draws: Draws, line: u64) -> bool
     hits(rules.chance(Word::Restart), draws.draw(line, 8))
 }
 
-/// What happens by these rules and draws to a line of one direction, counted from 1. Each word has a draw of its own.
+/// What happens by these rules and draws to a line of one direction, counted from 1. Each word but `kill`, which is about no
+/// line, has a draw of its own.
 ///
-/// A lost line holds up what follows it and restarts the instrument all the same, and nothing else happens to it. A line in whose place the
-/// connection ends isn't repeated, and only such a line has connections refused. The end is a reset if the lower 32 bits of its draw are in
-/// the upper half of their range.
+/// The connection doesn't end in place of a lost line. Neither a lost line nor one in whose place the connection ends is
+/// repeated, but either may hold up what follows it, and the instrument may restart at either. Connections may be refused only
+/// after such an end. The end is a reset if the lower 32 bits of the draw of `close` are in the upper half of their range.
 pub fn fate_of(rules: &Rules, draws: Draws, line: u64) -> Fate
     ensures { result ≡ fate_of rules.now draws.start line }
 {

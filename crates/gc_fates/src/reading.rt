@@ -1,4 +1,4 @@
-//! Reads a text: its rules, or its first faulty line.
+//! Reads a text: its rules, or why it has none.
 
 ghost use Rattle.std.specs.Prelude.{◌≡◌, ◌+◌, ◌<◌, ◌≤◌, ◌↔◌, ℕ, length, Err, IfOk, IfErr, OnOk, ◌++◌, codes};
 ghost use Rattle.gc_fates.specs.Rules.{AreRules, Leads, IsFirstFaultyRule, IsRuleFault, without_comment};
@@ -17,12 +17,12 @@ use gc_texts::{TEXT_LIMIT, before, cut_at, line_at};
 pub enum Refusal {
     /// It has more than 65,536 bytes.
     TooLong,
-    /// This line, counted from 1, is its first faulty one.
+    /// This line, counted from 1, is its first faulty one, and `fault` is what is wrong with it.
     Line { line: u32, fault: RuleFault },
 }
 
-// Reads the next line of a text whose earlier lines gave `rules`: returns these with the rule of the line, or the same if the line is
-// blank but for a comment. `Err`: what is wrong with the line.
+// Reads the next line of a text whose earlier lines gave `rules`: returns these with the rule of the line, or the same if the
+// line has nothing but spaces before its first `#` or, without one, its end. `Err`: what is wrong with the line.
 fn read_line(rules: &Rules, line: &[u8]) -> Result<Rules, RuleFault>
     ensures found { IfOk result (λ new. Leads rules.now line.now new) }
     ensures fault { IfErr result (λ fault. IsRuleFault rules.now line.now fault × (IsBlank (without_comment line.now) → ⊥)) }

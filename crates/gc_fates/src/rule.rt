@@ -29,7 +29,7 @@ pub enum Word {
     Lose,
     /// A second copy of a line directly follows it.
     Repeat,
-    /// After a line nothing passes for a time.
+    /// For a time neither a line nor any that sets out later arrives.
     Hold,
     /// In place of a line the connection ends.
     Close,
@@ -168,7 +168,7 @@ fn read_number(word: &[u8], most: u64) -> Option<u32>
     }
 }
 
-// Reads `P`: a percentage, with no number to draw. `None`: the text has another form.
+// Reads `P`: a percentage, with no number to draw. `None`: the text has another form, or P is above 100.
 fn read_percentage(text: &[u8]) -> Option<Chance>
     ensures { MatchOption result ((chance : Chance) → IsPercentage text.now chance → ⊥) (λ chance. IsPercentage text.now chance) }
 {
@@ -185,7 +185,8 @@ fn read_percentage(text: &[u8]) -> Option<Chance>
     })
 }
 
-// Reads `P MS`: a percentage and a time in milliseconds, which is the only number to draw. `None`: the text has another form.
+// Reads `P MS`: a percentage and a time in milliseconds, which is the only number to draw. `None`: the text has another form, P
+// is above 100, or MS above `MILLIS_MAX`.
 fn read_lasting(text: &[u8]) -> Option<Chance>
     ensures { MatchOption result ((chance : Chance) → IsLasting text.now chance → ⊥) (λ chance. IsLasting text.now chance) }
 {
@@ -206,8 +207,8 @@ fn read_lasting(text: &[u8]) -> Option<Chance>
     })
 }
 
-// Reads `FROM TO`: the range of times, in milliseconds, to draw from for each line. `None`: the text has another form, or FROM is above
-// TO.
+// Reads `FROM TO`: the range of times, in milliseconds, to draw from for each line. `None`: the text has another form, FROM is
+// above TO, or one of them above `MILLIS_MAX`.
 fn read_span(text: &[u8]) -> Option<Chance>
     ensures { MatchOption result ((chance : Chance) → IsSpan text.now chance → ⊥) (λ chance. IsSpan text.now chance) }
 {
@@ -231,7 +232,7 @@ fn read_span(text: &[u8]) -> Option<Chance>
     })
 }
 
-// Reads `N`: how many times, which is the only number to draw. `None`: the text has another form.
+// Reads `N`: how many times, which is the only number to draw. `None`: the text has another form, or N is above `TIMES_MAX`.
 fn read_times(text: &[u8]) -> Option<Chance>
     ensures { MatchOption result ((chance : Chance) → AreTimes text.now chance → ⊥) (λ chance. AreTimes text.now chance) }
 {

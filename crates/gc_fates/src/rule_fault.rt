@@ -5,7 +5,7 @@ use std::io::{self, Write};
 
 impl RuleFault {
     /// Writes what is wrong with a line, and a line feed: the list of the words, what has to follow the line's word, or that an earlier
-    /// line has that word.
+    /// line has that word. `Err`: it couldn't be written whole.
     pub fn tell<E: Write>(self, messages: &mut E) -> io::Result<()> {
         match self {
             RuleFault::NoWord => writeln!(

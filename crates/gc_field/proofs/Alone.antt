@@ -21,19 +21,19 @@ module _ (s : State) (line : List ℕ) where
   abbrev out : World (ById Asked) State
   out = moved ends (by_ids 7 ends) (Sends 1 (Table NullProc) 9 ∷ Sends 2 (Table NullProc) 9 ∷ OnLine (Up_lose 0) ∷ []) (ids_open s)
 
-  -- the world once the second request reached an instrument that did this with it
+  -- the world once the second request reached an instrument that did `h` with that request
   abbrev reached : Handed State → World (ById Asked) State
   reached h = on_wire out (replied out.wire 1 [] h)
 
-  -- what the instrument does with a request whose reply it keeps: it sends the line again
+  -- what the instrument does with a request for whose id it retains `line`: it sends that line again
   abbrev again : Handed State
   again = record { state = s; reply = line; executed = false }
 
-  -- the world once the reply of an instrument that did this came
+  -- the world once the reply of an instrument that did `h` came
   abbrev came : Handed State → World (ById Asked) State
   came h = down_delivered (by_ids 7 ends) (reached h) (reached h).wire.down
 
-  -- the world once a line came in which this id is read
+  -- the world once the line that was sent again came, if `o` is the id that the client reads in it
   abbrev heard_as : Option ℕ → World (ById Asked) State
   heard_as o = with_settled (record (reached again).wire { down = [] }) (hears (reached again).client line o)
 
@@ -41,12 +41,12 @@ module _ (s : State) (line : List ℕ) where
   handed_is : kept_line (kept_of s) (Some 1) ≡ Some line → ends.handed s 1 (Table NullProc) ≡ again
   handed_is k = keeper.again s 1 NullProc line k
 
-  -- the line that is kept has id 1
+  -- if the instrument, in a state that fits (`IsFittingState`), retains the line with id 1, the client reads id 1 in that line
   heard_is : IsFittingState s → kept_line (kept_of s) (Some 1) ≡ Some line → ends.heard line ≡ Some 1
   heard_is fits k = ap (λ (h : Handed State). ends.heard h.reply) (sym (handed_is k)) ∙ exchange.reads s 1 NullProc fits (lit< tt)
 
-  -- only one request reaches the instrument by the moves `two_at_once`: before the move at which a request does, two requests are
-  -- sent and the first is lost
+  -- if a request reaches the instrument at one of the moves `two_at_once`, the moves before that one are these: two requests are
+  -- sent, and the first is lost
   only : (front later : List (Move State)) → two_at_once line ≡ front ++ OnLine Up_deliver ∷ later → front ≡ Sends 1 (Table NullProc) 9 ∷ Sends 2 (Table NullProc) 9 ∷ OnLine (Up_lose 0) ∷ []
   only [] later e = let never : ⊥ = cc in absurd never
   only (a ∷ []) later e = let never : ⊥ = cc in absurd never
@@ -56,12 +56,12 @@ module _ (s : State) (line : List ℕ) where
   only (a ∷ b ∷ c ∷ d ∷ f ∷ []) later e = let never : ⊥ = cc in absurd never
   only (a ∷ b ∷ c ∷ d ∷ f ∷ g ∷ front) later e = let never : ⊥ = cc in absurd never
 
-  -- the id of the first of these requests
+  -- the id of the first of these requests, or 0 if there is none
   abbrev first_id : List (Numbered Request) → ℕ
   first_id [] = 0
   first_id (x ∷ rest) = x.line.id
 
-  -- the line wasn't made on executing the second request
+  -- if the instrument retains the line with id 1, the line wasn't made on executing the second request
   unmade : kept_line (kept_of s) (Some 1) ≡ Some line → WasMadeOn WINDOW ends (ids_open s) (two_at_once line) 1 (Table NullProc) line → ⊥
   unmade k h =
       let here = only h.front h.later h.split in
@@ -73,7 +73,8 @@ module _ (s : State) (line : List ℕ) where
       sym (ap (λ (h : Handed State). h.executed) (handed_is k)) ∙ subst (λ i. (ends.handed s i (Table NullProc)).executed ≡ true) (sym id) executed in
       cc
 
-  -- the reply that is retained is booked for the second request
+  -- if the instrument, in a state that fits, retains the line with id 1, the line is booked for the second request, which isn't
+  -- executed
   pub booked : IsFittingState s → kept_line (kept_of s) (Some 1) ≡ Some line → SecondIsBookedUnexecuted s line
   booked fits k =
       record {

@@ -1,40 +1,43 @@
--- Settlements, requests and records at a place of a list that was appended or cut.
-use Rattle.std.proofs.Common.{◌≡◌, ℕ, zero, suc, ◌+◌, true, false, List, [], ◌∷◌, ◌++◌, map, Some, refl, sym, ◌∙◌, ap, subst, arith, drop}
+-- What is at a place of a list that was appended or cut; and settlements among those of requests that were lost.
+use Rattle.std.proofs.Common.{◌≡◌, ℕ, zero, suc, ◌+◌, List, [], ◌∷◌, ◌++◌, map, Some, refl, sym, ◌∙◌, ap, subst, arith, drop}
 use Rattle.std.specs.Prelude.{slice_get}
 use Rattle.gc_catalogue.specs.declared.asked.Asked.{Asked}
-use Rattle.gc_client.specs.OneForOne.{Wanted}
 use Rattle.gc_client.specs.declared.pending.Pending.{Pending}
 use Rattle.gc_client.specs.Rule.{Answered, Late, Lost, Settlement, lost}
-use Rattle.gc_field.specs.World.{Sent}
+use Rattle.gc_world.specs.Order.{Each}
 use Rattle.std.proofs.lemmas.Option.{none-some, same_Some}
-use Rattle.gc_field.specs.Laws.{asked}
 
--- a settlement with another outcome than `Lost` isn't that of a lost request
+-- a settlement whose outcome isn't `Lost` is at no place of the settlements of lost requests (`ps`)
 none_lost : (x : Settlement Asked) → (x.outcome ≡ Lost → ⊥) → (ps : List (Pending Asked)) (n : ℕ) → slice_get (map lost ps) n ≡ Some x → ⊥
 none_lost x other [] n e = none-some x e
 none_lost x other (p ∷ ps) zero e = other (ap (λ (s : Settlement Asked). s.outcome) (sym (same_Some (lost p) x e)))
 none_lost x other (p ∷ ps) (suc n) e = none_lost x other ps n e
 
--- an answer among settlements and lost requests is among the settlements
+-- if x, whose outcome isn't `Lost`, is at place n of the settlements `xs` followed by those of the lost requests `ps`, x is at
+-- place n of `xs`
+among_first : (xs : List (Settlement Asked)) (ps : List (Pending Asked)) (n : ℕ) (x : Settlement Asked) → (x.outcome ≡ Lost → ⊥)
+    → slice_get (xs ++ map lost ps) n ≡ Some x → slice_get xs n ≡ Some x
+among_first (y ∷ xs) ps zero x other got = got
+among_first (y ∷ xs) ps (suc n) x other got = among_first xs ps n x other got
+among_first [] ps n x other got = absurd (none_lost x other ps n got)
+
+-- if x, which is an answer, is at place n of the settlements `xs` followed by those of the lost requests `ps`, x is at place n of
+-- `xs`
 pub among_settled : (xs : List (Settlement Asked)) (ps : List (Pending Asked)) (n : ℕ) (x : Settlement Asked) (line : List ℕ) → slice_get (xs ++ map lost ps) n ≡ Some x
     → x.outcome ≡ Answered line → slice_get xs n ≡ Some x
-among_settled (y ∷ xs) ps zero x line got answered = got
-among_settled (y ∷ xs) ps (suc n) x line got answered = among_settled xs ps n x line got answered
-among_settled [] ps n x line got answered = absurd (none_lost x (λ e. let other : Lost ≡ Answered line = sym e ∙ answered in cc) ps n got)
+among_settled xs ps n x line got answered = among_first xs ps n x (λ e. let other : Lost ≡ Answered line = sym e ∙ answered in cc) got
 
--- a late settlement among settlements and lost requests is among the settlements
-pub among_late : (xs : List (Settlement Asked)) (ps : List (Pending Asked)) (n : ℕ) (x : Settlement Asked) → slice_get (xs ++ map lost ps) n ≡ Some x → x.outcome ≡ Late → slice_get xs n ≡ Some x
-among_late (y ∷ xs) ps zero x got late = got
-among_late (y ∷ xs) ps (suc n) x got late = among_late xs ps n x got late
-among_late [] ps n x got late = absurd (none_lost x (λ e. let other : Lost ≡ Late = sym e ∙ late in cc) ps n got)
+-- if x, which is late, is at place n of the settlements `xs` followed by those of the lost requests `ps`, x is at place n of `xs`
+pub among_late : (xs : List (Settlement Asked)) (ps : List (Pending Asked)) (n : ℕ) (x : Settlement Asked) → slice_get (xs ++ map lost ps) n ≡ Some x
+    → x.outcome ≡ Late → slice_get xs n ≡ Some x
+among_late xs ps n x got late = among_first xs ps n x (λ e. let other : Lost ≡ Late = sym e ∙ late in cc) got
 
--- where `a` is what request n asks for, there is a request n that asks for it
-pub asked_at : (rs : List Sent) (n : ℕ) (a : Wanted Asked) → slice_get (map asked rs) n ≡ Some a → (r : Sent) × (slice_get rs n ≡ Some r) × (asked r ≡ a)
-asked_at [] n a e = cc
-asked_at (r ∷ rs) zero a e = (r, refl, same_Some (asked r) a e)
-asked_at (r ∷ rs) (suc n) a e = asked_at rs n a e
+-- what holds of the element at each place holds of each element
+pub each_at : {A : Type 0} (P : A → Type 0) (xs : List A) → ((i : ℕ) (x : A) → slice_get xs i ≡ Some x → P x) → Each P xs
+each_at P [] f = tt
+each_at P (x ∷ xs) f = (f 0 x refl, each_at P xs (λ i y got. f (suc i) y got))
 
--- as `get_drop`, for a place j that equals k + n
+-- an element that is at place n after the first k is at place j, if j is k + n
 get_at_sum : {A : Type 0} (k n j : ℕ) (xs : List A) (x : A) → j ≡ k + n → slice_get (drop k xs) n ≡ Some x → slice_get xs j ≡ Some x
 get_at_sum zero n j xs x e got = let same : n ≡ j = omega (arith, e) in subst (λ i. slice_get xs i ≡ Some x) same got
 get_at_sum (suc k) n j [] x e got = absurd (none-some x got)

@@ -8,17 +8,17 @@ use Rattle.gc_field.specs.World.{without, doubled}
 
 -- The line.
 
--- a request in flight, or a reply: its id, and whether the request (or the one for which the reply was sent) is from before
--- this synchronization
-pub record Sent : Type 0 where
+-- the id of a request or of a reply in flight, and whether the request (or the one for which the reply was sent) is from
+-- before this synchronization
+pub record IdSent : Type 0 where
   pub id : ℕ
   pub old : Bool
 
 -- the state of a synchronization: the requests and the replies in flight, the front of each queue first; the id of the reply
 -- that the instrument retains; and the ids of the word that aren't answered. If none is left, the synchronization is done
 pub record Model : Type 0 where
-  pub up : List Sent
-  pub down : List Sent
+  pub up : List IdSent
+  pub down : List IdSent
   pub kept : Option ℕ
   pub left : List ℕ
 
@@ -28,10 +28,10 @@ pub record Model : Type 0 where
 pub data Move : Type 0 where
   -- a null procedure is sent, with the id that is asked for now: the first time or again
   Ask : Move
-  -- the front request reaches the instrument, whose reply is sent, or is lost at once
-  Reach : (replies : Bool) → Move
-  -- the front request reaches the instrument, whose reply is sent, and which still retains what it retained, if that request is
-  -- old
+  -- the front request reaches the instrument, which sends its reply to that request, and then retains that reply
+  Reach : Move
+  -- the front request reaches the instrument, which sends its reply to that request. If the request is old, the instrument goes
+  -- on retaining what it retained before; else it then retains that reply
   Pass : Move
   -- the front reply comes
   Come : Move
@@ -54,13 +54,12 @@ abbrev pub asks : Model → List ℕ → Model
 asks s [] = s
 asks s (asked ∷ rest) = record s { up = s.up ++ record { id = asked; old = false } ∷ [] }
 
--- the state once the front request of this queue reached the instrument (true: its reply is sent; false: it is lost), which
--- replies with the request's id: by the reply that it retains, if that has this id, and else by executing the request, whose
--- reply it then keeps. So what it retains has this id from now on, and what it sends is for this request
-abbrev pub reaches : Model → Bool → List Sent → Model
-reaches s replies [] = s
-reaches s true (x ∷ rest) = record s { up = rest; down = s.down ++ x ∷ []; kept = Some x.id }
-reaches s false (x ∷ rest) = record s { up = rest; kept = Some x.id }
+-- the state once the front request of this queue reached the instrument, which replies with the request's id: by the reply that
+-- it retains, if that has this id, and else by executing the request, whose reply it then keeps. So what it retains has this id
+-- from now on, and what it sends is for this request
+abbrev pub reaches : Model → List IdSent → Model
+reaches s [] = s
+reaches s (x ∷ rest) = record s { up = rest; down = s.down ++ x ∷ []; kept = Some x.id }
 
 -- the id of what is retained after `Pass` of a request with this id: if the request is old (true), as before (`k`); else the
 -- request's id
@@ -69,19 +68,19 @@ kept_past true id k = k
 kept_past false id k = Some id
 
 -- the state after `Pass` of the front request of this queue
-abbrev pub passes : Model → List Sent → Model
+abbrev pub passes : Model → List IdSent → Model
 passes s [] = s
 passes s (x ∷ rest) = record s { up = rest; down = s.down ++ x ∷ []; kept = kept_past x.old x.id s.kept }
 
 -- the state once the front reply of this queue came
-abbrev pub comes : Model → List Sent → Model
+abbrev pub comes : Model → List IdSent → Model
 comes s [] = s
 comes s (x ∷ rest) = record s { down = rest; left = heard s.left x.id }
 
 -- the state after a move; one that isn't possible changes nothing
 abbrev pub moves : Model → Move → Model
 moves s Ask = asks s s.left
-moves s (Reach replies) = reaches s replies s.up
+moves s Reach = reaches s s.up
 moves s Pass = passes s s.up
 moves s Come = comes s s.down
 moves s (Up_lose k) = record s { up = without k s.up }
@@ -105,7 +104,7 @@ abbrev pub AllDiffer : List ℕ → Type 0
 AllDiffer ids = Pairs (λ i j. i ≡ j → ⊥) ids
 
 -- the ids of these requests or replies
-abbrev pub ids_of : List Sent → List ℕ
+abbrev pub ids_of : List IdSent → List ℕ
 ids_of xs = map (λ x. x.id) xs
 
 -- `last z word` is the last id of the word, or z if the word is empty
@@ -115,8 +114,8 @@ last z (i ∷ ids) = last i ids
 
 -- A synchronization.
 
--- the start of a synchronization: all that is in flight is old, and the ids in flight, those of replies first, don't contain
--- the word
+-- the start of a synchronization: the whole word is left, all that is in flight is old, and the ids in flight, those of replies
+-- first, don't contain the word
 pub record Begins (word : List ℕ) (s : Model) : Type 0 where
   pub left : s.left ≡ word
   pub up : Each (λ x. x.old ≡ true) s.up
@@ -133,12 +132,12 @@ pub record IsClean (id : ℕ) (s : Model) : Type 0 where
 -- The word.
 
 -- n ids from i on, upward modulo 8: what a run that measures may have in flight
-abbrev pub upward : ℕ → ℕ → List ℕ
+abbrev pub upward : (i n : ℕ) → List ℕ
 upward i zero = []
 upward i (suc n) = i % 8 ∷ upward (i + 1) n
 
 -- these requests or replies, all as from before now
-abbrev pub aged : List Sent → List Sent
+abbrev pub aged : List IdSent → List IdSent
 aged xs = map (λ x. record { id = x.id; old = true }) xs
 
 -- the state in which a synchronization with this word starts over what is in flight

@@ -21,18 +21,14 @@ use Rattle.gc_field.specs.Begin.{InFlight, IsWellFormed, AreTurns, Model, Turn, 
 use Rattle.gc_field.specs.Begun.{HasBegunCleanly, eighth}
 use Rattle.gc_field.specs.Instrument.{IsAnInstrument}
 use Rattle.gc_field.proofs.BeginIds as ids
-use Rattle.gc_field.proofs.BeginIds.{Sent, Begins, IsClean, aged, begun_anew, ids_of, moved}
+use Rattle.gc_field.proofs.BeginIds.{IdSent, Begins, IsClean, aged, begun_anew, ids_of, moved}
 use Rattle.gc_field.proofs.BeginKilled.{begins_anew, behind_one, under_way}
-use Rattle.gc_field.proofs.BeginLists.{each_front}
+use Rattle.gc_field.proofs.BeginLists.{each_to_map}
+use Rattle.gc_lines.proofs.Lists.{all_front}
 use Rattle.gc_field.proofs.BeginSound.{the_word_begins_cleanly}
+use Rattle.gc_field.proofs.KeptReplies.{IsOwnOrNone}
+use Rattle.gc_world.proofs.Handing.{kept_id}
 use Rattle.gc_world.proofs.Queues.{without_map, doubled_map}
-
--- Lists.
-
--- where P holds of f x for each element x of a list, P holds of each element of the mapped list
-each_to_map : {A B : Type 0} (P : B → Type 0) (f : A → B) (xs : List A) → Each (λ x. P (f x)) xs → Each P (map f xs)
-each_to_map P f [] h = tt
-each_to_map P f (x ∷ xs) h = (h.0, each_to_map P f xs h.1)
 
 -- Ids. For a line without an id there is the number 8, which no line has as its id.
 
@@ -46,11 +42,11 @@ abbrev pub IsSmall : List ℕ → Type 0
 IsSmall word = Each (λ i. i < 8) word
 
 -- the id of a request in flight, and whether it is old
-abbrev mark_up : InFlight Request → Sent
+abbrev mark_up : InFlight Request → IdSent
 mark_up x = record { id = x.line.id; old = x.old }
 
 -- the id of a reply in flight, and whether it is old
-abbrev mark_down : InFlight (List ℕ) → Sent
+abbrev mark_down : InFlight (List ℕ) → IdSent
 mark_down x = record { id = id_or (rule.heard x.line); old = x.old }
 
 -- the ids of the word are below 8
@@ -67,7 +63,8 @@ pub small_left : (left : List ℕ) (o : Option ℕ) → IsSmall left → IsSmall
 small_left [] o h = tt
 small_left (asked ∷ rest) o h = small_if (is_answered (asked ∷ rest) o) asked rest h
 
--- a reply leaves of the ids of the word what the synchronization over ids leaves for this reply's id, or for 8 if it has none
+-- where the ids left are below 8, a line in which the id `o` is read, or none, leaves of them what the synchronization over ids
+-- leaves of them for that id, or for 8 if there is none
 same_left : (left : List ℕ) (o : Option ℕ) → IsSmall left → ids.heard left (id_or o) ≡ left_by left o
 same_left [] o h = refl
 same_left (asked ∷ rest) (Some id) h = refl
@@ -81,18 +78,19 @@ none_left (asked ∷ rest) = refl
 -- One state shows another.
 
 -- a request's id is below 8, and if the request is of this synchronization, it is a null procedure
-abbrev IsKnown : InFlight Request → Type 0
-IsKnown x = (x.line.id < 8) × (x.old ≡ false → x.line.call ≡ (Table NullProc))
+abbrev IsNullIfOwn : InFlight Request → Type 0
+IsNullIfOwn x = (x.line.id < 8) × (x.old ≡ false → x.line.call ≡ (Table NullProc))
 
 module _ {State : Type 0} (ends : Ends State) (Good : State → Type 0) (kept : State → Option KeptReply) (is : IsAnInstrument ends Good kept) where
-  -- the state p of a synchronization over ids is that of the synchronization over lines, s, with the ids of its lines
+  -- the state p of a synchronization over ids is that of the synchronization over lines, s, with the ids of its lines; and in s
+  -- the instrument is in a good state, the requests in flight are `IsNullIfOwn`, and the ids that are left are below 8
   pub record Shows (s : Model State) (p : ids.Model) : Type 0 where
     pub up : p.up ≡ map mark_up s.up
     pub down : p.down ≡ map mark_down s.down
     pub left : p.left ≡ s.left
     pub keeps : (k : KeptReply) → kept s.state ≡ Some k → p.kept ≡ Some k.id
     pub good : Good s.state
-    pub known : Each IsKnown s.up
+    pub known : Each IsNullIfOwn s.up
     pub small : IsSmall s.left
 
   -- `Shows` is preserved if the client asks
@@ -106,14 +104,14 @@ module _ {State : Type 0} (ends : Ends State) (Good : State → Type 0) (kept : 
         left = g.left;
         keeps = g.keeps;
         good = g.good;
-        known = each_append IsKnown s.up (new ∷ []) g.known (((subst IsSmall e g.small).0, (λ o. refl)), tt);
+        known = each_append IsNullIfOwn s.up (new ∷ []) g.known (((subst IsSmall e g.small).0, (λ o. refl)), tt);
         small = g.small;
       }
 
-  -- `Shows` is preserved if a reply comes
-  shows_comes : (s : Model State) (p : ids.Model) (q : List (InFlight (List ℕ))) → s.down ≡ q → Shows s p → Shows (comes s q) (ids.comes p (map mark_down q))
-  shows_comes s p [] e g = g
-  shows_comes s p (x ∷ rest) e g = record {
+  -- `Shows` is preserved if the front one of the replies q comes, if there is one, and those after it are in flight then
+  shows_comes : (s : Model State) (p : ids.Model) (q : List (InFlight (List ℕ))) → Shows s p → Shows (comes s q) (ids.comes p (map mark_down q))
+  shows_comes s p [] g = g
+  shows_comes s p (x ∷ rest) g = record {
     up = g.up;
     down = refl;
     left = ap (λ l. ids.heard l (id_or (rule.heard x.line))) g.left ∙ same_left s.left (rule.heard x.line) g.small;
@@ -135,26 +133,28 @@ module _ {State : Type 0} (ends : Ends State) (Good : State → Type 0) (kept : 
     small = small_left s.left (rule.heard line) g.small;
   }
 
-  -- what is retained after a request, its reply or nothing, has the request's id
-  kept_behind : (k : Option KeptReply) (id : ℕ) (line : List ℕ) (r : KeptReply) → (k ≡ None) ⊎ (k ≡ Some (record { id = id; line = line })) → k ≡ Some r → Some id ≡ Some r.id
+  -- if an instrument retains after a request (`k`) its reply to that request, or nothing, what it retains, if anything, has the
+  -- request's id
+  kept_behind : (k : Option KeptReply) (id : ℕ) (line : List ℕ) (r : KeptReply) → IsOwnOrNone id line k → k ≡ Some r → Some id ≡ Some r.id
   kept_behind k id line r (inl none) e = absurd (none-some r (sym none ∙ e))
   kept_behind k id line r (inr some) e = ap (λ (x : KeptReply). Some x.id) (same_Some (record { id = id; line = line }) r (sym some ∙ e))
 
-  -- a request that is no call of the table is old
-  old_raw : (x : InFlight Request) → IsKnown x → is_of_table x.line.call ≡ false → x.old ≡ true
+  -- a request that is `IsNullIfOwn`, and no call of the table, is old
+  old_raw : (x : InFlight Request) → IsNullIfOwn x → is_of_table x.line.call ≡ false → x.old ≡ true
   old_raw x known raw = by_case x.old refl where
     -- the lemma above, by whether the request is old (`b`)
     by_case : (b : Bool) → x.old ≡ b → b ≡ true
     by_case true e = refl
     by_case false e = absurd (true≢false (sym (ap is_of_table (known.1 e)) ∙ raw))
 
-  -- if a request reaches the instrument, and `p` shows it, the state of the ids that comes of it shows what the instrument
-  -- makes of it
+  -- if x, the front request, reaches the instrument, `Shows` is preserved by each state q over ids in which x isn't in flight any
+  -- more, its reply is in flight after the others, the ids that are left are the same, and the retained id, if the instrument
+  -- retains anything, is that of what it retains
   shows_reached : (s : Model State) (p q : ids.Model) (x : InFlight Request) (rest : List (InFlight Request)) → s.up ≡ x ∷ rest → Shows s p → q.up ≡ map mark_up rest
       → q.down ≡ p.down ++ mark_up x ∷ [] → q.left ≡ p.left
       → ((k : KeptReply) → kept (ends.handed s.state x.line.id x.line.call).state ≡ Some k → q.kept ≡ Some k.id) → Shows (reaches ends s (x ∷ rest)) q
   shows_reached s p q x rest e g up down left keeps =
-      let known = subst (Each IsKnown) e g.known in
+      let known = subst (Each IsNullIfOwn) e g.known in
       let small : x.line.id < 8 = known.0.0 in
       let hd : Handed State = ends.handed s.state x.line.id x.line.call in
       let reply : InFlight (List ℕ) = record { old = x.old; line = hd.reply } in
@@ -171,35 +171,37 @@ module _ {State : Type 0} (ends : Ends State) (Good : State → Type 0) (kept : 
         small = g.small;
       }
 
-  -- if a request reaches the instrument, it reaches it over ids, too; or it is left out there
+  -- `Shows` is preserved if the front request reaches the instrument: over ids it reaches it, too (`reaches`); or, if the
+  -- instrument goes on retaining what it retained, the move is `Pass` (`passes`)
   shows_reaches : (s : Model State) (p : ids.Model) (q : List (InFlight Request)) → s.up ≡ q → Shows s p
-      → Shows (reaches ends s q) (ids.reaches p true (map mark_up q)) ⊎ Shows (reaches ends s q) (ids.passes p (map mark_up q))
+      → Shows (reaches ends s q) (ids.reaches p (map mark_up q)) ⊎ Shows (reaches ends s q) (ids.passes p (map mark_up q))
   shows_reaches s p [] e g = inl g
   shows_reaches s p (x ∷ rest) e g =
-      let known = subst (Each IsKnown) e g.known in
+      let known = subst (Each IsNullIfOwn) e g.known in
       let hd : Handed State = ends.handed s.state x.line.id x.line.call in
       elim (is.keeps s.state x.line.id x.line.call g.good known.0.0) [
-        | inl own ↦ inl (shows_reached s p (ids.reaches p true (map mark_up (x ∷ rest))) x rest e g refl refl refl (λ k f. kept_behind (kept hd.state) x.line.id hd.reply k own f))
+        | inl own ↦ inl (shows_reached s p (ids.reaches p (map mark_up (x ∷ rest))) x rest e g refl refl refl (λ k f. kept_behind (kept hd.state) x.line.id hd.reply k own f))
         | inr third ↦ inr (shows_reached s p (ids.passes p (map mark_up (x ∷ rest))) x rest e g refl refl refl
             (λ k f. ap (λ b. ids.kept_past b x.line.id p.kept) (old_raw x known.0 third.0) ∙ g.keeps k (sym third.1 ∙ f)))
       ]
 
-  -- `Shows` is preserved if the requests in flight change alike in both
-  shows_up : (s : Model State) (p : ids.Model) (up : List (InFlight Request)) (ups : List Sent) → ups ≡ map mark_up up → Each IsKnown up → Shows s p
+  -- `Shows` is preserved if the requests in flight change alike in both, to some that are `IsNullIfOwn`
+  shows_up : (s : Model State) (p : ids.Model) (up : List (InFlight Request)) (ups : List IdSent) → ups ≡ map mark_up up → Each IsNullIfOwn up → Shows s p
       → Shows (record s { up = up }) (record p { up = ups })
   shows_up s p up ups e known g = record { up = e; down = g.down; left = g.left; keeps = g.keeps; good = g.good; known = known; small = g.small }
 
   -- `Shows` is preserved if the replies in flight change alike in both
-  shows_down : (s : Model State) (p : ids.Model) (down : List (InFlight (List ℕ))) (downs : List Sent) → downs ≡ map mark_down down → Shows s p
+  shows_down : (s : Model State) (p : ids.Model) (down : List (InFlight (List ℕ))) (downs : List IdSent) → downs ≡ map mark_down down → Shows s p
       → Shows (record s { down = down }) (record p { down = downs })
   shows_down s p down downs e g = record { up = g.up; down = e; left = g.left; keeps = g.keeps; good = g.good; known = g.known; small = g.small }
 
-  -- what is retained afterwards, the same as before or nothing, has the id that was noted before
+  -- if `o` is the id of the reply k that was retained, if one was, and what is retained afterwards (`after`) is the same or
+  -- nothing, `o` is the id of what is retained afterwards, if anything is
   still_kept : (k after : Option KeptReply) (o : Option ℕ) → (after ≡ None) ⊎ (after ≡ k) → ((r : KeptReply) → k ≡ Some r → o ≡ Some r.id) → (r : KeptReply) → after ≡ Some r → o ≡ Some r.id
   still_kept k after o (inl none) f r e = absurd (none-some r (sym none ∙ e))
   still_kept k after o (inr same) f r e = f r (sym same ∙ e)
 
-  -- `Shows` is preserved if the instrument's state changes, and it then keeps the same or nothing
+  -- `Shows` is preserved if the instrument's state changes to a good one, in which it retains the same, or nothing
   shows_state : (s : Model State) (p : ids.Model) (state : State) → Good state → (kept state ≡ None) ⊎ (kept state ≡ kept s.state) → Shows s p → Shows (record s { state = state }) p
   shows_state s p state good same g =
       record { up = g.up; down = g.down; left = g.left; keeps = still_kept (kept s.state) (kept state) p.kept same g.keeps; good = good; known = g.known; small = g.small }
@@ -208,30 +210,30 @@ module _ {State : Type 0} (ends : Ends State) (Good : State → Type 0) (kept : 
   abbrev IsShown : Model State → ids.Model → Type 0
   IsShown s p = (ms : List ids.Move) × Shows s (moved ms p)
 
-  -- any possible turns over lines come to some moves over ids
+  -- where `Shows` holds of s and p, any possible turns from s on come to some moves over ids from p on (`IsShown`)
   pub shown : (ts : List (Turn State)) (s : Model State) (p : ids.Model) → AreTurns ends Good kept ts s → Shows s p → IsShown (turned ends ts s) p
   shown [] s p h g = ([], g)
   shown (Asks ∷ ts) s p h g =
       let r = shown ts (turns ends s Asks) (ids.moves p ids.Ask) h.1 (subst (λ l. Shows (asks s s.left) (ids.asks p l)) (sym g.left) (shows_asks s p s.left refl g)) in
       (ids.Ask ∷ r.0, r.1)
   shown (Comes ∷ ts) s p h g =
-      let r = shown ts (turns ends s Comes) (ids.moves p ids.Come) h.1 (subst (λ l. Shows (comes s s.down) (ids.comes p l)) (sym g.down) (shows_comes s p s.down refl g)) in
+      let r = shown ts (turns ends s Comes) (ids.moves p ids.Come) h.1 (subst (λ l. Shows (comes s s.down) (ids.comes p l)) (sym g.down) (shows_comes s p s.down g)) in
       (ids.Come ∷ r.0, r.1)
   shown (Foreign line ∷ ts) s p h g = shown ts (turns ends s (Foreign line)) p h.1 (shows_foreign s p line h.0 g)
   shown (Reaches ∷ ts) s p h g =
       elim (shows_reaches s p s.up refl g) [
-        | inl r ↦ (let x = shown ts (turns ends s Reaches) (ids.moves p (ids.Reach true)) h.1 (subst (λ l. Shows (reaches ends s s.up) (ids.reaches p true l)) (sym g.up) r) in
-            (ids.Reach true ∷ x.0, x.1))
+        | inl r ↦ (let x = shown ts (turns ends s Reaches) (ids.moves p ids.Reach) h.1 (subst (λ l. Shows (reaches ends s s.up) (ids.reaches p l)) (sym g.up) r) in
+            (ids.Reach ∷ x.0, x.1))
         | inr r ↦ (let x = shown ts (turns ends s Reaches) (ids.moves p ids.Pass) h.1 (subst (λ l. Shows (reaches ends s s.up) (ids.passes p l)) (sym g.up) r) in
             (ids.Pass ∷ x.0, x.1))
       ]
   shown (Up_lose k ∷ ts) s p h g =
       let r = shown ts (turns ends s (Up_lose k)) (ids.moves p (ids.Up_lose k)) h.1
-      (shows_up s p (without k s.up) (without k p.up) (ap (without k) g.up ∙ without_map mark_up k s.up) (each_without IsKnown k s.up g.known) g) in
+      (shows_up s p (without k s.up) (without k p.up) (ap (without k) g.up ∙ without_map mark_up k s.up) (each_without IsNullIfOwn k s.up g.known) g) in
       (ids.Up_lose k ∷ r.0, r.1)
   shown (Up_repeat k ∷ ts) s p h g =
       let r = shown ts (turns ends s (Up_repeat k)) (ids.moves p (ids.Up_repeat k)) h.1
-      (shows_up s p (doubled k s.up) (doubled k p.up) (ap (doubled k) g.up ∙ doubled_map mark_up k s.up) (each_doubled IsKnown k s.up g.known) g) in
+      (shows_up s p (doubled k s.up) (doubled k p.up) (ap (doubled k) g.up ∙ doubled_map mark_up k s.up) (each_doubled IsNullIfOwn k s.up g.known) g) in
       (ids.Up_repeat k ∷ r.0, r.1)
   shown (Down_lose k ∷ ts) s p h g =
       let r = shown ts (turns ends s (Down_lose k)) (ids.moves p (ids.Down_lose k)) h.1
@@ -246,12 +248,7 @@ module _ {State : Type 0} (ends : Ends State) (Good : State → Type 0) (kept : 
 
   -- Its start.
 
-  -- the id of the reply that is retained
-  abbrev kept_id : Option KeptReply → Option ℕ
-  kept_id None = None
-  kept_id (Some k) = Some k.id
-
-  -- what is in flight, as ids
+  -- what is in flight, as ids, all old, and the id of what is retained; the whole word is left
   abbrev marks : UnderWay State → ids.Model
   marks u = record {
     up = map (λ x. record { id = x.id; old = true }) u.up;
@@ -270,12 +267,12 @@ module _ {State : Type 0} (ends : Ends State) (Good : State → Type 0) (kept : 
   down_marks [] = refl
   down_marks (x ∷ xs) = ap (λ l. record { id = id_or (rule.heard x); old = true } ∷ l) (down_marks xs)
 
-  -- requests from before, with ids below 8, are `IsKnown`
-  known_old : (xs : List Request) → Each (λ x. x.id < 8) xs → Each IsKnown (map (λ x. record { old = true; line = x }) xs)
+  -- requests from before, with ids below 8, are `IsNullIfOwn`
+  known_old : (xs : List Request) → Each (λ x. x.id < 8) xs → Each IsNullIfOwn (map (λ x. record { old = true; line = x }) xs)
   known_old [] h = tt
   known_old (x ∷ xs) h = ((h.0, (λ o. absurd (true≢false o))), known_old xs h.1)
 
-  -- `Shows` holds at the start of a synchronization
+  -- `Shows` holds at the start of a synchronization over what is `IsWellFormed`
   shows_begins : (u : UnderWay State) → IsWellFormed Good u → Shows (begins u) (begun_anew the_word (marks u))
   shows_begins u h = record {
     up = up_marks u.up;
@@ -294,8 +291,9 @@ module _ {State : Type 0} (ends : Ends State) (Good : State → Type 0) (kept : 
   ids_up [] = refl
   ids_up (x ∷ xs) = ap (λ l. x.id ∷ l) (ids_up xs)
 
-  -- `ids` are the ids of some lines, with 8 for a line without one; `others` are the ids that these lines have. If each word
-  -- that `ids` contain is contained in `others`, the same holds with one line more before it, whose id, if any, is `o`
+  -- `ids` are the ids of some lines, with 8 for a line without one; `others` are the ids that these lines have. If each word of
+  -- ids below 8 that `ids` contain is contained in `others`, the same holds with one line more before them, whose id, if any, is
+  -- `o`
   of_lines : (o : Option ℕ) (word ids : List ℕ) (others : List ℕ) → IsSmall word → ((w : List ℕ) → IsSmall w → IsSubsequence w ids → IsSubsequence w others)
       → IsSubsequence word (id_or o ∷ ids) → IsSubsequence word (cons_option o others)
   of_lines o [] ids others s f h = tt
@@ -304,7 +302,7 @@ module _ {State : Type 0} (ends : Ends State) (Good : State → Type 0) (kept : 
   of_lines None (w ∷ word) ids others s f (inl h) = absurd (let low = s.0 in omega (arith, h.0, low))
   of_lines None (w ∷ word) ids others s f (inr h) = f (w ∷ word) s h
 
-  -- the other way: if each word that `others` contain is contained in `ids`, the same holds with one line more before it, whose
+  -- the other way: if each word that `others` contain is contained in `ids`, the same holds with one line more before them, whose
   -- id, if any, is `o`
   to_lines : (o : Option ℕ) (word ids others : List ℕ) → ((w : List ℕ) → IsSubsequence w others → IsSubsequence w ids) → IsSubsequence word (cons_option o others) → IsSubsequence word (id_or o ∷ ids)
   to_lines o [] ids others f h = tt
@@ -312,7 +310,8 @@ module _ {State : Type 0} (ends : Ends State) (Good : State → Type 0) (kept : 
   to_lines (Some id) (w ∷ word) ids others f (inr h) = inr (f (w ∷ word) h)
   to_lines None (w ∷ word) ids others f h = inr (f (w ∷ word) h)
 
-  -- a word that is in the ids of replies, with 8 for one without an id, and then of requests is in the ids that these have
+  -- a word of ids below 8 that is in the ids of replies, with 8 for a reply without one, followed by other ids (`up`) is in the
+  -- ids that the replies have, followed by the same ids (`ups`)
   marked_lines : (down : List (List ℕ)) (word up ups : List ℕ) → up ≡ ups → IsSmall word
       → IsSubsequence word (ids_of (map (λ x. record { id = id_or (rule.heard x); old = true }) down) ++ up)
       → IsSubsequence word (filter_map rule.heard down ++ ups)
@@ -327,8 +326,8 @@ module _ {State : Type 0} (ends : Ends State) (Good : State → Type 0) (kept : 
       split None word h = h
       split (Some id) word h = h
 
-  -- the other way: a word that is in the ids that replies have, and then of requests, is in their ids with 8 for a reply
-  -- without one
+  -- the other way: a word that is in the ids that replies have, followed by other ids (`up`), is in their ids with 8 for a reply
+  -- without one, followed by the same ids (`ups`)
   lines_marked : (down : List (InFlight (List ℕ))) (word up ups : List ℕ) → up ≡ ups
       → IsSubsequence word (filter_map rule.heard (map (λ x. x.line) down) ++ up) → IsSubsequence word (ids_of (map mark_down down) ++ ups)
   lines_marked [] word up ups e h = subst (IsSubsequence word) e h
@@ -342,7 +341,7 @@ module _ {State : Type 0} (ends : Ends State) (Good : State → Type 0) (kept : 
       split None word h = h
       split (Some id) word h = h
 
-  -- a word that isn't in the ids in flight isn't in those of the marks
+  -- a word of ids below 8 that isn't in the ids in flight isn't in those of the marks
   absent_marks : (u : UnderWay State) (word : List ℕ) → IsSmall word → (IsSubsequence word (ids_under_way u) → ⊥) → IsSubsequence word (under_way (marks u)) → ⊥
   absent_marks u word s none h = none (marked_lines u.down word (ids_of (marks u).up) (map (λ x. x.id) u.up) (ids_up u.up) s h)
 
@@ -351,7 +350,7 @@ module _ {State : Type 0} (ends : Ends State) (Good : State → Type 0) (kept : 
   up_left [] = refl
   up_left (x ∷ xs) = ap (λ l. x.line.id ∷ l) (up_left xs)
 
-  -- a word that is in what a synchronization leaves is in what the synchronization over ids leaves
+  -- where `Shows` holds of s and p, a word that is in the ids of what s leaves in flight is in the ids in flight in p
   left_marks : (s : Model State) (p : ids.Model) (word : List ℕ) → Shows s p → IsSubsequence word (ids_under_way (leaves s)) → IsSubsequence word (under_way p)
   left_marks s p word g h =
       subst (λ l. IsSubsequence word (ids_of l ++ ids_of p.up)) (sym g.down)
@@ -369,25 +368,27 @@ module _ {State : Type 0} (ends : Ends State) (Good : State → Type 0) (kept : 
   request_is : (x : Request) → x.id ≡ 7 → x.call ≡ (Table NullProc) → x ≡ eighth
   request_is x e f = ap₂ (λ (i : ℕ) (c : Asked). record { id = i; call = c }) e f
 
-  -- the requests in flight are copies of the eighth null procedure, if their marks say so
-  clean_up : (xs : List (InFlight Request)) → Each IsKnown xs → Each (λ x. (x.old ≡ false) × (x.id ≡ 7)) (map mark_up xs) → Each (λ x. (x.old ≡ false) × (x.line ≡ eighth)) xs
-  clean_up [] k h = tt
-  clean_up (x ∷ xs) k h = ((h.0.0, request_is x.line h.0.1 (k.0.1 h.0.0)), clean_up xs k.1 h.1)
+  -- requests in flight that are `IsNullIfOwn`, and by their marks not old and of id 7, are copies of the eighth null procedure,
+  -- and not old
+  up_is_clean : (xs : List (InFlight Request)) → Each IsNullIfOwn xs → Each (λ x. (x.old ≡ false) × (x.id ≡ 7)) (map mark_up xs) → Each (λ x. (x.old ≡ false) × (x.line ≡ eighth)) xs
+  up_is_clean [] k h = tt
+  up_is_clean (x ∷ xs) k h = ((h.0.0, request_is x.line h.0.1 (k.0.1 h.0.0)), up_is_clean xs k.1 h.1)
 
-  -- the replies in flight are replies to the eighth null procedure, if their marks say so
-  clean_down : (xs : List (InFlight (List ℕ))) → Each (λ x. (x.old ≡ false) × (x.id ≡ 7)) (map mark_down xs) → Each (λ x. (x.old ≡ false) × (rule.heard x.line ≡ Some 7)) xs
-  clean_down [] h = tt
-  clean_down (x ∷ xs) h = ((h.0.0, heard_seven (rule.heard x.line) h.0.1), clean_down xs h.1)
+  -- replies in flight that are by their marks not old and of id 7 are not old, and read as replies with id 7
+  down_is_clean : (xs : List (InFlight (List ℕ))) → Each (λ x. (x.old ≡ false) × (x.id ≡ 7)) (map mark_down xs) → Each (λ x. (x.old ≡ false) × (rule.heard x.line ≡ Some 7)) xs
+  down_is_clean [] h = tt
+  down_is_clean (x ∷ xs) h = ((h.0.0, heard_seven (rule.heard x.line) h.0.1), down_is_clean xs h.1)
 
-  -- a synchronization that is clean over ids is clean over lines
+  -- where `Shows` holds of s and p, and the synchronization over ids ended cleanly in p, that over lines ended cleanly in s
   clean : (s : Model State) (p : ids.Model) → Shows s p → IsClean 7 p → HasBegunCleanly kept s
   clean s p g c = record {
-    up = clean_up s.up g.known (subst (Each (λ x. (x.old ≡ false) × (x.id ≡ 7))) g.up c.up);
-    down = clean_down s.down (subst (Each (λ x. (x.old ≡ false) × (x.id ≡ 7))) g.down c.down);
+    up = up_is_clean s.up g.known (subst (Each (λ x. (x.old ≡ false) × (x.id ≡ 7))) g.up c.up);
+    down = down_is_clean s.down (subst (Each (λ x. (x.old ≡ false) × (x.id ≡ 7))) g.down c.down);
     keeps = λ k e. c.kept k.id (g.keeps k e);
   }
 
-  -- a synchronization that is done ended cleanly, unless the ids in flight at its start contain the word
+  -- if what is in flight at the start of a synchronization is well formed, its turns are possible, the ids in flight at its start
+  -- don't contain the word, and no id is left after its turns, it has ended cleanly
   pub begins_cleanly : (u : UnderWay State) (ts : List (Turn State)) → IsWellFormed Good u → AreTurns ends Good kept ts (begins u)
       → (IsSubsequence the_word (ids_under_way u) → ⊥) → (turned ends ts (begins u)).left ≡ []
       → HasBegunCleanly kept (turned ends ts (begins u))
@@ -396,24 +397,26 @@ module _ {State : Type 0} (ends : Ends State) (Good : State → Type 0) (kept : 
       clean (turned ends ts (begins u)) (moved r.0 (begun_anew the_word (marks u))) r.1
       (the_word_begins_cleanly (begun_anew the_word (marks u)) r.0 (begins_anew (marks u) (absent_marks u the_word word_small none)) (r.1.left ∙ done))
 
-  -- what a synchronization leaves, killed or not, is `IsWellFormed`: ids below 8, and an instrument in a good state
+  -- where what is in flight at the start of a synchronization is `IsWellFormed`, and its turns are possible, what it leaves,
+  -- killed or not, is `IsWellFormed`, too: requests with ids below 8, and an instrument in a good state
   pub left_lines : (u : UnderWay State) (ts : List (Turn State)) → IsWellFormed Good u → AreTurns ends Good kept ts (begins u) → IsWellFormed Good (leaves (turned ends ts (begins u)))
   left_lines u ts lines possible =
       let r = shown ts (begins u) (begun_anew the_word (marks u)) possible (shows_begins u lines) in
       record { ids = each_to_map (λ x. x.id < 8) (λ x. x.line) (turned ends ts (begins u)).up (only (turned ends ts (begins u)).up r.1.known); good = r.1.good }
     where
-      -- requests that are `IsKnown` have ids below 8
-      only : (xs : List (InFlight Request)) → Each IsKnown xs → Each (λ x. x.line.id < 8) xs
+      -- requests that are `IsNullIfOwn` have ids below 8
+      only : (xs : List (InFlight Request)) → Each IsNullIfOwn xs → Each (λ x. x.line.id < 8) xs
       only [] h = tt
       only (x ∷ xs) h = (h.0.0, only xs h.1)
 
-  -- if the ids in flight don't contain the front a, b, `more` of the word, those that a synchronization leaves, killed or not,
-  -- don't contain that front with the next id, c
+  -- where what is in flight at the start of a synchronization is `IsWellFormed`, its ids don't contain the front a, b, `more` of
+  -- the word, and the turns are possible: the ids that the synchronization leaves, killed or not, don't contain that front with
+  -- the next id of the word, c
   pub left_absent : (u : UnderWay State) (ts : List (Turn State)) (a b : ℕ) (more : List ℕ) (c : ℕ) (tail : List ℕ) → the_word ≡ a ∷ b ∷ (more ++ c ∷ tail)
       → IsWellFormed Good u → AreTurns ends Good kept ts (begins u)
       → (IsSubsequence (a ∷ b ∷ more) (ids_under_way u) → ⊥) → IsSubsequence (a ∷ b ∷ (more ++ c ∷ [])) (ids_under_way (leaves (turned ends ts (begins u)))) → ⊥
   left_absent u ts a b more c tail e lines possible none h =
       let r = shown ts (begins u) (begun_anew the_word (marks u)) possible (shows_begins u lines) in
-      let small : IsSmall (a ∷ b ∷ more) = each_front (λ i. i < 8) (a ∷ b ∷ more) (c ∷ tail) (subst IsSmall e word_small) in
+      let small : IsSmall (a ∷ b ∷ more) = all_front (λ i. i < 8) (a ∷ b ∷ more) (c ∷ tail) (subst IsSmall e word_small) in
       behind_one (marks u) r.0 a b more c tail e (absent_marks u (a ∷ b ∷ more) small none)
       (left_marks (turned ends ts (begins u)) (moved r.0 (begun_anew the_word (marks u))) (a ∷ b ∷ (more ++ c ∷ [])) r.1 h)

@@ -4,11 +4,13 @@
 -- `IsTrying` is the invariant.
 use Rattle.std.proofs.Common.{◌≡◌, ℕ, zero, ◌⊎◌, inl, inr, Bool, true, false, List, [], ◌∷◌, ◌++◌, nat_eq, refl, sym, ◌∙◌, ap, subst, append-nil, append_assoc}
 use Rattle.std.proofs.lemmas.Bool.{eqb-true, false≢true}
+use Rattle.std.proofs.lemmas.List.{map-append}
 use Rattle.gc_client.specs.Beginning.{left_by_one, IsSubsequence, the_word}
-use Rattle.gc_field.proofs.BeginIds.{Sent, Model, Move, heard, moved, aged, begun_anew, Pairs, AllDiffer, Begins, ids_of}
+use Rattle.gc_field.proofs.BeginIds.{IdSent, Model, Move, heard, moved, aged, begun_anew, Pairs, AllDiffer, Begins, ids_of}
 use Rattle.gc_world.specs.Order.{Each}
 use Rattle.gc_field.specs.World.{without, doubled}
-use Rattle.gc_field.proofs.BeginLists.{each_both, each_back, pairs_front, pairs_back}
+use Rattle.gc_lines.proofs.Lists.{all_behind}
+use Rattle.gc_field.proofs.BeginLists.{each_both, each_to_map, pairs_front, pairs_back}
 use Rattle.gc_field.proofs.BeginWords.{HasNoMoreWords, subword_front, subword_each, word_differs}
 use Rattle.gc_field.proofs.BeginMoves.{Lasts, holds_moved}
 use Rattle.gc_field.proofs.BeginLines.{IsLine, IsOld, IsOwn, KeepsOwn, HasNone, KeepsTheId, OwnIdsFit, old_if, olds, olds_all, olds_push, has_without, has_doubled, line_without, line_doubled, line_asked, line_came}
@@ -17,9 +19,9 @@ use Rattle.gc_world.proofs.Rows.{each_more, each_append, each_without, each_doub
 
 -- The invariant of one synchronization.
 
--- only old replies have answered yet, with the ids `done`: each word that is in the old ids now was in `first`, and so was
--- `done` with that word after it
-pub record IsHearing (first done : List ℕ) (line : List Sent) : Type 0 where
+-- only old replies have answered yet, with the ids `done`: each word without an id twice that is in the old ids now was in
+-- `first`; and so was `done` with a word after it that is in the old ids now, if no id is twice in both together
+pub record IsHearing (first done : List ℕ) (line : List IdSent) : Type 0 where
   pub from : HasNoMoreWords (olds line) first
   pub heard : (word : List ℕ) → AllDiffer (done ++ word) → IsSubsequence word (olds line) → IsSubsequence (done ++ word) first
 
@@ -29,16 +31,16 @@ IsAsked i [] = ⊥
 IsAsked i (asked ∷ later) = i ≡ asked
 
 -- this id is `p`, or the first that is left
-abbrev pub IsOneOfTwo : ℕ → List ℕ → ℕ → Type 0
+abbrev pub IsOneOfTwo : (p : ℕ) (left : List ℕ) (i : ℕ) → Type 0
 IsOneOfTwo p left i = (i ≡ p) ⊎ IsAsked i left
 
 -- once an own reply answered: all that is in flight is of this synchronization, and has two ids at most
-abbrev pub IsOver : List ℕ → List Sent → Type 0
+abbrev pub IsOver : List ℕ → List IdSent → Type 0
 IsOver left line = (p : ℕ) × Each (λ x. IsOwn x × IsOneOfTwo p left x.id) line
 
--- the invariant of a synchronization that may be killed: the ids `done` of the word are answered; and either only old replies
--- have answered yet, or an own one has, and no old line is in flight any more
-pub record IsTrying (z : ℕ) (word first left : List ℕ) (line : List Sent) : Type 0 where
+-- the invariant of a synchronization that may be killed: `IsLine` holds; the ids `done` of the word are answered; and either only
+-- old replies have answered yet, or an own one has, and no old line is in flight any more
+pub record IsTrying (z : ℕ) (word first left : List ℕ) (line : List IdSent) : Type 0 where
   pub sound : IsLine z left line
   pub done : List ℕ
   pub split : word ≡ done ++ left
@@ -47,7 +49,7 @@ pub record IsTrying (z : ℕ) (word first left : List ℕ) (line : List Sent) : 
 -- Old lines are lost or repeated.
 
 -- `IsHearing` is preserved if the old lines change, and their ids contain no more words
-hearing_has : (first done : List ℕ) (line other : List Sent) → HasNoMoreWords (olds other) (olds line) → IsHearing first done line → IsHearing first done other
+hearing_has : (first done : List ℕ) (line other : List IdSent) → HasNoMoreWords (olds other) (olds line) → IsHearing first done line → IsHearing first done other
 hearing_has first done line other has h =
     record {
       from = λ word d s. h.from word d (has word d s);
@@ -55,9 +57,9 @@ hearing_has first done line other has h =
     }
 
 module _ (z : ℕ) (word first : List ℕ) where
-  -- `IsTrying` is preserved if the line becomes `other`, of which `IsLine` holds, if the ids of the old lines contain no more words
-  -- then, and what holds of each line in flight once the old ones are over (`IsOver`) still does
-  trying_line : (left : List ℕ) (line other : List Sent) → IsLine z left other → HasNoMoreWords (olds other) (olds line)
+  -- `IsTrying` is preserved if the line becomes `other`, where `IsLine` holds of `other`, the old ids contain no more words then
+  -- (`HasNoMoreWords`), and each line is own and `IsOneOfTwo` then, if each was before
+  trying_line : (left : List ℕ) (line other : List IdSent) → IsLine z left other → HasNoMoreWords (olds other) (olds line)
       → ((p : ℕ) → Each (λ x. IsOwn x × IsOneOfTwo p left x.id) line → Each (λ x. IsOwn x × IsOneOfTwo p left x.id) other)
       → IsTrying z word first left line → IsTrying z word first left other
   trying_line left line other sound has each h =
@@ -73,32 +75,33 @@ module _ (z : ℕ) (word first : List ℕ) where
       }
 
   -- `IsTrying` is preserved if a line is lost
-  trying_lost : (left : List ℕ) (k : ℕ) (line : List Sent) → IsTrying z word first left line → IsTrying z word first left (without k line)
+  trying_lost : (left : List ℕ) (k : ℕ) (line : List IdSent) → IsTrying z word first left line → IsTrying z word first left (without k line)
   trying_lost left k line h =
       trying_line left line (without k line) (line_without z left k line h.sound) (has_without k line) (λ p g. each_without (λ x. IsOwn x × IsOneOfTwo p left x.id) k line g) h
 
   -- `IsTrying` is preserved if a line comes twice
-  trying_twice : (left : List ℕ) (k : ℕ) (line : List Sent) → IsTrying z word first left line → IsTrying z word first left (doubled k line)
+  trying_twice : (left : List ℕ) (k : ℕ) (line : List IdSent) → IsTrying z word first left line → IsTrying z word first left (doubled k line)
   trying_twice left k line h =
       trying_line left line (doubled k line) (line_doubled z left k line h.sound) (has_doubled k line) (λ p g. each_doubled (λ x. IsOwn x × IsOneOfTwo p left x.id) k line g) h
 
   -- `IsTrying` is preserved if the client asks
-  trying_asked : (id : ℕ) (later : List ℕ) (line : List Sent) → IsTrying z word first (id ∷ later) line → IsTrying z word first (id ∷ later) (line ++ record { id = id; old = false } ∷ [])
+  trying_asked : (id : ℕ) (later : List ℕ) (line : List IdSent) → IsTrying z word first (id ∷ later) line → IsTrying z word first (id ∷ later) (line ++ record { id = id; old = false } ∷ [])
   trying_asked id later line h =
-      let new : Sent = record { id = id; old = false } in
+      let new : IdSent = record { id = id; old = false } in
       trying_line (id ∷ later) line (line ++ new ∷ []) (line_asked z id later line h.sound) (λ v d s. subst (λ ids. IsSubsequence v ids) (olds_push id line) s)
       (λ p g. each_append (λ x. IsOwn x × IsOneOfTwo p (id ∷ later) x.id) line (new ∷ []) g ((refl, inr refl), tt)) h
 
   -- a reply comes, and is the answer
 
-  -- if a word v is in the ids of old lines, `id` and then v are in those of a line with that id, if it is old, and of those
-  -- lines after it
+  -- if a word v is in the ids of old lines, and an old line (`b`) with the id `id` is put before them, `id` followed by v is in
+  -- the ids of all of these
   old_contains : (b : Bool) (i id : ℕ) (ids v : List ℕ) → b ≡ true → i ≡ id → IsSubsequence v ids → IsSubsequence (id ∷ v) (old_if b i ids)
   old_contains true i id ids v o e s = inl (sym e, s)
   old_contains false i id ids v o e s = absurd (false≢true o)
 
-  -- `IsHearing` is preserved if an old reply answers
-  old_answers : (id : ℕ) (done : List ℕ) (x : Sent) (rest : List Sent) → IsOld x → x.id ≡ id → IsHearing first done (x ∷ rest) → IsHearing first (done ++ id ∷ []) rest
+  -- if the front line, x, is old and has the id `id`, `IsHearing` with the ids `done` before x is heard gives `IsHearing` with
+  -- `done` and then `id` of the lines after x
+  old_answers : (id : ℕ) (done : List ℕ) (x : IdSent) (rest : List IdSent) → IsOld x → x.id ≡ id → IsHearing first done (x ∷ rest) → IsHearing first (done ++ id ∷ []) rest
   old_answers id done x rest o e h =
       record {
         from = λ v d s. h.from v d (has_without zero (x ∷ rest) v d s);
@@ -106,23 +109,25 @@ module _ (z : ℕ) (word first : List ℕ) where
             (h.heard (id ∷ v) (subst AllDiffer (append_assoc done (id ∷ []) v) d) (old_contains x.old x.id id (olds rest) v o e s));
       }
 
-  -- if an own reply answers, the synchronization is `IsOver`
-  own_answers : (id : ℕ) (later : List ℕ) (x : Sent) (rest : List Sent) → IsLine z (id ∷ later) (x ∷ rest) → IsOwn x → x.id ≡ id → IsOver later rest
+  -- where `IsLine` holds, and the front line, x, is own and has the first id that is left, `IsOver` holds of the ids that are
+  -- left after that one, and the lines after x
+  own_answers : (id : ℕ) (later : List ℕ) (x : IdSent) (rest : List IdSent) → IsLine z (id ∷ later) (x ∷ rest) → IsOwn x → x.id ≡ id → IsOver later rest
   own_answers id later x rest h o e =
       (id, each_both (KeepsOwn x) (KeepsTheId id x) (λ y. IsOwn y × IsOneOfTwo id later y.id) (λ y f g. (f o, inl (g o e))) rest h.ordered.0 h.own.1.0)
 
-  -- if a reply answers, old or own, still only old replies have answered, or the old lines are over
-  phase_answered : (id : ℕ) (later done : List ℕ) (x : Sent) (rest : List Sent) (b : Bool) → x.old ≡ b → IsLine z (id ∷ later) (x ∷ rest) → x.id ≡ id
+  -- where `IsLine` holds, and the front line, x, has the first id that is left, `IsHearing` or `IsOver` still holds once x was
+  -- heard, be x old (`b` is true) or own
+  phase_answered : (id : ℕ) (later done : List ℕ) (x : IdSent) (rest : List IdSent) (b : Bool) → x.old ≡ b → IsLine z (id ∷ later) (x ∷ rest) → x.id ≡ id
       → IsHearing first done (x ∷ rest) ⊎ IsOver (id ∷ later) (x ∷ rest) → IsHearing first (done ++ id ∷ []) rest ⊎ IsOver later rest
   phase_answered id later done x rest false o h e p = inr (own_answers id later x rest h o e)
   phase_answered id later done x rest true o h e (inl g) = inl (old_answers id done x rest o e g)
   phase_answered id later done x rest true o h e (inr g) = absurd (false≢true (sym g.1.0.0 ∙ o))
 
   -- `IsTrying` is preserved if a reply comes
-  trying_came : (left : List ℕ) (x : Sent) (rest : List Sent) → IsTrying z word first left (x ∷ rest) → IsTrying z word first (heard left x.id) rest
+  trying_came : (left : List ℕ) (x : IdSent) (rest : List IdSent) → IsTrying z word first left (x ∷ rest) → IsTrying z word first (heard left x.id) rest
   trying_came [] x rest h = trying_lost [] zero (x ∷ rest) h
   trying_came (id ∷ later) x rest h = chosen (nat_eq x.id id) refl (line_came z (id ∷ later) x rest h.sound) where
-    -- whether the reply has the id that is asked for (`b`) or not
+    -- the lemma above, by whether the reply has the id that is asked for (`b`)
     chosen : (b : Bool) → nat_eq x.id id ≡ b → IsLine z (left_by_one (nat_eq x.id id) id later) rest → IsTrying z word first (left_by_one b id later) rest
     chosen true e line =
         record {
@@ -160,15 +165,12 @@ fronts (d ∷ done) left (a ∷ front) c tail e =
 
 -- ids that don't have the last id c of a word don't contain the word
 own_has_no : (front : List ℕ) (c : ℕ) (ids : List ℕ) → Each (λ i. c ≡ i → ⊥) ids → IsSubsequence (front ++ c ∷ []) ids → ⊥
-own_has_no front c ids h s = (each_back (λ i. c ≡ i → ⊥) front (c ∷ []) (subword_each (λ i. c ≡ i → ⊥) (front ++ c ∷ []) ids h s)).0 refl
+own_has_no front c ids h s = (all_behind (λ i. c ≡ i → ⊥) front (c ∷ []) (subword_each (λ i. c ≡ i → ⊥) (front ++ c ∷ []) ids h s)).0 refl
 
--- what holds of the id of each request or reply holds of each of their ids
-each_id : (P : ℕ → Type 0) (xs : List Sent) → Each (λ x. P x.id) xs → Each P (ids_of xs)
-each_id P [] h = tt
-each_id P (x ∷ xs) h = (h.0, each_id P xs h.1)
-
--- a word that is in the ids of lines, and whose last id no own line has, is in the ids of the old lines
-in_old : (xs : List Sent) (front : List ℕ) (c : ℕ) → Pairs KeepsOwn xs → Each (λ x. IsOwn x → c ≡ x.id → ⊥) xs → IsSubsequence (front ++ c ∷ []) (ids_of xs) → IsSubsequence (front ++ c ∷ []) (olds xs)
+-- where no old line is after an own one, a word that is in the ids of lines, and whose last id, c, no own line has, is in the ids
+-- of the old lines
+in_old : (xs : List IdSent) (front : List ℕ) (c : ℕ) → Pairs KeepsOwn xs → Each (λ x. IsOwn x → c ≡ x.id → ⊥) xs
+    → IsSubsequence (front ++ c ∷ []) (ids_of xs) → IsSubsequence (front ++ c ∷ []) (olds xs)
 in_old [] front c before none s = s
 in_old (x ∷ xs) front c before none s = chosen x.old refl (λ f. in_old xs f c before.1 none.1) front s where
   -- the lemma above, by whether the first line is old (`b`)
@@ -181,8 +183,8 @@ in_old (x ∷ xs) front c before none s = chosen x.old refl (λ f. in_old xs f c
   chosen false o f front s =
       absurd (own_has_no front c (x.id ∷ ids_of xs) (
         none.0 o,
-        each_id
-            (λ i. c ≡ i → ⊥) xs (each_both (KeepsOwn x) (λ y. IsOwn y → c ≡ y.id → ⊥) (λ y. c ≡ y.id → ⊥) (λ y g n. n (g o)) xs before.0 none.1),
+        each_to_map
+            (λ i. c ≡ i → ⊥) (λ (y : IdSent). y.id) xs (each_both (KeepsOwn x) (λ y. IsOwn y → c ≡ y.id → ⊥) (λ y. c ≡ y.id → ⊥) (λ y g n. n (g o)) xs before.0 none.1),
       ) s)
 
 -- only one id is the first that is left
@@ -199,18 +201,18 @@ not_three p left a b c ab ac bc (inl x) (inr y) (inr z) = bc (same_asked left b 
 not_three p left a b c ab ac bc (inr x) (inl y) (inl z) = bc (y ∙ sym z)
 not_three p left a b c ab ac bc (inr x) (inl y) (inr z) = ac (same_asked left a c x z)
 
--- where each line in flight is own and has an id that is `IsOneOfTwo`, the ids in flight don't contain a word of three or more ids
--- that differ
-over_short : (p : ℕ) (left word : List ℕ) (line : List Sent) (a b c : ℕ) → AllDiffer (a ∷ b ∷ c ∷ word)
+-- where each line in flight is own and has an id that is `IsOneOfTwo`, the ids in flight don't contain a word of three or more
+-- ids that differ
+over_short : (p : ℕ) (left word : List ℕ) (line : List IdSent) (a b c : ℕ) → AllDiffer (a ∷ b ∷ c ∷ word)
     → Each (λ x. IsOwn x × IsOneOfTwo p left x.id) line → IsSubsequence (a ∷ b ∷ c ∷ word) (ids_of line) → ⊥
 over_short p left word line a b c d h s =
     let near = subword_each (IsOneOfTwo p left) (a ∷ b ∷ c ∷ word) (ids_of line)
-    (each_id (IsOneOfTwo p left) line (each_more (λ x. IsOwn x × IsOneOfTwo p left x.id) (λ x. IsOneOfTwo p left x.id) (λ x g. g.1) line h)) s in
+    (each_to_map (IsOneOfTwo p left) (λ (x : IdSent). x.id) line (each_more (λ x. IsOwn x × IsOneOfTwo p left x.id) (λ x. IsOneOfTwo p left x.id) (λ x g. g.1) line h)) s in
     not_three p left a b c d.0.0 d.0.1.0 d.1.0.0 near.0 near.1.0 near.1.1.0
 
--- if the ids at the start didn't contain the front a, b, `more` of the word, the ids in flight later don't contain that front
--- with the next id, c
-no_longer : (z : ℕ) (word first left : List ℕ) (line : List Sent) (a b : ℕ) (more : List ℕ) (c : ℕ) (tail : List ℕ) → word ≡ a ∷ b ∷ (more ++ c ∷ tail) → AllDiffer word
+-- where `IsTrying` holds of what is in flight, and no id is in the word twice: if the ids at the start (`first`) didn't contain
+-- the front a, b, `more` of the word, the ids in flight don't contain that front with the next id, c
+no_longer : (z : ℕ) (word first left : List ℕ) (line : List IdSent) (a b : ℕ) (more : List ℕ) (c : ℕ) (tail : List ℕ) → word ≡ a ∷ b ∷ (more ++ c ∷ tail) → AllDiffer word
     → (IsSubsequence (a ∷ b ∷ more) first → ⊥) → IsTrying z word first left line → IsSubsequence (a ∷ b ∷ (more ++ c ∷ [])) (ids_of line) → ⊥
 no_longer z word first left line a b more c tail e d none h s =
     elim h.phase [
@@ -238,7 +240,7 @@ no_longer z word first left line a b more c tail e d none h s =
     -- where c isn't answered yet, and isn't the first id left, no own line has it
     own_none : (asked : ℕ) (between : List ℕ) → left ≡ asked ∷ (between ++ c ∷ tail) → Each (λ x. IsOwn x → c ≡ x.id → ⊥) line
     own_none asked between f =
-        each_more (HasNone (between ++ c ∷ tail)) (λ x. IsOwn x → c ≡ x.id → ⊥) (λ x g o. (each_back (λ i. i ≡ x.id → ⊥) between (c ∷ tail) (g o)).0) line
+        each_more (HasNone (between ++ c ∷ tail)) (λ x. IsOwn x → c ≡ x.id → ⊥) (λ x g o. (all_behind (λ i. i ≡ x.id → ⊥) between (c ∷ tail) (g o)).0) line
         (subst (λ l. OwnIdsFit z l line) f h.sound.own).0
 
     -- the front with c has a third id, so it isn't in the ids of lines that have two ids at most
@@ -248,20 +250,15 @@ no_longer z word first left line a b more c tail e d none h s =
 
 -- One synchronization after the other.
 
--- making requests old leaves their ids
-ids_aged : (xs : List Sent) → ids_of (aged xs) ≡ ids_of xs
+-- requests or replies that are made old (`aged`) have the same ids as before
+ids_aged : (xs : List IdSent) → ids_of (aged xs) ≡ ids_of xs
 ids_aged [] = refl
 ids_aged (x ∷ xs) = ap (λ l. x.id ∷ l) (ids_aged xs)
 
--- all requests that are made old are old
-all_aged : (xs : List Sent) → Each IsOld (aged xs)
+-- all requests or replies that are made old (`aged`) are old
+all_aged : (xs : List IdSent) → Each IsOld (aged xs)
 all_aged [] = tt
 all_aged (x ∷ xs) = (refl, all_aged xs)
-
--- the ids of two lists are those of the first and then those of the second
-ids_append : (xs ys : List Sent) → ids_of (xs ++ ys) ≡ ids_of xs ++ ids_of ys
-ids_append [] ys = refl
-ids_append (x ∷ xs) ys = ap (λ l. x.id ∷ l) (ids_append xs ys)
 
 -- the ids in flight, those of replies first
 abbrev pub under_way : Model → List ℕ
@@ -271,11 +268,11 @@ under_way s = ids_of s.down ++ ids_of s.up
 ids_anew : (s : Model) → under_way (begun_anew the_word s) ≡ under_way s
 ids_anew s = ap (λ l. l ++ ids_of (aged s.up)) (ids_aged s.down) ∙ ap (λ l. ids_of s.down ++ l) (ids_aged s.up)
 
--- a synchronization begins over what is in flight, if the word isn't in that
+-- `Begins` holds of a synchronization that starts over what is in flight, if the ids in flight don't contain the word
 pub begins_anew : (s : Model) → (IsSubsequence the_word (under_way s) → ⊥) → Begins the_word (begun_anew the_word s)
 begins_anew s none = record { left = refl; up = all_aged s.up; down = all_aged s.down; absent = λ h. none (subst (λ ids. IsSubsequence the_word ids) (ids_anew s) h) }
 
--- `IsTrying` holds at the start
+-- `IsTrying` holds at the start of a synchronization (`Begins`)
 trying_at_start : (s : Model) → Begins the_word s → IsTrying 7 the_word (under_way s) s.left (s.down ++ s.up)
 trying_at_start s h =
     let same = olds_all s.down s.up h.down h.up in
@@ -286,8 +283,8 @@ trying_at_start s h =
       phase = inl (record { from = λ v d g. subst (λ ids. IsSubsequence v ids) same g; heard = λ v d g. subst (λ ids. IsSubsequence v ids) same g });
     }
 
--- if the ids in flight don't contain the front a, b, `more` of the word, those after a synchronization that is killed anywhere
--- don't contain that front with the next id, c
+-- if the ids in flight don't contain the front a, b, `more` of the word, those after any moves of a synchronization, wherever it
+-- is killed, don't contain that front with the next id, c
 pub behind_one : (s : Model) (ms : List Move) (a b : ℕ) (more : List ℕ) (c : ℕ) (tail : List ℕ) → the_word ≡ a ∷ b ∷ (more ++ c ∷ tail)
     → (IsSubsequence (a ∷ b ∷ more) (under_way s) → ⊥) → IsSubsequence (a ∷ b ∷ (more ++ c ∷ [])) (under_way (moved ms (begun_anew the_word s))) → ⊥
 behind_one s ms a b more c tail e none h =
@@ -297,4 +294,4 @@ behind_one s ms a b more c tail e none h =
     let trying = holds_moved (IsTrying 7 the_word (under_way anew)) (trying_lasts 7 the_word (under_way anew)) ms anew (trying_at_start anew begins) in
     no_longer 7 the_word (under_way anew) end.left (end.down ++ end.up) a b more c tail e word_differs
     (λ g. none (subst (λ ids. IsSubsequence (a ∷ b ∷ more) ids) (ids_anew s) g)) trying
-    (subst (λ ids. IsSubsequence (a ∷ b ∷ (more ++ c ∷ [])) ids) (sym (ids_append end.down end.up)) h)
+    (subst (λ ids. IsSubsequence (a ∷ b ∷ (more ++ c ∷ [])) ids) (sym (map-append (λ (x : IdSent). x.id) end.down end.up)) h)

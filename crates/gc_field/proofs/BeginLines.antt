@@ -4,7 +4,7 @@
 use Rattle.std.proofs.Common.{◌≡◌, ℕ, zero, suc, inl, Bool, true, false, List, [], ◌∷◌, ◌++◌, nat_eq, refl, sym, ◌∙◌, ap, subst}
 use Rattle.std.proofs.lemmas.Bool.{eqb-true, true≢false, false≢true}
 use Rattle.gc_client.specs.Beginning.{left_by_one, IsSubsequence}
-use Rattle.gc_field.proofs.BeginIds.{Sent, heard, Pairs, AllDiffer, ids_of, last}
+use Rattle.gc_field.proofs.BeginIds.{IdSent, heard, Pairs, AllDiffer, ids_of, last}
 use Rattle.gc_world.specs.Order.{Each}
 use Rattle.gc_field.specs.World.{without, doubled}
 use Rattle.gc_field.proofs.BeginLists.{pairs_without, pairs_doubled, pairs_push, pairs_of_each}
@@ -14,11 +14,11 @@ use Rattle.gc_world.proofs.Rows.{each_more, each_append, each_without, each_doub
 -- The invariant.
 
 -- this line is from before the synchronization
-abbrev pub IsOld : Sent → Type 0
+abbrev pub IsOld : IdSent → Type 0
 IsOld x = x.old ≡ true
 
 -- this line is of the synchronization
-abbrev pub IsOwn : Sent → Type 0
+abbrev pub IsOwn : IdSent → Type 0
 IsOwn x = x.old ≡ false
 
 -- these ids, with i before it if that is the id of an old line (true)
@@ -27,30 +27,31 @@ old_if true i ids = i ∷ ids
 old_if false i ids = ids
 
 -- the ids of the old lines
-abbrev pub olds : List Sent → List ℕ
+abbrev pub olds : List IdSent → List ℕ
 olds [] = []
 olds (x ∷ xs) = old_if x.old x.id (olds xs)
 
 -- if x is own, so is y, which is after it
-abbrev pub KeepsOwn : Sent → Sent → Type 0
+abbrev pub KeepsOwn : (x y : IdSent) → Type 0
 KeepsOwn x y = IsOwn x → IsOwn y
 
 -- if x is own, it has none of these ids
-abbrev pub HasNone : List ℕ → Sent → Type 0
+abbrev pub HasNone : List ℕ → IdSent → Type 0
 HasNone ids x = IsOwn x → Each (λ i. i ≡ x.id → ⊥) ids
 
 -- if x is own and has the id `asked`, y, which is after it, has that id, too
-abbrev pub KeepsTheId : ℕ → Sent → Sent → Type 0
+abbrev pub KeepsTheId : (asked : ℕ) (x y : IdSent) → Type 0
 KeepsTheId asked x y = IsOwn x → x.id ≡ asked → y.id ≡ asked
 
 -- what holds of the own lines. If no id is left, each has the last id of the word. Else none has one of the ids `later`, and
 -- after a line with the id `asked` each line has that id
-abbrev pub OwnIdsFit : ℕ → List ℕ → List Sent → Type 0
+abbrev pub OwnIdsFit : ℕ → List ℕ → List IdSent → Type 0
 OwnIdsFit z [] line = Each (λ x. IsOwn x → x.id ≡ z) line
 OwnIdsFit z (asked ∷ later) line = Each (HasNone later) line × Pairs (KeepsTheId asked) line
 
--- the invariant of all that is in flight, replies first
-pub record IsLine (z : ℕ) (left : List ℕ) (line : List Sent) : Type 0 where
+-- the invariant of all that is in flight, replies first: the ids that are left differ, and the last of them, if any is left, is
+-- z; each own line is behind the old ones; and the own lines are as `OwnIdsFit` says
+pub record IsLine (z : ℕ) (left : List ℕ) (line : List IdSent) : Type 0 where
   pub differ : AllDiffer left
   pub ends : last z left ≡ z
   pub ordered : Pairs KeepsOwn line
@@ -71,12 +72,12 @@ own_if true i ids e = absurd (cons_not_nil i ids e)
 own_if false i ids e = (refl, e)
 
 -- own lines have no old ids
-pub olds_none : (xs : List Sent) → Each IsOwn xs → olds xs ≡ []
+pub olds_none : (xs : List IdSent) → Each IsOwn xs → olds xs ≡ []
 olds_none [] h = refl
 olds_none (x ∷ xs) h = none_if x.old x.id (olds xs) h.0 (olds_none xs h.1)
 
 -- if there are no old ids, each line is own
-pub each_own : (xs : List Sent) → olds xs ≡ [] → Each IsOwn xs
+pub each_own : (xs : List IdSent) → olds xs ≡ [] → Each IsOwn xs
 each_own [] e = tt
 each_own (x ∷ xs) e = let h = own_if x.old x.id (olds xs) e in (h.0, each_own xs h.1)
 
@@ -86,13 +87,13 @@ all_if true i ids others e f = ap (λ l. i ∷ l) f
 all_if false i ids others e f = absurd (false≢true e)
 
 -- if all lines are old, the old ids are those of all lines
-pub olds_all : (xs ys : List Sent) → Each IsOld xs → Each IsOld ys → olds (xs ++ ys) ≡ ids_of xs ++ ids_of ys
+pub olds_all : (xs ys : List IdSent) → Each IsOld xs → Each IsOld ys → olds (xs ++ ys) ≡ ids_of xs ++ ids_of ys
 olds_all [] [] h g = refl
 olds_all [] (y ∷ ys) h g = all_if y.old y.id (olds ys) (ids_of ys) g.0 (olds_all [] ys tt g.1)
 olds_all (x ∷ xs) ys h g = all_if x.old x.id (olds (xs ++ ys)) (ids_of xs ++ ids_of ys) h.0 (olds_all xs ys h.1 g)
 
 -- an own line at the end adds no old id
-pub olds_push : (i : ℕ) (xs : List Sent) → olds (xs ++ record { id = i; old = false } ∷ []) ≡ olds xs
+pub olds_push : (i : ℕ) (xs : List IdSent) → olds (xs ++ record { id = i; old = false } ∷ []) ≡ olds xs
 olds_push i [] = refl
 olds_push i (x ∷ xs) = ap (λ l. old_if x.old x.id l) (olds_push i xs)
 
@@ -112,13 +113,13 @@ has_twice_if true i ids = has_twice i ids
 has_twice_if false i ids = λ word d h. h
 
 -- if a line is lost, no more words without an id twice are in the old ids
-pub has_without : (k : ℕ) (line : List Sent) → HasNoMoreWords (olds (without k line)) (olds line)
+pub has_without : (k : ℕ) (line : List IdSent) → HasNoMoreWords (olds (without k line)) (olds line)
 has_without k [] = λ word d h. h
 has_without zero (x ∷ xs) = has_less_if x.old x.id (olds xs)
 has_without (suc k) (x ∷ xs) = has_if x.old x.id (olds (without k xs)) (olds xs) (has_without k xs)
 
 -- if a line comes twice, no more words without an id twice are in the old ids
-pub has_doubled : (k : ℕ) (line : List Sent) → HasNoMoreWords (olds (doubled k line)) (olds line)
+pub has_doubled : (k : ℕ) (line : List IdSent) → HasNoMoreWords (olds (doubled k line)) (olds line)
 has_doubled k [] = λ word d h. h
 has_doubled zero (x ∷ xs) = has_twice_if x.old x.id (olds xs)
 has_doubled (suc k) (x ∷ xs) = has_if x.old x.id (olds (doubled k xs)) (olds xs) (has_doubled k xs)
@@ -126,17 +127,17 @@ has_doubled (suc k) (x ∷ xs) = has_if x.old x.id (olds (doubled k xs)) (olds x
 -- The line loses one, or repeats one.
 
 -- `OwnIdsFit` is preserved if a line is lost
-own_without : (z : ℕ) (left : List ℕ) (k : ℕ) (line : List Sent) → OwnIdsFit z left line → OwnIdsFit z left (without k line)
+own_without : (z : ℕ) (left : List ℕ) (k : ℕ) (line : List IdSent) → OwnIdsFit z left line → OwnIdsFit z left (without k line)
 own_without z [] k line h = each_without (λ x. IsOwn x → x.id ≡ z) k line h
 own_without z (asked ∷ later) k line h = (each_without (HasNone later) k line h.0, pairs_without (KeepsTheId asked) k line h.1)
 
 -- `OwnIdsFit` is preserved if a line comes twice
-own_doubled : (z : ℕ) (left : List ℕ) (k : ℕ) (line : List Sent) → OwnIdsFit z left line → OwnIdsFit z left (doubled k line)
+own_doubled : (z : ℕ) (left : List ℕ) (k : ℕ) (line : List IdSent) → OwnIdsFit z left line → OwnIdsFit z left (doubled k line)
 own_doubled z [] k line h = each_doubled (λ x. IsOwn x → x.id ≡ z) k line h
 own_doubled z (asked ∷ later) k line h = (each_doubled (HasNone later) k line h.0, pairs_doubled (KeepsTheId asked) (λ x o e. e) k line h.1)
 
 -- `IsLine` is preserved if a line is lost
-pub line_without : (z : ℕ) (left : List ℕ) (k : ℕ) (line : List Sent) → IsLine z left line → IsLine z left (without k line)
+pub line_without : (z : ℕ) (left : List ℕ) (k : ℕ) (line : List IdSent) → IsLine z left line → IsLine z left (without k line)
 line_without z left k line h =
     record {
       differ = h.differ;
@@ -147,7 +148,7 @@ line_without z left k line h =
     }
 
 -- `IsLine` is preserved if a line comes twice
-pub line_doubled : (z : ℕ) (left : List ℕ) (k : ℕ) (line : List Sent) → IsLine z left line → IsLine z left (doubled k line)
+pub line_doubled : (z : ℕ) (left : List ℕ) (k : ℕ) (line : List IdSent) → IsLine z left line → IsLine z left (doubled k line)
 line_doubled z left k line h =
     record {
       differ = h.differ;
@@ -160,9 +161,9 @@ line_doubled z left k line h =
 -- A null procedure is sent.
 
 -- `IsLine` is preserved if the client asks
-pub line_asked : (z asked : ℕ) (later : List ℕ) (line : List Sent) → IsLine z (asked ∷ later) line → IsLine z (asked ∷ later) (line ++ record { id = asked; old = false } ∷ [])
+pub line_asked : (z asked : ℕ) (later : List ℕ) (line : List IdSent) → IsLine z (asked ∷ later) line → IsLine z (asked ∷ later) (line ++ record { id = asked; old = false } ∷ [])
 line_asked z asked later line h =
-    let new : Sent = record { id = asked; old = false } in
+    let new : IdSent = record { id = asked; old = false } in
     record {
       differ = h.differ;
       ends = h.ends;
@@ -176,27 +177,28 @@ line_asked z asked later line h =
 
 -- The front reply comes.
 
--- where the old ids contain `asked` and then the word only if there are no old ids, the front line isn't an old one with the id
--- `asked` if the old ids after it contain the word
+-- if the front line is old (`b`) and has the id `asked` (`i`), and the old ids contain `asked` followed by the word only if there
+-- are no old ids: the old ids after the front line (`ids`) don't contain the word
 no_old : (b : Bool) (i asked : ℕ) (ids word : List ℕ) → b ≡ true → i ≡ asked → (IsSubsequence (asked ∷ word) (old_if b i ids) → old_if b i ids ≡ []) → IsSubsequence word ids → ⊥
 no_old true i asked ids word o e f s = cons_not_nil i ids (f (inl (sym e, s)))
 no_old false i asked ids word o e f s = false≢true o
 
--- if one id is left, a reply with that id is of this synchronization
-pub is_own : (z asked : ℕ) (x : Sent) (rest : List Sent) → IsLine z (asked ∷ []) (x ∷ rest) → x.id ≡ asked → IsOwn x
+-- where `IsLine` holds, one id is left, and the front line, x, has that id, x is own
+pub is_own : (z asked : ℕ) (x : IdSent) (rest : List IdSent) → IsLine z (asked ∷ []) (x ∷ rest) → x.id ≡ asked → IsOwn x
 is_own z asked x rest h e = chosen x.old refl where
   -- the lemma above, by whether the reply is old (`b`)
   chosen : (b : Bool) → x.old ≡ b → x.old ≡ false
   chosen true o = absurd (no_old x.old x.id asked (olds rest) [] o e h.clear tt)
   chosen false o = o
 
--- where z is the last id of a word, it is also that of the word without its first id, if any id is left
+-- where the last id of `asked` and the ids after it, `later`, is z, the last id of `later` is z, too, if `later` isn't empty
 ends_behind : (z asked : ℕ) (later : List ℕ) → last asked later ≡ z → last z later ≡ z
 ends_behind z asked [] e = refl
 ends_behind z asked (i ∷ later) e = e
 
--- `OwnIdsFit` is preserved if a reply answers
-own_answered : (z asked : ℕ) (later : List ℕ) (x : Sent) (rest : List Sent) → IsLine z (asked ∷ later) (x ∷ rest) → x.id ≡ asked → OwnIdsFit z later rest
+-- where `IsLine` holds, and the front line, x, has the first id that is left, `OwnIdsFit` holds of the ids left after that one,
+-- and the lines after x
+own_answered : (z asked : ℕ) (later : List ℕ) (x : IdSent) (rest : List IdSent) → IsLine z (asked ∷ later) (x ∷ rest) → x.id ≡ asked → OwnIdsFit z later rest
 own_answered z asked [] x rest h e =
     each_more (KeepsTheId asked x) (λ y. IsOwn y → y.id ≡ z) (λ y f o. f (is_own z asked x rest h e) e ∙ h.ends) rest h.own.1.0
 own_answered z asked (i ∷ later) x rest h e = (
@@ -204,8 +206,9 @@ own_answered z asked (i ∷ later) x rest h e = (
   pairs_of_each (HasNone (i ∷ later)) (KeepsTheId i) (λ y w f o g. absurd ((f o).0 (sym g))) rest h.own.0.1,
 )
 
--- once a reply answered, the ids that are left then are in the old ids only if there is no old line
-clear_answered : (z asked : ℕ) (later : List ℕ) (x : Sent) (rest : List Sent) → IsLine z (asked ∷ later) (x ∷ rest) → x.id ≡ asked → IsSubsequence later (olds rest) → olds rest ≡ []
+-- where `IsLine` holds, and the front line, x, has the first id that is left, the old ids after x contain the ids left after that
+-- one only if there is no old line after x
+clear_answered : (z asked : ℕ) (later : List ℕ) (x : IdSent) (rest : List IdSent) → IsLine z (asked ∷ later) (x ∷ rest) → x.id ≡ asked → IsSubsequence later (olds rest) → olds rest ≡ []
 clear_answered z asked later x rest h e s = chosen x.old refl where
   -- the lemma above, by whether the reply is old (`b`)
   chosen : (b : Bool) → x.old ≡ b → olds rest ≡ []
@@ -213,7 +216,7 @@ clear_answered z asked later x rest h e s = chosen x.old refl where
   chosen false o = olds_none rest (each_more (KeepsOwn x) IsOwn (λ y f. f o) rest h.ordered.0)
 
 -- `IsLine` is preserved if a reply answers
-line_answered : (z asked : ℕ) (later : List ℕ) (x : Sent) (rest : List Sent) → IsLine z (asked ∷ later) (x ∷ rest) → x.id ≡ asked → IsLine z later rest
+line_answered : (z asked : ℕ) (later : List ℕ) (x : IdSent) (rest : List IdSent) → IsLine z (asked ∷ later) (x ∷ rest) → x.id ≡ asked → IsLine z later rest
 line_answered z asked later x rest h e =
     record {
       differ = h.differ.1;
@@ -224,7 +227,7 @@ line_answered z asked later x rest h e =
     }
 
 -- `IsLine` is preserved if a reply comes
-pub line_came : (z : ℕ) (left : List ℕ) (x : Sent) (rest : List Sent) → IsLine z left (x ∷ rest) → IsLine z (heard left x.id) rest
+pub line_came : (z : ℕ) (left : List ℕ) (x : IdSent) (rest : List IdSent) → IsLine z left (x ∷ rest) → IsLine z (heard left x.id) rest
 line_came z [] x rest h = line_without z [] zero (x ∷ rest) h
 line_came z (asked ∷ later) x rest h = chosen (nat_eq x.id asked) refl where
   -- the lemma above, by whether the reply has the id that is asked for (`b`)

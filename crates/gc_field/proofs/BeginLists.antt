@@ -1,23 +1,19 @@
--- What holds of each element, and of each two, when one is lost, comes twice, or comes at the end; and if a queue's element
--- is in the whole line. `Pairs R` says R of each element and each one after it; `without k` is the loss of element k, and
--- `doubled k` its repeat.
-use Rattle.std.proofs.Common.{◌≡◌, ℕ, zero, suc, ◌⊎◌, inl, inr, List, [], ◌∷◌, ◌++◌, refl, ap}
+-- What holds of each element, and of each two, when one is lost, comes twice, or comes at the end; and that what is lost or
+-- comes twice in one of two queues is so in the whole line, the one queue and then the other. `Pairs R` says R of each element
+-- and each one after it; `without k` is the loss of element k, and `doubled k` its repeat.
+use Rattle.std.proofs.Common.{◌≡◌, ℕ, zero, suc, ◌⊎◌, inl, inr, List, [], ◌∷◌, ◌++◌, map, refl, ap}
+use Rattle.gc_lines.proofs.Lists.{all_front, all_behind}
 use Rattle.gc_field.proofs.BeginIds.{Pairs}
 use Rattle.gc_world.specs.Order.{Each}
 use Rattle.gc_field.specs.World.{without, doubled}
 use Rattle.gc_world.proofs.Rows.{each_append, each_without, each_doubled}
 
+-- where P holds of f x for each element x of a list, P holds of each element of the mapped list
+pub each_to_map : {A B : Type 0} (P : B → Type 0) (f : A → B) (xs : List A) → Each (λ x. P (f x)) xs → Each P (map f xs)
+each_to_map P f [] h = tt
+each_to_map P f (x ∷ xs) h = (h.0, each_to_map P f xs h.1)
+
 module _ {A : Type 0} where
-  -- what each element of a joined list has, each of its front has
-  pub each_front : (P : A → Type 0) (xs ys : List A) → Each P (xs ++ ys) → Each P xs
-  each_front P [] ys h = tt
-  each_front P (x ∷ xs) ys h = (h.0, each_front P xs ys h.1)
-
-  -- what each element of a joined list has, each of its back has
-  pub each_back : (P : A → Type 0) (xs ys : List A) → Each P (xs ++ ys) → Each P ys
-  each_back P [] ys h = h
-  each_back P (x ∷ xs) ys h = each_back P xs ys h.1
-
   -- where P and Q imply R, and each element has both, each has R
   pub each_both : (P Q R : A → Type 0) → ((x : A) → P x → Q x → R x) → (xs : List A) → Each P xs → Each Q xs → Each R xs
   each_both P Q R f [] h g = tt
@@ -43,7 +39,7 @@ module _ {A : Type 0} where
   -- `Pairs` of a joined list holds of its front
   pub pairs_front : (R : A → A → Type 0) (xs ys : List A) → Pairs R (xs ++ ys) → Pairs R xs
   pairs_front R [] ys h = tt
-  pairs_front R (x ∷ xs) ys h = (each_front (R x) xs ys h.0, pairs_front R xs ys h.1)
+  pairs_front R (x ∷ xs) ys h = (all_front (R x) xs ys h.0, pairs_front R xs ys h.1)
 
   -- `Pairs` of a joined list holds of its back
   pub pairs_back : (R : A → A → Type 0) (xs ys : List A) → Pairs R (xs ++ ys) → Pairs R ys
@@ -53,9 +49,9 @@ module _ {A : Type 0} where
   -- where `Pairs` holds, each element before y has the relation to y
   pub pairs_before : (R : A → A → Type 0) (xs : List A) (y : A) (ys : List A) → Pairs R (xs ++ y ∷ ys) → Each (λ x. R x y) xs
   pairs_before R [] y ys h = tt
-  pairs_before R (x ∷ xs) y ys h = ((each_back (R x) xs (y ∷ ys) h.0).0, pairs_before R xs y ys h.1)
+  pairs_before R (x ∷ xs) y ys h = ((all_behind (R x) xs (y ∷ ys) h.0).0, pairs_before R xs y ys h.1)
 
-  -- if all elements satisfy P, and R holds of any two that do, `Pairs` holds
+  -- if all elements satisfy P, and whatever satisfies P has the relation to everything, `Pairs` holds
   pub pairs_of_each : (P : A → Type 0) (R : A → A → Type 0) → ((x y : A) → P x → R x y) → (xs : List A) → Each P xs → Pairs R xs
   pairs_of_each P R f [] h = tt
   pairs_of_each P R f (x ∷ xs) h = (every xs, pairs_of_each P R f xs h.1) where

@@ -1,18 +1,19 @@
 -- A fact of the whole line, replies first, that is preserved by the four things that can happen to the line is preserved by each
 -- move of a synchronization.
-use Rattle.std.proofs.Common.{◌≡◌, ℕ, zero, inl, inr, Bool, true, false, List, [], ◌∷◌, ◌++◌, refl, sym, subst, append_assoc}
-use Rattle.gc_field.proofs.BeginIds.{Sent, Model, Move, Ask, Reach, Pass, Come, Up_lose, Up_repeat, Down_lose, Down_repeat, Anew, heard, asks, reaches, passes, comes, moves, moved}
+use Rattle.std.proofs.Common.{◌≡◌, ℕ, inl, inr, false, List, [], ◌∷◌, ◌++◌, refl, sym, subst, append_assoc}
+use Rattle.gc_field.proofs.BeginIds.{IdSent, Model, Move, Ask, Reach, Pass, Come, Up_lose, Up_repeat, Down_lose, Down_repeat, Anew, heard, asks, reaches, passes, comes, moves, moved}
 use Rattle.gc_field.specs.World.{without, doubled}
 use Rattle.gc_field.proofs.BeginLists.{lost_back, lost_front, twice_back, twice_front}
 
--- a fact of the ids that are left, and of the line, is preserved by a loss, a repeat, a request that is sent and a reply that comes
-pub record Lasts (I : List ℕ → List Sent → Type 0) : Type 0 where
-  pub lost : (left : List ℕ) (k : ℕ) (line : List Sent) → I left line → I left (without k line)
-  pub twice : (left : List ℕ) (k : ℕ) (line : List Sent) → I left line → I left (doubled k line)
-  pub asked : (id : ℕ) (later : List ℕ) (line : List Sent) → I (id ∷ later) line → I (id ∷ later) (line ++ record { id = id; old = false } ∷ [])
-  pub came : (left : List ℕ) (x : Sent) (rest : List Sent) → I left (x ∷ rest) → I (heard left x.id) rest
+-- a fact of the ids that are left, and of the line, is preserved by a loss, a repeat, a request that is sent and a reply that
+-- comes
+pub record Lasts (I : List ℕ → List IdSent → Type 0) : Type 0 where
+  pub lost : (left : List ℕ) (k : ℕ) (line : List IdSent) → I left line → I left (without k line)
+  pub twice : (left : List ℕ) (k : ℕ) (line : List IdSent) → I left line → I left (doubled k line)
+  pub asked : (id : ℕ) (later : List ℕ) (line : List IdSent) → I (id ∷ later) line → I (id ∷ later) (line ++ record { id = id; old = false } ∷ [])
+  pub came : (left : List ℕ) (x : IdSent) (rest : List IdSent) → I left (x ∷ rest) → I (heard left x.id) rest
 
-module _ (I : List ℕ → List Sent → Type 0) (lasts : Lasts I) where
+module _ (I : List ℕ → List IdSent → Type 0) (lasts : Lasts I) where
   -- the fact `I` holds of a state
   abbrev pub Holds : Model → Type 0
   Holds s = I s.left (s.down ++ s.up)
@@ -21,34 +22,30 @@ module _ (I : List ℕ → List Sent → Type 0) (lasts : Lasts I) where
   holds_asks : (s : Model) (left : List ℕ) → s.left ≡ left → Holds s → Holds (asks s left)
   holds_asks s [] e h = h
   holds_asks s (id ∷ later) e h =
-      let new : Sent = record { id = id; old = false } in
+      let new : IdSent = record { id = id; old = false } in
       subst (λ l. I l (s.down ++ (s.up ++ new ∷ []))) (sym e)
       (subst (λ q. I (id ∷ later) q) (append_assoc s.down s.up (new ∷ []))
       (lasts.asked id later (s.down ++ s.up) (subst (λ l. I l (s.down ++ s.up)) e h)))
 
   -- `Holds` is preserved if a request reaches the instrument
-  holds_reaches : (s : Model) (replies : Bool) (up : List Sent) → s.up ≡ up → Holds s → Holds (reaches s replies up)
-  holds_reaches s replies [] e h = h
-  holds_reaches s true (x ∷ rest) e h =
-      subst (λ q. I s.left q) (sym (append_assoc s.down (x ∷ []) rest)) (subst (λ q. I s.left (s.down ++ q)) e h)
-  holds_reaches s false (x ∷ rest) e h =
-      let lost = lost_back zero s.down (x ∷ rest) in
-      subst (λ q. I s.left q) (sym lost.1) (lasts.lost s.left lost.0 (s.down ++ x ∷ rest) (subst (λ q. I s.left (s.down ++ q)) e h))
+  holds_reaches : (s : Model) (up : List IdSent) → s.up ≡ up → Holds s → Holds (reaches s up)
+  holds_reaches s [] e h = h
+  holds_reaches s (x ∷ rest) e h = subst (λ q. I s.left q) (sym (append_assoc s.down (x ∷ []) rest)) (subst (λ q. I s.left (s.down ++ q)) e h)
 
   -- `Holds` is preserved by `Pass`
-  holds_passes : (s : Model) (up : List Sent) → s.up ≡ up → Holds s → Holds (passes s up)
+  holds_passes : (s : Model) (up : List IdSent) → s.up ≡ up → Holds s → Holds (passes s up)
   holds_passes s [] e h = h
   holds_passes s (x ∷ rest) e h = subst (λ q. I s.left q) (sym (append_assoc s.down (x ∷ []) rest)) (subst (λ q. I s.left (s.down ++ q)) e h)
 
   -- `Holds` is preserved if a reply comes
-  holds_comes : (s : Model) (down : List Sent) → s.down ≡ down → Holds s → Holds (comes s down)
+  holds_comes : (s : Model) (down : List IdSent) → s.down ≡ down → Holds s → Holds (comes s down)
   holds_comes s [] e h = h
   holds_comes s (x ∷ rest) e h = lasts.came s.left x (rest ++ s.up) (subst (λ q. I s.left (q ++ s.up)) e h)
 
   -- `Holds` is preserved by each move
   pub holds_moves : (s : Model) (m : Move) → Holds s → Holds (moves s m)
   holds_moves s Ask h = holds_asks s s.left refl h
-  holds_moves s (Reach replies) h = holds_reaches s replies s.up refl h
+  holds_moves s Reach h = holds_reaches s s.up refl h
   holds_moves s Pass h = holds_passes s s.up refl h
   holds_moves s Come h = holds_comes s s.down refl h
   holds_moves s (Up_lose k) h =

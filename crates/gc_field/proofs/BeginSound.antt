@@ -3,10 +3,11 @@
 use Rattle.std.proofs.Common.{◌≡◌, ℕ, Bool, true, false, List, [], ◌∷◌, ◌++◌, Option, Some, None, nat_eq, refl, sym, ◌∙◌, subst}
 use Rattle.std.proofs.lemmas.Bool.{eqb-true, false≢true}
 use Rattle.gc_client.specs.Beginning.{left_by_one, IsSubsequence, the_word}
-use Rattle.gc_field.proofs.BeginIds.{Sent, Model, Move, Ask, Reach, Pass, Come, Up_lose, Up_repeat, Down_lose, Down_repeat, Anew, heard, asks, reaches, kept_past, passes, comes, moves, moved, AllDiffer, ids_of, last, Begins, IsClean}
+use Rattle.gc_field.proofs.BeginIds.{IdSent, Model, Move, Ask, Reach, Pass, Come, Up_lose, Up_repeat, Down_lose, Down_repeat, Anew, heard, asks, reaches, kept_past, passes, comes, moves, moved, AllDiffer, ids_of, last, Begins, IsClean}
 use Rattle.gc_world.specs.Order.{Each}
 use Rattle.gc_field.specs.World.{without, doubled}
-use Rattle.gc_field.proofs.BeginLists.{each_both, each_front, each_back, pairs_before, pairs_of_each}
+use Rattle.gc_field.proofs.BeginLists.{each_both, pairs_before, pairs_of_each}
+use Rattle.gc_lines.proofs.Lists.{all_front, all_behind}
 use Rattle.gc_field.proofs.BeginMoves.{Lasts, holds_moves}
 use Rattle.gc_field.proofs.BeginWords.{word_differs}
 use Rattle.gc_field.proofs.BeginLines.{IsLine, IsOld, IsOwn, KeepsOwn, HasNone, KeepsTheId, OwnIdsFit, olds_all, each_own, line_without, line_doubled, line_asked, line_came, is_own}
@@ -20,13 +21,13 @@ IsFor id None = Unit {0}
 IsFor id (Some i) = i ≡ id
 
 -- if this is an own reply with this id, what is retained has that id
-abbrev pub KeepsIf : ℕ → Option ℕ → Sent → Type 0
+abbrev pub KeepsIf : ℕ → Option ℕ → IdSent → Type 0
 KeepsIf asked kept x = IsOwn x → x.id ≡ asked → IsFor asked kept
 
--- what is known of the id `kept` of the reply that the instrument retains, if it retains one. If no id of the word is left, it
--- is z, the word's last. Else, as soon as a reply in flight (`down`) is of this synchronization and has the first id that is
--- left, `asked`, it is `asked`
-abbrev pub KeptIdFits : ℕ → List ℕ → List Sent → Option ℕ → Type 0
+-- what is known of the id `kept` of the reply that the instrument retains, if it retains one. If no id of the word is left, that
+-- id is z, the word's last. Else, as soon as a reply of this synchronization with the first id that is left, `asked`, is in
+-- flight (`down`), that id is `asked`
+abbrev pub KeptIdFits : ℕ → List ℕ → List IdSent → Option ℕ → Type 0
 KeptIdFits z [] down kept = IsFor z kept
 KeptIdFits z (asked ∷ later) down kept = Each (KeepsIf asked kept) down
 
@@ -38,46 +39,47 @@ pub record IsSound (z : ℕ) (s : Model) : Type 0 where
 -- What is kept.
 
 -- `KeptIdFits` is preserved if a reply is lost
-keeps_without : (z : ℕ) (left : List ℕ) (k : ℕ) (down : List Sent) (kept : Option ℕ) → KeptIdFits z left down kept → KeptIdFits z left (without k down) kept
+keeps_without : (z : ℕ) (left : List ℕ) (k : ℕ) (down : List IdSent) (kept : Option ℕ) → KeptIdFits z left down kept → KeptIdFits z left (without k down) kept
 keeps_without z [] k down kept h = h
 keeps_without z (asked ∷ later) k down kept h = each_without (KeepsIf asked kept) k down h
 
 -- `KeptIdFits` is preserved if a reply comes twice
-keeps_doubled : (z : ℕ) (left : List ℕ) (k : ℕ) (down : List Sent) (kept : Option ℕ) → KeptIdFits z left down kept → KeptIdFits z left (doubled k down) kept
+keeps_doubled : (z : ℕ) (left : List ℕ) (k : ℕ) (down : List IdSent) (kept : Option ℕ) → KeptIdFits z left down kept → KeptIdFits z left (doubled k down) kept
 keeps_doubled z [] k down kept h = h
 keeps_doubled z (asked ∷ later) k down kept h = each_doubled (KeepsIf asked kept) k down h
 
 -- `KeptIdFits` holds if nothing is retained
-keeps_nothing : (z : ℕ) (left : List ℕ) (down : List Sent) → KeptIdFits z left down None
+keeps_nothing : (z : ℕ) (left : List ℕ) (down : List IdSent) → KeptIdFits z left down None
 keeps_nothing z [] down = tt
 keeps_nothing z (asked ∷ later) down = every down where
   -- `KeepsIf` holds of each reply if nothing is retained
-  every : (xs : List Sent) → Each (KeepsIf asked None) xs
+  every : (xs : List IdSent) → Each (KeepsIf asked None) xs
   every [] = tt
   every (x ∷ xs) = ((λ o e. tt), every xs)
 
--- if a request reaches the instrument, what is retained has its id, and `KeptIdFits` lasts: the own replies before it with the
--- first id that is left have its id, too
-keeps_reached : (z : ℕ) (left : List ℕ) (down : List Sent) (x : Sent) (rest : List Sent) → IsLine z left (down ++ x ∷ rest) → KeptIdFits z left down (Some x.id)
+-- where `IsLine` holds, `KeptIdFits` holds with the id of the front request, x, as the one that is retained: if an own reply has
+-- the first id that is left, so has x; and if no id is left, x has the word's last id
+keeps_reached : (z : ℕ) (left : List ℕ) (down : List IdSent) (x : IdSent) (rest : List IdSent) → IsLine z left (down ++ x ∷ rest) → KeptIdFits z left down (Some x.id)
 keeps_reached z [] down x rest h =
-    let own : IsOwn x = (each_back IsOwn down (x ∷ rest) (each_own (down ++ x ∷ rest) (h.clear tt))).0 in
-    (each_back (λ y. IsOwn y → y.id ≡ z) down (x ∷ rest) h.own).0 own
+    let own : IsOwn x = (all_behind IsOwn down (x ∷ rest) (each_own (down ++ x ∷ rest) (h.clear tt))).0 in
+    (all_behind (λ y. IsOwn y → y.id ≡ z) down (x ∷ rest) h.own).0 own
 keeps_reached z (asked ∷ later) down x rest h = pairs_before (KeepsTheId asked) down x rest h.own.1
 
--- `KeptIdFits` is preserved if the reply to that request is sent
-keeps_replied : (z : ℕ) (left : List ℕ) (down : List Sent) (x : Sent) → KeptIdFits z left down (Some x.id) → KeptIdFits z left (down ++ x ∷ []) (Some x.id)
+-- `KeptIdFits` is preserved if the reply to a request, x, is sent, whose id is the one that is retained
+keeps_replied : (z : ℕ) (left : List ℕ) (down : List IdSent) (x : IdSent) → KeptIdFits z left down (Some x.id) → KeptIdFits z left (down ++ x ∷ []) (Some x.id)
 keeps_replied z [] down x h = h
 keeps_replied z (asked ∷ later) down x h = each_append (KeepsIf asked (Some x.id)) down (x ∷ []) h ((λ o e. e), tt)
 
--- `KeptIdFits` is preserved if a reply comes and answers
-keeps_answered : (z asked : ℕ) (later : List ℕ) (x : Sent) (rest up : List Sent) (kept : Option ℕ) → IsLine z (asked ∷ later) (x ∷ (rest ++ up))
+-- where `IsLine` holds, `KeptIdFits` is preserved if the front reply, x, comes and answers
+keeps_answered : (z asked : ℕ) (later : List ℕ) (x : IdSent) (rest up : List IdSent) (kept : Option ℕ) → IsLine z (asked ∷ later) (x ∷ (rest ++ up))
     → x.id ≡ asked → KeptIdFits z (asked ∷ later) (x ∷ rest) kept → KeptIdFits z later rest kept
 keeps_answered z asked [] x rest up kept h e k = subst (λ i. IsFor i kept) h.ends (k.0 (is_own z asked x (rest ++ up) h e) e)
 keeps_answered z asked (i ∷ later) x rest up kept h e k =
-    each_more (HasNone (i ∷ later)) (KeepsIf i kept) (λ y f o g. absurd ((f o).0 (sym g))) rest (each_front (HasNone (i ∷ later)) rest up h.own.0.1)
+    each_more (HasNone (i ∷ later)) (KeepsIf i kept) (λ y f o g. absurd ((f o).0 (sym g))) rest (all_front (HasNone (i ∷ later)) rest up h.own.0.1)
 
--- `KeptIdFits` is preserved where x, the front reply, is heard: of what is left then, and of the replies after x
-keeps_heard : (z : ℕ) (left : List ℕ) (x : Sent) (rest up : List Sent) (kept : Option ℕ) → IsLine z left (x ∷ (rest ++ up)) → KeptIdFits z left (x ∷ rest) kept
+-- where `IsLine` holds, `KeptIdFits` is preserved if the front reply, x, is heard: it holds of the ids that are left then, and of
+-- the replies after x
+keeps_heard : (z : ℕ) (left : List ℕ) (x : IdSent) (rest up : List IdSent) (kept : Option ℕ) → IsLine z left (x ∷ (rest ++ up)) → KeptIdFits z left (x ∷ rest) kept
     → KeptIdFits z (heard left x.id) rest kept
 keeps_heard z [] x rest up kept h k = k
 keeps_heard z (asked ∷ later) x rest up kept h k = chosen (nat_eq x.id asked) refl where
@@ -92,45 +94,44 @@ keeps_heard z (asked ∷ later) x rest up kept h k = chosen (nat_eq x.id asked) 
 line_lasts : (z : ℕ) → Lasts (IsLine z)
 line_lasts z = record { lost = line_without z; twice = line_doubled z; asked = line_asked z; came = line_came z }
 
--- `KeptIdFits` is preserved if the client asks
+-- where `IsSound` holds of a state, `KeptIdFits` still does after the client asked
 keeps_asks : (z : ℕ) (s : Model) (left : List ℕ) → IsSound z s → KeptIdFits z (asks s left).left (asks s left).down (asks s left).kept
 keeps_asks z s [] h = h.keeps
 keeps_asks z s (asked ∷ later) h = h.keeps
 
--- `KeptIdFits` is preserved if a request reaches the instrument
-keeps_reaches : (z : ℕ) (s : Model) (replies : Bool) (up : List Sent) → s.up ≡ up → IsSound z s → KeptIdFits z (reaches s replies up).left (reaches s replies up).down (reaches s replies up).kept
-keeps_reaches z s replies [] e h = h.keeps
-keeps_reaches z s true (x ∷ rest) e h = keeps_replied z s.left s.down x (keeps_reached z s.left s.down x rest (subst (λ q. IsLine z s.left (s.down ++ q)) e h.line))
-keeps_reaches z s false (x ∷ rest) e h = keeps_reached z s.left s.down x rest (subst (λ q. IsLine z s.left (s.down ++ q)) e h.line)
+-- where `IsSound` holds of a state, `KeptIdFits` still does after a request reached the instrument
+keeps_reaches : (z : ℕ) (s : Model) (up : List IdSent) → s.up ≡ up → IsSound z s → KeptIdFits z (reaches s up).left (reaches s up).down (reaches s up).kept
+keeps_reaches z s [] e h = h.keeps
+keeps_reaches z s (x ∷ rest) e h = keeps_replied z s.left s.down x (keeps_reached z s.left s.down x rest (subst (λ q. IsLine z s.left (s.down ++ q)) e h.line))
 
 -- nothing is both old and own
-not_both : (x : Sent) → IsOld x → IsOwn x → ⊥
+not_both : (x : IdSent) → IsOld x → IsOwn x → ⊥
 not_both x old own = false≢true (sym own ∙ old)
 
 -- `KeptIdFits` is preserved if the reply to an old request is sent, and what is retained stays
-keeps_old : (z : ℕ) (left : List ℕ) (down : List Sent) (x : Sent) (kept : Option ℕ) → IsOld x → KeptIdFits z left down kept → KeptIdFits z left (down ++ x ∷ []) kept
+keeps_old : (z : ℕ) (left : List ℕ) (down : List IdSent) (x : IdSent) (kept : Option ℕ) → IsOld x → KeptIdFits z left down kept → KeptIdFits z left (down ++ x ∷ []) kept
 keeps_old z [] down x kept old h = h
 keeps_old z (asked ∷ later) down x kept old h = each_append (KeepsIf asked kept) down (x ∷ []) h ((λ own e. absurd (not_both x old own)), tt)
 
--- `KeptIdFits` is preserved by `Pass`
-keeps_passes : (z : ℕ) (s : Model) (up : List Sent) → s.up ≡ up → IsSound z s → KeptIdFits z (passes s up).left (passes s up).down (passes s up).kept
+-- where `IsSound` holds of a state, `KeptIdFits` still does after `Pass`
+keeps_passes : (z : ℕ) (s : Model) (up : List IdSent) → s.up ≡ up → IsSound z s → KeptIdFits z (passes s up).left (passes s up).down (passes s up).kept
 keeps_passes z s [] e h = h.keeps
 keeps_passes z s (x ∷ rest) e h = by_case x.old refl where
-  -- the lemma above, by whether the request is old
+  -- the lemma above, by whether the request is old (`old`)
   by_case : (old : Bool) → x.old ≡ old → KeptIdFits z s.left (s.down ++ x ∷ []) (kept_past old x.id s.kept)
   by_case true old = keeps_old z s.left s.down x s.kept old h.keeps
   by_case false own = keeps_replied z s.left s.down x (keeps_reached z s.left s.down x rest (subst (λ q. IsLine z s.left (s.down ++ q)) e h.line))
 
--- `KeptIdFits` of a state is preserved if the front reply comes, if one is in flight
-keeps_comes : (z : ℕ) (s : Model) (down : List Sent) → s.down ≡ down → IsSound z s → KeptIdFits z (comes s down).left (comes s down).down (comes s down).kept
+-- where `IsSound` holds of a state, `KeptIdFits` still does after the front reply came, if one is in flight
+keeps_comes : (z : ℕ) (s : Model) (down : List IdSent) → s.down ≡ down → IsSound z s → KeptIdFits z (comes s down).left (comes s down).down (comes s down).kept
 keeps_comes z s [] e h = h.keeps
 keeps_comes z s (x ∷ rest) e h =
     keeps_heard z s.left x rest s.up s.kept (subst (λ q. IsLine z s.left (q ++ s.up)) e h.line) (subst (λ q. KeptIdFits z s.left q s.kept) e h.keeps)
 
--- `KeptIdFits` is preserved by each move
+-- where `IsSound` holds of a state, `KeptIdFits` still does after any move
 keeps_moves : (z : ℕ) (s : Model) (m : Move) → IsSound z s → KeptIdFits z (moves s m).left (moves s m).down (moves s m).kept
 keeps_moves z s Ask h = keeps_asks z s s.left h
-keeps_moves z s (Reach replies) h = keeps_reaches z s replies s.up refl h
+keeps_moves z s Reach h = keeps_reaches z s s.up refl h
 keeps_moves z s Pass h = keeps_passes z s s.up refl h
 keeps_moves z s Come h = keeps_comes z s s.down refl h
 keeps_moves z s (Up_lose k) h = h.keeps
@@ -150,29 +151,29 @@ sound_moved z (m ∷ ms) s h = sound_moved z ms (moves s m) (sound_moves z s m h
 
 -- Its start.
 
--- `last` of a word is the same if it is given `last z word` in place of z, which it says of an empty word
+-- the last id of a word, or z if the word is empty, stays the same if that id is put in place of z
 last_of_last : (z : ℕ) (word : List ℕ) → last (last z word) word ≡ last z word
 last_of_last z [] = refl
 last_of_last z (i ∷ word) = refl
 
--- `OwnIdsFit` holds at the start, if all are old
-own_at_start : (z : ℕ) (word : List ℕ) (line : List Sent) → Each IsOld line → OwnIdsFit z word line
+-- `OwnIdsFit` holds at the start, if all lines in flight are old
+own_at_start : (z : ℕ) (word : List ℕ) (line : List IdSent) → Each IsOld line → OwnIdsFit z word line
 own_at_start z [] line h = each_more IsOld (λ x. IsOwn x → x.id ≡ z) (λ x old own. absurd (not_both x old own)) line h
 own_at_start z (asked ∷ later) line h = (
   each_more IsOld (HasNone later) (λ x old own. absurd (not_both x old own)) line h,
   pairs_of_each IsOld (KeepsTheId asked) (λ x y old own e. absurd (not_both x old own)) line h,
 )
 
--- `KeptIdFits` holds at the start, if all are old
-keeps_at_start : (z : ℕ) (word : List ℕ) (down : List Sent) (kept : Option ℕ) → (word ≡ [] → ⊥) → Each IsOld down → KeptIdFits z word down kept
+-- `KeptIdFits` holds at the start, if the word isn't empty and all replies in flight are old
+keeps_at_start : (z : ℕ) (word : List ℕ) (down : List IdSent) (kept : Option ℕ) → (word ≡ [] → ⊥) → Each IsOld down → KeptIdFits z word down kept
 keeps_at_start z [] down kept some h = absurd (some refl)
 keeps_at_start z (asked ∷ later) down kept some h = each_more IsOld (KeepsIf asked kept) (λ x old own e. absurd (not_both x old own)) down h
 
--- `IsSound` holds at the start
+-- `IsSound` holds at the start of a synchronization (`Begins`), if no id is in the word twice
 pub sound_at_start : (word : List ℕ) (s : Model) → AllDiffer word → Begins word s → IsSound (last 0 word) s
 sound_at_start word s differ h =
     let z : ℕ = last 0 word in
-    let line : List Sent = s.down ++ s.up in
+    let line : List IdSent = s.down ++ s.up in
     let old : Each IsOld line = each_append IsOld s.down s.up h.down h.up in
     let starts : IsLine z word line =
     record {
@@ -199,17 +200,19 @@ clean_if z s left e f h =
     let each : Each (λ x. (x.old ≡ false) × (x.id ≡ z)) (s.down ++ s.up) =
     each_both IsOwn (λ x. IsOwn x → x.id ≡ z) (λ x. (x.old ≡ false) × (x.id ≡ z)) (λ x o f. (o, f o)) (s.down ++ s.up) (each_own (s.down ++ s.up) (line.clear tt)) line.own in
     record {
-      up = each_back (λ x. (x.old ≡ false) × (x.id ≡ z)) s.down s.up each;
-      down = each_front (λ x. (x.old ≡ false) × (x.id ≡ z)) s.down s.up each;
+      up = all_behind (λ x. (x.old ≡ false) × (x.id ≡ z)) s.down s.up each;
+      down = all_front (λ x. (x.old ≡ false) × (x.id ≡ z)) s.down s.up each;
       kept = λ i e. subst (λ k. IsFor z k) e keeps;
     }
 
--- a synchronization with a word without an id twice ends cleanly, if what is in flight at its start doesn't contain the word
+-- if no id is in the word twice, the ids in flight at the start of a synchronization don't contain the word (`Begins`), and no id
+-- is left after these moves, it has ended cleanly
 pub begins_cleanly : (word : List ℕ) (s : Model) (ms : List Move) → AllDiffer word → Begins word s → (moved ms s).left ≡ [] → IsClean (last 0 word) (moved ms s)
 begins_cleanly word s ms differ begins done = clean_if (last 0 word) (moved ms s) (moved ms s).left refl done (sound_moved (last 0 word) ms s (sound_at_start word s differ begins))
 
 -- The word.
 
--- a synchronization with the word that a station uses ends cleanly
+-- if the ids in flight at the start of a synchronization don't contain the word that a station uses (`Begins`), and no id of it
+-- is left after these moves, it has ended cleanly
 pub the_word_begins_cleanly : (s : Model) (ms : List Move) → Begins the_word s → (moved ms s).left ≡ [] → IsClean 7 (moved ms s)
 the_word_begins_cleanly s ms begins done = begins_cleanly the_word s ms word_differs begins done

@@ -69,7 +69,7 @@ some_runs =
       made_on = was_made;
     }
 
--- if the word is in flight, a reply from before is booked
+-- where replies with the ids of the word are in flight, and one with id 0 after them, the latter is booked for the first command
 pub from_before : IsBookedFromBefore
 unfolding header_at reply_at handed exec digits
 from_before = record { begun = refl; possible = (tt, ((7, [], refl), tt)); settled = refl; executed = refl }

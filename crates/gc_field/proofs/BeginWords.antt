@@ -14,7 +14,7 @@ cons_not_nil x xs e = cc
 
 -- Fewer ids, and repeats.
 
--- a word that is in ids is in them with one more id before it
+-- a word that is in ids is in them, too, once one more id is put before these ids
 pub subword_more : (word ids : List ℕ) (i : ℕ) → IsSubsequence word ids → IsSubsequence word (i ∷ ids)
 subword_more [] ids i h = tt
 subword_more (w ∷ word) ids i h = inr h
@@ -40,7 +40,7 @@ subword_each P (w ∷ word) (i ∷ ids) h (inl s) = (subst P (sym s.0) h.0, subw
 subword_each P (w ∷ word) (i ∷ ids) h (inr s) = subword_each P (w ∷ word) ids h.1 s
 
 -- the first ids contain no more words than the second ones: each word without an id twice that is in the first is in the second
-abbrev pub HasNoMoreWords : List ℕ → List ℕ → Type 0
+abbrev pub HasNoMoreWords : (ids others : List ℕ) → Type 0
 HasNoMoreWords ids others = (word : List ℕ) → AllDiffer word → IsSubsequence word ids → IsSubsequence word others
 
 -- `HasNoMoreWords` is preserved if the same id is put before both lists
@@ -100,7 +100,7 @@ word_differs = all_differ the_word refl
 -- The greedy way: replies with these ids, heard one after the other, answer the whole word, if it is in them.
 
 -- what is left of a word after replies with these ids, of which each answers the first id that is left, or is discarded
-abbrev pub hears : List ℕ → List ℕ → List ℕ
+abbrev pub hears : (word ids : List ℕ) → List ℕ
 hears word [] = word
 hears word (i ∷ ids) = hears (heard word i) ids
 
@@ -139,7 +139,7 @@ three_upward (suc (suc (suc (suc (suc (suc (suc (suc i)))))))) low h = absurd (o
 abbrev pub ids_at : List ℕ → List ℕ
 ids_at ns = map (λ n. n % 8) ns
 
--- the empty word is in all ids
+-- the empty list contains no more words than any ids: only the empty word, which all ids contain
 has_nothing : (others : List ℕ) → HasNoMoreWords [] others
 has_nothing others [] d h = tt
 has_nothing others (w ∷ word) d h = absurd h
@@ -150,10 +150,11 @@ each_below a b ns e h = subst (λ c. Each (λ m. m < c) ns) e h
 
 -- each word without an id twice that is in the ids of the numbers `ns`, which never fall from a on and are below a + k, is in
 -- the k ids upward from a
-abbrev AreUpward : ℕ → ℕ → List ℕ → Type 0
+abbrev AreUpward : (a k : ℕ) (ns : List ℕ) → Type 0
 AreUpward a k ns = Rising (a + 1) ns → Each (λ m. m < a + k) ns → HasNoMoreWords (ids_at ns) (upward a k)
 
--- `AreUpward` is preserved if one number more, m, is put before it: either m is a (`b`), or all of the numbers are above a
+-- where `AreUpward` of a + 1 and k holds of m and `ns`, `AreUpward` of a and k + 1 is preserved if m is put before `ns`, whether
+-- m is a (`b`) or above it
 upward_first : (a k m : ℕ) (ns : List ℕ) (b : Bool) → nat_eq m a ≡ b → AreUpward (a + 1) k (m ∷ ns) → AreUpward a (suc k) ns → AreUpward a (suc k) (m ∷ ns)
 upward_first a k m ns true e above more h low = λ word d s.
     let same : m ≡ a = eqb-true m a e in
@@ -182,8 +183,8 @@ upward_round : (n a b : ℕ) → a % 8 ≡ b % 8 → upward a n ≡ upward b n
 upward_round zero a b e = refl
 upward_round (suc n) a b e = ap₂ (λ i ids. i ∷ ids) e (upward_round n (a + 1) (b + 1) (omega (arith, e)))
 
--- numbers that never fall, of the eight consecutive ones from `low` - 1 on, as a run that measures has in flight: modulo 8 they
--- don't contain 6 5 4
+-- where `low` is above 0: numbers that never fall, of the eight consecutive ones from `low` - 1 on, as a run that measures has in
+-- flight, don't contain 6 5 4 modulo 8
 pub three_within : (low : ℕ) (ns : List ℕ) → 0 < low → Rising low ns → Each (λ n. n < low + 7) ns → IsSubsequence (6 ∷ 5 ∷ 4 ∷ []) (map (λ n. n % 8) ns) → ⊥
 three_within low ns some h below s =
     let a : ℕ = low - 1 in
@@ -191,7 +192,7 @@ three_within low ns some h below s =
     let within = are_upward 8 a ns (subst (λ l. Rising l ns) first h) (each_below (low + 7) (a + 8) ns (omega (arith, first)) below) (6 ∷ 5 ∷ 4 ∷ []) (all_differ (6 ∷ 5 ∷ 4 ∷ []) refl) s in
     three_upward (a % 8) (omega arith) (subst (λ ids. IsSubsequence (6 ∷ 5 ∷ 4 ∷ []) ids) (upward_round 8 a (a % 8) (omega arith)) within)
 
--- numbers that never fall, of the eight consecutive ones from `low` - 1 on, as a run that measures has in flight: modulo 8 they
--- don't contain the word
+-- where `low` is above 0: numbers that never fall, of the eight consecutive ones from `low` - 1 on, as a run that measures has in
+-- flight, don't contain the word modulo 8
 pub none_within : (low : ℕ) (ns : List ℕ) → 0 < low → Rising low ns → Each (λ n. n < low + 7) ns → IsSubsequence the_word (map (λ n. n % 8) ns) → ⊥
 none_within low ns some h below s = three_within low ns some h below (subword_front (6 ∷ 5 ∷ 4 ∷ []) (3 ∷ 2 ∷ 1 ∷ 0 ∷ 7 ∷ []) (map (λ n. n % 8) ns) s)

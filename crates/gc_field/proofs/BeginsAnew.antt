@@ -10,17 +10,18 @@ use Rattle.gc_texts.specs.Nears.{is_elsewhere}
 use Rattle.gc_station.specs.Beginnings.{IsResynchronizing}
 use Rattle.gc_station.specs.Parts as part
 use Rattle.gc_station.specs.Parts.{Part, parts_of}
+use Rattle.gc_station.proofs.Going.{runs-append}
 use Rattle.gc_station.specs.Model.{Runs, after_all, opening}
 use Rattle.gc_links.specs.Acts.{Told}
 use Rattle.gc_field.specs.Begin.{begins}
-use Rattle.gc_field.specs.BeginsAnew.{IsAnsweredAnew, acts, acts_anew, answer, commands, first_reply, from, given_up, left_by_first, moves, moves_anew, plan, later_replies, runs, scope, seventh_reply, turns}
+use Rattle.gc_field.specs.BeginsAnew.{IsAnsweredAnew, acts, acts_anew, answer, commands, from, given_up, left_by_first, moves, moves_anew, plan, later_replies, runs, scope, seventh_reply, turns}
 use Rattle.gc_field.specs.Begun.{WasMadeOn}
-use Rattle.gc_field.specs.CountingChain.{at_start, null_replies, counting}
+use Rattle.gc_field.specs.CountingChain.{at_start, null_replies, counting, first_reply}
 use Rattle.gc_field.specs.Field.{seen}
 use Rattle.gc_field.specs.Shown.{AreShownAs, shown}
-use Rattle.gc_field.specs.Witness.{at, begun_with, eight_answered}
-use Rattle.gc_field.proofs.CountingChain.{counted, opens_counting}
-use Rattle.gc_field.proofs.Witness.{asked_each, one_part, part_of, run_on, units}
+use Rattle.gc_field.specs.Witness.{at, begun_with}
+use Rattle.gc_field.proofs.CountingChain.{counted, opens_counting, shown_are}
+use Rattle.gc_field.proofs.Witness.{asked_each, one_part, part_of, units}
 
 -- what the turns of the second synchronization show to the station
 abbrev all_turns : List part.Turn
@@ -38,11 +39,6 @@ parts_are : parts_of plan commands (opening plan scope) acts ≡ parts
 unfolding is_elsewhere header_at reply_at digits
 parts_are = refl
 
--- what the line does while the station begins at first shows these turns
-shown_are : shown counting eight_answered (begins at_start) ≡ asked_each null_replies
-unfolding is_elsewhere header_at reply_at digits
-shown_are = refl
-
 -- the turns of the second synchronization show this
 shown_anew : shown counting turns (begins left_by_first) ≡ all_turns
 unfolding is_elsewhere header_at reply_at digits
@@ -52,18 +48,18 @@ shown_anew = refl
 given_up_runs : Runs plan commands (opening plan scope) given_up
 unfolding is_elsewhere header_at reply_at digits
 given_up_runs =
-    run_on plan commands (opening plan scope) (begun_with null_replies []) (drop 27 given_up) (opens_counting 7 commands scope.reads)
+    runs-append plan commands (opening plan scope) (begun_with null_replies []) (drop 27 given_up) (opens_counting 7 commands scope.reads)
     (tt, (refl, (tt, (refl, (tt, (refl, (tt, (refl, (tt, (refl, (tt, (refl, (tt, (refl, (tt, (tt, tt))))))))))))))))
 
--- the acts from there on, if the station resynchronizes, are a run
+-- the acts from there on, in which the station resynchronizes, are a run from the model that the acts before them leave
 anew_runs : Runs plan commands (after_all plan commands (opening plan scope) given_up) acts_anew
 unfolding is_elsewhere header_at reply_at digits
 anew_runs =
-    run_on plan commands (after_all plan commands (opening plan scope) given_up) (take 9 acts_anew) (drop 9 acts_anew)
+    runs-append plan commands (after_all plan commands (opening plan scope) given_up) (take 9 acts_anew) (drop 9 acts_anew)
     (tt, (refl, (tt, (tt, (tt, (refl, (tt, (tt, (tt, tt)))))))))
     (refl, (tt, (tt, (refl, (tt, (tt, (refl, (tt, (tt, (refl, (tt, (tt, (refl, (tt, (tt, (refl, (tt, (tt, (refl, (tt, (tt, (refl, tt))))))))))))))))))))))
 
--- after the acts until seven requests have timed out, the next act is one at which the station resynchronizes
+-- after the acts `given_up`, by the end of which seven requests have timed out, the station resynchronizes at the next act
 begins_anew : IsResynchronizing plan commands scope given_up (Told (at 115))
 unfolding is_elsewhere header_at reply_at digits
 begins_anew = record { resynchronizes = record { renews = refl; moment = at 115; told = refl; seven = refl; given_up = refl }; word = refl; client = refl }
@@ -81,7 +77,7 @@ answered_anew =
       instrument = counted.instrument;
       field =
           record {
-            runs = run_on plan commands (opening plan scope) given_up acts_anew given_up_runs anew_runs;
+            runs = runs-append plan commands (opening plan scope) given_up acts_anew given_up_runs anew_runs;
             lines = record { ids = tt; good = tt };
             none = λ h. h;
             shown = subst (AreShownAs counting at_start runs) (sym parts_are) (shown_are, refl, (shown_anew, refl, (refl, refl, tt)));

@@ -2,6 +2,7 @@
 -- settled, and what is in flight belongs to the last of them.
 use Rattle.std.proofs.Common.{◌≡◌, ℕ, ◌+◌, ◌<◌, ◌≤◌, inl, inr, Bool, true, List, [], ◌∷◌, ◌++◌, map, length, Option, Some, None, refl, sym, ◌∙◌, ap, subst, arith, append_assoc}
 use Rattle.std.specs.Prelude.{slice_get}
+use Rattle.std.proofs.lemmas.Option.{none-some}
 use Rattle.gc_catalogue.specs.declared.asked.Asked.{Asked}
 use Rattle.gc_catalogue.specs.declared.asked.Asked.TheVariants.{Table}
 use Rattle.gc_catalogue.specs.declared.call.Call.TheVariants.{NullProc}
@@ -25,10 +26,10 @@ use Rattle.gc_field.specs.Begun.{IsBehindTheTable, IsClean, IsFaithful, IsSafe, 
 use Rattle.gc_field.specs.Field.{Move, Sends, ArePossible, AsksOnly, moved, seen}
 use Rattle.gc_field.specs.Instrument.{IsAnInstrument, IsAnInstrumentFor, all_known}
 use Rattle.gc_field.specs.Once.{ActsOnce, IsInOrder}
-use Rattle.gc_field.proofs.Fresh.{AllBut, AnyLine, EachOne, AllExcepted, asks_all, near_the_table, numbers_append, renewed}
+use Rattle.gc_field.proofs.Fresh.{AllBut, AnyLine, EachOne, AllExcepted, asks_all, near_the_table, renewed}
 use Rattle.gc_field.proofs.Instruments.{alike_is, exchange_of}
-use Rattle.gc_field.proofs.Moving.{Both, both_all, first_reply, IsOwnSettlement, IsVouchedFor, AreOn, are_on_later, vouched_for, whole_all, made_here}
-use Rattle.gc_field.proofs.Possible.{possible_behind, possible_front}
+use Rattle.gc_field.proofs.Moving.{Both, both_all, first_reply, IsOwnSettlement, IsVouchedFor, RepliesHave, replies_have_later, vouched_for, whole_all, made_here}
+use Rattle.gc_field.proofs.Possible.{moved_append, possible_behind, possible_front}
 use Rattle.gc_field.proofs.Seen.{same_all}
 use Rattle.gc_field.proofs.KeptReplies.{KeptIs}
 use Rattle.gc_field.proofs.NearTable.{IsNear}
@@ -37,10 +38,10 @@ use Rattle.gc_field.proofs.Vouched.{AllVouched, Vouched}
 -- The course of a client, after what was sent and settled before.
 
 -- course x is course y with the requests `before` and the settlements `old` put before its own
-record IsPrefixed (before : List (Wanted Asked)) (old : List (Settlement Asked)) (x y : Course Asked) : Type 0 where
-  sent : x.sent ≡ before ++ y.sent
-  settled : x.settlements ≡ old ++ y.settlements
-  client : x.client ≡ y.client
+pub record IsPrefixed (before : List (Wanted Asked)) (old : List (Settlement Asked)) (x y : Course Asked) : Type 0 where
+  pub sent : x.sent ≡ before ++ y.sent
+  pub settled : x.settlements ≡ old ++ y.settlements
+  pub client : x.client ≡ y.client
 
 -- `IsPrefixed` is preserved by a send
 prefixed_send : (before : List (Wanted Asked)) (old : List (Settlement Asked)) (x y : Course Asked) (target : ℕ) (call : Asked) (o : Option (Sending (ById Asked))) → IsPrefixed before old x y
@@ -68,7 +69,7 @@ prefixed_step width before old x y Restart h =
     subst (λ c. IsPrefixed before old (settled_on x (restarts c)) (settled_on y (restarts y.client))) (sym h.client) (prefixed_settled before old x y (restarts y.client) h)
 
 -- `IsPrefixed` is preserved by steps
-prefixed_all : (width : ℕ) (before : List (Wanted Asked)) (old : List (Settlement Asked)) (steps : List (Step Asked)) (x y : Course Asked) → IsPrefixed before old x y
+pub prefixed_all : (width : ℕ) (before : List (Wanted Asked)) (old : List (Settlement Asked)) (steps : List (Step Asked)) (x y : Course Asked) → IsPrefixed before old x y
     → IsPrefixed before old (course width x steps) (course width y steps)
 prefixed_all width before old [] x y h = h
 prefixed_all width before old (step ∷ steps) x y h = prefixed_all width before old steps _ _ (prefixed_step width before old x y step h)
@@ -88,21 +89,17 @@ module _ {Line : Type 0} where
   abbrev pub of_last : List Line → List (Numbered Line)
   of_last xs = map (λ x. record { number = 7; line = x }) xs
 
-  -- the numbers of lines that all have number 7 never fall
+  -- the numbers of lines that all have number 7 never fall, from 7 on
   rising_up : (xs : List Line) → Rising 8 (numbers (of_last xs))
   rising_up [] = tt
   rising_up (x ∷ xs) = (omega arith, rising_up xs)
 
-  -- where Q of a line gives P of the line with the number 7, and each line has Q, each has P with that number
+  -- where Q of a line implies P of the line with the number 7, and each line has Q, each has P with that number
   pub each_last : (P : Numbered Line → Type 0) (Q : Line → Type 0) → ((x : Line) → Q x → P (record { number = 7; line = x })) → (xs : List Line) → Each Q xs → Each P (of_last xs)
   each_last P Q f [] h = tt
   each_last P Q f (x ∷ xs) h = (f x h.0, each_last P Q f xs h.1)
 
--- an empty list has nothing at any place
-pub none_at : (j n : ℕ) → slice_get [] j ≡ Some n → ⊥
-none_at j n e = cc
-
--- the numbers of two lists of lines that all have number 7 never fall
+-- where the lines of two lists all have number 7, the numbers of one list followed by those of the other never fall, from 7 on
 rising_both : {A B : Type 0} (xs : List A) (ys : List B) → Rising 8 (numbers (of_last xs) ++ numbers (of_last ys))
 rising_both [] ys = rising_up ys
 rising_both (x ∷ xs) ys = (omega arith, rising_both xs ys)
@@ -166,8 +163,8 @@ module _ {State : Type 0} (ends : Ends State) (Good : State → Type 0) (kept : 
       kept_begun None e = tt
       kept_begun (Some k) e = record { number = 7; recent = omega arith; before = omega arith; behind = omega arith; id = clean.keeps k e; line = last_null_vouched k.line }
 
-      -- after a clean synchronization the invariant `AllVouched` of `Vouched` holds of the world of the client that is given numbers:
-      -- each reply in flight was made for its request
+      -- after a clean synchronization the invariant `AllVouched` of `Vouched` holds of the world of the client that is given
+      -- numbers, if `IsNear` holds of the null procedures: what is in flight is of the eighth, which is excepted
       vouched_begun : IsNear knows E Plain nulls 8 7 → AllVouched width narrow knows ends Good kept is 8 E Plain M (numbers_begun u)
       vouched_begun near =
           let within : 8 ≤ 8 = omega arith in
@@ -185,19 +182,20 @@ module _ {State : Type 0} (ends : Ends State) (Good : State → Type 0) (kept : 
             near = near;
             coming = each_last (λ x. IsVouchedAtStart x.number x.line) (λ line. heard line ≡ Some 7) (λ x e. last_null_vouched x) u.down clean.down;
             answers = (tt, (tt, (tt, (tt, (tt, (tt, (tt, (tt, tt))))))));
-            order = record { order = λ i j m n lt a b. absurd (none_at j n b); below = tt };
+            order = record { order = λ i j m n lt a b. absurd (none-some n b); below = tt };
             once = λ keeps k. record {
-              once = λ i j m n lt run a b. absurd (none_at j n b);
+              once = λ i j m n lt run a b. absurd (none-some n b);
               below = tt;
               last = inr (record { idle = λ none. inl refl; same = clean.keeps });
             };
           }
 
-    -- `AreOn` holds of any moves with `AnyLine`, which every line meets
-    any_on : (ms : List (Move State)) (b : World (ByNumber Asked) State) → AreOn width ends AnyLine ms b
-    any_on ms b front later e x rest q exe = tt
+    -- `RepliesHave` holds of any moves with `AnyLine`, which every line meets
+    replies_have_any : (ms : List (Move State)) (b : World (ByNumber Asked) State) → RepliesHave width ends AnyLine ms b
+    replies_have_any ms b front later e x rest q exe = tt
 
-    -- if all requests are known, each settlement of a client's request is its own
+    -- if the instrument knows the null procedures, and all that these possible moves ask, `IsVouchedFor` holds after them, with
+    -- the requests below number 8 excepted
     own_if_all_known : (knows : Asked → Bool) → IsAnInstrumentFor ends Good kept knows → knows (Table NullProc) ≡ true → (ms : List (Move State))
         → ArePossible ends Good kept (by_ids width ends) ms (ids_begun u) → AsksOnly knows ms
         → IsVouchedFor ends Good kept (λ n. n < 8) (λ n call line. WasMadeOn width ends u ms n call line) (moved ends (by_numbers width) ms (numbers_begun u)).wire
@@ -209,14 +207,15 @@ module _ {State : Type 0} (ends : Ends State) (Good : State → Type 0) (kept : 
         vouched_for width narrow knows ends Good ex kept is 8 E (Unit {0}) M (moved ends (by_numbers width) ms (numbers_begun u))
         (whole_all width narrow knows ends Good ex kept is 8 E (Unit {0}) M ms (ids_begun u) (numbers_begun u) both_begun p (λ all. asks) on start)
 
-    -- the world of numbers that moves leave is `AllExcepted`
+    -- the world of numbers that possible moves leave is `AllExcepted`
     all_excepted : (ms : List (Move State)) → ArePossible ends Good kept (by_ids width ends) ms (ids_begun u)
         → AllExcepted width narrow ends Good kept keeper 8 (moved ends (by_numbers width) ms (numbers_begun u))
     all_excepted ms p =
-        whole_all width narrow is_of_table ends Good ex kept keeper 8 EachOne ⊥ AnyLine ms (ids_begun u) (numbers_begun u) both_begun p (λ never. absurd never) (any_on ms (numbers_begun u))
+        whole_all width narrow is_of_table ends Good ex kept keeper 8 EachOne ⊥ AnyLine ms (ids_begun u) (numbers_begun u) both_begun p (λ never. absurd never) (replies_have_any ms (numbers_begun u))
         (vouched_begun is_of_table keeper EachOne (λ n l. tt) ⊥ AnyLine (inr (λ n. inl tt)))
 
-    -- the settlement of a request that was sent after the table is its own
+    -- `IsVouchedFor` holds after possible moves with all requests excepted but one, m, that was sent after the table
+    -- (`WentOutBehindTheTable`)
     behind_own : (ms : List (Move State)) → ArePossible ends Good kept (by_ids width ends) ms (ids_begun u) → (m : ℕ) → WentOutBehindTheTable width ends u ms m
         → IsVouchedFor ends Good kept (AllBut m) (λ n call line. WasMadeOn width ends u ms n call line) (moved ends (by_numbers width) ms (numbers_begun u)).wire
     behind_own ms p m h =
@@ -233,15 +232,15 @@ module _ {State : Type 0} (ends : Ends State) (Good : State → Type 0) (kept : 
         let near = near_the_table width narrow ends Good kept keeper 8 m b none (omega arith) size (subst (λ (w : Wire State). IsBehindTheTable w) same h.behind_table) in
         let one = renewed width narrow ends Good kept keeper 8 M m b both.sound none size near in
         let made = made_here width narrow ends Good ex kept (ids_begun u) (numbers_begun u) both_begun ms p in
-        let on = are_on_later width ends M h.front rest (numbers_begun u) (subst (λ l. AreOn width ends M l (numbers_begun u)) h.split made) in
+        let on = replies_have_later width ends M h.front rest (numbers_begun u) (subst (λ l. RepliesHave width ends M l (numbers_begun u)) h.split made) in
         let last = whole_all width narrow is_of_table ends Good ex kept keeper 8 (AllBut m) ⊥ M rest a b both
         (possible_behind width ends Good kept h.front rest (ids_begun u) whole) (λ never. absurd never) on one in
         let there : moved ends (by_numbers width) ms (numbers_begun u) ≡ moved ends (by_numbers width) rest b =
-        ap (λ l. moved ends (by_numbers width) l (numbers_begun u)) h.split ∙ numbers_append width ends h.front rest (numbers_begun u) in
+        ap (λ l. moved ends (by_numbers width) l (numbers_begun u)) h.split ∙ moved_append ends (by_numbers width) h.front rest (numbers_begun u) in
         subst (λ (w : World (ByNumber Asked) State). IsVouchedFor ends Good kept (AllBut m) M w.wire) (sym there)
         (vouched_for width narrow is_of_table ends Good ex kept keeper 8 (AllBut m) ⊥ M (moved ends (by_numbers width) rest b) last)
 
-    -- the settlement of a request that is `IsSafe` is its own
+    -- after possible moves the settlement of a request from number 8 on that is `IsSafe` is its own
     safe_own : (ms : List (Move State)) → ArePossible ends Good kept (by_ids width ends) ms (ids_begun u) → (m : ℕ) (s : Settlement Asked) → 8 ≤ m → IsSafe width ends u Good kept ms m
         → slice_get (moved ends (by_numbers width) ms (numbers_begun u)).wire.settled m ≡ Some s
         → IsOwnSettlement ends Good (λ n call line. WasMadeOn width ends u ms n call line) (moved ends (by_numbers width) ms (numbers_begun u)).wire m s
@@ -249,7 +248,7 @@ module _ {State : Type 0} (ends : Ends State) (Good : State → Type 0) (kept : 
     safe_own ms p m s ge (inr (inl alike)) e = (own_if_all_known all_known (alike_is ends Good kept keeper alike) refl ms p (asks_all ms)).own m s (λ l. omega (arith, l, ge)) e
     safe_own ms p m s ge (inr (inr went)) e = (behind_own ms p m went).own m s (λ other. other refl) e
 
-    -- moves after a clean synchronization are faithful
+    -- possible moves after a clean synchronization are faithful (`IsFaithful`)
     pub faithful : (ms : List (Move State)) → ArePossible ends Good kept (by_ids width ends) ms (ids_begun u) → IsFaithful width ends u ms Good kept
     faithful ms p =
         let a = moved ends (by_ids width ends) ms (ids_begun u) in

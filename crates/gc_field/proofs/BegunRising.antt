@@ -92,7 +92,7 @@ module _ {State : Type 0} (width : ℕ) (ends : Ends State) where
 
 -- Its ids.
 
--- the ids of the requests in flight are their numbers modulo 8
+-- where the client never restarted (`since` is 0), the ids of the requests in flight are their numbers modulo 8
 ids_up : (since total : ℕ) (xs : List (Numbered Request)) → since ≡ 0 → Each (IsGoing since total) xs → map (λ x. x.id) (map (λ x. x.line) xs) ≡ ids_at (numbers xs)
 ids_up since total [] e h = refl
 ids_up since total (x ∷ xs) e h =
@@ -100,7 +100,7 @@ ids_up since total (x ∷ xs) e h =
     ap₂ (λ i ids. i ∷ ids) (h.0.id ∙ ap (λ n. n % 8) plain) (ids_up since total xs e h.1)
 
 module _ {State : Type 0} (width : ℕ) (ends : Ends State) (Good : State → Type 0) (same_heard : (line : List ℕ) → ends.heard line ≡ rule.heard line) where
-  -- the ids of the replies in flight are their numbers modulo 8
+  -- where the client never restarted (`since` is 0), the ids of the replies in flight are their numbers modulo 8
   ids_down : (since total : ℕ) (xs : List (Numbered (List ℕ))) → since ≡ 0 → Each (IsComing width ends Good since total) xs → filter_map rule.heard (map (λ x. x.line) xs) ≡ ids_at (numbers xs)
   ids_down since total [] e h = refl
   ids_down since total (x ∷ xs) e h =
@@ -133,7 +133,7 @@ module _ {State : Type 0} (ends : Ends State) (Good : State → Type 0) (kept : 
       subst (λ (w : Wire State). HasRisingIds (on_line w)) (sym both.agree.wire)
       (are_rising width ends Good is.hears b.client b.wire narrow (based_all width ends Good kept ms (ids_begun u) (numbers_begun u) p (record { since = refl; count = omega arith })) both.sound)
 
-  -- what a run leaves: a good state, and requests with ids below 8
+  -- possible moves that follow a clean synchronization leave a good state, and requests with ids below 8
   pub runs_leave_good : (u : UnderWay State) → IsClean Good kept u → (ms : List (Move State))
       → ArePossible ends Good kept (by_ids width ends) ms (ids_begun u)
       → Good (behind width ends u ms).wire.state × Each (λ x. x.id < 8) (map (λ x. x.line) (behind width ends u ms).wire.up)

@@ -34,21 +34,21 @@ short_word n u h s = h.none (subword_front (6 ∷ 5 ∷ h.more) h.tail (ids_unde
 
 module _ {State : Type 0} (ends : Ends State) (Good : State → Type 0) (kept : State → Option KeptReply) (is : IsAnInstrument ends Good kept) (width : ℕ) (narrow : width ≤ 7) where
   -- the requests that a clean synchronization leaves are copies of the eighth null procedure
-  clean_up : (xs : List (InFlight Request)) → Each (λ x. (x.old ≡ false) × (x.line ≡ eighth)) xs → Each (λ x. x ≡ eighth) (map (λ x. x.line) xs)
-  clean_up [] h = tt
-  clean_up (x ∷ xs) h = (h.0.1, clean_up xs h.1)
+  up_is_eighth : (xs : List (InFlight Request)) → Each (λ x. (x.old ≡ false) × (x.line ≡ eighth)) xs → Each (λ x. x ≡ eighth) (map (λ x. x.line) xs)
+  up_is_eighth [] h = tt
+  up_is_eighth (x ∷ xs) h = (h.0.1, up_is_eighth xs h.1)
 
   -- the replies that a clean synchronization leaves are replies to the eighth null procedure
-  clean_down : (xs : List (InFlight (List ℕ))) → Each (λ x. (x.old ≡ false) × (heard x.line ≡ Some 7)) xs → Each (λ line. heard line ≡ Some 7) (map (λ x. x.line) xs)
-  clean_down [] h = tt
-  clean_down (x ∷ xs) h = (h.0.1, clean_down xs h.1)
+  down_is_eighth : (xs : List (InFlight (List ℕ))) → Each (λ x. (x.old ≡ false) × (heard x.line ≡ Some 7)) xs → Each (λ line. heard line ≡ Some 7) (map (λ x. x.line) xs)
+  down_is_eighth [] h = tt
+  down_is_eighth (x ∷ xs) h = (h.0.1, down_is_eighth xs h.1)
 
   -- what a clean synchronization leaves is `IsClean`
   pub clean_lines : (s : Model State) → Good s.state → HasBegunCleanly kept s → IsClean Good kept (leaves s)
-  clean_lines s good h = record { good = good; up = clean_up s.up h.up; down = clean_down s.down h.down; keeps = h.keeps }
+  clean_lines s good h = record { good = good; up = up_is_eighth s.up h.up; down = down_is_eighth s.down h.down; keeps = h.keeps }
 
-  -- where what is in flight is `IsShort` for n killed runs, and one more run is killed while it synchronizes, what that run
-  -- leaves is `IsShort` for n + 1
+  -- where what is in flight is `IsShort` for n killed runs, fewer than five, and one more run is killed while it synchronizes,
+  -- what that run leaves is `IsShort` for n + 1
   short_killed : (n : ℕ) (u : UnderWay State) (r : Run State) → IsWellFormed Good u → AreTurns ends Good kept r.turns (begins u) → n + 1 ≤ 5 → (tail : List ℕ)
       → (h : IsShort n u) → h.tail ≡ tail → IsShort (n + 1) (leaves (after_turns ends u r))
   short_killed n u r lines turns few [] h e = absurd (let size = h.few in let none : length h.tail ≡ 0 = ap length e in omega (arith, size, none, few))
@@ -64,13 +64,14 @@ module _ {State : Type 0} (ends : Ends State) (Good : State → Type 0) (kept : 
 
   -- what a run comes to, by the ids that are left of its word. If no id is left, it has synchronized cleanly, is faithful, and
   -- the count n of runs killed in a row starts again at 0. If ids are left, it was killed while it synchronized, and n is one
-  -- more
+  -- more. What it leaves in flight is `IsWellFormed`, and `IsShort` for the new count
   pub record RunResult (n : ℕ) (u : UnderWay State) (r : Run State) (left : List ℕ) : Type 0 where
     pub own : IsOwnIf width ends Good kept left (after_turns ends u r) r.moves
     pub lines : IsWellFormed Good (left_if width ends left (after_turns ends u r) r.moves)
     pub short : IsShort (killed_if left n) (left_if width ends left (after_turns ends u r) r.moves)
 
-  -- each possible run has its `RunResult`, as long as at most five in a row are killed
+  -- each possible run over what is `IsWellFormed`, and `IsShort` for the `n` runs killed in a row before, has its `RunResult`, as
+  -- long as at most five in a row are killed
   pub run_result : (n : ℕ) (u : UnderWay State) (r : Run State) (left : List ℕ) → (after_turns ends u r).left ≡ left → IsWellFormed Good u → IsShort n u → AreTurns ends Good kept r.turns (begins u)
       → ArePossibleIf width ends Good kept left (after_turns ends u r) r.moves → killed_if left n ≤ 5 → RunResult n u r left
   run_result n u r [] e lines short turns p few =
@@ -89,7 +90,8 @@ module _ {State : Type 0} (ends : Ends State) (Good : State → Type 0) (kept : 
     short = short_killed n u r lines turns few short.tail short refl;
   }
 
-  -- runs one after the other have synchronized cleanly, and are faithful, as long as few are killed
+  -- where what is in flight is `IsWellFormed`, and `IsShort` for the `n` runs killed in a row before, and few in a row are killed
+  -- (`AreFewKilled`): each of these possible runs that has synchronized has done so cleanly, and is faithful
   all_own : (rs : List (Run State)) (n : ℕ) (u : UnderWay State) → IsWellFormed Good u → IsShort n u → AreRuns width ends Good kept u rs
       → AreFewKilled width ends n u rs → AreOwn width ends Good kept u rs
   all_own [] n u lines short runs few = tt
@@ -97,8 +99,8 @@ module _ {State : Type 0} (ends : Ends State) (Good : State → Type 0) (kept : 
       let one = run_result n u r (after_turns ends u r).left refl lines short runs.0.0 runs.0.1 few.0 in
       (one.own, all_own rs (killed_if (after_turns ends u r).left n) (left_by_run width ends u r) one.lines one.short runs.1 few.1)
 
-  -- runs one after the other are their own, if `HasRisingIds` holds of what is in flight before the first, as long as few in a row
-  -- are killed while they synchronize
+  -- where what is in flight before the first of these possible runs is `IsWellFormed`, `HasRisingIds` holds of it, and few runs
+  -- in a row are killed while they synchronize (`AreFewKilled`): the runs are their own (`AreOwn`)
   pub runs_are_their_own : (u : UnderWay State) → IsWellFormed Good u → HasRisingIds u → (rs : List (Run State)) → AreRuns width ends Good kept u rs
       → AreFewKilled width ends 0 u rs → AreOwn width ends Good kept u rs
   runs_are_their_own u lines row rs runs few = all_own rs 0 u lines (short_rising u row) runs few

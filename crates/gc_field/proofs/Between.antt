@@ -30,14 +30,15 @@ executing_append effect [] ys s = refl
 executing_append effect (call ∷ xs) ys s = executing_append effect xs ys (effect s call)
 
 module _ {State : Type 0} (ends : Ends State) where
-  -- two states that are alike apart from what is retained are still so after the same calls
+  -- where executing has the effect `effect` (`HasEffect`), two states that are alike apart from what is retained are still so
+  -- after the same calls
   executing_alike : (apart : State → State) (effect : State → Asked → State) → HasEffect ends apart effect → (calls : List Asked) (s t : State)
       → apart s ≡ apart t → apart (executing effect s calls) ≡ apart (executing effect t calls)
   executing_alike apart effect has [] s t e = e
   executing_alike apart effect has (call ∷ calls) s t e = executing_alike apart effect has calls (effect s call) (effect t call) (has.alike s t call e)
 
   -- executing these calls makes the second state of the first, apart from what is retained, for each effect that executing has
-  abbrev pub IsMadeBy : State → List Asked → State → Type 0
+  abbrev pub IsMadeBy : (s : State) (calls : List Asked) (t : State) → Type 0
   IsMadeBy s calls t = (apart : State → State) (effect : State → Asked → State) → HasEffect ends apart effect → apart t ≡ apart (executing effect s calls)
 
   -- if calls make the second state of the first, and others the third of the second, both together make the third of the first
@@ -45,7 +46,7 @@ module _ {State : Type 0} (ends : Ends State) where
   made_both r s t xs ys h g apart effect has =
       g apart effect has ∙ executing_alike apart effect has ys s (executing effect r xs) (h apart effect has) ∙ ap apart (sym (executing_append effect xs ys r))
 
-  -- no calls leave a state as it is
+  -- the empty list of calls makes of a state that state itself
   made_none : (s t : State) → t ≡ s → IsMadeBy s [] t
   made_none s t e apart effect has = ap apart e
 
@@ -73,13 +74,13 @@ calls_append sent [] ks (x ∷ xs) ys h g = absurd h
 calls_append sent (n ∷ ns) ks [] ys h g = absurd h
 calls_append sent (n ∷ ns) ks (x ∷ xs) ys h g = (h.0, calls_append sent ns ks xs ys h.1 g)
 
--- a request in flight is one that was sent, with its call
-abbrev IsKnown : List Sent → Numbered Request → Type 0
-IsKnown sent x = (r : Sent) × (slice_get sent x.number ≡ Some r) × (r.call ≡ x.line.call)
+-- this request in flight is one that was sent, with its call
+abbrev WasSent : List Sent → Numbered Request → Type 0
+WasSent sent x = (r : Sent) × (slice_get sent x.number ≡ Some r) × (r.call ≡ x.line.call)
 
 -- a request that was sent was sent where more are sent, too
-known_more : (sent more : List Sent) (x : Numbered Request) → IsKnown sent x → IsKnown (sent ++ more) x
-known_more sent more x h = (h.0, get_more sent more x.number h.0 h.1, h.2)
+sent_among_more : (sent more : List Sent) (x : Numbered Request) → WasSent sent x → WasSent (sent ++ more) x
+sent_among_more sent more x h = (h.0, get_more sent more x.number h.0 h.1, h.2)
 
 -- if each start had at most as many executions before it as there are in all (`xs`), the same holds when more follow (`ys`)
 begun_more : (xs ys starts : List ℕ) → Each (λ s. s ≤ length xs) starts → Each (λ s. s ≤ length (xs ++ ys)) starts
@@ -87,8 +88,8 @@ begun_more xs ys starts h = let size : length (xs ++ ys) ≡ length xs + length 
     each_more (λ s. s ≤ length xs) (λ s. s ≤ length (xs ++ ys)) (λ s l. omega (arith, l, size)) starts h
 
 module _ {State : Type 0} (ends : Ends State) where
-  -- what happened between two wires: which requests were executed; no start if it is `quiet`; and if it is `still`, the
-  -- instrument's state is what these made of it
+  -- what happened between two wires: the requests `more` were sent; those with these numbers, which asked for these calls, were
+  -- executed; there was no start if it is `quiet`; and if it is `still`, the instrument's state is what the calls made of it
   pub record Did (v w : Wire State) (quiet still : Type 0) : Type 0 where
     pub numbers : List ℕ
     pub calls : List Asked
@@ -113,7 +114,8 @@ module _ {State : Type 0} (ends : Ends State) where
     state = λ still. made_both ends u.state v.state w.state h.calls i.calls (h.state (g still)) (i.state still);
   }
 
-  -- if nothing was executed, `Did` holds
+  -- if nothing was executed, there was no start if it is `quiet`, and the state is as no calls make it if it is `still`, `Did`
+  -- holds, whatever was sent (`more`)
   did_none : (v w : Wire State) (quiet still : Type 0) (more : List Sent) → w.executed ≡ v.executed → w.sent ≡ v.sent ++ more → (quiet → w.starts ≡ v.starts)
       → (still → IsMadeBy ends v.state [] w.state) → Did v w quiet still
   did_none v w quiet still more executed sent starts state = record {
@@ -135,7 +137,7 @@ module _ {State : Type 0} (ends : Ends State) where
   -- each request in flight is one that was sent, with its call; and no start had more executions before it than there are in
   -- all
   pub record IsConsistent (w : Wire State) : Type 0 where
-    pub known : Each (IsKnown w.sent) w.up
+    pub known : Each (WasSent w.sent) w.up
     pub begun : Each (λ s. s ≤ length w.executed) w.starts
 
   -- what happened between two wires, and that the second one is `IsConsistent`, too
@@ -143,13 +145,14 @@ module _ {State : Type 0} (ends : Ends State) where
     did : Did v w quiet still
     stands : IsConsistent w
 
-  -- if the lines in flight alone changed, `Goes` holds: nothing was executed
+  -- where v is `IsConsistent`, the lines in flight alone changed, and each request in flight then was sent, `Goes` holds: nothing
+  -- was executed
   goes_same : (v w : Wire State) (quiet still : Type 0) → w.executed ≡ v.executed → w.sent ≡ v.sent → w.starts ≡ v.starts → w.state ≡ v.state
-      → Each (IsKnown v.sent) w.up → IsConsistent v → Goes v w quiet still
+      → Each (WasSent v.sent) w.up → IsConsistent v → Goes v w quiet still
   goes_same v w quiet still executed sent starts state known k = record {
     did = did_same v w quiet still executed sent starts state;
     stands = record {
-      known = subst (λ l. Each (IsKnown l) w.up) (sym sent) known;
+      known = subst (λ l. Each (WasSent l) w.up) (sym sent) known;
       begun = subst (λ l. Each (λ s. s ≤ length l) w.starts) (sym executed) (subst (λ l. Each (λ s. s ≤ length v.executed) l) (sym starts) k.begun);
     };
   }
@@ -157,8 +160,8 @@ module _ {State : Type 0} (ends : Ends State) where
   -- the front request reaches the instrument
   module _ (v : Wire State) (x : Numbered Request) (rest : List (Numbered Request)) (quiet still : Type 0) (q : v.up ≡ x ∷ rest) (k : IsConsistent v) where
     -- the front request, and those after it, were sent
-    known_here : IsKnown v.sent x × Each (IsKnown v.sent) rest
-    known_here = subst (λ l. Each (IsKnown v.sent) l) q k.known
+    front_was_sent : WasSent v.sent x × Each (WasSent v.sent) rest
+    front_was_sent = subst (λ l. Each (WasSent v.sent) l) q k.known
 
     -- if the instrument is handed the front request, and executes it (`b`) or sends a line again, `Goes` holds
     reached_by : (hd : Handed State) (b : Bool) → hd.executed ≡ b → (hd.executed ≡ true → IsMadeBy ends v.state (x.line.call ∷ []) hd.state)
@@ -173,18 +176,18 @@ module _ {State : Type 0} (ends : Ends State) where
             executed = acted;
             more = [];
             sent = sym (append-nil v.sent);
-            asked = (known_here.0, tt);
+            asked = (front_was_sent.0, tt);
             starts = λ q. refl;
             state = λ s. new e;
           };
-          stands = record { known = known_here.1; begun = subst (λ l. Each (λ s. s ≤ length l) v.starts) (sym acted) (begun_more v.executed (x.number ∷ []) v.starts k.begun) };
+          stands = record { known = front_was_sent.1; begun = subst (λ l. Each (λ s. s ≤ length l) v.starts) (sym acted) (begun_more v.executed (x.number ∷ []) v.starts k.begun) };
         }
     reached_by hd false e new same =
         let w = replied v x.number rest hd in
         let acted : w.executed ≡ v.executed = ap (λ b. cond b (v.executed ++ x.number ∷ []) v.executed) e in
         record {
           did = did_none v w quiet still [] acted (sym (append-nil v.sent)) (λ q. refl) (λ s. same e);
-          stands = record { known = known_here.1; begun = subst (λ l. Each (λ s. s ≤ length l) v.starts) (sym acted) k.begun };
+          stands = record { known = front_was_sent.1; begun = subst (λ l. Each (λ s. s ≤ length l) v.starts) (sym acted) k.begun };
         }
 
     -- if the front request reaches the instrument, `Goes` holds
@@ -193,27 +196,27 @@ module _ {State : Type 0} (ends : Ends State) where
         let hd = ends.handed v.state x.line.id x.line.call in
         reached_by hd hd.executed refl (λ e. made_one ends v.state x.line.id x.line.call e) (λ e. made_again ends v.state x.line.id x.line.call e)
 
-  -- if the front request reaches the instrument, if one is in flight, `Goes` holds
+  -- where v is `IsConsistent`, and the front request, if one is in flight, reaches the instrument, `Goes` holds
   goes_up : (v : Wire State) (quiet still : Type 0) (q : List (Numbered Request)) → v.up ≡ q → IsConsistent v → Goes v (up_delivered ends v q) quiet still
   goes_up v quiet still [] e k = goes_same v _ quiet still refl refl refl refl k.known k
   goes_up v quiet still (x ∷ rest) e k = reached v x rest quiet still e k
 
-  -- if the requests in flight change, or stay, `Goes` holds
-  goes_with_up : (v : Wire State) (quiet still : Type 0) (up : List (Numbered Request)) (b : Bool) → Each (IsKnown v.sent) up → IsConsistent v → Goes v (with_up v up b) quiet still
+  -- where v is `IsConsistent`, and the requests in flight change to others that were sent, or (`b` is false) stay, `Goes` holds
+  goes_with_up : (v : Wire State) (quiet still : Type 0) (up : List (Numbered Request)) (b : Bool) → Each (WasSent v.sent) up → IsConsistent v → Goes v (with_up v up b) quiet still
   goes_with_up v quiet still up true known k = goes_same v _ quiet still refl refl refl refl known k
   goes_with_up v quiet still up false known k = goes_same v _ quiet still refl refl refl refl k.known k
 
-  -- if the replies in flight change, or stay, `Goes` holds
+  -- where v is `IsConsistent`, and the replies in flight change, or (`b` is false) stay, `Goes` holds
   goes_with_down : (v : Wire State) (quiet still : Type 0) (down : List (Numbered (List ℕ))) (b : Bool) → IsConsistent v → Goes v (with_down v down b) quiet still
   goes_with_down v quiet still down true k = goes_same v _ quiet still refl refl refl refl k.known k
   goes_with_down v quiet still down false k = goes_same v _ quiet still refl refl refl refl k.known k
 
-  -- if the front reply comes, `Goes` holds
+  -- where the wire is `IsConsistent`, and the front reply, if one is in flight, comes, `Goes` holds
   goes_down : (w : World (ById Asked) State) (quiet still : Type 0) (q : List (Numbered (List ℕ))) → IsConsistent w.wire → Goes w.wire (down_delivered (by_ids 7 ends) w q).wire quiet still
   goes_down w quiet still [] k = goes_same w.wire _ quiet still refl refl refl refl k.known k
   goes_down w quiet still (x ∷ rest) k = goes_same w.wire _ quiet still refl refl refl refl k.known k
 
-  -- if a request is sent, or refused, `Goes` holds
+  -- where the wire is `IsConsistent`, and a request is sent, or refused, `Goes` holds
   goes_sent : (w : World (ById Asked) State) (quiet still : Type 0) (target : ℕ) (call : Asked) (o : Option (Sending (ById Asked))) → IsConsistent w.wire
       → Goes w.wire (requested w target call o).wire quiet still
   goes_sent w quiet still target call None k = goes_same w.wire _ quiet still refl refl refl refl k.known k
@@ -223,12 +226,12 @@ module _ {State : Type 0} (ends : Ends State) where
       record {
         did = did_none v _ quiet still (r ∷ []) refl refl (λ q. refl) (λ s. made_none ends v.state v.state refl);
         stands = record {
-          known = each_append (IsKnown (v.sent ++ r ∷ [])) v.up _ (each_more _ _ (known_more v.sent (r ∷ [])) v.up k.known) ((r, get_push v.sent r, refl), tt);
+          known = each_append (WasSent (v.sent ++ r ∷ [])) v.up _ (each_more _ _ (sent_among_more v.sent (r ∷ [])) v.up k.known) ((r, get_push v.sent r, refl), tt);
           begun = k.begun;
         };
       }
 
-  -- if a step of the line happens, `Goes` holds
+  -- where the wire is `IsConsistent`, and a step of the line happens, `Goes` holds
   goes_line : (w : World (ById Asked) State) (quiet still : Type 0) (step : Step) → IsLineStep step → IsConsistent w.wire → Goes w.wire (happens ends (by_ids 7 ends) w step).wire quiet still
   goes_line w quiet still (Send target call deadline) p k = absurd p
   goes_line w quiet still Up_deliver p k = goes_up w.wire quiet still w.wire.up refl k
@@ -242,7 +245,8 @@ module _ {State : Type 0} (ends : Ends State) where
   goes_line w quiet still Restart_instrument p k = absurd p
   goes_line w quiet still Nothing p k = goes_same w.wire _ quiet still refl refl refl refl k.known k
 
-  -- where `Goes` holds over one move, and over those after it, it holds over all
+  -- where `Goes` holds over one move with the premises p and r, and over the moves after it with q and s, and q implies p, and s
+  -- implies r, `Goes` holds over all of these moves with q and s
   goes_then : (u v w : Wire State) (p q r s : Type 0) → (q → p) → (s → r) → Goes u v p r → Goes v w q s → Goes u w q s
   goes_then u v w p q r s f g h i = record { did = did_both u v w q p s r f g h.did i.did; stands = i.stands }
 
@@ -266,14 +270,14 @@ module _ {State : Type 0} (ends : Ends State) where
     stands = h.stands;
   }
 
-  -- if the instrument starts, `Goes` holds: the interval is neither quiet nor still
+  -- where v is `IsConsistent`, and the instrument starts, `Goes` holds: the interval is neither quiet nor still
   goes_anew : (v : Wire State) → IsConsistent v → Goes v (started ends v true) ⊥ ⊥
   goes_anew v k = record {
     did = did_none v (started ends v true) ⊥ ⊥ [] refl (sym (append-nil v.sent)) (λ e. absurd e) (λ e. absurd e);
     stands = record { known = k.known; begun = each_append (λ s. s ≤ length v.executed) v.starts (length v.executed ∷ []) k.begun (omega arith, tt) };
   }
 
-  -- if the instrument's state changes by itself, `Goes` holds: the interval isn't still
+  -- where v is `IsConsistent`, and the instrument's state changes by itself, `Goes` holds: the interval isn't still
   goes_changed : (v : Wire State) (quiet : Type 0) (state : State) → IsConsistent v → Goes v (record v { state = state }) quiet ⊥
   goes_changed v quiet state k = record {
     did = did_none v (record v { state = state }) quiet ⊥ [] refl (sym (append-nil v.sent)) (λ q. refl) (λ e. absurd e);
@@ -281,7 +285,8 @@ module _ {State : Type 0} (ends : Ends State) where
   }
 
   module _ (Good : State → Type 0) (kept : State → Option KeptReply) where
-    -- `Goes` holds over any possible moves, quiet if the instrument doesn't start, and still if it isn't disturbed
+    -- from a wire on that is `IsConsistent`, `Goes` holds over any possible moves, quiet if the instrument doesn't start, and
+    -- still if it isn't disturbed
     goes_all : (ms : List (Move State)) (w : World (ById Asked) State) → ArePossible ends Good kept (by_ids 7 ends) ms w → IsConsistent w.wire
         → Goes w.wire (moved ends (by_ids 7 ends) ms w).wire (HasNoStartBetween ms) (IsUndisturbed ms)
     goes_all [] w p k = goes_same w.wire w.wire (Unit {0}) (Unit {0}) refl refl refl refl k.known k
@@ -305,19 +310,20 @@ module _ {State : Type 0} (ends : Ends State) where
     goes_all (Joins line ∷ ms) w p k = absurd p.0
 
     -- a copy of the eighth null procedure was sent
-    known_last : (x : Request) → x ≡ eighth → IsKnown nulls (record { number = 7; line = x })
-    known_last x e = (record { target = 0; call = Table NullProc; line = asked_line (Some 7) (Table NullProc) }, refl, sym (ap (λ (r : Request). r.call) e))
+    last_was_sent : (x : Request) → x ≡ eighth → WasSent nulls (record { number = 7; line = x })
+    last_was_sent x e = (record { target = 0; call = Table NullProc; line = asked_line (Some 7) (Table NullProc) }, refl, sym (ap (λ (r : Request). r.call) e))
 
     -- after a clean synchronization the wire is `IsConsistent`
     consistent_begun : (u : UnderWay State) → IsClean Good kept u → IsConsistent (ids_begun u).wire
-    consistent_begun u clean = record { known = each_last (IsKnown nulls) (λ x. x ≡ eighth) known_last u.up clean.up; begun = tt }
+    consistent_begun u clean = record { known = each_last (WasSent nulls) (λ x. x ≡ eighth) last_was_sent u.up clean.up; begun = tt }
 
-    -- after a clean synchronization, and moves, the wire is `IsConsistent`
+    -- after a clean synchronization, and possible moves, the wire is `IsConsistent`
     pub consistent_all : (ms : List (Move State)) (u : UnderWay State) → IsClean Good kept u → ArePossible ends Good kept (by_ids 7 ends) ms (ids_begun u)
         → IsConsistent (moved ends (by_ids 7 ends) ms (ids_begun u)).wire
     consistent_all ms u clean p = (goes_all ms (ids_begun u) p (consistent_begun u clean)).stands
 
-    -- `Did` holds over any possible moves, quiet if the instrument doesn't start, and still if it isn't disturbed
+    -- from a wire on that is `IsConsistent`, `Did` holds over any possible moves, quiet if the instrument doesn't start, and
+    -- still if it isn't disturbed
     pub did_all : (ms : List (Move State)) (w : World (ById Asked) State) → ArePossible ends Good kept (by_ids 7 ends) ms w → IsConsistent w.wire
         → Did w.wire (moved ends (by_ids 7 ends) ms w).wire (HasNoStartBetween ms) (IsUndisturbed ms)
     did_all ms w p k = (goes_all ms w p k).did

@@ -13,8 +13,9 @@ use Rattle.std.proofs.lemmas.Option.{same_Some}
 use Rattle.gc_field.specs.Plain.{plain_task}
 use Rattle.gc_field.specs.ChainWitness.{IsPointedInField, acts, at_start, commands, measures, moves, runs, scope}
 use Rattle.gc_field.specs.Pointing.{AreStill, turns_telescope}
-use Rattle.gc_field.proofs.Witness.{asked_each, fits, one_part, opens, run_on, units}
+use Rattle.gc_field.proofs.Witness.{asked_each, fits, one_part, opens, units}
 use Rattle.gc_station.specs.Parts.{parts_of}
+use Rattle.gc_station.proofs.Going.{runs-append}
 use Rattle.gc_station.specs.Model.{opening}
 use Rattle.gc_field.specs.Field.{seen}
 use Rattle.gc_field.specs.Shown.{AreShownAs, shown}
@@ -22,7 +23,7 @@ use Rattle.gc_field.specs.Simulator.{ends}
 use Rattle.gc_field.specs.Begin.{begins}
 use Rattle.gc_field.specs.Witness.{eight_answered, plan, replies}
 
--- each command is chained to the one before it
+-- each command after the first is chained to the one before it
 pub all_chained : AreChained commands 0 2
 all_chained zero above upto = absurd (omega (arith, above))
 all_chained (suc zero) above upto = refl
@@ -37,13 +38,14 @@ none_turns (suc zero) task above under e =
     ap (λ (t : Task). turns_telescope t.command.call) (sym (same_Some one task e))
 none_turns (suc (suc p)) task above under e = absurd (omega (arith, under))
 
--- the run's parts: one, with the requests by place and moment
+-- the run's parts are these: one with these turns and steps, and with the three requests by place and moment; and the empty one
+-- after the end
 parts_are : parts_of plan commands (opening plan scope) acts ≡ one_part (asked_each replies) (seen moves) ((0, 15) ∷ (1, 20) ∷ (2, 25) ∷ [])
 unfolding is_elsewhere header_at reply_at digits rounded
 parts_are = refl
 
 -- what the line does while the station synchronizes shows the null procedures and these replies
-shown_are : shown ends eight_answered (begins at_start) ≡ asked_each replies
+pub shown_are : shown ends eight_answered (begins at_start) ≡ asked_each replies
 unfolding is_elsewhere header_at reply_at handed exec digits rounded
 shown_are = refl
 
@@ -55,7 +57,7 @@ chain =
       field =
           record {
             runs =
-                run_on plan commands (opening plan scope) (take 27 acts) (drop 27 acts) (opens 1 commands scope.reads)
+                runs-append plan commands (opening plan scope) (take 27 acts) (drop 27 acts) (opens 1 commands scope.reads)
                 (tt, (refl, (tt, (tt, (refl, (tt, (tt, (refl, (tt, (tt, (refl, tt)))))))))));
             lines = record { ids = tt; good = fits };
             none = λ h. h;

@@ -1,7 +1,7 @@
 -- Chains in the field: the acts of a run up to a request are a run in the field, too, whose last stretch is a front of the
--- whole run's stretch at that place. So when a chained command is sent, the answer of the command before it is settled there. A
--- *part* is what happens in a run from one synchronization to the next, as the station sees it; a *stretch* is what happens
--- then on the line. The *marks* of a part say for which command each of its requests is, in order.
+-- whole run's stretch at that place. So when a chained command is sent, the answer of each one before it in its chain is settled
+-- there. A *part* is what happens in a run from one synchronization to the next, as the station sees it; a *stretch* is what
+-- happens then on the line. The *marks* of a part say for which command each of its requests is, in order.
 use Rattle.std.proofs.Common.{◌≡◌, inl, inr, ℕ, zero, suc, ◌+◌, ◌-◌, ◌<◌, ◌≤◌, drop, length-drop, List, [], ◌∷◌, ◌++◌, length, map, Option, Some, refl, sym, ◌∙◌, ap, subst, arith}
 use Rattle.std.specs.Prelude.{slice_get}
 use Rattle.std.proofs.lemmas.List.{length-map}
@@ -15,7 +15,7 @@ use Rattle.gc_texts.specs.Tasks.{call_at}
 use Rattle.gc_texts.specs.declared.tasks.Task.{Task}
 use Rattle.gc_station.specs.declared.plan.Plan.{Plan}
 use Rattle.gc_links.specs.Acts.{Act}
-use Rattle.gc_station.specs.Answers.{answer_of}
+use Rattle.gc_texts.specs.Endings.{line_of}
 use Rattle.gc_station.specs.Parts as part
 use Rattle.gc_station.specs.Parts.{Part, MarksAsk, mark_of}
 use Rattle.gc_station.specs.Records.{Record}
@@ -57,7 +57,7 @@ record SplitSeen {State : Type 0} (ms : List (Move State)) (xs : List (step.Step
   order : ms ≡ front ++ later
   steps : seen front ≡ xs
 
--- `SplitSeen` is preserved if a move that the client sees is put before it
+-- `SplitSeen` is preserved if a move, m, that the client sees as the step x is put before the moves, and x before the steps
 split_visible : {State : Type 0} (m : Move State) (st x : step.Step Asked) (ms : List (Move State)) (xs ys : List (step.Step Asked))
     → ((l : List (Move State)) → seen (m ∷ l) ≡ st ∷ seen l) → (seen ms ≡ xs ++ ys → SplitSeen ms xs) → seen (m ∷ ms) ≡ x ∷ (xs ++ ys)
     → SplitSeen (m ∷ ms) (x ∷ xs)
@@ -113,15 +113,16 @@ module _ {State : Type 0} (ends : Ends State) (Good : State → Type 0) (kept : 
 
   -- possible runs that show the parts `ps`, the first ones of a longer run with the runs `rs`: the stretch of the last one is a
   -- front of the stretch at its place among those of `rs`
-  record Cut (ps : List Part) (u : UnderWay State) (rs : List (Run State)) : Type 0 where
+  record CutRuns (ps : List Part) (u : UnderWay State) (rs : List (Run State)) : Type 0 where
     runs : List (Run State)
     shown : AreShownAs ends u runs ps
     possible : AreRuns 7 ends Good kept u runs
     last : (i : ℕ) (t s : Stretch State) → length ps ≡ suc i → slice_get (stretches ends u runs) i ≡ Some t → slice_get (stretches ends u rs) i ≡ Some s → IsCutOf t s
 
-  -- `Cut` of one part: the first run is cut after the moves that show the part's steps
+  -- `CutRuns` of one part, p: its run is the first of possible runs, r, whose turns show those of p, cut after the moves that
+  -- show the steps of p (`SplitSeen`)
   cut_one : (p : Part) (u : UnderWay State) (r : Run State) (rs : List (Run State)) → shown ends r.turns (begins u) ≡ p.turns → SplitSeen r.moves p.steps → AreTurns ends Good kept r.turns (begins u)
-      → ArePossibleIf 7 ends Good kept (after_turns ends u r).left (after_turns ends u r) r.moves → Cut (p ∷ []) u (r ∷ rs)
+      → ArePossibleIf 7 ends Good kept (after_turns ends u r).left (after_turns ends u r) r.moves → CutRuns (p ∷ []) u (r ∷ rs)
   cut_one p u r rs e x turns possible = record {
     runs = record { turns = r.turns; moves = x.front } ∷ [];
     shown = (e, x.steps, tt);
@@ -129,16 +130,17 @@ module _ {State : Type 0} (ends : Ends State) (Good : State → Type 0) (kept : 
     last = λ i t v size a b. first_cut (record { from = from_of u r; moves = r.moves }) (stretches ends (left_by_run 7 ends u r) rs) x.front x.later x.order i t v (omega (arith, size)) a b;
   }
 
-  -- if the last stretch of the later runs is cut, so is the last stretch of these runs with one more before it
-  later_cut : (p next : Part) (ps : List Part) (u : UnderWay State) (r : Run State) (rs : List (Run State)) (c : Cut (next ∷ ps) (left_by_run 7 ends u r) rs)
+  -- if `CutRuns` (`c`) holds of the later parts, the last stretch of the runs of `c` with the run r before them is a cut
+  -- (`IsCutOf`) of the stretch at its place among those of r and `rs`
+  later_cut : (p next : Part) (ps : List Part) (u : UnderWay State) (r : Run State) (rs : List (Run State)) (c : CutRuns (next ∷ ps) (left_by_run 7 ends u r) rs)
       (i : ℕ) (t v : Stretch State) → length (p ∷ next ∷ ps) ≡ suc i
       → slice_get (stretches ends u (r ∷ c.runs)) i ≡ Some t → slice_get (stretches ends u (r ∷ rs)) i ≡ Some v → IsCutOf t v
   later_cut p next ps u r rs c zero t v size a b = absurd (omega (arith, size))
   later_cut p next ps u r rs c (suc i) t v size a b = c.last i t v (omega (arith, size)) a b
 
-  -- `Cut` of one part that is a front of the first part that possible runs show, if it has a request
+  -- `CutRuns` of one part that is a front of the parts that possible runs show (`IsFront`, `AreWhole`), if it has a request
   cut_last : (p : Part) (qs : List Part) (u : UnderWay State) (rs : List (Run State)) → IsFront (p ∷ []) qs → AreWhole (p ∷ []) qs → (p.marks ≡ [] → ⊥)
-      → AreShownAs ends u rs qs → AreRuns 7 ends Good kept u rs → Cut (p ∷ []) u rs
+      → AreShownAs ends u rs qs → AreRuns 7 ends Good kept u rs → CutRuns (p ∷ []) u rs
   cut_last p [] u rs h w marked e good = absurd h
   cut_last p (q ∷ qs) u [] h w marked e good = absurd e
   cut_last p (q ∷ qs) u (r ∷ rs) h (inl none) marked e good = absurd (marked none)
@@ -146,10 +148,10 @@ module _ {State : Type 0} (ends : Ends State) (Good : State → Type 0) (kept : 
       let here : seen r.moves ≡ p.steps ++ h.0.steps = e.1 ∙ ap (λ (x : Part). x.steps) h.1 in
       cut_one p u r rs (e.0 ∙ same) (split_seen r.moves p.steps h.0.steps here) good.0.0 good.0.1
 
-  -- `Cut` is preserved if the run of a part is put before it
+  -- `CutRuns` is preserved if a part and the possible run that shows it are put before the parts and the runs
   cut_more : (p next : Part) (ps : List Part) (u : UnderWay State) (r : Run State) (rs : List (Run State)) → shown ends r.turns (begins u) ≡ p.turns → seen r.moves ≡ p.steps
       → AreTurns ends Good kept r.turns (begins u) × ArePossibleIf 7 ends Good kept (after_turns ends u r).left (after_turns ends u r) r.moves
-      → Cut (next ∷ ps) (left_by_run 7 ends u r) rs → Cut (p ∷ next ∷ ps) u (r ∷ rs)
+      → CutRuns (next ∷ ps) (left_by_run 7 ends u r) rs → CutRuns (p ∷ next ∷ ps) u (r ∷ rs)
   cut_more p next ps u r rs e f good c = record {
     runs = r ∷ c.runs;
     shown = (e, f, c.shown);
@@ -157,19 +159,21 @@ module _ {State : Type 0} (ends : Ends State) (Good : State → Type 0) (kept : 
     last = λ i t v size a b. later_cut p next ps u r rs c i t v size a b;
   }
 
-  -- `Cut` of a front of at least two parts, if any front `next ∷ ps` has a `Cut`
+  -- `CutRuns` of at least two parts that are a front of those that possible runs show (`IsFront`, `AreWhole`), if any such front
+  -- `next ∷ ps` has a `CutRuns`
   cut_on : (p next : Part) (ps qs : List Part) (u : UnderWay State) (rs : List (Run State)) → IsFront (p ∷ next ∷ ps) qs → AreWhole (p ∷ next ∷ ps) qs
       → AreShownAs ends u rs qs → AreRuns 7 ends Good kept u rs
       → ((xs : List Part) (v : UnderWay State) (ts : List (Run State)) → IsFront (next ∷ ps) xs → AreWhole (next ∷ ps) xs → AreShownAs ends v ts xs
-      → AreRuns 7 ends Good kept v ts → Cut (next ∷ ps) v ts) → Cut (p ∷ next ∷ ps) u rs
+      → AreRuns 7 ends Good kept v ts → CutRuns (next ∷ ps) v ts) → CutRuns (p ∷ next ∷ ps) u rs
   cut_on p next ps [] u rs h w e good again = absurd h
   cut_on p next ps (q ∷ qs) u [] h w e good again = absurd e
   cut_on p next ps (q ∷ qs) u (r ∷ rs) h w e good again =
       cut_more p next ps u r rs (e.0 ∙ ap (λ (x : Part). x.turns) h.0) (e.1 ∙ ap (λ (x : Part). x.steps) h.0) good.0 (again qs (left_by_run 7 ends u r) rs h.1 w e.2 good.1)
 
-  -- `Cut` of any parts that are a front of those that possible runs show, if the last of them has a request
+  -- `CutRuns` of any parts that are a front of those that possible runs show (`IsFront`, `AreWhole`), if the last of them has a
+  -- request
   cut_field : (ps qs : List Part) (u : UnderWay State) (rs : List (Run State)) → IsFront ps qs → AreWhole ps qs → LastIsMarked ps → AreShownAs ends u rs qs
-      → AreRuns 7 ends Good kept u rs → Cut ps u rs
+      → AreRuns 7 ends Good kept u rs → CutRuns ps u rs
   cut_field [] qs u rs h w marked e good = absurd h
   cut_field (p ∷ []) qs u rs h w marked e good = cut_last p qs u rs h w marked e good
   cut_field (p ∷ next ∷ ps) qs u rs h w marked e good = cut_on p next ps qs u rs h w e good (λ xs v ts g x f well. cut_field (next ∷ ps) xs v ts g x marked f well)
@@ -185,7 +189,8 @@ fit_at ends Good kept is (q ∷ ps) [] i p s h e f = absurd h
 fit_at ends Good kept is (q ∷ ps) (t ∷ ss) zero p s h e f = subst (λ x. Fits ends Good kept is x s) (same_Some q p e) (subst (λ x. Fits ends Good kept is q x) (same_Some t s f) h.0)
 fit_at ends Good kept is (q ∷ ps) (t ∷ ss) (suc i) p s h e f = fit_at ends Good kept is ps ss i p s h.1 e f
 
--- the requests of the stretch at a place are those of its part
+-- where the requests of stretches are those of their parts (`AreSentAs`), the requests of the stretch at place i are those of the
+-- part at place i (`MarksAsk`)
 pub sent_at : {State : Type 0} (ends : Ends State) (commands : List Task) (ps : List Part) (ss : List (Stretch State)) (i : ℕ) (p : Part) (s : Stretch State)
     → AreSentAs ends commands ps ss → slice_get ps i ≡ Some p → slice_get ss i ≡ Some s → MarksAsk commands p.marks (map asked (own_sent ends s))
 sent_at ends commands [] ss i p s h e f = absurd (none-some p e)
@@ -231,8 +236,8 @@ within c p d q e r (inr a) (inr b) same = (b.0, a.1, b.1)
 
 module _ {State : Type 0} (ends : Ends State) (Good : State → Type 0) (kept : State → Option KeptReply) (is : IsAnInstrument ends Good kept)
     (stay : ChainsStay) (go_on : MarksGoOn) (records_stay : RecordsStay) (plan : Plan) (commands : List Task) (scope : Scope) where
-  -- where request m of part i is for the command of record r, which is of a cycle, and r has an answer that is its own, that answer
-  -- is the one to this request
+  -- where request m of part i of a run is for the command of record r, which is of a cycle, and r has an answer that is its own
+  -- (`IsItsOwn`), that answer is to request m of part i
   own_place : (acts : List Act) → Runs plan commands (opening plan scope) acts
       → (i m : ℕ) (part : Part) (expected : Expected) (r : Record) (ss : List (Stretch State)) (line : List ℕ) → slice_get (parts plan commands scope acts) i ≡ Some part
       → slice_get part.marks m ≡ Some (Some (mark_of expected r)) → 0 < r.cycle → (u : IsItsOwn ends Good kept commands (parts plan commands scope acts) ss r line)
@@ -242,11 +247,11 @@ module _ {State : Type 0} (ends : Ends State) (Good : State → Type 0) (kept : 
       (λ l. not_itself r.cycle r.place (go_on plan commands scope acts runs u.k i u.m m u.part part (mark_of u.expected r) (mark_of expected r) u.of_parts of_parts u.mark mark l many many))
       (λ l. not_itself r.cycle r.place (go_on plan commands scope acts runs i u.k m u.m part u.part (mark_of expected r) (mark_of u.expected r) of_parts u.of_parts mark u.mark l many many))
 
-  -- the acts of a run in the field that come before a request are a run in the field, too, with its last stretch cut short
-  -- (`Cut`)
+  -- if the last part of the first acts (`before`) of a run in the field has a request, these acts are a run in the field, too,
+  -- with its last stretch cut short (`CutRuns`)
   in_front_of : (acts before rest : List Act) (u : UnderWay State) (rs : List (Run State)) → acts ≡ before ++ rest
       → LastIsMarked (parts plan commands scope before) → IsInField ends Good kept plan commands scope acts u rs
-      → (c : Cut ends Good kept (parts plan commands scope before) u rs) × IsInField ends Good kept plan commands scope before u c.runs
+      → (c : CutRuns ends Good kept (parts plan commands scope before) u rs) × IsInField ends Good kept plan commands scope before u c.runs
   in_front_of acts before rest u rs e marked h =
       let front : IsFront (parts plan commands scope before) (parts plan commands scope acts) =
       subst (λ l. IsFront (parts plan commands scope before) (parts plan commands scope l)) (sym e) (front_parts plan commands (opening plan scope) before rest) in
@@ -256,18 +261,18 @@ module _ {State : Type 0} (ends : Ends State) (Good : State → Type 0) (kept : 
       let c = cut_field ends Good kept (parts plan commands scope before) (parts plan commands scope acts) u rs front whole marked h.shown h.possible in
       (c, record { runs = runs; lines = h.lines; none = h.none; shown = c.shown; possible = c.possible })
 
-  -- when a chained command's request of a cycle is about to be sent, as request n of its stretch, the command before it in the
-  -- chain is settled, with the answer that its record has
+  -- when the client is about to send request n of stretch i, a command of a cycle, the command at place a, which was answered
+  -- well in the same part (`back`), is settled in that stretch, with the answer that its record has
   settled_there : (before : List Act) (u : UnderWay State) (rs : List (Run State)) → IsInField ends Good kept plan commands scope before u rs
       → (i n cycle a : ℕ) (first : Part) → slice_get (parts plan commands scope before) i ≡ Some first → length first.marks ≡ n
       → (back : IsAnsweredEarlier plan commands scope before first cycle a) → 0 < cycle → (t : Stretch State) × (slice_get (stretches ends u rs) i ≡ Some t) × (length (own_sent ends t) ≡ n)
-      × (slice_get (own_settled ends t) back.m ≡ Some (record { target = back.answer.command.target; call = back.answer.command.call; outcome = Answered back.line }))
+      × (slice_get (own_settled ends t) back.m ≡ Some (record { target = back.its.answer.command.target; call = back.its.answer.command.call; outcome = Answered back.its.good.line }))
   settled_there before u rs h i n cycle a first of_first count back many =
       let ss = stretches ends u rs in
       let f = run_faithful ends Good kept is plan commands scope before u rs h in
       let o = all_at (IsOwnAnswer ends Good kept commands (parts plan commands scope before) ss)
-      (state_after plan commands scope before).records back.k back.answer f.own back.among back.line (ap answer_of back.answered) in
-      let at = own_place before h.runs i back.m first back.expected back.answer ss back.line of_first back.mark (subst (λ c. 0 < c) (sym back.own_cycle) many) o in
+      (state_after plan commands scope before).records back.its.k back.its.answer f.own back.its.among back.its.good.line (ap line_of back.its.good.answered) in
+      let at = own_place before h.runs i back.m first back.expected back.its.answer ss back.its.good.line of_first back.mark (subst (λ c. 0 < c) (sym back.its.own_cycle) many) o in
       let of_ss : slice_get ss i ≡ Some o.stretch = subst (λ k. slice_get ss k ≡ Some o.stretch) at.0 o.of_stretches in
       let size : length first.marks ≡ length (own_sent ends o.stretch) =
       of_length commands first.marks (map asked (own_sent ends o.stretch))
@@ -276,10 +281,10 @@ module _ {State : Type 0} (ends : Ends State) (Good : State → Type 0) (kept : 
         of_ss,
         sym size ∙ count,
         subst (λ m. slice_get (own_settled ends o.stretch) m ≡ Some
-            (record { target = back.answer.command.target; call = back.answer.command.call; outcome = Answered back.line })) at.1 o.settled,
+            (record { target = back.its.answer.command.target; call = back.its.answer.command.call; outcome = Answered back.its.good.line })) at.1 o.settled,
       )
 
-  -- the line of a record was made on executing its own call
+  -- if the answer of record b is its own, and its part and its stretch fit, the line was made on executing the record's call
   made_its : (ps : List Part) (ss : List (Stretch State)) (b : Record) (line : List ℕ) (o : IsItsOwn ends Good kept commands ps ss b line) → Fits ends Good kept is o.part o.stretch
       → WasMadeOn 7 ends o.stretch.from o.stretch.moves (8 + o.m) b.command.call line
   made_its ps ss b line o fit =
@@ -289,7 +294,8 @@ module _ {State : Type 0} (ends : Ends State) (Good : State → Type 0) (kept : 
       (get_drop 8 o.m w.sent o.request o.sent)).1 ∙ ap (λ (z : Wanted Asked). z.call) o.asks in
       subst (λ call. WasMadeOn 7 ends o.stretch.from o.stretch.moves (8 + o.m) call line) (sym right) o.made_on
 
-  -- if the answer of record b is its own, the command at each place a, from which b is chained, was executed before that of b
+  -- if the answer of record b, of a cycle, is its own, `IsChainedTo` holds for each place a that isn't of the setup and from
+  -- which the commands up to that of b are chained: the command at place a was executed before that of b
   chained_to : (acts : List Act) (v : UnderWay State) (rs : List (Run State)) → IsInField ends Good kept plan commands scope acts v rs
       → (b : Record) (line : List ℕ) (u : IsItsOwn ends Good kept commands (parts plan commands scope acts) (stretches ends v rs) b line) (a : ℕ)
       → 0 < b.cycle → plan.setup ≤ a → a < b.place → AreChained commands a b.place
@@ -298,12 +304,12 @@ module _ {State : Type 0} (ends : Ends State) (Good : State → Type 0) (kept : 
       let ss = stretches ends v rs in
       let sent = stay plan commands scope acts h.runs u.k u.m u.part (mark_of u.expected b) u.of_parts u.mark many in
       let back = sent.chain a low less chained in
-      let marked = last_marked (parts plan commands scope sent.before) u.k back.m sent.first (Some (mark_of back.expected back.answer)) sent.last sent.of_parts back.mark in
+      let marked = last_marked (parts plan commands scope sent.before) u.k back.m sent.first (Some (mark_of back.expected back.its.answer)) sent.last sent.of_parts back.mark in
       let cut = in_front_of acts sent.before sent.rest v rs sent.order marked h in
       let there = settled_there sent.before v cut.0.runs cut.1 u.k u.m b.cycle a sent.first sent.of_parts sent.count back many in
       let c = cut.0.last u.k there.0 u.stretch sent.last there.1 u.of_stretches in
       let fit = fit_at ends Good kept is (parts plan commands scope acts) ss u.k u.part u.stretch (all_fitting ends Good kept is plan commands scope acts v rs h).0 u.of_parts u.of_stretches in
-      let x : Settlement Asked = record { target = back.answer.command.target; call = back.answer.command.call; outcome = Answered back.line } in
+      let x : Settlement Asked = record { target = back.its.answer.command.target; call = back.its.answer.command.call; outcome = Answered back.its.good.line } in
       let w = (behind 7 ends u.stretch.from c.front).wire in
       let settled : slice_get (drop 8 w.settled) back.m ≡ Some x = subst (λ (t : Stretch State). slice_get (own_settled ends t) back.m ≡ Some x) c.is there.3 in
       let size : length (drop 8 w.sent) ≡ u.m = subst (λ (t : Stretch State). length (own_sent ends t) ≡ u.m) c.is there.2 in
@@ -314,28 +320,25 @@ module _ {State : Type 0} (ends : Ends State) (Good : State → Type 0) (kept : 
       let front : IsFront (parts plan commands scope sent.before) (parts plan commands scope acts) =
       subst (λ l. IsFront (parts plan commands scope sent.before) (parts plan commands scope l)) (sym sent.order) (front_parts plan commands (opening plan scope) sent.before sent.rest) in
       let more = front_last (parts plan commands scope sent.before) (parts plan commands scope acts) u.k sent.first u.part front sent.last sent.of_parts u.of_parts in
-      let mark_a : slice_get u.part.marks back.m ≡ Some (Some (mark_of back.expected back.answer)) =
-      ap (λ (p : Part). slice_get p.marks back.m) more.1 ∙ get_more sent.first.marks more.0.marks back.m (Some (mark_of back.expected back.answer)) back.mark in
-      let small : back.m < length sent.first.marks = slice_get_within sent.first.marks back.m (Some (mark_of back.expected back.answer)) back.mark in
+      let mark_a : slice_get u.part.marks back.m ≡ Some (Some (mark_of back.expected back.its.answer)) =
+      ap (λ (p : Part). slice_get p.marks back.m) more.1 ∙ get_more sent.first.marks more.0.marks back.m (Some (mark_of back.expected back.its.answer)) back.mark in
+      let small : back.m < length sent.first.marks = slice_get_within sent.first.marks back.m (Some (mark_of back.expected back.its.answer)) back.mark in
       let grown = records_stay plan commands scope sent.before sent.rest in
-      let same_cycle : back.answer.cycle ≡ b.cycle = back.own_cycle in
+      let same_cycle : back.its.answer.cycle ≡ b.cycle = back.its.own_cycle in
       let safe : IsSafe 7 ends u.stretch.from Good kept c.front (8 + back.m) =
       subst (λ (t : Stretch State). IsSafe 7 ends t.from Good kept t.moves (8 + back.m)) c.is
       (safe_at ends Good kept is (parts plan commands scope sent.before) (stretches ends v cut.0.runs) u.k sent.first there.0
-      (safe_in ends Good kept is plan commands scope sent.before v cut.0.runs cut.1) sent.of_parts there.1 back.m (mark_of back.expected back.answer) back.mark) in
+      (safe_in ends Good kept is plan commands scope sent.before v cut.0.runs cut.1) sent.of_parts there.1 back.m (mark_of back.expected back.its.answer) back.mark) in
       record {
-        k = back.k;
-        record_a = back.answer;
-        among = ap (λ l. slice_get (state_after plan commands scope l).records back.k) sent.order ∙ ap (λ l. slice_get l back.k) grown.1
-            ∙ get_more (state_after plan commands scope sent.before).records grown.0 back.k back.answer back.among;
-        cycle = same_cycle;
-        place = back.own_place;
-        line_a = back.line;
-        quality = back.quality;
-        said = back.said;
-        answered = back.answered;
-        well = back.well;
-        says = back.says;
+        earlier = record {
+          k = back.its.k;
+          answer = back.its.answer;
+          among = ap (λ l. slice_get (state_after plan commands scope l).records back.its.k) sent.order ∙ ap (λ l. slice_get l back.its.k) grown.1
+              ∙ get_more (state_after plan commands scope sent.before).records grown.0 back.its.k back.its.answer back.its.among;
+          own_cycle = same_cycle;
+          own_place = back.its.own_place;
+          good = back.its.good;
+        };
         i = u.k;
         part = u.part;
         stretch = u.stretch;
@@ -351,19 +354,19 @@ module _ {State : Type 0} (ends : Ends State) (Good : State → Type 0) (kept : 
         between = λ k mark above under at.
             let there : slice_get (sent.first.marks ++ more.0.marks) k ≡ Some (Some mark) = ap (λ (p : Part). slice_get p.marks k) (sym more.1) ∙ at in
             let its : 0 < mark.cycle = back.of_cycles k mark above (in_front_at sent.first.marks more.0.marks k (Some mark) (omega (arith, under, sent.count)) there) in
-            let own : 0 < back.answer.cycle = subst (λ c. 0 < c) (sym same_cycle) many in
+            let own : 0 < back.its.answer.cycle = subst (λ c. 0 < c) (sym same_cycle) many in
             let first =
-            go_on plan commands scope acts h.runs u.k u.k back.m k u.part u.part (mark_of back.expected back.answer) mark u.of_parts u.of_parts mark_a at (inr (refl, above)) own its in
+            go_on plan commands scope acts h.runs u.k u.k back.m k u.part u.part (mark_of back.expected back.its.answer) mark u.of_parts u.of_parts mark_a at (inr (refl, above)) own its in
             let last =
             go_on plan commands scope acts h.runs u.k u.k k u.m u.part u.part mark (mark_of u.expected b) u.of_parts u.of_parts at u.mark (inr (refl, under)) its many in
-            let it = within back.answer.cycle back.answer.place mark.cycle mark.place b.cycle b.place first last same_cycle in
-            (it.0, subst (λ p. p < mark.place) back.own_place it.1, it.2);
+            let it = within back.its.answer.cycle back.its.answer.place mark.cycle mark.place b.cycle b.place first last same_cycle in
+            (it.0, subst (λ p. p < mark.place) back.its.own_place it.1, it.2);
         executed =
-            executed_behind ends Good kept is u.stretch clean fit.sound.possible c.front c.later c.order (8 + back.m) (8 + u.m) x back.line beyond safe (get_drop 8 back.m w.settled x settled) refl
-            (omega (arith, size, dropped)) b.command.call line made;
+            executed_behind ends Good kept is u.stretch clean fit.sound.possible c.front c.later c.order (8 + back.m) (8 + u.m) x back.its.good.line beyond safe
+            (get_drop 8 back.m w.settled x settled) refl (omega (arith, size, dropped)) b.command.call line made;
       }
 
-  -- each record of a run in the field is executed in its chain
+  -- each record of a run in the field is `IsExecutedInChain`
   pub chains_executed : (acts : List Act) (u : UnderWay State) (rs : List (Run State)) → IsInField ends Good kept plan commands scope acts u rs
       → AreExecutedInChain ends Good kept plan commands scope acts u rs
   chains_executed acts u rs h =

@@ -21,19 +21,20 @@ use Rattle.gc_field.specs.Needed.{Keeper, held, kept, giving}
 use Rattle.gc_field.proofs.ChainWitness.{all_chained}
 use Rattle.gc_field.proofs.Needed.{kept_own, reads_giving}
 use Rattle.gc_station.specs.Parts.{parts_of}
+use Rattle.gc_station.proofs.Going.{runs-append}
 use Rattle.gc_station.specs.Model.{Runs, opening}
 use Rattle.gc_field.specs.Field.{seen}
 use Rattle.gc_field.specs.Shown.{AreShownAs, shown}
 use Rattle.gc_field.specs.Begin.{begins}
 use Rattle.gc_field.specs.Witness.{begun_with, eight_answered, plan, plan_of}
-use Rattle.gc_field.proofs.Witness.{asked_each, one_part, run_on, units}
+use Rattle.gc_field.proofs.Witness.{asked_each, one_part, units}
 
--- each reply of the counting instrument has its request's id
+-- each reply of the counting instrument to a request with an id below 8 reads as one with that id
 reads : (s : Counter) (id : ℕ) (o : Option ℕ) → id < 8 → heard (counted_or s id o).reply ≡ Some id
 reads s id (Some n) small = reads_giving id n small
 reads s id None small = reads_giving id (suc s.count) small
 
--- a line that is sent again is the one that is kept
+-- a line that is sent without executing the request is the one that is kept, for the request's id
 repeats : (s : Counter) (id : ℕ) (o : Option ℕ) → held s.keeps id ≡ o → (counted_or s id o).executed ≡ false → kept_by s ≡ Some (record { id = id; line = (counted_or s id o).reply })
 repeats s id (Some n) e not = kept_own s.keeps id n e
 repeats s id None e not = absurd (true≢false not)
@@ -58,7 +59,7 @@ executes : (s : Counter) (id : ℕ) (call : Asked) (o : Option ℕ) → (counted
 executes s id call (Some n) e = absurd (true≢false (sym e))
 executes s id call None e = refl
 
--- a line that is sent again leaves the count
+-- a line that is sent again leaves the count as it was
 unchanged : (s : Counter) (id : ℕ) (o : Option ℕ) → (counted_or s id o).executed ≡ false → bare (counted_or s id o).state ≡ bare s
 unchanged s id (Some n) e = refl
 unchanged s id None e = absurd (true≢false e)
@@ -76,7 +77,7 @@ counting_is =
       starts_good = λ s good. tt;
     }
 
--- `counting` retains its reply
+-- `counting` retains its reply to each request, and sends it again for a request with the id of that reply (`KeepsItsReply`)
 keeps_its : KeepsItsReply counting AnyState kept_by all_known
 keeps_its =
     record {
@@ -93,7 +94,8 @@ effect =
       alike = λ s t call e. ap (λ (c : Counter). record { count = suc c.count; keeps = None }) e;
     }
 
--- a connection is made and cleared, and all eight null procedures are answered by the counting instrument, whatever is to be asked
+-- the acts by which a connection is made and cleared, and all eight null procedures are answered by the counting instrument, are
+-- a run, whatever is to be asked
 pub opens_counting :
     (width : ℕ) (tasks : List Task) (reads : Asked → List ℕ → Reading)
     → Runs (plan_of width) tasks (opening (plan_of width) (record { turns = 100; reads = reads })) (begun_with null_replies [])
@@ -111,13 +113,14 @@ third_made : WasMadeOn WINDOW counting stretch.from moves 10 reads_all third_rep
 unfolding is_elsewhere header_at reply_at digits
 third_made = record { front = take 13 moves; later = drop 14 moves; split = refl; id = 2; rest = []; reaches = refl; executed = refl; reply = refl }
 
--- the run has one part: its turns, steps, and the three requests by place and moment
+-- the run's parts are these: one with these turns and steps, and with the three requests by place and moment; and the empty one
+-- after the end
 parts_are : parts_of plan commands (opening plan scope) acts ≡ one_part (asked_each null_replies) (seen moves) ((0, 15) ∷ (1, 20) ∷ (2, 25) ∷ [])
 unfolding is_elsewhere header_at reply_at digits
 parts_are = refl
 
 -- what the line does while the station synchronizes shows these turns
-shown_are : shown counting eight_answered (begins at_start) ≡ asked_each null_replies
+pub shown_are : shown counting eight_answered (begins at_start) ≡ asked_each null_replies
 unfolding is_elsewhere header_at reply_at digits
 shown_are = refl
 
@@ -132,7 +135,7 @@ counted =
       field =
           record {
             runs =
-                run_on plan commands (opening plan scope) (take 27 acts) (drop 27 acts) (opens_counting 1 commands scope.reads)
+                runs-append plan commands (opening plan scope) (take 27 acts) (drop 27 acts) (opens_counting 1 commands scope.reads)
                 (tt, (refl, (tt, (tt, (refl, (tt, (tt, (refl, (tt, (tt, (refl, tt)))))))))));
             lines = record { ids = tt; good = tt };
             none = λ h. h;

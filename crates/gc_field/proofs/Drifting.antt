@@ -14,11 +14,12 @@ use Rattle.gc_field.specs.Begun.{WasMadeOn}
 use Rattle.gc_field.specs.Drifting.{IsAnsweredByDrifting, acts, answer, null_replies, commands, drifting, moves, plan, runs, scope, turns}
 use Rattle.gc_texts.specs.Nears.{is_elsewhere}
 use Rattle.gc_station.specs.Parts.{parts_of}
+use Rattle.gc_station.proofs.Going.{runs-append}
 use Rattle.gc_station.specs.Model.{after_all, opening}
 use Rattle.gc_field.specs.Field.{seen}
 use Rattle.gc_field.specs.Shown.{AreShownAs, shown}
 use Rattle.gc_station.specs.Parts as part
-use Rattle.gc_field.proofs.Witness.{asked_each, one_part, run_on, units}
+use Rattle.gc_field.proofs.Witness.{asked_each, one_part, units}
 use Rattle.gc_field.proofs.Instruments.{keeps_none}
 
 -- `drifting` is an instrument
@@ -34,7 +35,8 @@ module _ (raw : RawCall) where
   unfolding is_elsewhere header_at reply_at digits
   was_made = record { front = take 11 (moves raw); later = drop 12 (moves raw); split = refl; id = 1; rest = []; reaches = refl; executed = refl; reply = refl }
 
-  -- the run has one part: its turns, steps, and the two requests by place and moment
+  -- the run's parts are these: one with these turns and steps, and with the two requests by place and moment; and the empty one
+  -- after the end
   parts_are : parts_of plan (commands raw) (opening plan scope) (acts raw) ≡ one_part (part.Asks ∷ part.Asks ∷ asked_each null_replies) (seen (moves raw)) ((0, 220) ∷ (1, 320) ∷ [])
   unfolding is_elsewhere header_at reply_at digits
   parts_are = refl
@@ -53,9 +55,9 @@ module _ (raw : RawCall) where
         field =
             record {
               runs =
-                  run_on plan (commands raw) (opening plan scope) (take 15 (acts raw)) (drop 15 (acts raw))
+                  runs-append plan (commands raw) (opening plan scope) (take 15 (acts raw)) (drop 15 (acts raw))
                   (tt, (refl, (tt, (refl, (tt, (tt, (refl, (tt, (tt, (refl, (tt, (tt, (tt, (refl, (tt, tt)))))))))))))))
-                  (run_on plan (commands raw) (after_all plan (commands raw) (opening plan scope) (take 15 (acts raw))) (take 24 (drop 15 (acts raw))) (drop 39 (acts raw))
+                  (runs-append plan (commands raw) (after_all plan (commands raw) (opening plan scope) (take 15 (acts raw))) (take 24 (drop 15 (acts raw))) (drop 39 (acts raw))
                   (refl, (tt, (tt, (refl, (tt, (tt, (refl, (tt, (tt, (refl, (tt, (tt, (refl, (tt, (tt, (refl, (tt, (tt, (refl, (tt, (tt, (refl, (tt, (tt, tt))))))))))))))))))))))))
                   (tt, (refl, (tt, (tt, (refl, (tt, (tt, (refl, (tt, (tt, (tt, (refl, (tt, (tt, (tt, (refl, tt)))))))))))))))));
               lines = record { ids = tt; good = tt };

@@ -28,7 +28,7 @@ module _ {State : Type 0} (ends : Ends State) (same_heard : (line : List ℕ) �
   abbrev ex : IsExchange ends Good
   ex = exchange_of ends Good kept keeper
 
-  -- possible moves whose first request is sent alone are faithful
+  -- possible moves from a good state on are faithful, if their requests are calls of the table, and the first is sent alone
   pub faithful : (state : State) → Good state → (ms : List (Move State)) → ArePossible ends Good kept (by_ids width ends) ms (ids_open state) → AsksTheTable ms
       → IsFirstAlone false ms → IsFaithfulUnsynchronized width ends state ms Good kept
   faithful state good ms p table l =

@@ -1,16 +1,16 @@
 -- What holds of one request, m, from the moment at which it is sent after the table: it is near the last call of the table that
 -- the instrument was handed, so the line that answers it was made for it. Of what was sent before nothing need be known.
-use Rattle.std.proofs.Common.{◌≡◌, ℕ, ◌+◌, ◌<◌, ◌≤◌, ◌⊎◌, inl, inr, Bool, true, false, List, [], ◌∷◌, ◌++◌, length, Option, refl, subst, arith, ltb}
+use Rattle.std.proofs.Common.{◌≡◌, ℕ, ◌+◌, ◌<◌, ◌≤◌, ◌⊎◌, inl, inr, Bool, true, false, List, [], ◌∷◌, length, Option, refl, subst, arith, ltb}
 use Rattle.std.proofs.lemmas.Bool.{ltb-true, ltb-false}
 use Rattle.gc_catalogue.specs.Asked.{is_of_table}
 use Rattle.gc_catalogue.specs.declared.asked.Asked.{Asked}
 use Rattle.gc_client.specs.Rule.{Outcome, Answered, Late, Lost}
 use Rattle.gc_instrument.specs.State.{KeptReply}
-use Rattle.gc_world.specs.Clients.{ByNumber, by_numbers}
+use Rattle.gc_world.specs.Clients.{ByNumber}
 use Rattle.gc_field.specs.World.{Ends, Numbered, World}
 use Rattle.gc_world.proofs.Sound.{Sound}
 use Rattle.gc_field.specs.Begun.{IsBehindTheTable, IsByReply}
-use Rattle.gc_field.specs.Field.{Move, Sends, Tells, Comes, Foreign, OnLine, Anew, Changes, Joins, AsksOnly, moves, moved}
+use Rattle.gc_field.specs.Field.{Move, Sends, Tells, Comes, Foreign, OnLine, Anew, Changes, Joins, AsksOnly}
 use Rattle.gc_field.specs.Instrument.{IsAnInstrument, all_known}
 use Rattle.gc_field.proofs.Answered.{HoldsOfOutcome, all_so_get, all_so_below}
 use Rattle.gc_field.proofs.BeginLists.{each_both}
@@ -18,7 +18,7 @@ use Rattle.gc_field.proofs.Once.{known_not}
 use Rattle.gc_field.proofs.KeptReplies.{IsDealt, kept_below}
 use Rattle.gc_field.proofs.Vouched.{AllVouched, Vouched}
 
--- all moves ask only what is known, if all is
+-- any moves ask only what is known, if each request is known (`all_known`)
 pub asks_all : {State : Type 0} (ms : List (Move State)) → AsksOnly all_known ms
 asks_all [] = tt
 asks_all (Sends target call deadline ∷ ms) = (refl, asks_all ms)
@@ -30,14 +30,8 @@ asks_all (Anew ∷ ms) = asks_all ms
 asks_all (Changes state ∷ ms) = asks_all ms
 asks_all (Joins line ∷ ms) = asks_all ms
 
--- two lists of moves, one after the other, leave the world of numbers that the second makes of what the first leaves
-pub numbers_append : {State : Type 0} (width : ℕ) (ends : Ends State) (front later : List (Move State)) (b : World (ByNumber Asked) State)
-    → moved ends (by_numbers width) (front ++ later) b ≡ moved ends (by_numbers width) later (moved ends (by_numbers width) front b)
-numbers_append width ends [] later b = refl
-numbers_append width ends (m ∷ front) later b = numbers_append width ends front later (moves ends (by_numbers width) b m)
-
--- all requests but this one
-abbrev pub AllBut : ℕ → ℕ → Type 0
+-- all requests but m: n is another one
+abbrev pub AllBut : (m n : ℕ) → Type 0
 AllBut m n = n ≡ m → ⊥
 
 -- each request
@@ -57,8 +51,8 @@ module _ {State : Type 0} (width : ℕ) (narrow : width ≤ 7) (ends : Ends Stat
   abbrev pub AllExceptedBut : (ℕ → Asked → List ℕ → Type 0) → ℕ → World (ByNumber Asked) State → Type 0
   AllExceptedBut M m w = AllVouched width narrow is_of_table ends Good kept keeper low (AllBut m) ⊥ M w
 
-  -- before request m is sent, nothing is of it: so `AllVouched` holds with all requests excepted but m, if m is near the last
-  -- call of the table
+  -- if `AllExcepted` holds of a sound world in which m requests were sent, request m isn't sent yet; so if m is at most seven
+  -- after the last call of the table that the instrument was handed, `AllExceptedBut` holds of the world with m
   pub renewed : (M : ℕ → Asked → List ℕ → Type 0) (m : ℕ) (w : World (ByNumber Asked) State) → Sound width ends Good w → (t : AllExcepted w) → length w.wire.sent ≡ m → m ≤ t.table + 7
       → AllExceptedBut M m w
   renewed M m w s t size near =
@@ -85,7 +79,8 @@ module _ {State : Type 0} (width : ℕ) (narrow : width ≤ 7) (ends : Ends Stat
         once = t.once;
       }
     where
-      -- a request is another one than m, or near the last call of the table
+      -- where m is at most seven after the last call of the table that the instrument was handed, each request is another one
+      -- than m, or is at most seven after that call, too
       is_near : (n : ℕ) → m ≤ t.table + 7 → AllBut m n ⊎ (n ≤ t.table + 7)
       is_near n near = by_case (ltb n m) (ltb m n) refl refl where
         -- the lemma above, by whether n is below m (`a`), and m below n (`b`)
@@ -94,13 +89,14 @@ module _ {State : Type 0} (width : ℕ) (narrow : width ≤ 7) (ends : Ends Stat
         by_case false true e f = let l : m < n = ltb-true m n f in inl (λ same. omega (arith, same, l))
         by_case false false e f = let l : n ≤ m = ltb-false m n f in inr (omega (arith, l, near))
 
-  -- a settlement by a reply is of a request that the instrument was handed
-  dealt_of : (P : ℕ → List ℕ → Type 0) (D : Type 0) (n : ℕ) (o : Outcome) → ((line : List ℕ) → P n line → D) → IsByReply o → HoldsOfOutcome P n o → D
-  dealt_of P D n (Answered line) f by h = f line h
-  dealt_of P D n Late f by h = f h.0 h.1
-  dealt_of P D n Lost f by h = absurd by
+  -- where P of request n and any line implies D, and `HoldsOfOutcome` of P holds of an outcome by a reply, D holds
+  given_by_reply : (P : ℕ → List ℕ → Type 0) (D : Type 0) (n : ℕ) (o : Outcome) → ((line : List ℕ) → P n line → D) → IsByReply o → HoldsOfOutcome P n o → D
+  given_by_reply P D n (Answered line) f by h = f line h
+  given_by_reply P D n Late f by h = f h.0 h.1
+  given_by_reply P D n Lost f by h = absurd by
 
-  -- a request that is sent after the table is near the last call of the table that the instrument was handed
+  -- where `low` is at least 8, and `AllExcepted` holds: if request m is sent next, and after the table (`IsBehindTheTable`), m is
+  -- at most seven after the last call of the table that the instrument was handed
   pub near_the_table : (m : ℕ) (w : World (ByNumber Asked) State) → (t : AllExcepted w) → 8 ≤ low → length w.wire.sent ≡ m → IsBehindTheTable w.wire → m ≤ t.table + 7
   near_the_table m w t eight size is =
       elim is.3 [
@@ -109,7 +105,7 @@ module _ {State : Type 0} (width : ℕ) (narrow : width ≤ 7) (ends : Ends Stat
             let P : ℕ → List ℕ → Type 0 = λ n line. Vouched width narrow is_of_table ends Good kept keeper low EachOne ⊥ AnyLine w.wire.sent w.wire.executed w.wire.made t.table n line in
             let i : 0 + is.0 ≡ is.0 = omega arith in
             let so : HoldsOfOutcome P is.0 e.1.outcome = subst (λ k. HoldsOfOutcome P k e.1.outcome) i (all_so_get P 0 w.wire.settled is.0 e.1 t.answers e.4) in
-            let dealt : IsDealt is_of_table w.wire.sent t.table is.0 = dealt_of P (IsDealt is_of_table w.wire.sent t.table is.0) is.0 e.1.outcome (λ line p. p.0) e.5 so in
+            let dealt : IsDealt is_of_table w.wire.sent t.table is.0 = given_by_reply P (IsDealt is_of_table w.wire.sent t.table is.0) is.0 e.1.outcome (λ line p. p.0) e.5 so in
             elim dealt [
               | inl le ↦ omega (arith, le, size, is.2)
               | inr u ↦ absurd (known_not is_of_table w.wire.sent is.0 e.0 e.2 e.3 u)

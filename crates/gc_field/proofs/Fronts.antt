@@ -1,5 +1,5 @@
 -- What is left of a request that was cut is no request: each request begins with `%` (37, called the sign here), and all of its
--- other bytes are above 37.
+-- other bytes before the CR LF at its end are above 37.
 use Rattle.std.proofs.Common.{◌≡◌, ◌≢◌, ℕ, zero, suc, ◌+◌, ◌-◌, ◌/◌, ◌%◌, ◌^◌, ◌<◌, Bool, true, false, ◌&&◌, ltb, eqb, ℤ, pos, negsuc, unsigned_abs, List, [], ◌∷◌, ◌++◌, length, take, drop, map, Option, Some, None, cond, refl, sym, ◌∙◌, ap, subst, arith, lit<, append_assoc}
 use Rattle.std.specs.Prelude.{slice_index}
 use Rattle.std.specs.Fmt.{decimal}
@@ -14,7 +14,7 @@ use Rattle.gc_lines.specs.declared.frame.Frame.{Frame}
 use Rattle.gc_lines.specs.declared.frame.Frame.TheVariants.{Line, Cleared, Overlong, More}
 use Rattle.gc_lines.specs.Frames.{is_line_feed, ends_in_return, frame_of, pieces_behind, line_in, lines}
 use Rattle.gc_lines.specs.Headers.{id_text}
-use Rattle.gc_lines.specs.Requests.{RequestFields, IsRequest}
+use Rattle.gc_lines.specs.Requests.{IsNoRequest}
 use Rattle.gc_values.specs.Boolean.{boolean_text}
 use Rattle.gc_values.specs.Byte.{byte_text}
 use Rattle.gc_values.specs.Digits.{AreDigits}
@@ -47,10 +47,10 @@ abbrev pub AreAbove : List ℕ → Type 0
 AreAbove bytes = AllByRecursion (λ b. 37 < b) bytes
 
 -- what holds of all bytes holds of the first k
-pub taken : (P : ℕ → Type 0) (k : ℕ) (xs : List ℕ) → AllByRecursion P xs → AllByRecursion P (take k xs)
-taken P zero xs h = tt
-taken P (suc k) [] h = tt
-taken P (suc k) (x ∷ xs) h = (h.0, taken P k xs h.1)
+pub all_take : (P : ℕ → Type 0) (k : ℕ) (xs : List ℕ) → AllByRecursion P xs → AllByRecursion P (take k xs)
+all_take P zero xs h = tt
+all_take P (suc k) [] h = tt
+all_take P (suc k) (x ∷ xs) h = (h.0, all_take P k xs h.1)
 
 -- bytes that are digits, by `AreDigits`, are above the sign with which each request begins
 above_digits : (ds : List ℕ) → AreDigits ds → AreAbove ds
@@ -166,7 +166,7 @@ above_body id call h =
 
 -- Lines of a stream.
 
--- a frame's line has the frame's bytes before the CR
+-- a frame's line is the frame's bytes before the CR
 frame_line : (bytes line : List ℕ) → line_in (frame_of bytes) ≡ Some line → line ≡ take (length bytes - 1) bytes
 frame_line bytes line e = chosen (ends_in_return bytes) (ltb 512 (length bytes - 1)) e where
   -- the lemma above, by whether the bytes end in a CR (`ends`), and are too many (`long`)
@@ -182,10 +182,6 @@ framed P Cleared fs h g = g
 framed P Overlong fs h g = g
 framed P More fs h g = g
 
--- this line is no request
-abbrev IsNoRequest : List ℕ → Type 0
-IsNoRequest line = (q : RequestFields) → ¬ IsRequest line q
-
 -- a line without the sign with which each request begins (37) is no request
 unsigned : (line : List ℕ) → AllByRecursion (λ b. b ≢ 37) line → IsNoRequest line
 unsigned line h q r = (subst (λ l. AllByRecursion (λ b. b ≢ 37) l) r.whole h).0 refl
@@ -197,7 +193,7 @@ unsigned_lines before (b ∷ bytes) h g =
     chosen (is_line_feed b)
     (framed IsNoRequest (frame_of before) (map frame_of (pieces_behind [] bytes))
     (λ line e. unsigned line (subst (λ l. AllByRecursion (λ b. b ≢ 37) l) (sym (frame_line before line e))
-    (taken (λ b. b ≢ 37) (length before - 1) before h))) (unsigned_lines [] bytes tt g.1))
+    (all_take (λ b. b ≢ 37) (length before - 1) before h))) (unsigned_lines [] bytes tt g.1))
     (unsigned_lines (before ++ b ∷ []) bytes (all_append (λ b. b ≢ 37) before (b ∷ []) h (g.0, tt)) g.1)
   where
     -- the lemma above, by whether the next byte ends a frame (`t`)
@@ -220,8 +216,8 @@ no_return (b ∷ bytes) h =
 no_line : (bytes : List ℕ) → AllByRecursion (λ b. b ≢ 13) bytes → frame_of bytes ≡ Cleared
 no_line bytes h = ap (λ t. cond t (cond (ltb 512 (length bytes - 1)) Overlong (Line (record { items = take (length bytes - 1) bytes }))) Cleared) (no_return bytes h)
 
--- if the frame that a byte would end is no line, and the later frames have no lines, whether the byte ends a frame (`t`) or
--- not, there are no lines
+-- if the frame that a byte would end is no line, and there are no lines in the frames after it if the byte ends it (`here`), nor
+-- in the frames if it doesn't (`later`), there are no lines, whether the byte ends that frame (`t`) or not
 one_by_one : (t : Bool) (before : List ℕ) (here later : List (List ℕ)) → frame_of before ≡ Cleared → lines_of (map frame_of here) ≡ []
     → lines_of (map frame_of later) ≡ [] → lines_of (map frame_of (cond t (before ∷ here) later)) ≡ []
 one_by_one true before here later none h g = ap (λ f. lines_of (f ∷ map frame_of here)) none ∙ h
@@ -244,13 +240,13 @@ whole_or_nothing id call fits =
     record {
       front = λ count le. ap (λ l. lines (l ++ 10 ∷ [])) (take-append-le count line (13 ∷ 10 ∷ []) le)
           ∙ no_lines [] (take count line ++ 10 ∷ []) tt
-          (all_append (λ b. b ≢ 13) (take count line) (10 ∷ []) (taken (λ b. b ≢ 13) count line
+          (all_append (λ b. b ≢ 13) (take count line) (10 ∷ []) (all_take (λ b. b ≢ 13) count line
           ((λ e. omega (arith, e)), all_on (λ b. 37 < b) (λ b. b ≢ 13) (body id call) (λ b l e. omega (arith, l, e)) above)) ((λ e. omega (arith, e)), tt));
       whole = ap (λ l. l ++ 10 ∷ []) (take-append-add line (13 ∷ 10 ∷ []) 1) ∙ append_assoc line (13 ∷ []) (10 ∷ []);
       tail = λ count some. tail_of above count some;
     }
   where
-    -- no tail of a request, without its first byte at least, has a request in it
+    -- a tail of a request that lacks at least the request's first byte has no request in it
     tail_of : AreAbove (body id call) → (count : ℕ) → 0 < count → HasNoRequest (drop count (request_bytes id call))
     tail_of above zero some = absurd (omega (arith, some))
     tail_of above (suc k) some =

@@ -5,12 +5,13 @@ use Rattle.std.proofs.Common.{◌≡◌, ℕ, ◌≤◌, true, List, [], ◌∷�
 use Rattle.std.specs.List.{filter_map}
 use Rattle.gc_client.specs.Beginning.{IsSubsequence}
 use Rattle.gc_client.specs.Rule.{heard}
+use Rattle.gc_client.specs.declared.window.TheConstants.{WINDOW}
 use Rattle.gc_instrument.specs.State.{KeptReply}
 use Rattle.gc_field.specs.World.{Ends, Request}
 use Rattle.gc_field.specs.Begin.{InFlight, IsWellFormed, AreTurns, Turn, UnderWay, begins, ids_under_way, leaves}
-use Rattle.gc_field.specs.Beginnings.{ArePossibleIf, AreRuns, HasRisingIds, Run, left_by_run, after_turns}
+use Rattle.gc_field.specs.Beginnings.{ArePossibleIf, AreRuns, HasRisingIds, Run, left_by_run, left_by_runs, after_turns}
 use Rattle.gc_field.specs.Field.{Move}
-use Rattle.gc_field.specs.InARow.{AreFaithful, AreFewKilledWithTurns, AreInARow, Program, killed_by, killed_over, left_over}
+use Rattle.gc_field.specs.InARow.{AreFaithful, AreFewKilledWithTurns, AreInARow, Program, killed_by, killed_over}
 use Rattle.gc_field.specs.Instrument.{IsAnInstrument}
 use Rattle.gc_field.proofs.BeginJoin.{left_lines}
 use Rattle.gc_field.proofs.BegunRuns.{IsShort, run_result, short_rising, short_word}
@@ -30,8 +31,8 @@ abbrev pub run : {State : Type 0} → List (Turn State) → List (Move State) �
 run ts ms = record { turns = ts; moves = ms }
 
 module _ {State : Type 0} (ends : Ends State) (Good : State → Type 0) (kept : State → Option KeptReply) (is : IsAnInstrument ends Good kept) where
-  -- what one run of a station leaves in flight is `IsWellFormed`, and `IsShort` by the number of runs in a row that were killed
-  -- while they synchronized
+  -- if what is in flight is `IsWellFormed`, and `IsShort` by the number of runs in a row that were killed while they
+  -- synchronized, so is what one possible run of a station leaves, as long as that number is at most five
   step : (ts : List (Turn State)) (ms : List (Move State)) (n : ℕ) (u : UnderWay State) → IsWellFormed Good u → IsShort n u → AreTurns ends Good kept ts (begins u)
       → ArePossibleIf 7 ends Good kept (after_turns ends u (run ts ms)).left (after_turns ends u (run ts ms)) ms → killed_by ends n u (run ts ms) ts ≤ 5
       → IsWellFormed Good (left_by_run 7 ends u (run ts ms)) × IsShort (killed_by ends n u (run ts ms) ts) (left_by_run 7 ends u (run ts ms))
@@ -44,25 +45,26 @@ module _ {State : Type 0} (ends : Ends State) (Good : State → Type 0) (kept : 
       let one = run_result ends Good kept is 7 (omega arith) n u r (after_turns ends u r).left refl lines short turns p few in
       (one.lines, one.short)
 
-  -- what all runs of a station leave in flight is `IsWellFormed`, and `IsShort` by the number of runs in a row that were killed
-  -- while they synchronized
+  -- if what is in flight is `IsWellFormed`, and `IsShort` by the number of runs in a row that were killed while they
+  -- synchronized, so is what possible runs of a station leave, as long as that number is at most five
   steps : (rs : List (Run State)) (n : ℕ) (u : UnderWay State) → IsWellFormed Good u → IsShort n u → AreRuns 7 ends Good kept u rs → AreFewKilledWithTurns ends n u rs
-      → IsWellFormed Good (left_over ends u rs) × IsShort (killed_over ends n u rs) (left_over ends u rs)
+      → IsWellFormed Good (left_by_runs WINDOW ends u rs) × IsShort (killed_over ends n u rs) (left_by_runs WINDOW ends u rs)
   steps [] n u lines short runs few = (lines, short)
   steps (r ∷ rs) n u lines short runs few =
       let one = step r.turns r.moves n u lines short runs.0.0 runs.0.1 few.0 in
       steps rs (killed_by ends n u r r.turns) (left_by_run 7 ends u r) one.0 one.1 runs.1 few.1
 
-  -- stations one after the other are faithful
+  -- where what is in flight before the first of stations one after the other (`AreInARow`) is `IsWellFormed`, and `IsShort` for
+  -- the `n` runs in a row that were killed before, the stations are faithful
   all : (xs : List (Program State)) (n : ℕ) (u : UnderWay State) → IsWellFormed Good u → IsShort n u → AreInARow ends Good kept n u xs → AreFaithful ends Good kept u xs
   all [] n u lines short h = tt
   all (x ∷ xs) n u lines short h =
       let next = steps x.runs n u lines short h.0.possible h.0.few in (
         run_faithful ends Good kept is x.plan x.commands x.scope x.acts u x.runs (record { runs = h.0.runs; lines = lines; none = short_word n u short; shown = h.0.shown; possible = h.0.possible }),
-        all xs (killed_over ends n u x.runs) (left_over ends u x.runs) next.0 next.1 h.1,
+        all xs (killed_over ends n u x.runs) (left_by_runs WINDOW ends u x.runs) next.0 next.1 h.1,
       )
 
-  -- stations one after the other are faithful, if `HasRisingIds` holds of what is in flight before the first, as long as few
-  -- in a row are killed while they synchronize
+  -- where what is in flight before the first of stations one after the other is `IsWellFormed`, and `HasRisingIds` holds of it,
+  -- the stations are faithful, as long as few in a row are killed while they synchronize (`AreInARow`)
   pub in_a_row : (u : UnderWay State) → IsWellFormed Good u → HasRisingIds u → (xs : List (Program State)) → AreInARow ends Good kept 0 u xs → AreFaithful ends Good kept u xs
   in_a_row u lines row xs h = all xs 0 u lines (short_rising u row) h

@@ -10,7 +10,8 @@ use Rattle.gc_client.specs.OneForOne.{of_pending, of_settled, begun, course}
 use Rattle.gc_client.specs.declared.pending.Pending.{Pending}
 use Rattle.gc_client.specs.Rule.{ById, Settlement, id_send, settled_by_line, pending_of, settle}
 use Rattle.gc_instrument.specs.State.{KeptReply}
-use Rattle.gc_station.proofs.Booking.{settled_by, client_after, settled_append, course_settled}
+use Rattle.gc_station.specs.Parts.{client_after}
+use Rattle.gc_station.proofs.Booking.{settled_by, settled_append, course_settled}
 use Rattle.gc_world.specs.Clients.{by_ids, by_numbers}
 use Rattle.gc_world.specs.Order.{Each}
 use Rattle.gc_field.specs.World.{Ends, Numbered, Wire, World, requested}
@@ -44,8 +45,8 @@ seen_append (Anew ∷ front) later = seen_append front later
 seen_append (Changes state ∷ front) later = seen_append front later
 seen_append (Joins line ∷ front) later = seen_append front later
 
--- if a reply meets the request at place k of those that are outstanding, the settlement at place k is that of this request by
--- the reply
+-- if more than k requests are outstanding (`ps`), what a reply to the one at place k settles has at place k the settlement of
+-- that request by the reply
 met_at : (k : ℕ) (line : List ℕ) (ps : List (Pending Asked)) → k < length ps → (p : Pending Asked) × (slice_get ps k ≡ Some p) × (slice_get (settle k line ps) k ≡ Some (settled_by_line p line))
 met_at k line [] low = absurd (omega (arith, low))
 met_at zero line (p ∷ ps) low = (p, refl, refl)
@@ -57,7 +58,7 @@ get_between [] ys zs n k x e got = let same : k ≡ n = omega (arith, e) in subs
 get_between (a ∷ xs) ys zs zero k x e got = absurd (omega (arith, e))
 get_between (a ∷ xs) ys zs (suc n) k x e got = get_between xs ys zs n k x (omega (arith, e)) got
 
--- a list with an element isn't empty
+-- a list that has an element, x, between a front and later elements isn't empty
 pub not_nil : {A : Type 0} (xs front later : List A) (x : A) → xs ≡ [] → xs ≡ front ++ x ∷ later → ⊥
 not_nil xs [] later x e f = cons_not_nil x later (sym f ∙ e)
 not_nil xs (y ∷ front) later x e f = cons_not_nil y (front ++ x ∷ later) (sym f ∙ e)
@@ -68,7 +69,7 @@ front_nil [] later e = refl
 front_nil (x ∷ front) later e = cc
 
 module _ {State : Type 0} (ends : Ends State) (Good : State → Type 0) (kept : State → Option KeptReply) (is : IsAnInstrument ends Good kept) where
-  -- the moves of a clean stretch are faithful
+  -- possible moves after a clean synchronization are faithful
   pub clean_faithful : (u : UnderWay State) → IsClean Good kept u → (ms : List (Move State)) → ArePossible ends Good kept (by_ids 7 ends) ms (ids_begun u) → IsFaithful 7 ends u ms Good kept
   clean_faithful u clean ms p = faithful ends Good kept is 7 (omega arith) u clean ms p
 
@@ -82,7 +83,7 @@ module _ {State : Type 0} (ends : Ends State) (Good : State → Type 0) (kept : 
     pub possible : ArePossible ends Good kept (by_ids 7 ends) s.moves (ids_begun s.from)
     pub clean : IsClean Good kept s.from ⊎ (s.moves ≡ [])
 
-  -- a stretch in which something happens has synchronized cleanly
+  -- a sound stretch in which something happens has synchronized cleanly
   pub clean_of : (s : Stretch State) → IsSoundStretch s → (front later : List (Move State)) (m : Move State) → s.moves ≡ front ++ m ∷ later → IsClean Good kept s.from
   clean_of s sound front later m e =
       elim sound.clean [
@@ -98,7 +99,8 @@ module _ {State : Type 0} (ends : Ends State) (Good : State → Type 0) (kept : 
         | inr none ↦ subst (λ ms. IsFaithful 7 ends s.from ms Good kept) (sym (front_nil front later (sym none ∙ e))) (faithful_none ends Good kept s.from)
       ]
 
-  -- what is settled after the first moves of a stretch stays before what is settled after more of them
+  -- after a clean synchronization, what is settled after the first ones of possible moves stays in front of what is settled by
+  -- all
   settled_more : (u : UnderWay State) → IsClean Good kept u → (ms front later : List (Move State)) → ms ≡ front ++ later → ArePossible ends Good kept (by_ids 7 ends) ms (ids_begun u)
       → (more : List (Settlement Asked)) × ((behind 7 ends u ms).wire.settled ≡ (behind 7 ends u front).wire.settled ++ more)
   settled_more u clean ms front later e p =
@@ -114,7 +116,8 @@ module _ {State : Type 0} (ends : Ends State) (Good : State → Type 0) (kept : 
         whole.settled ∙ ap (λ l. nulls_settled ++ l) grown ∙ sym (append_assoc nulls_settled own more) ∙ ap (λ l. l ++ more) (sym part.settled),
       )
 
-  -- if the front reply is to a request that isn't settled, that request waits
+  -- after a clean synchronization and possible moves, if the front reply is to a request that isn't settled, that request is one
+  -- of those that wait
   below_sent : (u : UnderWay State) → IsClean Good kept u → (front : List (Move State)) → ArePossible ends Good kept (by_ids 7 ends) front (ids_begun u)
       → (line : List ℕ) (n : ℕ) (rest : List (Numbered (List ℕ))) → (behind 7 ends u front).wire.down ≡ record { number = n; line = line } ∷ rest
       → length (behind 7 ends u front).wire.settled ≤ n → n - length (behind 7 ends u front).wire.settled < length (behind 7 ends u front).client.waiting
@@ -138,7 +141,7 @@ module _ {State : Type 0} (ends : Ends State) (Good : State → Type 0) (kept : 
       → (p : Pending Asked) × (slice_get (behind 7 ends s.from front).client.waiting (n - length (behind 7 ends s.from front).wire.settled) ≡ Some p)
       × (slice_get (world ends s).wire.settled n ≡ Some (settled_by_line p line))
 
-  -- a clean stretch with possible moves is `MetAt`
+  -- after a clean synchronization `MetAt` holds of a stretch with possible moves
   meets : (s : Stretch State) → IsClean Good kept s.from → ArePossible ends Good kept (by_ids 7 ends) s.moves (ids_begun s.from) → MetAt s
   meets s clean possible = λ front later line n rest e down le.
       let w = behind 7 ends s.from front in
@@ -148,13 +151,14 @@ module _ {State : Type 0} (ends : Ends State) (Good : State → Type 0) (kept : 
       let p = met_at k line w.client.waiting (below_sent s.from clean front (front_of s.from s.moves front (Comes line ∷ later) e possible) line n rest down le) in
       let more = settled_more s.from clean s.moves (front ++ Comes line ∷ []) later split possible in
       let here : (behind 7 ends s.from (front ++ Comes line ∷ [])).wire.settled ≡ w.wire.settled ++ settle k line w.client.waiting =
-      ap (λ (v : World (ById Asked) State). v.wire.settled) (moved_append 7 ends front (Comes line ∷ []) (ids_begun s.from)) ∙ f.first_reply n line rest down le in (
+      ap (λ (v : World (ById Asked) State). v.wire.settled) (moved_append ends (by_ids 7 ends) front (Comes line ∷ []) (ids_begun s.from)) ∙ f.first_reply n line rest down le in (
         p.0,
         p.1,
         ap (λ l. slice_get l n) (more.1 ∙ ap (λ l. l ++ more.0) here) ∙ get_between w.wire.settled (settle k line w.client.waiting) more.0 n k (settled_by_line p.0 line) (omega (arith, le)) p.2,
       )
 
-  -- as many requests were sent as were settled and wait
+  -- if the settlements and what waits are the requests that were sent, one for one, there are as many of both together as of
+  -- these
   sent_counts : (w : World (ById Asked) State) → map of_settled w.wire.settled ++ map of_pending w.client.waiting ≡ map asked w.wire.sent
       → length w.wire.settled + length w.client.waiting ≡ length w.wire.sent
   sent_counts w e =
@@ -165,20 +169,22 @@ module _ {State : Type 0} (ends : Ends State) (Good : State → Type 0) (kept : 
       let c : length xs + length ys ≡ length w.wire.sent = sym (length-append xs ys) ∙ ap length e ∙ length-map w.wire.sent asked in
       omega (arith, a, b, c)
 
-  -- a request that is sent if the client doesn't refuse it waits, after the others
+  -- if there are as many requests settled and waiting together as were sent, a request that the client doesn't refuse (`b` says
+  -- whether it does) waits after the others once it is sent
   sent_by_test : (w : World (ById Asked) State) (target : ℕ) (call : Asked) (deadline : ℕ) (b : Bool) → b ≡ false → length w.wire.settled + length w.client.waiting ≡ length w.wire.sent
       → Waits (requested w target call (id_send w.client target call deadline b)) (length w.wire.sent) (pending_of target call deadline)
   sent_by_test w target call deadline true e counts = cc
   sent_by_test w target call deadline false e counts = λ le. get_behind w.client.waiting (pending_of target call deadline ∷ []) (length w.wire.sent - length w.wire.settled) 0 (omega (arith, counts))
 
-  -- a request that is sent waits, after the others
+  -- after moves (`before`) of which `IsFaithful` holds, and while fewer than seven requests wait, a request that is sent waits
+  -- after the others
   sent_waits : (u : UnderWay State) (before : List (Move State)) (target : ℕ) (call : Asked) (deadline : ℕ) → IsFaithful 7 ends u before Good kept → length (behind 7 ends u before).client.waiting < 7
       → Waits (moves ends (by_ids 7 ends) (behind 7 ends u before) (Sends target call deadline)) (length (behind 7 ends u before).wire.sent) (pending_of target call deadline)
   sent_waits u before target call deadline f room =
       let w = behind 7 ends u before in
       sent_by_test w target call deadline (nat_eq (length w.client.waiting) 7) (ne_eqb (length w.client.waiting) 7 (λ e. omega (arith, e, room))) (sent_counts w f.accounted)
 
-  -- a clean stretch is in time
+  -- after a clean synchronization a stretch with possible moves is in time
   in_time_clean : (s : Stretch State) → IsClean Good kept s.from → ArePossible ends Good kept (by_ids 7 ends) s.moves (ids_begun s.from) → IsInTime ends s
   in_time_clean s clean all_possible = λ before between later target call deadline line rest e room down le.
       let front = before ++ Sends target call deadline ∷ between in
@@ -190,7 +196,7 @@ module _ {State : Type 0} (ends : Ends State) (Good : State → Type 0) (kept : 
       let possible = possible_behind 7 ends Good kept before (Sends target call deadline ∷ between) (ids_begun s.from) (front_of s.from s.moves front (Comes line ∷ later) e all_possible) in
       let p = pending_of target call deadline in
       let waits : Waits (behind 7 ends s.from front) n (after_moves p between) =
-      subst (λ (v : World (ById Asked) State). Waits v n (after_moves p between)) (sym (moved_append 7 ends before (Sends target call deadline ∷ between) (ids_begun s.from)))
+      subst (λ (v : World (ById Asked) State). Waits v n (after_moves p between)) (sym (moved_append ends (by_ids 7 ends) before (Sends target call deadline ∷ between) (ids_begun s.from)))
       (waits_all ends Good kept between (moves ends (by_ids 7 ends) w (Sends target call deadline)) n p possible.1 (sent_waits s.from before target call deadline f room)) in
       let same : m.0 ≡ record p { given_up = times_out deadline between } = same_Some m.0 (record p { given_up = times_out deadline between }) (sym m.1 ∙ waits le ∙ ap Some (after_is p between)) in
       m.2 ∙ ap (λ q. Some (settled_by_line q line)) same

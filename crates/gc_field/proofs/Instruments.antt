@@ -32,7 +32,7 @@ exchange_of e Good kept is =
       restart_good = is.starts_good;
     }
 
--- an instrument to which a request that is no call of the table is as all others is one of which all requests are known
+-- an instrument that retains its own reply, or none, after every request (`TreatsRawsAlike`) is one that knows all requests
 pub alike_is : {State : Type 0} (ends : Ends State) (Good : State → Type 0) (kept : State → Option KeptReply) → IsAnInstrument ends Good kept → TreatsRawsAlike ends Good kept
     → IsAnInstrumentFor ends Good kept all_known
 alike_is e Good kept is alike =
@@ -59,30 +59,31 @@ repeated s id call None e not = absurd (true≢false (sym (ap (λ (h : Handed St
 repeated s id call (Some line) e not =
     kept_own s.kept id line e ∙ sym (ap (λ (h : Handed State). Some (record { id = id; line = h.reply })) (handed_again s id call line e))
 
--- after a request the simulator retains its reply to that request
+-- after a call of the table the simulator retains its reply to that call
 retains_reply : (s : State) (id : ℕ) (call : Call) (o : Option (List ℕ)) → kept_line s.kept (Some id) ≡ o
     → (calls.handed s id call).state.kept ≡ Some (record { id = id; line = (calls.handed s id call).reply })
 retains_reply s id call None e = subst (λ (x : Handed State). x.state.kept ≡ Some (record { id = id; line = x.reply })) (sym (handed_new s id call e)) refl
 retains_reply s id call (Some line) e =
     subst (λ (x : Handed State). x.state.kept ≡ Some (record { id = id; line = x.reply })) (sym (handed_again s id call line e)) (kept_own s.kept id line e)
 
--- the simulator's reply to a request has its id
+-- in a state that fits, the simulator's reply to a request with an id below 8 reads as one with that id
 asked_reads : (s : State) (id : ℕ) (asked : Asked) → IsFittingState s → id < 8 → heard (handed s id asked).reply ≡ Some id
 asked_reads s id (Table call) good small = exchange.reads s id call good small
 asked_reads s id (Raw raw) good small =
     ap id_in (reply_back (record { rc_com = 3081; id = Some id; rc = 0; params = [] }) (record { rc_com = lit< tt; id = small; rc = lit< tt }))
 
--- a line that the simulator sends again is the one that it retains
+-- a line that the simulator sends without executing the request is the one that it retains, for the request's id
 asked_repeats : (s : State) (id : ℕ) (asked : Asked) → (handed s id asked).executed ≡ false → s.kept ≡ Some (record { id = id; line = (handed s id asked).reply })
 asked_repeats s id (Table call) not = repeated s id call (kept_line s.kept (Some id)) refl not
 asked_repeats s id (Raw raw) not = absurd (true≢false not)
 
--- after a call of the table the simulator retains its reply, and after another request what it retained
+-- after a request the simulator retains its reply to that request, or nothing; or the request is no call of the table, and the
+-- simulator retains what it retained before
 asked_keeps : (s : State) (id : ℕ) (asked : Asked) → KeepsItsOwn ends IsFittingState kept_of s id asked ⊎ ((is_of_table asked ≡ false) × ((handed s id asked).state.kept ≡ s.kept))
 asked_keeps s id (Table call) = inl (inr (retains_reply s id call (kept_line s.kept (Some id)) refl))
 asked_keeps s id (Raw raw) = inr (refl, refl)
 
--- the simulator fits after each request
+-- the simulator's state fits after a request with an id below 8 if it did before
 asked_good : (s : State) (id : ℕ) (asked : Asked) → IsFittingState s → id < 8 → IsFittingState (handed s id asked).state
 asked_good s id (Table call) good small = exchange.stays_good s id call good small
 asked_good s id (Raw raw) good small = good
@@ -126,9 +127,9 @@ simulator =
       refuses = refused;
     }
 
--- An instrument that deals with each request again and retains no reply, whatever its replies say.
+-- An instrument that executes each request and retains no reply.
 
--- what retains no reply is an instrument
+-- what retains no reply and executes each request is an instrument, on the terms of `KeepingNothingSuffices`
 pub keeps_none : (State : Type 0) → KeepingNothingSuffices State
 keeps_none State e hears replies anew =
     record {

@@ -5,7 +5,7 @@ use Rattle.gc_lines.specs.Requests.{RequestFields, IsRequest}
 use Rattle.gc_catalogue.specs.Texts.{request_line}
 use Rattle.gc_instrument.proofs.Answering.{read_of}
 use Rattle.gc_field.specs.Fronts.{JoinedRequestsHaveTheFrontsId}
-use Rattle.gc_field.proofs.Fronts.{AreAbove, taken, above_decimal_digits, above_id, body, above_body}
+use Rattle.gc_field.proofs.Fronts.{AreAbove, all_take, above_decimal_digits, above_id, body, above_body}
 use Rattle.gc_station.proofs.Lists.{all_append, cons_head, cons_tail}
 use Rattle.std.proofs.lemmas.List.{take-append-drop}
 
@@ -17,7 +17,8 @@ split (x ∷ xs) (y ∷ ys) more p h g e =
     let s = split xs ys more p h.1 g.1 (cons_tail x y (xs ++ 37 ∷ more) (ys ++ p) e) in
     (s.0, ap (λ z. z ∷ xs) (cons_head x y (xs ++ 37 ∷ more) (ys ++ p) e) ∙ ap (λ l. y ∷ l) s.1)
 
--- the front of a request and the next request, read as one line, have the front's id and procedure
+-- if the front of a request, of at least one byte, and the next request are one line, and that is a request, it has the front's
+-- id and procedure
 pub joined_requests : JoinedRequestsHaveTheFrontsId
 joined_requests id call next behind zero small fits some q is = absurd (omega (arith, some))
 joined_requests id call next behind (suc k) small fits some q is =
@@ -43,7 +44,7 @@ joined_requests id call next behind (suc k) small fits some q is =
     let e : take k (body id call) ++ 37 ∷ body next behind ≡ h ++ q.params =
     cons_tail 37 37 (take k (body id call) ++ 37 ∷ body next behind) (82 ∷ 49 ∷ 81 ∷ 44 ∷ (number ++ (id_text q.id ++ 58 ∷ q.params))) is.whole
     ∙ sym (whole q.params) in
-    let s = split (take k (body id call)) h (body next behind) q.params (taken (λ b. 37 < b) k (body id call) (above_body id call fits)) above e in
+    let s = split (take k (body id call)) h (body next behind) q.params (all_take (λ b. 37 < b) k (body id call) (above_body id call fits)) above e in
     let params = s.0 ++ drop k (body id call) in
     let own : body id call ≡ h ++ params = sym (take-append-drop k (body id call)) ∙ ap (λ l. l ++ drop k (body id call)) s.1 ∙ append_assoc h s.0 (drop k (body id call)) in
     let p : RequestFields = record { rpc = q.rpc; id = q.id; params = params } in

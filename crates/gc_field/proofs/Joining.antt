@@ -13,23 +13,22 @@ use Rattle.gc_client.specs.Rule.{ById, Outcome, Answered, Late, Settlement, fres
 use Rattle.gc_instrument.specs.State.{KeptReply}
 use Rattle.gc_texts.specs.Tasks.{call_at}
 use Rattle.gc_texts.specs.declared.tasks.Task.{Task}
-use Rattle.gc_texts.specs.Endings.{End}
+use Rattle.gc_texts.specs.Endings.{End, line_of}
 use Rattle.gc_texts.specs.Endings as end
 use Rattle.gc_station.specs.declared.plan.Plan.{Plan}
 use Rattle.gc_station.specs.Behind.{IsNearTheTable}
 use Rattle.gc_links.specs.Acts.{Act}
-use Rattle.gc_station.specs.Answers.{answer_of}
 use Rattle.gc_station.specs.Beginnings.{unanswered_after}
 use Rattle.gc_station.specs.Begun.{AreBegun, heard_in}
 use Rattle.gc_station.specs.Marks.{record_of, records_of}
 use Rattle.gc_station.specs.Lists.{with_if}
-use Rattle.gc_station.specs.Parts.{Part, joined, MarksAsk, parts_of, went_out, sent_of, timeless}
+use Rattle.gc_station.specs.Parts.{Part, joined, MarksAsk, parts_of, went_out, sent_of, timeless, client_after}
 use Rattle.gc_station.specs.Records.{Record}
 use Rattle.gc_station.specs.Runs.{state_after}
 use Rattle.gc_station.specs.Model.{Model, opening}
 use Rattle.gc_station.proofs.Asked.{parts_begun}
 use Rattle.gc_station.proofs.GoesBehind.{behind_the_table}
-use Rattle.gc_station.proofs.Booking.{Books, client_after, settled_by, sent_by, settled_append, sent_append, course_settled, course_sent, course_client, of_at, all_records, restarting}
+use Rattle.gc_station.proofs.Booking.{Books, settled_by, sent_by, settled_append, sent_append, course_settled, course_sent, course_client, of_at, all_records, restarting}
 use Rattle.gc_station.proofs.EachRun.{invariant_opening, each_once}
 use Rattle.gc_station.proofs.Following.{BooksInParts, follows}
 use Rattle.gc_station.proofs.Meets.{was_answered, was_late}
@@ -57,27 +56,28 @@ use Rattle.gc_field.proofs.Safe.{goes_out}
 use Rattle.gc_field.proofs.Shown.{left_is}
 use Rattle.gc_field.proofs.Unbegun.{faithful_none}
 use Rattle.gc_field.proofs.Timeless.{IsLasting, all_timeless, late_lasts, own_lasts}
-use Rattle.gc_field.proofs.Among.{among_settled, among_late, asked_at, get_drop}
+use Rattle.gc_world.proofs.Places.{get_seen}
+use Rattle.gc_field.proofs.Among.{among_settled, among_late, get_drop}
 use Rattle.std.proofs.lemmas.List.{drop-map}
 use Rattle.std.proofs.lemmas.Bool.{true≢false}
 
 module _ {State : Type 0} (ends : Ends State) (Good : State → Type 0) (kept : State → Option KeptReply) (is : IsAnInstrument ends Good kept) where
   -- One part.
 
-  -- what holds of a run, by the ids that are left of its word: if none is, it has synchronized cleanly; and its stretch is sound and
-  -- faithful
+  -- what holds of a run, by the ids that are left of its word: if none is, it has synchronized cleanly; and its stretch is sound
+  -- and faithful
   record IsSoundRun (u : UnderWay State) (r : Run State) (left : List ℕ) : Type 0 where
     own : IsOwnIf 7 ends Good kept left (after_turns ends u r) r.moves
     sound : IsSoundStretch ends Good kept is (record { from = leaves (turned ends r.turns (begins u)); moves = r.moves })
     faithful : IsFaithful 7 ends (leaves (turned ends r.turns (begins u))) r.moves Good kept
 
-  -- a run that has synchronized over lines without the word in their ids has synchronized cleanly
+  -- a run over what is well formed, without the word in its ids, that has synchronized by possible turns has synchronized cleanly
   begun_clean : (u : UnderWay State) (r : Run State) → IsWellFormed Good u → (IsSubsequence the_word (ids_under_way u) → ⊥)
       → AreTurns ends Good kept r.turns (begins u) → (after_turns ends u r).left ≡ [] → IsClean Good kept (leaves (after_turns ends u r))
   begun_clean u r lines none turns e =
       clean_lines ends Good kept is 7 (omega arith) (after_turns ends u r) (left_lines ends Good kept is u r.turns lines turns).good (begins_cleanly ends Good kept is u r.turns lines turns none e)
 
-  -- each possible run over lines without the word in their ids is `IsSoundRun`
+  -- each possible run over what is well formed, without the word in its ids, is `IsSoundRun`
   sound_run : (u : UnderWay State) (r : Run State) (left : List ℕ) → (after_turns ends u r).left ≡ left → IsWellFormed Good u
       → (IsSubsequence the_word (ids_under_way u) → ⊥) → AreTurns ends Good kept r.turns (begins u)
       → ArePossibleIf 7 ends Good kept left (after_turns ends u r) r.moves → IsSoundRun u r left
@@ -94,7 +94,8 @@ module _ {State : Type 0} (ends : Ends State) (Good : State → Type 0) (kept : 
         faithful = subst (λ ms. IsFaithful 7 ends from ms Good kept) (sym p) (faithful_none ends Good kept from);
       }
 
-  -- a run that has synchronized leaves lines without the word in their ids
+  -- where a possible run over what is `IsWellFormed`, without the word in its ids, has synchronized, what it leaves in flight is
+  -- `IsWellFormed`, too, without the word in its ids
   leaves_next : (u : UnderWay State) (r : Run State) → IsWellFormed Good u → (IsSubsequence the_word (ids_under_way u) → ⊥)
       → AreTurns ends Good kept r.turns (begins u) → ArePossibleIf 7 ends Good kept (after_turns ends u r).left (after_turns ends u r) r.moves
       → (after_turns ends u r).left ≡ [] → IsWellFormed Good (left_by_run 7 ends u r) × (IsSubsequence the_word (ids_under_way (left_by_run 7 ends u r)) → ⊥)
@@ -122,11 +123,12 @@ module _ {State : Type 0} (ends : Ends State) (Good : State → Type 0) (kept : 
   AllFit (p ∷ ps) (s ∷ ss) = Fits p s × AllFit ps ss
   AllFit _ _ = ⊥
 
-  -- the ids that are left of a run's word are those that its part leaves
+  -- if the turns of a run show those of the part p, the ids that are left of the run's word are those that the turns of p leave
   left_so : (u : UnderWay State) (r : Run State) (p : Part) → shown ends r.turns (begins u) ≡ p.turns → (after_turns ends u r).left ≡ unanswered_after the_word (heard_in p.turns)
   left_so u r p e = left_is ends r.turns (begins u) ∙ ap (λ l. unanswered_after the_word (heard_in l)) e
 
-  -- the parts of a run in the field fit the stretches
+  -- where possible runs over what is well formed, without the word in its ids, show these parts, and `AreBegun` holds of the
+  -- parts: the parts fit the stretches, and the runs are `AreOwn`
   pub all_fit : (ps : List Part) (rs : List (Run State)) (u : UnderWay State) → IsWellFormed Good u → (IsSubsequence the_word (ids_under_way u) → ⊥)
       → AreShownAs ends u rs ps → AreRuns 7 ends Good kept u rs → AreBegun the_word ps
       → AllFit ps (stretches ends u rs) × AreOwn 7 ends Good kept u rs
@@ -146,20 +148,20 @@ module _ {State : Type 0} (ends : Ends State) (Good : State → Type 0) (kept : 
   abbrev pub IsSafePart : Part → Stretch State → Type 0
   IsSafePart p s = (n : ℕ) (mark : _) → slice_get p.marks n ≡ Some (Some mark) → IsSafe 7 ends s.from Good kept s.moves (8 + n)
 
-  -- `IsSafePart` holds of each part with its stretch
+  -- there are as many parts as stretches, and `IsSafePart` holds of each part with its stretch
   abbrev pub AllSafe : List Part → List (Stretch State) → Type 0
   AllSafe [] [] = Unit {0}
   AllSafe (p ∷ ps) (s ∷ ss) = IsSafePart p s × AllSafe ps ss
   AllSafe _ _ = ⊥
 
-  -- if all parts are safe, so is the one at each place
+  -- where `AllSafe` holds of parts and stretches, `IsSafePart` holds of the part and the stretch at place i
   pub safe_at : (ps : List Part) (ss : List (Stretch State)) (i : ℕ) (p : Part) (s : Stretch State) → AllSafe ps ss → slice_get ps i ≡ Some p → slice_get ss i ≡ Some s → IsSafePart p s
   safe_at [] ss i p s h e f = absurd (none-some p e)
   safe_at (q ∷ ps) [] i p s h e f = absurd h
   safe_at (q ∷ ps) (t ∷ ss) zero p s h e f = subst (λ x. IsSafePart x s) (same_Some q p e) (subst (λ x. IsSafePart q x) (same_Some t s f) h.0)
   safe_at (q ∷ ps) (t ∷ ss) (suc i) p s h e f = safe_at ps ss i p s h.1 e f
 
-  -- what holds of any stretch that fits a part holds of each of these
+  -- where the parts and the stretches fit, what holds of any stretch that fits a part holds of each of these stretches
   pub each_fits : (P : Stretch State → Type 0) → ((p : Part) (s : Stretch State) → Fits p s → P s) → (ps : List Part) (ss : List (Stretch State)) → AllFit ps ss → AllByRecursion P ss
   each_fits P g [] [] h = tt
   each_fits P g [] (s ∷ ss) h = absurd h
@@ -194,7 +196,8 @@ module _ {State : Type 0} (ends : Ends State) (Good : State → Type 0) (kept : 
       (front later : List (Step Asked)) (target : ℕ) (call : Asked) (deadline : ℕ) (mark : _) → p.steps ≡ front ++ Send target call deadline ∷ later
       → slice_get p.marks (length (course 7 begun front).sent) ≡ Some (Some mark) → IsNearTheTable (course 7 begun front)
 
-  -- if the station's rule holds of a part, each request of its stretch that is a command is safe
+  -- if the station's rule holds of a part, and its marks are of the requests of its stretch (`MarksAsk`), each of these requests
+  -- that is a command is safe
   safe_part : (commands : List Task) (p : Part) (s : Stretch State) → IsRuled p → Fits p s → MarksAsk commands p.marks (map asked (own_sent ends s)) → IsSafePart p s
   safe_part commands p s rule f sent n mark at =
       let a = of_at commands p.marks (map asked (own_sent ends s)) n (Some mark) sent at in
@@ -203,7 +206,8 @@ module _ {State : Type 0} (ends : Ends State) (Good : State → Type 0) (kept : 
       inr (inr (goes_out ends Good kept is s f.sound p.steps f.steps n (omega (arith, size, low))
       (λ front later target call deadline e count. rule front later target call deadline mark e (subst (λ k. slice_get p.marks k ≡ Some (Some mark)) (sym count) at))))
 
-  -- if the station's rule holds of each part, each request of a stretch that is a command is safe
+  -- if the station's rule holds of each part, and the requests of the stretches are those of the parts (`AreSentAs`), each of
+  -- these requests that is a command is safe
   all_safe : (commands : List Task) (ps : List Part) (ss : List (Stretch State)) → ((i : ℕ) (p : Part) → slice_get ps i ≡ Some p → IsRuled p) → AllFit ps ss
       → AreSentAs ends commands ps ss → AllSafe ps ss
   all_safe commands [] [] rules fit sent = tt
@@ -212,31 +216,33 @@ module _ {State : Type 0} (ends : Ends State) (Good : State → Type 0) (kept : 
   all_safe commands (p ∷ ps) (s ∷ ss) rules fit sent = (safe_part commands p s (rules 0 p refl) fit.0 sent.0, all_safe commands ps ss (λ i q e. rules (suc i) q e) fit.1 sent.1)
 
   module _ (reads : Asked → List ℕ → Reading) (commands : List Task) where
-    -- the marks of the last part are of the stretch's requests
+    -- where `Books` holds of the last part, its marks are of the requests of its stretch
     of_last : (rs : List Record) (p : Part) (s : Stretch State) (end : Model) → Fits p s
         → Books reads commands fresh [] rs p end.client end.marks (sent_of end.records) → MarksAsk commands p.marks (map asked (own_sent ends s))
     of_last rs p s end f h = subst (MarksAsk commands p.marks) (fit_sent p s f) h.wrote.sent
 
-    -- the marks of a part after which the client restarts are of the stretch's requests
+    -- where `Books` holds of a part after which the client restarts, the part's marks are of the requests of its stretch
     of_ended : (rs mid : List Record) (p : Part) (s : Stretch State) → Fits p s → Books reads commands fresh [] rs (joined p restarting) fresh [] mid
         → MarksAsk commands p.marks (map asked (own_sent ends s))
     of_ended rs mid p s f h =
         let asks : sent_by fresh (p.steps ++ Restart ∷ []) ≡ map asked (own_sent ends s) = sent_append fresh p.steps (Restart ∷ []) ∙ append-nil (sent_by fresh p.steps) ∙ fit_sent p s f in
         subst (λ marks. MarksAsk commands marks (map asked (own_sent ends s))) (append-nil p.marks) (subst (MarksAsk commands (p.marks ++ [])) asks h.wrote.sent)
 
-    -- the records of the last part are those of what the stretch settled
+    -- where `Books` holds of the last part, from the records `rs` on: at its end the records of commands that were sent, without
+    -- their moments, are `rs`, and then those of what the stretch settled
     written_last : (rs : List Record) (p : Part) (s : Stretch State) (end : Model) → Fits p s → Books reads commands fresh [] rs p end.client end.marks (sent_of end.records)
         → map timeless (sent_of end.records) ≡ map timeless rs ++ records_of reads 0 p.marks (own_settled ends s)
     written_last rs p s end f h = h.wrote.records ∙ ap (λ l. map timeless rs ++ records_of reads 0 p.marks l) (fit_settled p s f)
 
-    -- the records of a part after which the client restarts are those of what the stretch settled, and of what was lost
+    -- where `Books` holds of a part at whose end the client restarts, from the records `rs` on: the records afterwards, without
+    -- their moments, are `rs`, and then those of what the stretch settled, and of what is outstanding, as lost
     written_ended : (rs mid : List Record) (p : Part) (s : Stretch State) → Fits p s → Books reads commands fresh [] rs (joined p restarting) fresh [] mid
         → map timeless mid ≡ map timeless rs ++ records_of reads 0 p.marks (own_settled ends s ++ map lost (world ends s).client.waiting)
     written_ended rs mid p s f h =
         h.wrote.records ∙ ap (λ marks. map timeless rs ++ records_of reads 0 marks (settled_by fresh (p.steps ++ Restart ∷ []))) (append-nil p.marks)
         ∙ ap (λ l. map timeless rs ++ records_of reads 0 p.marks l) (fit_ended p s f)
 
-    -- the requests of the stretches are those of the parts
+    -- where `BooksInParts` holds of the parts, the requests of the stretches are those of the parts
     pub sent_all : (ps : List Part) (ss : List (Stretch State)) (rs : List Record) (end : Model) → AllFit ps ss → BooksInParts reads commands fresh [] rs ps end → AreSentAs ends commands ps ss
     sent_all [] [] rs end f h = tt
     sent_all [] (s ∷ ss) rs end f h = absurd f
@@ -246,7 +252,8 @@ module _ {State : Type 0} (ends : Ends State) (Good : State → Type 0) (kept : 
     sent_all (p ∷ q ∷ ps) (s ∷ []) rs end f h = absurd f.1
     sent_all (p ∷ q ∷ ps) (s ∷ t ∷ ss) rs end f h = (of_ended rs h.0 p s f.0 h.1, sent_all (q ∷ ps) (t ∷ ss) h.0 end f.1 h.2)
 
-    -- the records are those that the stretches record
+    -- where `BooksInParts` holds of the parts, from the records `rs` on: the records of commands that were sent, without their
+    -- moments, are `rs`, and then those that the stretches record
     pub written_all : (ps : List Part) (ss : List (Stretch State)) (rs : List Record) (end : Model) → AllFit ps ss
         → BooksInParts reads commands fresh [] rs ps end → map timeless (sent_of end.records) ≡ map timeless rs ++ written_over ends reads ps ss
     written_all [] [] rs end f h = absurd h
@@ -259,13 +266,18 @@ module _ {State : Type 0} (ends : Ends State) (Good : State → Type 0) (kept : 
         written_all (q ∷ ps) (t ∷ ss) h.0 end f.1 h.2 ∙ ap (λ l. l ++ written_over ends reads (q ∷ ps) (t ∷ ss)) (written_ended rs h.0 p s f.0 h.1)
         ∙ append_assoc (map timeless rs) (records_of reads 0 p.marks (own_settled ends s ++ map lost (world ends s).client.waiting)) (written_over ends reads (q ∷ ps) (t ∷ ss))
 
-  -- Its own.
+  -- What the first stretch records.
 
-  -- the answers among what the first stretch settled, and what was lost then, are their own
-  own_first : (reads : Asked → List ℕ → Reading) (commands : List Task) (p : Part) (s : Stretch State) (ps : List Part) (ss : List (Stretch State))
-      (waiting : List (Pending Asked)) (xs : List (Settlement Asked)) → xs ≡ own_settled ends s ++ map lost waiting → Fits p s → IsSafePart p s
-      → MarksAsk commands p.marks (map asked (own_sent ends s))
-      → AllByRecursion (IsOwnAnswer ends Good kept commands (p ∷ ps) (s ∷ ss)) (records_of reads 0 p.marks xs)
+  -- `P` holds *at first*: wherever a part and a stretch are the first of a run, fit, and are safe, and the part's marks are of
+  -- the stretch's requests, it holds of the records of what the stretch settled, and of what was lost then
+  abbrev HoldsAtFirst : (List Part → List (Stretch State) → Record → Type 0) → (Asked → List ℕ → Reading) → List Task → Type 0
+  HoldsAtFirst P reads commands =
+      (p : Part) (s : Stretch State) (ps : List Part) (ss : List (Stretch State)) (waiting : List (Pending Asked)) (xs : List (Settlement Asked))
+      → xs ≡ own_settled ends s ++ map lost waiting → Fits p s → IsSafePart p s → MarksAsk commands p.marks (map asked (own_sent ends s))
+      → AllByRecursion (P (p ∷ ps) (s ∷ ss)) (records_of reads 0 p.marks xs)
+
+  -- `IsOwnAnswer` holds at first
+  own_first : (reads : Asked → List ℕ → Reading) (commands : List Task) → HoldsAtFirst (IsOwnAnswer ends Good kept commands) reads commands
   own_first reads commands p s ps ss waiting xs e f safe sent =
       all_records reads (IsOwnAnswer ends Good kept commands (p ∷ ps) (s ∷ ss)) p.marks xs
       (λ n mark x at got line says.
@@ -274,7 +286,7 @@ module _ {State : Type 0} (ends : Ends State) (Good : State → Type 0) (kept : 
       let beyond : 8 ≤ 8 + n = omega arith in
       let there = get_drop 8 n (world ends s).wire.settled x here in
       let a = of_at commands p.marks (map asked (own_sent ends s)) n (Some mark) sent at in
-      let r = asked_at (own_sent ends s) n a.0 a.1 in
+      let r = get_seen asked (own_sent ends s) n a.0 a.1 in
       let b = f.faithful.booked (8 + n) x beyond (safe n mark at) there line answered in
       let right : x.call ≡ call_at a.2.0 mark.sent = (f.faithful.one_for_one.same (8 + n) x r.0 there (get_drop 8 n (world ends s).wire.sent r.0 r.1)).1 ∙ ap
       (λ (o : Wanted Asked). o.call) (r.2 ∙ a.2.2) in
@@ -301,11 +313,11 @@ module _ {State : Type 0} (ends : Ends State) (Good : State → Type 0) (kept : 
 
   -- A command that wasn't sent has no answer.
 
-  -- a record of a command that wasn't sent is no answer
+  -- `IsOwnAnswer` holds of a record of a command that wasn't sent, because that is no answer
   unsent_own : (commands : List Task) (ps : List Part) (ss : List (Stretch State)) (r : Record) → went_out r.end ≡ false → IsOwnAnswer ends Good kept commands ps ss r
   unsent_own commands ps ss r out line answered = absurd (none r.end out answered) where
     -- the end of a command that wasn't sent is no answer
-    none : (e : End) → went_out e ≡ false → answer_of e ≡ Some line → ⊥
+    none : (e : End) → went_out e ≡ false → line_of e ≡ Some line → ⊥
     none (end.Answered quality said l) out answered = cc
     none (end.Unreadable l fault) out answered = cc
     none (end.Elsewhere l) out answered = cc
@@ -316,11 +328,8 @@ module _ {State : Type 0} (ends : Ends State) (Good : State → Type 0) (kept : 
 
   -- Executed, though late.
 
-  -- the commands of the late records among those that the first stretch records were executed
-  late_first : (reads : Asked → List ℕ → Reading) (commands : List Task) (p : Part) (s : Stretch State) (ps : List Part) (ss : List (Stretch State))
-      (waiting : List (Pending Asked)) (xs : List (Settlement Asked)) → xs ≡ own_settled ends s ++ map lost waiting → Fits p s → IsSafePart p s
-      → MarksAsk commands p.marks (map asked (own_sent ends s))
-      → AllByRecursion (LateHasExecution ends Good kept commands (p ∷ ps) (s ∷ ss)) (records_of reads 0 p.marks xs)
+  -- `LateHasExecution` holds at first
+  late_first : (reads : Asked → List ℕ → Reading) (commands : List Task) → HoldsAtFirst (LateHasExecution ends Good kept commands) reads commands
   late_first reads commands p s ps ss waiting xs e f safe sent =
       all_records reads (LateHasExecution ends Good kept commands (p ∷ ps) (s ∷ ss)) p.marks xs
       (λ n mark x at got says.
@@ -329,7 +338,7 @@ module _ {State : Type 0} (ends : Ends State) (Good : State → Type 0) (kept : 
       let beyond : 8 ≤ 8 + n = omega arith in
       let there = get_drop 8 n (world ends s).wire.settled x here in
       let a = of_at commands p.marks (map asked (own_sent ends s)) n (Some mark) sent at in
-      let r = asked_at (own_sent ends s) n a.0 a.1 in
+      let r = get_seen asked (own_sent ends s) n a.0 a.1 in
       let right : x.call ≡ call_at a.2.0 mark.sent = (f.faithful.one_for_one.same (8 + n) x r.0 there (get_drop 8 n (world ends s).wire.sent r.0 r.1)).1 ∙ ap
       (λ (o : Wanted Asked). o.call) (r.2 ∙ a.2.2) in
       let made = f.faithful.late (8 + n) x beyond (safe n mark at) there late in
@@ -348,21 +357,14 @@ module _ {State : Type 0} (ends : Ends State) (Good : State → Type 0) (kept : 
         made_on = subst (λ call. WasMadeOn 7 ends s.from s.moves (8 + n) call made.0) right made.1;
       })
 
-  -- a record of a command that wasn't sent isn't late
+  -- `LateHasExecution` holds of a record of a command that wasn't sent, because that isn't late
   unsent_late : (commands : List Task) (ps : List Part) (ss : List (Stretch State)) (r : Record) → went_out r.end ≡ false → LateHasExecution ends Good kept commands ps ss r
   unsent_late commands ps ss r out late = let never : true ≡ false = sym (ap went_out late) ∙ out in absurd (true≢false never)
 
   -- All that is recorded.
 
-  -- `P` holds *at first*: wherever a part and a stretch are the first of a run, and fit, it holds of the records of what the
-  -- stretch settled, and of what was lost then
-  abbrev HoldsAtFirst : (List Part → List (Stretch State) → Record → Type 0) → (Asked → List ℕ → Reading) → List Task → Type 0
-  HoldsAtFirst P reads commands =
-      (p : Part) (s : Stretch State) (ps : List Part) (ss : List (Stretch State)) (waiting : List (Pending Asked)) (xs : List (Settlement Asked))
-      → xs ≡ own_settled ends s ++ map lost waiting → Fits p s → IsSafePart p s → MarksAsk commands p.marks (map asked (own_sent ends s))
-      → AllByRecursion (P (p ∷ ps) (s ∷ ss)) (records_of reads 0 p.marks xs)
-
-  -- what lasts, and holds at first, holds of all that the stretches record
+  -- if P lasts (`IsLasting`), and holds at first, and the parts and the stretches fit, are safe and have the same requests
+  -- (`AreSentAs`), P holds of all that the stretches record
   all_over : (P : List Part → List (Stretch State) → Record → Type 0) → IsLasting P → (reads : Asked → List ℕ → Reading) (commands : List Task) → HoldsAtFirst P reads commands
       → (ps : List Part) (ss : List (Stretch State)) → AllFit ps ss → AllSafe ps ss → AreSentAs ends commands ps ss → AllByRecursion (P ps ss) (written_over ends reads ps ss)
   all_over P lasts reads commands first [] [] f g h = tt
@@ -379,25 +381,27 @@ module _ {State : Type 0} (ends : Ends State) (Good : State → Type 0) (kept : 
       (all_over P lasts reads commands first (q ∷ ps) (t ∷ ss) f.1 g.1 h.1))
 
   -- what holds of the records of commands that were sent, and of any record of a command that wasn't, holds of all records
-  all_sent : (P : Record → Type 0) → ((r : Record) → went_out r.end ≡ false → P r) → (rs : List Record) → AllByRecursion P (sent_of rs) → AllByRecursion P rs
-  all_sent P unsent [] h = tt
-  all_sent P unsent (r ∷ rs) h = by_case (went_out r.end) refl (all_sent P unsent rs) h where
-    -- the lemma above, by whether the first command was sent (`b`)
+  all_if_sent : (P : Record → Type 0) → ((r : Record) → went_out r.end ≡ false → P r) → (rs : List Record) → AllByRecursion P (sent_of rs) → AllByRecursion P rs
+  all_if_sent P unsent [] h = tt
+  all_if_sent P unsent (r ∷ rs) h = by_case (went_out r.end) refl (all_if_sent P unsent rs) h where
+    -- the lemma above, by whether the command of the first record was sent (`b`)
     by_case : (b : Bool) → went_out r.end ≡ b → (AllByRecursion P (sent_of rs) → AllByRecursion P rs) → AllByRecursion P (with_if b r (sent_of rs)) → AllByRecursion P (r ∷ rs)
     by_case true out others g = (g.0, others g.1)
     by_case false out others g = (unsent r out, others g)
 
-  -- what lasts, holds at first, and holds of any record of a command that wasn't sent, holds of all records of a run
+  -- if P lasts (`IsLasting`), holds at first, and holds of any record of a command that wasn't sent, and the parts and the
+  -- stretches fit, are safe and have the same requests (`AreSentAs`): P holds of all records, if those of commands that were sent
+  -- are what the stretches record
   all_recorded : (P : List Part → List (Stretch State) → Record → Type 0) → IsLasting P → (reads : Asked → List ℕ → Reading) (commands : List Task)
       → HoldsAtFirst P reads commands → (ps : List Part) (ss : List (Stretch State)) → ((r : Record) → went_out r.end ≡ false → P ps ss r) → (rs : List Record)
       → AllFit ps ss → AllSafe ps ss → AreSentAs ends commands ps ss → map timeless (sent_of rs) ≡ written_over ends reads ps ss → AllByRecursion (P ps ss) rs
   all_recorded P lasts reads commands first ps ss unsent rs fit safe sent written =
-      all_sent (P ps ss) unsent rs
+      all_if_sent (P ps ss) unsent rs
       (all_timeless P lasts ps ss (sent_of rs) (subst (AllByRecursion (P ps ss)) (sym written) (all_over P lasts reads commands first ps ss fit safe sent)))
 
   -- The whole.
 
-  -- the parts and the stretches of a run in the field fit
+  -- the parts and the stretches of a run in the field fit, and what happens on the line is `AreOwn`
   pub all_fitting : (plan : Plan) (commands : List Task) (scope : Scope) (acts : List Act) (u : UnderWay State) (rs : List (Run State)) → IsInField ends Good kept plan commands scope acts u rs
       → AllFit (parts_of plan commands (opening plan scope) acts) (stretches ends u rs) × AreOwn 7 ends Good kept u rs
   all_fitting plan commands scope acts u rs h =

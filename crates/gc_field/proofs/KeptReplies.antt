@@ -13,8 +13,8 @@ use Rattle.gc_field.proofs.Once.{IsUnknown}
 
 -- What is kept.
 
--- the retained reply `k` is to request `number`, which is `table` or a later one, but before `top`: it has that request's id,
--- and the property P
+-- the retained reply `k` is to request `number`, which is `table` or a later one, from `since` on and before `top`: it has that
+-- request's id, and the property P
 pub record IsKept (P : ℕ → List ℕ → Type 0) (since top table : ℕ) (k : KeptReply) : Type 0 where
   pub number : ℕ
   pub recent : since ≤ number
@@ -23,12 +23,21 @@ pub record IsKept (P : ℕ → List ℕ → Type 0) (since top table : ℕ) (k :
   pub id : k.id ≡ (number - since) % 8
   pub line : P number k.line
 
+-- what is retained after a request with this id is `line`, the reply to it, with its id; or nothing
+abbrev pub IsOwnOrNone : (id : ℕ) (line : List ℕ) → Option KeptReply → Type 0
+IsOwnOrNone id line after = (after ≡ None) ⊎ (after ≡ Some (record { id = id; line = line }))
+
+-- what is retained after a request with this id is `line`, the reply to it, or nothing (`IsOwnOrNone`); or, if the request isn't
+-- known (`known` is false), what was retained before, k
+abbrev pub IsKeptAfter : (known : Bool) (id : ℕ) (line : List ℕ) (k after : Option KeptReply) → Type 0
+IsKeptAfter known id line k after = IsOwnOrNone id line after ⊎ ((known ≡ false) × (after ≡ k))
+
 -- if anything is retained, `IsKept` holds of it
-abbrev pub KeptIs : (ℕ → List ℕ → Type 0) → ℕ → ℕ → ℕ → Option KeptReply → Type 0
+abbrev pub KeptIs : (P : ℕ → List ℕ → Type 0) (since top table : ℕ) → Option KeptReply → Type 0
 KeptIs P since top table None = Unit {0}
 KeptIs P since top table (Some k) = IsKept P since top table k
 
--- `KeptIs` of one property gives `KeptIs` of another, if the one gives the other of each number below `top`
+-- where P implies Q of each number below `top`, `KeptIs` of P gives `KeptIs` of Q
 pub kept_below : (P Q : ℕ → List ℕ → Type 0) (since top table : ℕ) → ((n : ℕ) (line : List ℕ) → n < top → P n line → Q n line) → (k : Option KeptReply)
     → KeptIs P since top table k → KeptIs Q since top table k
 kept_below P Q since top table f None h = tt
@@ -44,62 +53,64 @@ kept_more P Q f since top table k h = kept_below P Q since top table (λ n line 
 pub kept_none : (P : ℕ → List ℕ → Type 0) (since top table : ℕ) (k : Option KeptReply) → k ≡ None → KeptIs P since top table k
 kept_none P since top table k e = subst (λ k. KeptIs P since top table k) (sym e) tt
 
--- if nothing is retained, or this line with the id of request n, `KeptIs` holds
+-- if request n is from `since` and from `table` on and before `top`, P holds of n and a line, and what is retained is that line
+-- with the id of request n, or nothing: `KeptIs` holds
 pub kept_one : (P : ℕ → List ℕ → Type 0) (since top table n id : ℕ) (line : List ℕ) (k : Option KeptReply) → since ≤ n → n < top → table ≤ n → id ≡ (n - since) % 8
-    → P n line → (k ≡ None) ⊎ (k ≡ Some (record { id = id; line = line })) → KeptIs P since top table k
+    → P n line → IsOwnOrNone id line k → KeptIs P since top table k
 kept_one P since top table n id line k recent before behind own p (inl none) = kept_none P since top table k none
 kept_one P since top table n id line k recent before behind own p (inr e) =
     subst (λ k. KeptIs P since top table k) (sym e) (record { number = n; recent = recent; before = before; behind = behind; id = own; line = p })
 
--- where what was kept stays, or nothing is kept any more, `KeptIs` lasts
+-- `KeptIs` is preserved if what is retained stays, or nothing is retained any more
 pub kept_still : (P : ℕ → List ℕ → Type 0) (since top table : ℕ) (k after : Option KeptReply) → (after ≡ None) ⊎ (after ≡ k) → KeptIs P since top table k → KeptIs P since top table after
 kept_still P since top table k after (inl none) h = kept_none P since top table after none
 kept_still P since top table k after (inr same) h = subst (λ k. KeptIs P since top table k) (sym same) h
 
--- where more requests were handed, and none of them is known, `KeptIs` lasts
+-- where `KeptIs` holds with `top`, it holds with `next` in its place, if `top` is at most `next`
 kept_longer : (P : ℕ → List ℕ → Type 0) (since top next table : ℕ) (k : Option KeptReply) → top ≤ next → KeptIs P since top table k → KeptIs P since next table k
 kept_longer P since top next table None le h = tt
 kept_longer P since top next table (Some k) le h = record { number = h.number; recent = h.recent; before = omega (arith, h.before, le); behind = h.behind; id = h.id; line = h.line }
 
 -- The newest known request.
 
--- the number of the newest known request, once request n was handed; `known` says whether that is known
-abbrev pub newest : Bool → ℕ → ℕ → ℕ
+-- the number of the newest known request, once request n was handed, where `table` was it before; `known` says whether request n
+-- is known
+abbrev pub newest : (known : Bool) (n table : ℕ) → ℕ
 newest true n table = n
 newest false n table = table
 
--- the newest known request is none before
+-- if request n isn't before the newest known one, `table`, the newest known one once n was handed isn't before `table` either
 pub newest_up : (known : Bool) (n table : ℕ) → table ≤ n → table ≤ newest known n table
 newest_up true n table le = le
 newest_up false n table le = omega arith
 
--- the newest known request isn't later than the last one
+-- if request n isn't before the newest known one, `table`, the newest known one once n was handed isn't later than n
 pub newest_low : (known : Bool) (n table : ℕ) → table ≤ n → newest known n table ≤ n
 newest_low true n table le = omega arith
 newest_low false n table le = le
 
 -- request n isn't later than the newest known one (`table`), or it isn't known
-abbrev pub IsDealt : (Asked → Bool) → List Sent → ℕ → ℕ → Type 0
+abbrev pub IsDealt : (knows : Asked → Bool) (sent : List Sent) (table n : ℕ) → Type 0
 IsDealt knows sent table n = (n ≤ table) ⊎ IsUnknown knows sent n
 
--- the request handed last is `IsDealt`
+-- once request n was handed, it is `IsDealt`, if it is `IsUnknown` where `known` is false
 pub newest_dealt : (knows : Asked → Bool) (sent : List Sent) (known : Bool) (n table : ℕ) → ((known ≡ false) → IsUnknown knows sent n) → IsDealt knows sent (newest known n table) n
 newest_dealt knows sent true n table f = inl (omega arith)
 newest_dealt knows sent false n table f = inr (f refl)
 
--- what is retained after request n was handed is its own line, or nothing; or, if it isn't known, what was kept: so `KeptIs`
--- holds then
+-- where P implies Q, and Q holds of request n and its line, and n has the id `id` and isn't before `since`, before `table` or
+-- before any request that was handed: `KeptIs` of P before n is handed gives `KeptIs` of Q afterwards, by what is retained then
+-- (`IsKeptAfter`)
 pub kept_handed : (P Q : ℕ → List ℕ → Type 0) → ((n : ℕ) (line : List ℕ) → P n line → Q n line) → (since top table n id : ℕ) (known : Bool) (line : List ℕ) (k after : Option KeptReply)
     → since ≤ n → top ≤ n + 1 → table ≤ n → id ≡ (n - since) % 8 → Q n line
-    → ((after ≡ None) ⊎ (after ≡ Some (record { id = id; line = line }))) ⊎ ((known ≡ false) × (after ≡ k)) → KeptIs P since top table k
-    → KeptIs Q since (n + 1) (newest known n table) after
+    → IsKeptAfter known id line k after → KeptIs P since top table k → KeptIs Q since (n + 1) (newest known n table) after
 kept_handed P Q f since top table n id known line k after recent le low own p (inl now) h =
     kept_one Q since (n + 1) (newest known n table) n id line after recent (omega arith) (newest_low known n table low) own p now
 kept_handed P Q f since top table n id known line k after recent le low own p (inr same) h =
     subst (λ t. KeptIs Q since (n + 1) t after) (sym (ap (λ b. newest b n table) same.0))
     (kept_longer Q since top (n + 1) table after le (kept_more P Q f since top table after (kept_still P since top table k after (inr same.1) h)))
 
--- the line was made for request n, as its call was executed, and has the property M
+-- the line was made for request n, as its call was executed, is a reply to that call, and has the property M
 pub record IsVouched {State : Type 0} (ends : Ends State) (Good : State → Type 0) (M : ℕ → Asked → List ℕ → Type 0) (sent : List Sent) (executed : List ℕ)
     (made : List (Numbered (List ℕ))) (n : ℕ) (line : List ℕ) : Type 0 where
   pub among : Has (record { number = n; line = line }) made
@@ -110,5 +121,5 @@ pub record IsVouched {State : Type 0} (ends : Ends State) (Good : State → Type
   pub on : M n request.call line
 
 -- if the instrument executes the front request, x, when that is handed to it, its reply has the property M
-abbrev pub IsOn : {State : Type 0} → Ends State → (ℕ → Asked → List ℕ → Type 0) → World (ByNumber Asked) State → Numbered Request → Type 0
-IsOn ends M w x = (ends.handed w.wire.state x.line.id x.line.call).executed ≡ true → M x.number x.line.call (ends.handed w.wire.state x.line.id x.line.call).reply
+abbrev pub ReplyHas : {State : Type 0} → Ends State → (ℕ → Asked → List ℕ → Type 0) → World (ByNumber Asked) State → Numbered Request → Type 0
+ReplyHas ends M w x = (ends.handed w.wire.state x.line.id x.line.call).executed ≡ true → M x.number x.line.call (ends.handed w.wire.state x.line.id x.line.call).reply

@@ -9,16 +9,18 @@ use Rattle.gc_client.specs.declared.window.TheConstants.{WINDOW}
 use Rattle.gc_instrument.specs.Execution.{exec}
 use Rattle.gc_instrument.specs.Replying.{handed}
 use Rattle.gc_field.specs.Simulator.{ends}
-use Rattle.gc_field.specs.LateAnswer.{IsLateInField, acts, answer, at_start, commands, from, late, moves, runs}
+use Rattle.gc_field.specs.ChainWitness.{at_start}
+use Rattle.gc_field.specs.LateAnswer.{IsLateInField, acts, answer, commands, from, late, moves, runs}
 use Rattle.gc_field.specs.Begun.{WasMadeOn}
-use Rattle.gc_field.proofs.Witness.{asked_each, fits, one_part, opens, run_on, units}
+use Rattle.gc_field.proofs.ChainWitness.{shown_are}
+use Rattle.gc_field.proofs.Witness.{asked_each, fits, one_part, opens, units}
 use Rattle.gc_texts.specs.Nears.{is_elsewhere}
 use Rattle.gc_station.specs.Parts.{parts_of}
+use Rattle.gc_station.proofs.Going.{runs-append}
 use Rattle.gc_station.specs.Model.{opening}
 use Rattle.gc_field.specs.Field.{seen}
-use Rattle.gc_field.specs.Shown.{AreShownAs, shown}
-use Rattle.gc_field.specs.Begin.{begins}
-use Rattle.gc_field.specs.Witness.{eight_answered, plan, replies, scope}
+use Rattle.gc_field.specs.Shown.{AreShownAs}
+use Rattle.gc_field.specs.Witness.{plan, replies, scope}
 
 -- the late reply was made on executing the first command's request
 late_made : WasMadeOn WINDOW ends from moves 8 (Table InstrumentNo) late
@@ -30,15 +32,11 @@ answer_made : WasMadeOn WINDOW ends from moves 9 (Table InstrumentNo) answer
 unfolding is_elsewhere header_at reply_at handed exec digits
 answer_made = record { front = take 9 moves; later = drop 10 moves; split = refl; id = 1; rest = []; reaches = refl; executed = refl; reply = refl }
 
--- the run has one part: its turns, steps, and the two requests by place and moment
+-- the run's parts are these: one with these turns and steps, and with the two requests by place and moment; and the empty one
+-- after the end
 parts_are : parts_of plan commands (opening plan scope) acts ≡ one_part (asked_each replies) (seen moves) ((0, 15) ∷ (1, 115) ∷ [])
 unfolding is_elsewhere header_at reply_at digits
 parts_are = refl
-
--- what the line does while the station synchronizes shows these turns
-shown_are : shown ends eight_answered (begins at_start) ≡ asked_each replies
-unfolding is_elsewhere header_at reply_at handed exec digits
-shown_are = refl
 
 -- this run is in the field, and records a late record and an answer
 pub come_late : IsLateInField
@@ -48,7 +46,7 @@ come_late =
       field =
           record {
             runs =
-                run_on plan commands (opening plan scope) (take 27 acts) (drop 27 acts) (opens 1 commands scope.reads)
+                runs-append plan commands (opening plan scope) (take 27 acts) (drop 27 acts) (opens 1 commands scope.reads)
                 (tt, (refl, (tt, (tt, (refl, (tt, (tt, (tt, (refl, tt)))))))));
             lines = record { ids = tt; good = fits };
             none = λ h. h;

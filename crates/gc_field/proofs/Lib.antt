@@ -11,7 +11,6 @@ pub mod Seen
 pub mod Moving
 pub mod Faithful
 pub mod Alone
-pub mod Meaning
 pub mod Waits
 pub mod BeginIds
 pub mod BeginLists

@@ -11,7 +11,7 @@ use Rattle.gc_links.specs.Acts.{Act, Told, Untold, Put, Cut, Gave, Silent, Ended
 use Rattle.gc_station.specs.Deciding.{has_begun}
 use Rattle.gc_station.specs.Parts.{Part, Asks, Hears, sync_part, client_part, heard_steps, nothing, only_turns, put_part}
 use Rattle.gc_station.specs.Model.{Model, action_at, is_heard, lines_completed, null_text, Performs, after, Runs}
-use Rattle.gc_station.proofs.Asked.{none_doing, steps_none, turns_gave, turns_plain, word_after}
+use Rattle.gc_station.proofs.Asked.{none_doing, steps_none, turns_gave, turns_none, word_after}
 use Rattle.gc_station.proofs.Booking.{sending_of, sends_with_room}
 use Rattle.gc_station.proofs.EachRun.{invariant_after}
 use Rattle.gc_station.proofs.Givens.{after_rest, rest_with}
@@ -49,7 +49,8 @@ taken : (h : Bool) (rest behind piece : List ℕ) (m : Moment) → behind ≡ re
 taken true rest behind piece m e = inl (refl, e)
 taken false rest behind piece m e = inr (refl, e)
 
--- bytes that are sent while a station synchronizes mean a turn, or nothing if they are a line feed
+-- where bytes are a line feed and p is the part in which nothing happens, or they are the line of the next null procedure and p
+-- is the turn `Asks`, the bytes mean p's turns (`IsAskedFor`)
 asked_for : (s : Model) (bytes : List ℕ) (p : Part) → ((bytes ≡ 10 ∷ []) × (p ≡ nothing))
     ⊎ ((bytes ≡ null_text s.progress.word) × (p ≡ only_turns (Asks ∷ []))) → IsAskedFor s.progress.word bytes p.turns
 asked_for s bytes p (inl e) = inl (e.0, ap (λ (x : Part). x.turns) e.1)
@@ -82,7 +83,8 @@ module _ (plan : Plan) (commands : List Task) where
   no_rest : (s : Model) → Performs commands s (action_at plan s) Closed → (after plan commands s Closed).rest ≡ []
   no_rest s obeys = after_rest plan commands s Closed obeys ∙ close_forgets (is_heard s.progress.phase) s.rest
 
-  -- once a station has synchronized, an act means the steps of its part
+  -- where the `Invariant` holds and the station has synchronized, an act that it performs means the steps of its part to its
+  -- client
   act_means : (s : Model) (act : Act) → Invariant plan commands s → has_begun s.progress ≡ true → Performs commands s (action_at plan s) act
       → Means s.client s.rest act (client_part plan commands s (action_at plan s) act).steps (after plan commands s act).rest
   act_means s (Gave piece m) fine begun obeys = gave_means s.client (is_heard s.progress.phase) s.rest (after plan commands s (Gave piece m)).rest piece m
@@ -106,11 +108,11 @@ module _ (plan : Plan) (commands : List Task) where
   act_means s Opened fine begun obeys = (refl, same_rest s Opened obeys tt)
   act_means s Unopened fine begun obeys = (refl, same_rest s Unopened obeys tt)
 
-  -- while a station synchronizes, an act means the turns of its part
+  -- while a station synchronizes, an act that it performs means the turns of its part (`MeansTurns`)
   turns_mean : (s : Model) (act : Act) → has_begun s.progress ≡ false → Performs commands s (action_at plan s) act
       → MeansTurns s.progress.word s.rest act (sync_part s (action_at plan s) act).turns (after plan commands s act).rest
   turns_mean s (Gave piece m) begins obeys =
-      subst (λ turns. IsTaken s.rest piece turns (after plan commands s (Gave piece m)).rest) (sym (turns_gave plan commands s (action_at plan s) piece m obeys))
+      subst (λ turns. IsTaken s.rest piece turns (after plan commands s (Gave piece m)).rest) (sym (turns_gave commands s (action_at plan s) piece m obeys))
       (taken (is_heard s.progress.phase) s.rest (after plan commands s (Gave piece m)).rest piece m (after_rest plan commands s (Gave piece m) obeys))
   turns_mean s (Put bytes) begins obeys = (
     asked_for s bytes (sync_part s (action_at plan s) (Put bytes))
@@ -122,22 +124,23 @@ module _ (plan : Plan) (commands : List Task) where
         (asked_is plan commands s (Cut bytes count) bytes obeys refl begins),
     same_rest s (Cut bytes count) obeys tt,
   )
-  turns_mean s Untold begins obeys = (turns_plain plan commands s (action_at plan s) Untold tt, same_rest s Untold obeys tt)
-  turns_mean s (Told m) begins obeys = (turns_plain plan commands s (action_at plan s) (Told m) tt, same_rest s (Told m) obeys tt)
-  turns_mean s (Silent m) begins obeys = (turns_plain plan commands s (action_at plan s) (Silent m) tt, same_rest s (Silent m) obeys tt)
-  turns_mean s Ended begins obeys = (turns_plain plan commands s (action_at plan s) Ended tt, same_rest s Ended obeys tt)
-  turns_mean s Broke begins obeys = (turns_plain plan commands s (action_at plan s) Broke tt, same_rest s Broke obeys tt)
-  turns_mean s Opened begins obeys = (turns_plain plan commands s (action_at plan s) Opened tt, same_rest s Opened obeys tt)
-  turns_mean s Unopened begins obeys = (turns_plain plan commands s (action_at plan s) Unopened tt, same_rest s Unopened obeys tt)
-  turns_mean s Closed begins obeys = (turns_plain plan commands s (action_at plan s) Closed tt, no_rest s obeys)
+  turns_mean s Untold begins obeys = (turns_none s (action_at plan s) Untold tt, same_rest s Untold obeys tt)
+  turns_mean s (Told m) begins obeys = (turns_none s (action_at plan s) (Told m) tt, same_rest s (Told m) obeys tt)
+  turns_mean s (Silent m) begins obeys = (turns_none s (action_at plan s) (Silent m) tt, same_rest s (Silent m) obeys tt)
+  turns_mean s Ended begins obeys = (turns_none s (action_at plan s) Ended tt, same_rest s Ended obeys tt)
+  turns_mean s Broke begins obeys = (turns_none s (action_at plan s) Broke tt, same_rest s Broke obeys tt)
+  turns_mean s Opened begins obeys = (turns_none s (action_at plan s) Opened tt, same_rest s Opened obeys tt)
+  turns_mean s Unopened begins obeys = (turns_none s (action_at plan s) Unopened tt, same_rest s Unopened obeys tt)
+  turns_mean s Closed begins obeys = (turns_none s (action_at plan s) Closed tt, no_rest s obeys)
 
-  -- an act means its part, whether the station has synchronized (`b`) or not
+  -- where the `Invariant` holds, an act that the station performs means its part, whether the station has synchronized (`b`) or
+  -- not
   pub is_meant : (s : Model) (act : Act) (b : Bool) → has_begun s.progress ≡ b → Invariant plan commands s → Performs commands s (action_at plan s) act
       → IsMeant b s act (if b then client_part plan commands s (action_at plan s) act else sync_part s (action_at plan s) act) (after plan commands s act)
   is_meant s act true e fine obeys = (none_doing plan commands s (action_at plan s) act, act_means s act fine e obeys)
-  is_meant s act false e fine obeys = (steps_none plan commands s (action_at plan s) act, turns_mean s act e obeys, word_after plan commands s act obeys e)
+  is_meant s act false e fine obeys = (steps_none s (action_at plan s) act, turns_mean s act e obeys, word_after plan commands s act obeys e)
 
-  -- each act of a run means its part
+  -- from a model of which the `Invariant` holds, each act of a run means its part
   pub are_meant : (s : Model) (acts : List Act) → Invariant plan commands s → Runs plan commands s acts → AreMeant plan commands s acts
   are_meant s [] fine runs = tt
   are_meant s (act ∷ acts) fine runs = (is_meant s act (has_begun s.progress) refl fine runs.0, are_meant (after plan commands s act) acts (invariant_after plan commands s act fine) runs.1)

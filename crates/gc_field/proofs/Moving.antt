@@ -15,7 +15,7 @@ use Rattle.gc_world.specs.Order.{Each}
 use Rattle.gc_field.specs.World.{Request, Sent, Numbered, Ends, Step, Send, Up_deliver, Up_lose, Up_repeat, Down_deliver, Down_lose, Down_repeat, Expire, Restart_client, Restart_instrument, Nothing, World, Wire, without, doubled, replied, up_delivered, with_up, with_down, started, on_wire, requested, down_delivered, happens, written}
 use Rattle.gc_world.proofs.Agree.{Agree, agrees}
 use Rattle.std.proofs.lemmas.Option.{none-some}
-use Rattle.gc_world.proofs.Places.{each_get, get_push}
+use Rattle.gc_world.proofs.Places.{all_at, get_push}
 use Rattle.gc_world.proofs.Replay.{IsOf, of_more}
 use Rattle.gc_world.proofs.Rows.{each_append, each_more, each_without, each_doubled}
 use Rattle.gc_world.proofs.Sound.{IsGoing, Sound, sound_step, sound_open}
@@ -24,7 +24,7 @@ use Rattle.gc_field.specs.Instrument.{IsAnInstrumentFor, KeepsItsOwn, KeepsItsRe
 use Rattle.gc_field.proofs.Answered.{HoldsOfAll, HoldsOfOutcome, all_so_get}
 use Rattle.gc_field.specs.Once.{ActsOnce, IsInOrder}
 use Rattle.gc_field.proofs.Once.{IsUnknown, acts_once, once_few, climbing_first, order_few, ordered_first}
-use Rattle.gc_field.proofs.KeptReplies.{IsVouched, kept_one, IsOn}
+use Rattle.gc_field.proofs.KeptReplies.{IsVouched, kept_one, ReplyHas}
 use Rattle.gc_field.proofs.Vouched.{Vouched, AllVouched, vouched_requested, vouched_down, vouched_line, vouched_started, vouched_changed}
 use Rattle.gc_field.specs.Made.{WasMadeOn}
 use Rattle.gc_field.proofs.Possible.{possible_front}
@@ -80,19 +80,21 @@ module _ {State : Type 0} (width : ℕ) (narrow : width ≤ 7) (ends : Ends Stat
   both_all [] a b p h = h
   both_all (m ∷ ms) a b p h = both_all ms _ _ p.1 (both_move a b m p.0 h)
 
-  -- `Both` holds at the start
+  -- `Both` holds at the start, in a good state
   pub both_open : (state : State) → Good state → Both (ids_open state) (numbers_open state)
   both_open state good =
       record { agree = record { wire = refl; client = record { window = refl; next = omega arith } }; sound = sound_open width ends Good state good }
 
-  -- in the world of numbers, a reply to a request that isn't settled settles that request, and those before it as lost
+  -- in the world of numbers, if the request of the front reply isn't settled, that reply settles it, and the outstanding ones
+  -- before it as lost
   heard_first : (b : World (ByNumber Asked) State) (n : ℕ) (line : List ℕ) (rest q : List (Numbered (List ℕ))) → q ≡ record { number = n; line = line } ∷ rest → b.client.count ≤ n →
       (down_delivered (by_numbers width) b q).wire.settled ≡ b.wire.settled ++ settle (n - b.client.count) line (drop b.client.count b.client.requests)
   heard_first b n line rest q e le =
       ap (λ q. (down_delivered (by_numbers width) b q).wire.settled) e
       ∙ ap (λ t. b.wire.settled ++ (number_reply b.client (record { number = n; line = line }) t).settlements) (le-ltb n b.client.count le)
 
-  -- in the world of ids, a reply to a request that isn't settled settles that request, and those before it as lost
+  -- where `Both` holds of two worlds: in the world of ids, if the request of the front reply isn't settled, that reply settles
+  -- it, and the outstanding ones before it as lost
   pub first_reply : (a : World (ById Asked) State) (b : World (ByNumber Asked) State) (n : ℕ) (line : List ℕ) (rest : List (Numbered (List ℕ))) → Both a b
       → a.wire.down ≡ record { number = n; line = line } ∷ rest → length a.wire.settled ≤ n →
       (moves ends (by_ids width ends) a (Comes line)).wire.settled ≡ a.wire.settled ++ settle (n - length a.wire.settled) line a.client.waiting
@@ -112,8 +114,8 @@ pub record IsOwnSettlement {State : Type 0} (ends : Ends State) (Good : State �
   pub answered : (line : List ℕ) → s.outcome ≡ Answered line → IsVouched ends Good M w.sent w.executed w.made m line
   pub late : s.outcome ≡ Late → (line : List ℕ) × IsVouched ends Good M w.sent w.executed w.made m line
 
--- each settlement that isn't excepted (`E`) is its own, and between two starts each request is executed at most once to which
--- the instrument retains its reply
+-- each settlement that isn't excepted (`E`) is its own; executions are in order; and each request to which the instrument retains
+-- its reply is executed at most once between two starts (`ActsOnce`)
 pub record IsVouchedFor {State : Type 0} (ends : Ends State) (Good : State → Type 0) (kept : State → Option KeptReply) (E : ℕ → Type 0) (M : ℕ → Asked → List ℕ → Type 0)
     (w : Wire State) : Type 0 where
   pub own : (m : ℕ) (s : Settlement Asked) → (E m → ⊥) → slice_get w.settled m ≡ Some s → IsOwnSettlement ends Good M w m s
@@ -122,25 +124,25 @@ pub record IsVouchedFor {State : Type 0} (ends : Ends State) (Good : State → T
 
 module _ {State : Type 0} (width : ℕ) (ends : Ends State) (M : ℕ → Asked → List ℕ → Type 0) where
   -- each request that reaches the instrument at one of these moves, and is executed, has a reply with the property M
-  abbrev pub AreOn : List (Move State) → World (ByNumber Asked) State → Type 0
-  AreOn ms b =
+  abbrev pub RepliesHave : List (Move State) → World (ByNumber Asked) State → Type 0
+  RepliesHave ms b =
       (front later : List (Move State)) → ms ≡ front ++ OnLine Up_deliver ∷ later → (x : Numbered Request) (rest : List (Numbered Request)) →
-      (moved ends (by_numbers width) front b).wire.up ≡ x ∷ rest → IsOn ends M (moved ends (by_numbers width) front b) x
+      (moved ends (by_numbers width) front b).wire.up ≡ x ∷ rest → ReplyHas ends M (moved ends (by_numbers width) front b) x
 
-  -- `AreOn` of moves gives `AreOn` of those after the first, in the world that the first leaves
-  are_on_behind : (m : Move State) (ms : List (Move State)) (b : World (ByNumber Asked) State) → AreOn (m ∷ ms) b → AreOn ms (moves ends (by_numbers width) b m)
-  are_on_behind m ms b on = λ front later e. on (m ∷ front) later (ap (λ l. m ∷ l) e)
+  -- where `RepliesHave` holds of moves, it holds of those after the first, in the world that the first leaves
+  replies_have_behind : (m : Move State) (ms : List (Move State)) (b : World (ByNumber Asked) State) → RepliesHave (m ∷ ms) b → RepliesHave ms (moves ends (by_numbers width) b m)
+  replies_have_behind m ms b on = λ front later e. on (m ∷ front) later (ap (λ l. m ∷ l) e)
 
-  -- `AreOn` of moves gives `AreOn` of the later ones, in the world that those before it leave
-  pub are_on_later : (front later : List (Move State)) (b : World (ByNumber Asked) State) → AreOn (front ++ later) b → AreOn later (moved ends (by_numbers width) front b)
-  are_on_later [] later b on = on
-  are_on_later (m ∷ front) later b on = are_on_later front later (moves ends (by_numbers width) b m) (are_on_behind m (front ++ later) b on)
+  -- where `RepliesHave` holds of moves, it holds of the later ones, in the world that those before them leave
+  pub replies_have_later : (front later : List (Move State)) (b : World (ByNumber Asked) State) → RepliesHave (front ++ later) b → RepliesHave later (moved ends (by_numbers width) front b)
+  replies_have_later [] later b on = on
+  replies_have_later (m ∷ front) later b on = replies_have_later front later (moves ends (by_numbers width) b m) (replies_have_behind m (front ++ later) b on)
 
 module _ {State : Type 0} (width : ℕ) (narrow : width ≤ 7) (ends : Ends State) (Good : State → Type 0) (ex : IsExchange ends Good) (kept : State → Option KeptReply) where
-  -- where `Both` holds of two worlds, the reply to each request that is executed at one of these moves, which are possible, was made
-  -- on executing it, by `WasMadeOn`
+  -- where `Both` holds of two worlds, the reply to each request that is executed at one of these moves, which are possible, was
+  -- made on executing it, by `WasMadeOn`
   pub made_here : (a : World (ById Asked) State) (b : World (ByNumber Asked) State) → Both width narrow ends Good ex kept a b → (ms : List (Move State))
-      → ArePossible ends Good kept (by_ids width ends) ms a → AreOn width ends (λ n call line. WasMadeOn width ends a ms n call line) ms b
+      → ArePossible ends Good kept (by_ids width ends) ms a → RepliesHave width ends (λ n call line. WasMadeOn width ends a ms n call line) ms b
   made_here a b both ms p front later e x rest q exe =
       let p' = possible_front width ends Good kept front (OnLine Up_deliver ∷ later) a (subst (λ l. ArePossible ends Good kept (by_ids width ends) l a) e p) in
       let same : (moved ends (by_ids width ends) front a).wire ≡ (moved ends (by_numbers width) front b).wire = (both_all width narrow ends Good ex kept front a b p' both).agree.wire in
@@ -159,15 +161,15 @@ module _ {State : Type 0} (width : ℕ) (narrow : width ≤ 7) (ends : Ends Stat
 module _ {State : Type 0} (width : ℕ) (narrow : width ≤ 7) (knows : Asked → Bool) (ends : Ends State) (Good : State → Type 0) (ex : IsExchange ends Good)
     (kept : State → Option KeptReply) (keeper : IsAnInstrumentFor ends Good kept knows) (low : ℕ) (E : ℕ → Type 0) (Plain : Type 0) (M : ℕ → Asked → List ℕ → Type 0) where
   -- the invariant `AllVouched` of `Vouched`, for these parameters: each reply in flight and each answer was made for its own
-  -- request
+  -- request, unless that is excepted (`E`)
   abbrev pub Trusted : World (ByNumber Asked) State → Type 0
   Trusted w = AllVouched width narrow knows ends Good kept keeper low E Plain M w
 
-  -- the line is vouched for as a reply to request n, or request n is one of those that are excepted
+  -- `Vouched` in a `Trusted` world: request n is `IsDealt`; and it is excepted, or the line is vouched for as its reply
   abbrev Vouches : (w : World (ByNumber Asked) State) → Trusted w → ℕ → List ℕ → Type 0
   Vouches w t n line = Vouched width narrow knows ends Good kept keeper low E Plain M w.wire.sent w.wire.executed w.wire.made t.table n line
 
-  -- what is vouched for and isn't excepted is vouched for as its reply
+  -- where `Vouches` holds of request m, which isn't excepted, and a line, the line is vouched for as its reply (`IsVouched`)
   own_line : (w : World (ByNumber Asked) State) (t : Trusted w) (m : ℕ) (line : List ℕ) → (E m → ⊥) → Vouches w t m line → IsVouched ends Good M w.wire.sent w.wire.executed w.wire.made m line
   own_line w t m line not h =
       elim h.1 [
@@ -175,7 +177,7 @@ module _ {State : Type 0} (width : ℕ) (narrow : width ≤ 7) (knows : Asked �
         | inr v ↦ v
       ]
 
-  -- in a `Trusted` world each settlement is vouched for
+  -- in a `Trusted` world `HoldsOfOutcome` of `Vouches` holds of each settlement
   so_at : (w : World (ByNumber Asked) State) (t : Trusted w) (m : ℕ) (s : Settlement Asked) → slice_get w.wire.settled m ≡ Some s → HoldsOfOutcome (Vouches w t) m s.outcome
   so_at w t m s e = let i : 0 + m ≡ m = omega arith in subst (λ k. HoldsOfOutcome (Vouches w t) k s.outcome) i (all_so_get (Vouches w t) 0 w.wire.settled m s t.answers e)
 
@@ -191,7 +193,7 @@ module _ {State : Type 0} (width : ℕ) (narrow : width ≤ 7) (knows : Asked �
         once = λ keeps k. acts_once keeps w.wire.sent w.wire.executed w.wire.starts (t.once keeps k).once;
       }
 
-  -- the first of these moves asks what all have to be (`knows`) where `Plain` says so
+  -- if `Plain` holds, and implies that these moves ask only what is known, the call that the first one asks for is known
   asks_first : (target : ℕ) (call : Asked) (deadline : ℕ) (ms : List (Move State)) → (Plain → AsksOnly knows (Sends target call deadline ∷ ms)) → Plain → knows call ≡ true
   asks_first target call deadline ms f plain = (f plain).0
 
@@ -206,9 +208,10 @@ module _ {State : Type 0} (width : ℕ) (narrow : width ≤ 7) (knows : Asked �
   asks_behind (Changes state) ms h = h
   asks_behind (Joins line) ms h = h
 
-  -- `Trusted` is preserved by a possible move, where its execution, if it is one, is `AreOn`
+  -- where `Both` holds of two worlds, `Trusted` is preserved by the first of these moves, which is possible, if `RepliesHave`
+  -- holds of the moves and, where `Plain` holds, they ask only what is known
   trusted_move : (m : Move State) (ms : List (Move State)) (a : World (ById Asked) State) (b : World (ByNumber Asked) State) → Both width narrow ends Good ex kept a b → IsPossible Good kept a m
-      → (Plain → AsksOnly knows (m ∷ ms)) → AreOn width ends M (m ∷ ms) b → Sound width ends Good b → Trusted b → Trusted (moves ends (by_numbers width) b m)
+      → (Plain → AsksOnly knows (m ∷ ms)) → RepliesHave width ends M (m ∷ ms) b → Sound width ends Good b → Trusted b → Trusted (moves ends (by_numbers width) b m)
   trusted_move (Sends target call deadline) ms a b both p asks on s t =
       vouched_requested width narrow knows ends Good kept keeper low E Plain M b target call deadline ((by_numbers width).send b.client target call deadline)
       (asks_first target call deadline ms asks) refl t
@@ -222,23 +225,25 @@ module _ {State : Type 0} (width : ℕ) (narrow : width ≤ 7) (knows : Asked �
       vouched_changed width narrow knows ends Good kept keeper low E Plain M b state (p.1 ∙ ap (λ (w : Wire State). kept w.state) both.agree.wire) t
   trusted_move (Joins line) ms a b both p asks on s t = absurd p
 
-  -- moves whose executions are `AreOn` leave a `Trusted` world `Trusted`
+  -- where `Both` holds of two worlds, possible moves of which `RepliesHave` holds leave a `Trusted` world `Trusted`; where
+  -- `Plain` holds, they have to ask only what is known
   pub whole_all : (ms : List (Move State)) (a : World (ById Asked) State) (b : World (ByNumber Asked) State) → Both width narrow ends Good ex kept a b
-      → ArePossible ends Good kept (by_ids width ends) ms a → (Plain → AsksOnly knows ms) → AreOn width ends M ms b → Trusted b → Trusted (moved ends (by_numbers width) ms b)
+      → ArePossible ends Good kept (by_ids width ends) ms a → (Plain → AsksOnly knows ms) → RepliesHave width ends M ms b → Trusted b → Trusted (moved ends (by_numbers width) ms b)
   whole_all [] a b h p asks on t = t
   whole_all (m ∷ ms) a b h p asks on t =
-      whole_all ms _ _ (both_move width narrow ends Good ex kept a b m p.0 h) p.1 (λ plain. asks_behind m ms (asks plain)) (are_on_behind width ends M m ms b on)
+      whole_all ms _ _ (both_move width narrow ends Good ex kept a b m p.0 h) p.1 (λ plain. asks_behind m ms (asks plain)) (replies_have_behind width ends M m ms b on)
       (trusted_move m ms a b h p.0 asks on h.sound t)
 
 module _ {State : Type 0} (width : ℕ) (narrow : width ≤ 7) (knows : Asked → Bool) (ends : Ends State) (Good : State → Type 0) (ex : IsExchange ends Good)
     (kept : State → Option KeptReply) (keeper : IsAnInstrumentFor ends Good kept knows) (E : ℕ → Type 0) (first : E 0) (M : ℕ → Asked → List ℕ → Type 0) where
-  -- `Trusted`, if all requests are known
+  -- `Trusted` where `Plain` holds, so that all requests that are sent have to be known, and `low` is 1
   abbrev TrustedIfKnown : World (ByNumber Asked) State → Type 0
   TrustedIfKnown w = Trusted width narrow knows ends Good ex kept keeper 1 E (Unit {0}) M w
 
   -- Before the first request reached the instrument, which may keep anything.
 
-  -- nothing was executed, settled or sent back yet, and at most one request was sent, which is known; none where `out` is false
+  -- the client never restarted; nothing was executed, settled or sent back yet; at most one request was sent, and none where
+  -- `out` is false; and the request, if one was sent, is known, and all that is in flight is of it
   pub record IsFresh (b : World (ByNumber Asked) State) (out : Bool) : Type 0 where
     pub since : b.client.since ≡ 0
     pub count : b.client.count ≡ 0
@@ -254,9 +259,9 @@ module _ {State : Type 0} (width : ℕ) (narrow : width ≤ 7) (knows : Asked �
   each_all P f [] = tt
   each_all P f (x ∷ xs) = (f x, each_all P f xs)
 
-  -- the first request reaches it: from then on what is retained has the id of the last request that it was handed
+  -- what a step of the line makes of the fresh world b, which is sound
   module _ (b : World (ByNumber Asked) State) (out : Bool) (s : Sound width ends Good b) (f : IsFresh b out) where
-    -- once the first request reached the instrument, the world is `Trusted`
+    -- once the front request, x, reached the instrument, the world is `TrustedIfKnown`
     fresh_reached : (x : Numbered Request) (rest : List (Numbered Request)) → b.wire.up ≡ x ∷ rest
         → TrustedIfKnown (on_wire b (replied b.wire x.number rest (ends.handed b.wire.state x.line.id x.line.call)))
     fresh_reached x rest q =
@@ -271,7 +276,7 @@ module _ {State : Type 0} (width : ℕ) (narrow : width ≤ 7) (knows : Asked �
         let P : ℕ → List ℕ → Type 0 = λ n line. Vouched width narrow knows ends Good kept keeper 1 E (Unit {0}) M w.sent w.executed w.made 0 n line in
         let early : P x.number hd.reply = (inl (omega (arith, nought)), inl (subst E (sym nought) first)) in
         let id : x.line.id ≡ (0 - b.client.since) % 8 = omega (arith, g.0.id, nought, f.since) in
-        let known : knows x.line.call ≡ true = sym (ap knows o.0.call) ∙ each_get (λ (r : Sent). knows r.call ≡ true) v.sent x.number o.0.request f.known o.0.found in
+        let known : knows x.line.call ≡ true = sym (ap knows o.0.call) ∙ all_at (λ (r : Sent). knows r.call ≡ true) v.sent x.number o.0.request f.known o.0.found in
         record {
           top = 1;
           table = 0;
@@ -294,7 +299,7 @@ module _ {State : Type 0} (width : ℕ) (narrow : width ≤ 7) (knows : Asked �
               (held keeps k (keeps x.line.call) refl o.0 id);
         }
       where
-        -- a fresh world has sent at most one request
+        -- in a fresh world at most one request was sent
         below_two : (out : Bool) → length b.wire.sent ≤ number_of out → length b.wire.sent ≤ 1
         below_two true l = l
         below_two false l = omega (arith, l)
@@ -307,7 +312,8 @@ module _ {State : Type 0} (width : ℕ) (narrow : width ≤ 7) (knows : Asked �
         own_kept known (inl own) = own
         own_kept known (inr third) = absurd (true≢false (sym known ∙ third.0))
 
-        -- the first request is kept, if the instrument retains its reply to it
+        -- if the instrument retains its reply to each request that `keeps` names: `keeps` doesn't name x; or the reply to x is
+        -- retained, with its id, which is that of request 0
         held : (keeps : Asked → Bool) → KeepsItsReply ends Good kept keeps → (t : Bool) → keeps x.line.call ≡ t → IsOf written b.wire.sent x → x.line.id ≡ (0 - b.client.since) % 8
             → IsUnknown keeps b.wire.sent x.number
             ⊎ ((kept (ends.handed b.wire.state x.line.id x.line.call).state ≡ Some (record { id = x.line.id; line = (ends.handed b.wire.state x.line.id x.line.call).reply }))
@@ -315,22 +321,23 @@ module _ {State : Type 0} (width : ℕ) (narrow : width ≤ 7) (knows : Asked �
         held keeps k true e o id = inr (k.always b.wire.state x.line.id x.line.call s.good o.small e, id)
         held keeps k false e o id = inl (o.request, o.found, ap keeps o.call ∙ e)
 
-    -- if the front request reaches the instrument, a fresh world becomes `Trusted`; if there is no request, it stays fresh
+    -- if no request is in flight, a fresh world stays fresh; else the front one reaches the instrument, and the world becomes
+    -- `TrustedIfKnown`
     fresh_up : (q : List (Numbered Request)) → b.wire.up ≡ q → (IsFresh (on_wire b (up_delivered ends b.wire q)) out) ⊎ TrustedIfKnown (on_wire b (up_delivered ends b.wire q))
     fresh_up [] q = inl (record { since = f.since; count = f.count; down = f.down; executed = f.executed; settled = f.settled; sent = f.sent; lines = f.lines; known = f.known })
     fresh_up (x ∷ rest) q = inr (fresh_reached x rest q)
 
-    -- a fresh world stays fresh if a request in flight is lost or repeated
+    -- a fresh world stays fresh if the requests in flight change to others that were sent, or (`t` is false) don't
     fresh_with_up : (up : List (Numbered Request)) (t : Bool) → Each (IsOf written b.wire.sent) up → IsFresh (on_wire b (with_up b.wire up t)) out
     fresh_with_up up true l = record { since = f.since; count = f.count; down = f.down; executed = f.executed; settled = f.settled; sent = f.sent; lines = l; known = f.known }
     fresh_with_up up false l = record { since = f.since; count = f.count; down = f.down; executed = f.executed; settled = f.settled; sent = f.sent; lines = f.lines; known = f.known }
 
-    -- a fresh world stays fresh over a loss or a repeat of a reply: none is in flight
+    -- a fresh world stays fresh if the replies in flight become none, or (`t` is false) don't change
     fresh_with_down : (down : List (Numbered (List ℕ))) (t : Bool) → down ≡ [] → IsFresh (on_wire b (with_down b.wire down t)) out
     fresh_with_down down true l = record { since = f.since; count = f.count; down = l; executed = f.executed; settled = f.settled; sent = f.sent; lines = f.lines; known = f.known }
     fresh_with_down down false l = record { since = f.since; count = f.count; down = f.down; executed = f.executed; settled = f.settled; sent = f.sent; lines = f.lines; known = f.known }
 
-    -- over a step of the line a fresh world stays fresh or becomes `Trusted`
+    -- over a step of the line a fresh world stays fresh or becomes `TrustedIfKnown`
     fresh_line : (step : Step) → IsLineStep step → (IsFresh (happens ends (by_numbers width) b step) out) ⊎ TrustedIfKnown (happens ends (by_numbers width) b step)
     fresh_line (Send target call deadline) p = absurd p
     fresh_line Up_deliver p = fresh_up b.wire.up refl
@@ -344,7 +351,8 @@ module _ {State : Type 0} (width : ℕ) (narrow : width ≤ 7) (knows : Asked �
     fresh_line Restart_instrument p = absurd p
     fresh_line Nothing p = inl (record { since = f.since; count = f.count; down = f.down; executed = f.executed; settled = f.settled; sent = f.sent; lines = f.lines; known = f.known })
 
-  -- a fresh world stays fresh if the first request is sent, or is refused
+  -- a fresh world in which no request was sent stays fresh if one is sent that is known, or if that is refused (`full`); at most
+  -- one was sent then
   fresh_sent : (b : World (ByNumber Asked) State) (target : ℕ) (call : Asked) (deadline : ℕ) (full : Bool) → knows call ≡ true → IsFresh b false
       → IsFresh (requested b target call (number_send b.client target call deadline full)) true
   fresh_sent b target call deadline true is f =
@@ -366,16 +374,17 @@ module _ {State : Type 0} (width : ℕ) (narrow : width ≤ 7) (knows : Asked �
         known = each_append (λ (r : Sent). knows r.call ≡ true) b.wire.sent (r ∷ []) f.known (is, tt);
       }
 
-  -- in a fresh world no reply is in flight
+  -- where `Both` holds of two worlds, and the world of numbers is fresh, no reply is in flight in the world of ids
   nothing_down : (a : World (ById Asked) State) (b : World (ByNumber Asked) State) (out : Bool) (x : Numbered (List ℕ)) (rest : List (Numbered (List ℕ))) → Both width narrow ends Good ex kept a b
       → IsFresh b out → a.wire.down ≡ x ∷ rest → ⊥
   nothing_down a b out x rest h f e =
       let none : [] ≡ x ∷ rest = sym f.down ∙ sym (ap (λ (w : Wire State). w.down) h.agree.wire) ∙ e in
       cc
 
-  -- after possible moves whose first request is sent alone the answers are vouched for, whatever the instrument kept before
+  -- where `Both` holds of two worlds, and the world of numbers is fresh: `IsVouchedFor` holds after possible moves of which
+  -- `RepliesHave` holds, and which ask only what is known, the first request alone; whatever the instrument retained before
   pub early_all : (ms : List (Move State)) (out : Bool) (a : World (ById Asked) State) (b : World (ByNumber Asked) State) → Both width narrow ends Good ex kept a b
-      → ArePossible ends Good kept (by_ids width ends) ms a → AsksOnly knows ms → IsFirstAlone out ms → AreOn width ends M ms b → IsFresh b out
+      → ArePossible ends Good kept (by_ids width ends) ms a → AsksOnly knows ms → IsFirstAlone out ms → RepliesHave width ends M ms b → IsFresh b out
       → IsVouchedFor ends Good kept E M (moved ends (by_numbers width) ms b).wire
   early_all [] out a b h p k l on f =
       record {
@@ -387,31 +396,32 @@ module _ {State : Type 0} (width : ℕ) (narrow : width ≤ 7) (knows : Asked �
       }
   early_all (Sends target call deadline ∷ ms) false a b h p k l on f =
       early_all ms true _ _ (both_move width narrow ends Good ex kept a b (Sends target call deadline) p.0 h) p.1 k.1 l.1
-      (are_on_behind width ends M (Sends target call deadline) ms b on) (fresh_sent b target call deadline (eqb (length b.client.requests - b.client.count) width) k.0 f)
+      (replies_have_behind width ends M (Sends target call deadline) ms b on) (fresh_sent b target call deadline (eqb (length b.client.requests - b.client.count) width) k.0 f)
   early_all (Sends target call deadline ∷ ms) true a b h p k l on f = absurd (true≢false l.0)
   early_all (Tells now ∷ ms) out a b h p k l on f =
-      early_all ms out _ _ (both_move width narrow ends Good ex kept a b (Tells now) p.0 h) p.1 k l (are_on_behind width ends M (Tells now) ms b on)
+      early_all ms out _ _ (both_move width narrow ends Good ex kept a b (Tells now) p.0 h) p.1 k l (replies_have_behind width ends M (Tells now) ms b on)
       (record { since = f.since; count = f.count; down = f.down; executed = f.executed; settled = f.settled; sent = f.sent; lines = f.lines; known = f.known })
   early_all (Comes line ∷ ms) out a b h p k l on f = absurd (nothing_down a b out _ p.0.1 h f p.0.2)
-  early_all (Foreign line ∷ ms) out a b h p k l on f = early_all ms out a b h p.1 k l (are_on_behind width ends M (Foreign line) ms b on) f
+  early_all (Foreign line ∷ ms) out a b h p k l on f = early_all ms out a b h p.1 k l (replies_have_behind width ends M (Foreign line) ms b on) f
   early_all (OnLine step ∷ ms) out a b h p k l on f =
       let both = both_move width narrow ends Good ex kept a b (OnLine step) p.0 h in
       elim (fresh_line b out h.sound f step p.0) [
-        | inl g ↦ early_all ms out _ _ both p.1 k l (are_on_behind width ends M (OnLine step) ms b on) g
+        | inl g ↦ early_all ms out _ _ both p.1 k l (replies_have_behind width ends M (OnLine step) ms b on) g
         | inr t ↦ (vouched_for width narrow knows ends Good ex kept keeper 1 E (Unit {0}) M (moved ends (by_numbers width) ms (happens ends (by_numbers width) b step))
-            (whole_all width narrow knows ends Good ex kept keeper 1 E (Unit {0}) M ms _ _ both p.1 (λ plain. k) (are_on_behind width ends M (OnLine step) ms b on) t))
+            (whole_all width narrow knows ends Good ex kept keeper 1 E (Unit {0}) M ms _ _ both p.1 (λ plain. k) (replies_have_behind width ends M (OnLine step) ms b on) t))
       ]
   early_all (Anew ∷ ms) out a b h p k l on f =
-      early_all ms out _ _ (both_move width narrow ends Good ex kept a b Anew p.0 h) p.1 k l (are_on_behind width ends M Anew ms b on)
+      early_all ms out _ _ (both_move width narrow ends Good ex kept a b Anew p.0 h) p.1 k l (replies_have_behind width ends M Anew ms b on)
       (record { since = f.since; count = f.count; down = f.down; executed = f.executed; settled = f.settled; sent = f.sent; lines = f.lines; known = f.known })
   early_all (Changes state ∷ ms) out a b h p k l on f =
-      early_all ms out _ _ (both_move width narrow ends Good ex kept a b (Changes state) p.0 h) p.1 k l (are_on_behind width ends M (Changes state) ms b on)
+      early_all ms out _ _ (both_move width narrow ends Good ex kept a b (Changes state) p.0 h) p.1 k l (replies_have_behind width ends M (Changes state) ms b on)
       (record { since = f.since; count = f.count; down = f.down; executed = f.executed; settled = f.settled; sent = f.sent; lines = f.lines; known = f.known })
   early_all (Joins line ∷ ms) out a b h p k l on f = absurd p.0
 
-  -- moves whose first request is sent alone leave the wire vouched for, from an open world on
+  -- from a good state of the instrument on, with a new client and nothing in flight: `IsVouchedFor` holds after possible moves of
+  -- which `RepliesHave` holds, and which ask only what is known, the first request alone
   pub vouched_at : (ms : List (Move State)) (state : State) → Good state → ArePossible ends Good kept (by_ids width ends) ms (ids_open state) → AsksOnly knows ms
-      → IsFirstAlone false ms → AreOn width ends M ms (numbers_open state) → IsVouchedFor ends Good kept E M (moved ends (by_numbers width) ms (numbers_open state)).wire
+      → IsFirstAlone false ms → RepliesHave width ends M ms (numbers_open state) → IsVouchedFor ends Good kept E M (moved ends (by_numbers width) ms (numbers_open state)).wire
   vouched_at ms state good p k l on =
       early_all ms false (ids_open state) (numbers_open state) (both_open width narrow ends Good ex kept state good) p k l on
       (record { since = refl; count = refl; down = refl; executed = refl; settled = refl; sent = omega arith; lines = tt; known = tt })

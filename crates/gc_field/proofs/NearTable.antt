@@ -8,13 +8,14 @@ use Rattle.gc_field.specs.World.{Sent}
 use Rattle.gc_field.proofs.KeptReplies.{IsKept, newest, newest_up}
 
 module _ (knows : Asked → Bool) (E : ℕ → Type 0) (Plain : Type 0) where
-  -- all requests are known (`Plain`), and the one handed last is the newest known one; or each request that isn't excepted is
-  -- at most seven after the newest known one
-  abbrev pub IsNear : List Sent → ℕ → ℕ → Type 0
+  -- `Plain` holds, no request after the newest known one was handed, and all requests that were sent are known; or each request
+  -- that isn't excepted is at most seven after the newest known one
+  abbrev pub IsNear : (sent : List Sent) (top table : ℕ) → Type 0
   IsNear sent top table = (Plain × (top ≤ table + 1) × Each (λ (r : Sent). knows r.call ≡ true) sent) ⊎ ((n : ℕ) → E n ⊎ (n ≤ table + 7))
 
-  -- where request n is excepted, or at most seven after the newest known one, and has the id of the request whose reply is
-  -- retained, it is excepted or it is that request
+  -- where `IsKept` holds of the retained reply `k`, and request n, which is neither before `since` nor before the last one handed
+  -- (`top` - 1), has the id of `k`, and is excepted or at most seven after the newest known one: n is excepted, or P holds of n
+  -- and the line of `k`
   pub near_same : (since top table n : ℕ) (k : KeptReply) (P : ℕ → List ℕ → Type 0) → IsKept P since top table k → since ≤ n → top ≤ n + 1 → k.id ≡ (n - since) % 8
       → E n ⊎ (n ≤ table + 7) → E n ⊎ P n k.line
   near_same since top table n k P held recent le same (inl e) = inl e
@@ -22,7 +23,8 @@ module _ (knows : Asked → Bool) (E : ℕ → Type 0) (Plain : Type 0) where
       let one : held.number ≡ n = omega (arith, held.recent, held.before, held.behind, held.id, recent, le, same, near) in
       inr (subst (λ i. P i k.line) one held.line)
 
-  -- what is near stays near where request n was handed, which is known if all are
+  -- `IsNear` is preserved where request n, which isn't before `table`, is handed, if n is known (`known`) wherever all requests
+  -- are
   pub near_on : (sent : List Sent) (top table n : ℕ) (known : Bool) → table ≤ n → (Each (λ (r : Sent). knows r.call ≡ true) sent → known ≡ true) → IsNear sent top table
       → IsNear sent (n + 1) (newest known n table)
   near_on sent top table n known low all (inl h) =
@@ -33,7 +35,7 @@ module _ (knows : Asked → Bool) (E : ℕ → Type 0) (Plain : Type 0) where
     | inr le ↦ inr (let up = newest_up known n table low in omega (arith, le, up))
   ])
 
-  -- request n is excepted, or at most seven after the newest known one: at most seven are outstanding
+  -- where `IsNear` holds, request n is excepted, or at most seven after the newest known one, if it is below `top` + 7
   pub near_of : (sent : List Sent) (top table n : ℕ) → n < top + 7 → IsNear sent top table → E n ⊎ (n ≤ table + 7)
   near_of sent top table n few (inl h) = inr (omega (arith, few, h.1))
   near_of sent top table n few (inr f) = f n

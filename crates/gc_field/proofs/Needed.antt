@@ -1,5 +1,5 @@
 -- Each clause on instruments is needed: the instruments and runs of `specs/Needed.antt`, computed.
-use Rattle.std.proofs.Common.{◌≡◌, ℕ, ◌<◌, ◌⊎◌, inl, inr, Bool, true, false, cond, List, [], ◌∷◌, Option, Some, None, refl, ◌∙◌, ap, arith, lit<}
+use Rattle.std.proofs.Common.{◌≡◌, ℕ, ◌<◌, inl, inr, Bool, true, false, cond, List, [], ◌∷◌, Option, Some, None, refl, ◌∙◌, ap, arith, lit<}
 use Rattle.std.proofs.lemmas.Bool.{eqb-true, true≢false}
 use Rattle.std.specs.Prelude.{nat_eq, slice_get}
 use Rattle.std.specs.Fmt.{decimal, digits}
@@ -13,7 +13,7 @@ use Rattle.gc_client.specs.declared.window.TheConstants.{WINDOW}
 use Rattle.gc_instrument.specs.State.{KeptReply}
 use Rattle.gc_world.specs.Order.{Each}
 use Rattle.std.proofs.lemmas.Option.{same_Some}
-use Rattle.gc_world.proofs.Places.{each_get}
+use Rattle.gc_world.proofs.Places.{all_at}
 use Rattle.gc_field.specs.Begin.{none_under_way}
 use Rattle.gc_field.specs.Begun.{IsClean, behind}
 use Rattle.gc_field.specs.Instrument.{IsAnInstrument, AnyState, nothing}
@@ -22,6 +22,7 @@ use Rattle.gc_field.specs.Needed.{Keeper, IsAllNeeded, IsUnbroken, giving, refus
 use Rattle.gc_field.specs.Once.{ActsOnce}
 use Rattle.gc_field.specs.World.{Sent}
 use Rattle.gc_field.proofs.Instruments.{keeps_none}
+use Rattle.gc_field.proofs.KeptReplies.{IsKeptAfter}
 
 -- where n is held for an id, the reply with that id and n is kept
 pub kept_own : (k : Keeper) (id n : ℕ) → held k id ≡ Some n → kept k ≡ Some (record { id = id; line = giving id n })
@@ -32,20 +33,20 @@ kept_own (Some x) id n e = chosen (nat_eq x.0 id) refl e where
   chosen true t e = ap (λ i. Some (record { id = i; line = giving i x.1 })) (eqb-true x.0 id t) ∙ ap (λ m. Some (record { id = id; line = giving id m })) (same_Some x.1 n e)
   chosen false t e = let never : ⊥ = cc in absurd never
 
--- a reply that gives a number has its id
+-- a reply that gives a number, with an id below 8, reads as one with that id
 pub reads_giving : (id n : ℕ) → id < 8 → heard (giving id n) ≡ Some id
 reads_giving id n small = ap id_in (reply_back (record { rc_com = 0; id = Some id; rc = 0; params = decimal n }) (record { rc_com = lit< tt; id = small; rc = lit< tt }))
 
--- a reply that refuses has its id
+-- a reply that refuses, with an id below 8, reads as one with that id
 reads_refusal : (id : ℕ) → id < 8 → heard (refusal id) ≡ Some id
 reads_refusal id small = ap id_in (reply_back (record { rc_com = 3081; id = Some id; rc = 0; params = [] }) (record { rc_com = lit< tt; id = small; rc = lit< tt }))
 
--- the reply of `again_or` has its request's id
+-- the reply of `again_or` to a request with an id below 8 reads as one with that id
 again_reads : (k : Keeper) (id : ℕ) (o : Option ℕ) → id < 8 → heard (again_or id k o).reply ≡ Some id
 again_reads k id (Some n) small = reads_giving id n small
 again_reads k id None small = reads_giving id 0 small
 
--- a line that `again_or` sends again is the one that it retains
+-- a line that `again_or` sends without executing the request is the one that it retains, for this id
 again_repeats : (k : Keeper) (id : ℕ) (o : Option ℕ) → held k id ≡ o → (again_or id k o).executed ≡ false → kept k ≡ Some (record { id = id; line = (again_or id k o).reply })
 again_repeats k id (Some n) e not = kept_own k id n e
 again_repeats k id None e not = absurd (true≢false not)
@@ -55,19 +56,19 @@ again_keeps : (k : Keeper) (id : ℕ) (o : Option ℕ) → held k id ≡ o → k
 again_keeps k id (Some n) e = kept_own k id n e
 again_keeps k id None e = refl
 
--- the reply of `refuses_or` has its request's id
+-- the reply of `refuses_or` to a request with an id below 8 reads as one with that id
 refuses_reads : (b : Bool) (k : Keeper) (id : ℕ) → id < 8 → heard (refuses_or b k id).reply ≡ Some id
 refuses_reads true k id small = again_reads k id (held k id) small
 refuses_reads false k id small = reads_refusal id small
 
--- a line that `refuses_or` sends again is the one that it retains
+-- a line that `refuses_or` sends without executing the request is the one that it retains, for this id
 refuses_repeats : (b : Bool) (k : Keeper) (id : ℕ) → (refuses_or b k id).executed ≡ false → kept k ≡ Some (record { id = id; line = (refuses_or b k id).reply })
 refuses_repeats true k id not = again_repeats k id (held k id) refl not
 refuses_repeats false k id not = absurd (true≢false not)
 
 -- a number that is above all that were executed wasn't executed
 above : (n : ℕ) (xs : List ℕ) → Each (λ m. m < n) xs → WasExecuted xs n → ⊥
-above n xs low h = omega (arith, each_get (λ m. m < n) xs h.0 n low h.1)
+above n xs low h = omega (arith, all_at (λ m. m < n) xs h.0 n low h.1)
 
 -- where only requests 8 to 15 were executed, request 16 wasn't
 not_16 : WasExecuted (8 ∷ 9 ∷ 10 ∷ 11 ∷ 12 ∷ 13 ∷ 14 ∷ 15 ∷ []) 16 → ⊥
@@ -85,7 +86,7 @@ not_9 h = above 9 (8 ∷ []) (lit< tt, tt) h
 not_10 : WasExecuted (8 ∷ 9 ∷ []) 10 → ⊥
 not_10 h = above 10 (8 ∷ 9 ∷ []) (lit< tt, (lit< tt, tt)) h
 
--- 8, 9 and 9, with no start between, aren't executed at most once
+-- executions of requests 8, 9 and 9, with no start between, aren't `ActsOnce` if request 9 is a call of the table
 not_once : (sent : List Sent) (r : Sent) → slice_get sent 9 ≡ Some r → is_of_table r.call ≡ true → ActsOnce is_of_table sent (8 ∷ 9 ∷ 9 ∷ []) [] → ⊥
 not_once sent r found known h = omega (arith, h 1 2 9 9 r (lit< tt) tt refl refl found known)
 
@@ -119,10 +120,8 @@ raws_is =
       starts_good = λ k good. tt;
     }
   where
-    -- after a request that it knows it retains its reply, and after another one what it retained
-    after : (k : Keeper) (id : ℕ) (b : Bool)
-        → ((kept (refuses_or b k id).state ≡ None) ⊎ (kept (refuses_or b k id).state ≡ Some (record { id = id; line = (refuses_or b k id).reply })))
-        ⊎ ((b ≡ false) × (kept (refuses_or b k id).state ≡ kept k))
+    -- what `refuses_raws` retains after a request is as `IsKeptAfter` says, whether it knows the request (`b`) or not
+    after : (k : Keeper) (id : ℕ) (b : Bool) → IsKeptAfter b id (refuses_or b k id).reply (kept k) (kept (refuses_or b k id).state)
     after k id true = inl (inr (again_keeps k id (held k id) refl))
     after k id false = inr (refl, refl)
 
@@ -143,7 +142,7 @@ anew_is =
 forgets_is : IsAnInstrument forgets AnyState nothing
 forgets_is = keeps_none Bool forgets (λ line. refl) (λ b id call small. reads_giving id 0 small) (λ b id call. refl)
 
--- an instrument in order replies with the request's id
+-- an instrument in order replies to a request with an id below 8 with that id
 in_order : (b : Bool) (id : ℕ) → IsUnbroken b → id < 8 → heard (answers_in b id b).reply ≡ Some id
 in_order false id good small = reads_giving id 0 small
 in_order true id good small = absurd (true≢false good)

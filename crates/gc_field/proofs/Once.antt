@@ -9,14 +9,14 @@ use Rattle.gc_instrument.specs.State.{KeptReply}
 use Rattle.gc_world.specs.Order.{Each}
 use Rattle.std.proofs.lemmas.Option.{same_Some, none-some, slice_get_within}
 use Rattle.gc_field.specs.World.{Sent}
-use Rattle.gc_world.proofs.Places.{each_get, get_more}
+use Rattle.gc_world.proofs.Places.{all_at, get_more}
 use Rattle.gc_world.proofs.Rows.{each_append, each_more}
 use Rattle.gc_field.specs.Once.{HasNoStart, ActsOnce, IsInOrder}
-use Rattle.gc_field.proofs.BeginLists.{each_front, each_back}
+use Rattle.gc_lines.proofs.Lists.{all_front, all_behind}
 
 -- Lists.
 
--- what is at a place of a list with one element more was at that place before, or is that element
+-- what is at a place of a list with one element more behind it was at that place before, or is that element, at the last place
 get_pushed : {A : Type 0} (xs : List A) (x : A) (i : ℕ) (y : A) → slice_get (xs ++ x ∷ []) i ≡ Some y → (slice_get xs i ≡ Some y) ⊎ ((i ≡ length xs) × (x ≡ y))
 get_pushed [] x zero y e = inr (refl, same_Some x y e)
 get_pushed [] x (suc i) y e = absurd (none-some y e)
@@ -29,8 +29,8 @@ get_pushed (z ∷ xs) x (suc i) y e =
 
 -- What was executed.
 
--- nothing was executed since the last start
-abbrev pub IsIdle : List ℕ → List ℕ → Type 0
+-- nothing was executed since the last start, or nothing at all
+abbrev pub IsIdle : (executed starts : List ℕ) → Type 0
 IsIdle executed starts = (executed ≡ []) ⊎ ((earlier : List ℕ) × (starts ≡ earlier ++ length executed ∷ []))
 
 -- request n was sent, and isn't one that `knows` names
@@ -46,16 +46,20 @@ pub known_not : (knows : Asked → Bool) (sent : List Sent) (n : ℕ) (r : Sent)
 known_not knows sent n r found known h =
     true≢false (sym known ∙ ap (λ (x : Sent). knows x.call) (same_Some r h.0 (sym found ∙ h.1)) ∙ h.2)
 
--- what is retained (`k`), if anything, has this id; and if nothing is retained, nothing was executed since the last start
+-- if nothing is retained (`k`), nothing was executed since the last start; and what is retained, if anything, has this id
 pub record IsHeld (id : ℕ) (executed starts : List ℕ) (k : Option KeptReply) : Type 0 where
   pub idle : k ≡ None → IsIdle executed starts
   pub same : (r : KeptReply) → k ≡ Some r → r.id ≡ id
 
--- what was executed acts once, for the requests that `knows` names, and each number is below `top`. The request handed last,
--- top - 1, isn't known, or what is retained (`k`) has its id, `id`
+-- of any two executions with no start between them, the later one is of a request that was sent later, or of one that isn't known
+abbrev pub RiseUnlessUnknown : (Asked → Bool) → List Sent → (executed starts : List ℕ) → Type 0
+RiseUnlessUnknown knows sent executed starts =
+    (i j m n : ℕ) → i < j → HasNoStart starts i j → slice_get executed i ≡ Some m → slice_get executed j ≡ Some n → (m < n) ⊎ IsUnknown knows sent n
+
+-- `RiseUnlessUnknown` holds of what was executed, and each number is below `top`; and the request handed last, top - 1, isn't
+-- known, or `IsHeld` holds of what is retained (`k`) with its id, `id`
 pub record IsClimbing (knows : Asked → Bool) (id top : ℕ) (sent : List Sent) (executed starts : List ℕ) (k : Option KeptReply) : Type 0 where
-  pub once :
-      (i j m n : ℕ) → i < j → HasNoStart starts i j → slice_get executed i ≡ Some m → slice_get executed j ≡ Some n → (m < n) ⊎ IsUnknown knows sent n
+  pub once : RiseUnlessUnknown knows sent executed starts
   pub below : Each (λ n. n < top) executed
   pub last : IsUnknown knows sent (top - 1) ⊎ IsHeld id executed starts k
 
@@ -64,13 +68,14 @@ pub record IsOrdered (top : ℕ) (executed : List ℕ) : Type 0 where
   pub order : IsInOrder executed
   pub below : Each (λ n. n < top) executed
 
--- at most one execution is in order
+-- a list of at most one execution is in order
 pub order_few : (executed : List ℕ) → length executed ≤ 1 → IsInOrder executed
 order_few executed few j k m n lt a b =
     let size : k < length executed = slice_get_within executed k n b in
     absurd (omega (arith, size, few, lt))
 
--- `IsOrdered` is preserved where request n is executed, and no request that was sent later was executed before
+-- where request n is executed, and no later one was handed to the instrument before (`top`), `IsOrdered` is preserved, with n + 1
+-- for `top`
 pub ordered_acted : (top n : ℕ) (executed : List ℕ) → top ≤ n + 1 → IsOrdered top executed → IsOrdered (n + 1) (executed ++ n ∷ [])
 ordered_acted top n executed le h =
     record {
@@ -81,18 +86,20 @@ ordered_acted top n executed le h =
               | inr last ↦ absurd (omega (arith, last.0, lt, size))
             ])
         | inr new ↦ elim (get_pushed executed n i x a) [
-          | inl first ↦ subst (λ z. x ≤ z) new.1 (let l : x < top = each_get (λ m. m < top) executed i x h.below first in omega (arith, l, le))
+          | inl first ↦ subst (λ z. x ≤ z) new.1 (let l : x < top = all_at (λ m. m < top) executed i x h.below first in omega (arith, l, le))
           | inr last ↦ absurd (omega (arith, last.0, lt, new.0))
         ]
       ];
       below = each_append (λ m. m < n + 1) executed (n ∷ []) (each_more (λ m. m < top) (λ m. m < n + 1) (λ m l. omega (arith, l, le)) executed h.below) (omega arith, tt);
     }
 
--- `IsOrdered` is preserved where request n is handed to the instrument and isn't executed
+-- where request n is handed to the instrument and isn't executed, and no later one was handed before (`top`), `IsOrdered` is
+-- preserved, with n + 1 for `top`
 pub ordered_handed : (top n : ℕ) (executed : List ℕ) → top ≤ n + 1 → IsOrdered top executed → IsOrdered (n + 1) executed
 ordered_handed top n executed le h = record { order = h.order; below = each_more (λ m. m < top) (λ m. m < n + 1) (λ m l. omega (arith, l, le)) executed h.below }
 
--- the first execution, if there is one, is `IsOrdered`
+-- `IsOrdered` holds, with 1 for `top`, once request 0 reached the instrument, executed or not (`acted`), if nothing was executed
+-- before
 pub ordered_first : (n : ℕ) (executed : List ℕ) (acted : Bool) → executed ≡ [] → n ≡ 0 → IsOrdered 1 (cond acted (executed ++ n ∷ []) executed)
 ordered_first n executed acted none nought = subst (λ l. IsOrdered 1 (cond acted (l ++ n ∷ []) l)) (sym none) (chosen acted) where
   -- the lemma above, by whether the request was executed (`acted`)
@@ -100,17 +107,14 @@ ordered_first n executed acted none nought = subst (λ l. IsOrdered 1 (cond acte
   chosen true = record { order = order_few (n ∷ []) (omega arith); below = (omega (arith, nought), tt) }
   chosen false = record { order = order_few [] (omega arith); below = tt }
 
--- of at most one execution there is no later one
-pub once_few : (knows : Asked → Bool) (sent : List Sent) (executed starts : List ℕ) → length executed ≤ 1 → (i j m n : ℕ) → i < j → HasNoStart starts i j
-    → slice_get executed i ≡ Some m → slice_get executed j ≡ Some n → (m < n) ⊎ IsUnknown knows sent n
+-- `RiseUnlessUnknown` holds of a list of at most one execution
+pub once_few : (knows : Asked → Bool) (sent : List Sent) (executed starts : List ℕ) → length executed ≤ 1 → RiseUnlessUnknown knows sent executed starts
 once_few knows sent executed starts few i j m n lt run a b =
     let size : j < length executed = slice_get_within executed j n b in
     absurd (omega (arith, size, few, lt))
 
--- `ActsOnce` is what `IsClimbing` says once
-pub acts_once : (knows : Asked → Bool) (sent : List Sent) (executed starts : List ℕ)
-    → ((i j m n : ℕ) → i < j → HasNoStart starts i j → slice_get executed i ≡ Some m → slice_get executed j ≡ Some n → (m < n) ⊎ IsUnknown knows sent n)
-    → ActsOnce knows sent executed starts
+-- where `RiseUnlessUnknown` holds, `ActsOnce` holds
+pub acts_once : (knows : Asked → Bool) (sent : List Sent) (executed starts : List ℕ) → RiseUnlessUnknown knows sent executed starts → ActsOnce knows sent executed starts
 acts_once knows sent executed starts once i j m n r lt run a b found known =
     elim (once i j m n lt run a b) [
       | inl l ↦ l
@@ -138,7 +142,7 @@ pub climbing_started : (knows : Asked → Bool) (id top : ℕ) (sent : List Sent
     → IsClimbing knows id top sent executed starts k → IsClimbing knows id top sent executed (starts ++ length executed ∷ []) after
 climbing_started knows id top sent executed starts k after now h =
     record {
-      once = λ i j m n lt run a b. h.once i j m n lt (each_front (λ s. (s ≤ i) ⊎ (j < s)) starts (length executed ∷ []) run) a b;
+      once = λ i j m n lt run a b. h.once i j m n lt (all_front (λ s. (s ≤ i) ⊎ (j < s)) starts (length executed ∷ []) run) a b;
       below = h.below;
       last = elim h.last [
         | inl u ↦ inl u
@@ -146,14 +150,18 @@ climbing_started knows id top sent executed starts k after now h =
       ];
     }
   where
-    -- what is retained after the start has the id that what was kept had
+    -- what is retained after the start, if anything, was retained before it: so it has the id `id`
     still : IsHeld id executed starts k → (after ≡ None) ⊎ (after ≡ k) → (r : KeptReply) → after ≡ Some r → r.id ≡ id
     still g (inl none) r e = absurd (none-some r (sym none ∙ e))
     still g (inr same) r e = g.same r (sym same ∙ e)
 
--- where request n was handed last, it isn't known, or what is retained has its id
+-- request n isn't known; or a reply, r, with the id `new` is retained (`after`)
+abbrev pub IsUnknownOrRetained : (knows : Asked → Bool) (sent : List Sent) (n new : ℕ) (after : Option KeptReply) (r : KeptReply) → Type 0
+IsUnknownOrRetained knows sent n new after r = IsUnknown knows sent n ⊎ ((after ≡ Some r) × (r.id ≡ new))
+
+-- `IsUnknownOrRetained` gives what `IsClimbing` says of the request handed last (`last`), where that is request n
 pub last_of : (knows : Asked → Bool) (new n : ℕ) (sent : List Sent) (executed starts : List ℕ) (after : Option KeptReply) (r : KeptReply)
-    → IsUnknown knows sent n ⊎ ((after ≡ Some r) × (r.id ≡ new)) → IsUnknown knows sent (n + 1 - 1) ⊎ IsHeld new executed starts after
+    → IsUnknownOrRetained knows sent n new after r → IsUnknown knows sent (n + 1 - 1) ⊎ IsHeld new executed starts after
 last_of knows new n sent executed starts after r (inl u) =
     let back : n ≡ n + 1 - 1 = omega arith in
     inl (subst (λ i. IsUnknown knows sent i) back u)
@@ -163,10 +171,10 @@ last_of knows new n sent executed starts after r (inr kept) =
       same = λ y e. ap (λ (x : KeptReply). x.id) (sym (same_Some r y (sym kept.0 ∙ e))) ∙ kept.1;
     })
 
--- `IsClimbing` is preserved where request n, which has the id `new`, is handed to the instrument and isn't executed: it isn't
--- known, or the instrument retains a reply with its id
+-- where request n is handed to the instrument and isn't executed, and no later one was handed before (`top`), `IsClimbing` is
+-- preserved, with the id `new` and n + 1 for `top`, if n isn't known, or a reply with the id `new` is retained then (`after`)
 pub climbing_handed : (knows : Asked → Bool) (id new top n : ℕ) (sent : List Sent) (executed starts : List ℕ) (k after : Option KeptReply) (r : KeptReply) → top ≤ n + 1
-    → IsUnknown knows sent n ⊎ ((after ≡ Some r) × (r.id ≡ new))
+    → IsUnknownOrRetained knows sent n new after r
     → IsClimbing knows id top sent executed starts k → IsClimbing knows new (n + 1) sent executed starts after
 climbing_handed knows id new top n sent executed starts k after r le why h =
     record {
@@ -175,19 +183,20 @@ climbing_handed knows id new top n sent executed starts k after r le why h =
       last = last_of knows new n sent executed starts after r why;
     }
 
--- if nothing was executed since the last start, that start is between an earlier execution, j, and the next one, k: so it can't
--- be that no start is between them
+-- if nothing was executed since the last start, an execution, at place j, and the next one to come, at place k, have a start
+-- between them
 never_idle : (executed starts : List ℕ) (j k m : ℕ) → IsIdle executed starts → HasNoStart starts j k → slice_get executed j ≡ Some m → k ≡ length executed → ⊥
 never_idle executed starts j k m (inl none) run a e = none-some m (subst (λ l. slice_get l j ≡ Some m) none a)
 never_idle executed starts j k m (inr h) run a e =
     let size : j < length executed = slice_get_within executed j m a in
-    elim (each_back (λ s. (s ≤ j) ⊎ (k < s)) h.0 (length executed ∷ []) (subst (λ l. HasNoStart l j k) h.1 run)).0 [
+    elim (all_behind (λ s. (s ≤ j) ⊎ (k < s)) h.0 (length executed ∷ []) (subst (λ l. HasNoStart l j k) h.1 run)).0 [
       | inl l ↦ omega (arith, l, size)
       | inr l ↦ omega (arith, l, e)
     ]
 
--- `IsClimbing` is preserved where request n is executed, if it isn't known; or if nothing was executed since the last start, or
--- n is later than each request that was executed before, and the instrument then retains a reply with n's id, `new`
+-- where request n is executed, and no later one was handed before (`top`), `IsClimbing` is preserved, with the id `new` and n + 1
+-- for `top`, in two cases: n isn't known; or a reply with the id `new` is retained then (`after`), and nothing was executed since
+-- the last start, or n is later than all that were handed before
 pub climbing_acted : (knows : Asked → Bool) (id new top n : ℕ) (sent : List Sent) (executed starts : List ℕ) (k after : Option KeptReply) (r : KeptReply) → top ≤ n + 1
     → IsUnknown knows sent n ⊎ ((IsIdle executed starts ⊎ (top ≤ n)) × (after ≡ Some r) × (r.id ≡ new))
     → IsClimbing knows id top sent executed starts k → IsClimbing knows new (n + 1) sent (executed ++ n ∷ []) starts after
@@ -200,7 +209,7 @@ climbing_acted knows id new top n sent executed starts k after r le why h =
               | inr last ↦ absurd (omega (arith, last.0, lt, size))
             ])
         | inr new ↦ elim (get_pushed executed n i x a) [
-          | inl first ↦ subst (λ z. (x < z) ⊎ IsUnknown knows sent z) new.1 (later i j x lt run first new.0 why)
+          | inl first ↦ subst (λ z. (x < z) ⊎ IsUnknown knows sent z) new.1 (later i j x run first new.0 why)
           | inr last ↦ absurd (omega (arith, last.0, lt, new.0))
         ]
       ];
@@ -208,28 +217,31 @@ climbing_acted knows id new top n sent executed starts k after r le why h =
       last = last_of knows new n sent (executed ++ n ∷ []) starts after r (held why);
     }
   where
-    -- an earlier execution, with no start between it and this one, is of a request before n, if n is known
-    later : (i j x : ℕ) → i < j → HasNoStart starts i j → slice_get executed i ≡ Some x → j ≡ length executed
+    -- an earlier execution, at place i, with no start between it and the execution of request n, at place j, is of a request
+    -- before n, or n isn't known
+    later : (i j x : ℕ) → HasNoStart starts i j → slice_get executed i ≡ Some x → j ≡ length executed
         → IsUnknown knows sent n ⊎ ((IsIdle executed starts ⊎ (top ≤ n)) × (after ≡ Some r) × (r.id ≡ new)) → (x < n) ⊎ IsUnknown knows sent n
-    later i j x lt run first e (inl u) = inr u
-    later i j x lt run first e (inr g) =
+    later i j x run first e (inl u) = inr u
+    later i j x run first e (inr g) =
         elim g.0 [
           | inl idle ↦ absurd (never_idle executed starts i j x idle run first e)
-          | inr above ↦ (let l : x < top = each_get (λ m. m < top) executed i x h.below first in inl (omega (arith, l, above)))
+          | inr above ↦ (let l : x < top = all_at (λ m. m < top) executed i x h.below first in inl (omega (arith, l, above)))
         ]
 
-    -- it isn't known, or what is retained has its id
-    held : IsUnknown knows sent n ⊎ ((IsIdle executed starts ⊎ (top ≤ n)) × (after ≡ Some r) × (r.id ≡ new)) → IsUnknown knows sent n ⊎ ((after ≡ Some r) × (r.id ≡ new))
+    -- request n isn't known, or r is retained then, with the id `new`
+    held : IsUnknown knows sent n ⊎ ((IsIdle executed starts ⊎ (top ≤ n)) × (after ≡ Some r) × (r.id ≡ new)) → IsUnknownOrRetained knows sent n new after r
     held (inl u) = inl u
     held (inr g) = inr (g.1, g.2)
 
--- where request n is known, has the id of its number less `since`, and is executed although the instrument sends again what it
--- retains for n's id, nothing was executed since the last start, or n is later than all that the instrument was handed
+-- where `IsClimbing` holds, request n is known and has the id n - `since` modulo 8, no later one was handed before, and the
+-- instrument retains no reply with that id: nothing was executed since the last start, or n is later than all that the instrument
+-- was handed
 pub why_acted : (knows : Asked → Bool) (since top n id : ℕ) (sent : List Sent) (executed starts : List ℕ) (k : Option KeptReply)
     → (IsUnknown knows sent n → ⊥) → id ≡ (n - since) % 8 → top ≤ n + 1 → ((line : List ℕ) → k ≡ Some (record { id = id; line = line }) → ⊥)
     → IsClimbing knows ((top - 1 - since) % 8) top sent executed starts k → IsIdle executed starts ⊎ (top ≤ n)
 why_acted knows since top n id sent executed starts k known mine le other h = chosen (ltb n top) refl where
-  -- if n was handed last, nothing is kept
+  -- where `IsHeld` holds with the id of the request handed last, and that is request n, nothing is retained, so nothing was
+  -- executed since the last start
   again : top - 1 ≡ n → (o : Option KeptReply) → k ≡ o → IsHeld ((top - 1 - since) % 8) executed starts k → IsIdle executed starts
   again last None e g = g.idle e
   again last (Some r) e g =
@@ -247,9 +259,10 @@ why_acted knows since top n id sent executed starts k known mine le other h = ch
         | inr g ↦ inl (again last k refl g)
       ]
 
--- `IsClimbing` holds once the first request reached the instrument, executed or not
+-- `IsClimbing` holds, with the id `new` and 1 for `top`, once request 0 (`n`) reached the instrument, executed or not (`acted`),
+-- if nothing was executed before, and that request isn't known, or a reply with the id `new` is retained (`IsUnknownOrRetained`)
 pub climbing_first : (knows : Asked → Bool) (new n : ℕ) (sent : List Sent) (executed starts : List ℕ) (acted : Bool) (after : Option KeptReply) (r : KeptReply) → executed ≡ [] → n ≡ 0
-    → IsUnknown knows sent n ⊎ ((after ≡ Some r) × (r.id ≡ new))
+    → IsUnknownOrRetained knows sent n new after r
     → IsClimbing knows new 1 sent (cond acted (executed ++ n ∷ []) executed) starts after
 climbing_first knows new n sent executed starts acted after r none nought why =
     record {

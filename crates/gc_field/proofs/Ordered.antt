@@ -18,6 +18,7 @@ use Rattle.gc_field.specs.Field.{Move, OnLine, moves, moved, ArePossible}
 use Rattle.gc_field.specs.Instrument.{IsAnInstrument}
 use Rattle.gc_field.specs.Once.{ActsOnce, HasNoStart, IsInOrder}
 use Rattle.gc_field.specs.Shown.{Stretch}
+use Rattle.gc_field.proofs.Among.{each_at}
 use Rattle.gc_field.proofs.BeginLists.{each_both}
 use Rattle.gc_field.proofs.Between.{IsConsistent, acted, calls_more, did_all, made_both, consistent_all}
 use Rattle.gc_field.proofs.InTime.{front_of, clean_faithful}
@@ -32,11 +33,6 @@ in_front_at [] ys i x less e = absurd (omega (arith, less))
 in_front_at (y ∷ xs) ys zero x less e = e
 in_front_at (y ∷ xs) ys (suc i) x less e = in_front_at xs ys i x (omega (arith, less)) e
 
--- what holds of the element at each place holds of each element
-each_at : (P : ℕ → Type 0) (xs : List ℕ) → ((i x : ℕ) → slice_get xs i ≡ Some x → P x) → Each P xs
-each_at P [] f = tt
-each_at P (x ∷ xs) f = (f 0 x refl, each_at P xs (λ i y got. f (suc i) y got))
-
 -- The requests that were executed between a request m and a later one, n.
 
 module _ (e : List ℕ) (m n : ℕ) (numbers : List ℕ) where
@@ -44,40 +40,40 @@ module _ (e : List ℕ) (m n : ℕ) (numbers : List ℕ) where
   abbrev all : List ℕ
   all = (e ++ m ∷ numbers) ++ n ∷ []
 
-  -- request m is at its place among all executions
+  -- among all executions request m is at the place `length e`
   at_m : slice_get all (length e) ≡ Some m
   at_m = get_more (e ++ m ∷ numbers) (n ∷ []) (length e) m (get_behind e (m ∷ numbers) (length e) 0 (omega arith))
 
-  -- each request between is at its place among all executions
+  -- among all executions the request at place i of those between is at the place `length e + (1 + i)`
   at_x : (i x : ℕ) → slice_get numbers i ≡ Some x → slice_get all (length e + (1 + i)) ≡ Some x
   at_x i x got = get_more (e ++ m ∷ numbers) (n ∷ []) (length e + (1 + i)) x (get_behind e (m ∷ numbers) (length e + (1 + i)) (suc i) (omega arith) ∙ got)
 
-  -- request n is at its place among all executions
+  -- among all executions request n is at the place `length e + (1 + length numbers)`
   at_n : slice_get all (length e + (1 + length numbers)) ≡ Some n
   at_n =
       let size : length (e ++ m ∷ numbers) ≡ length e + length (m ∷ numbers) = length-append e (m ∷ numbers) in
       get_behind (e ++ m ∷ numbers) (n ∷ []) (length e + (1 + length numbers)) 0 (omega (arith, size))
 
-  -- the executions between are in order
+  -- if all executions are in order, those between are
   pub between_in_order : IsInOrder all → IsInOrder numbers
   between_in_order rises j k x y lt a b = rises (length e + (1 + j)) (length e + (1 + k)) x y (omega (arith, lt)) (at_x j x a) (at_x k y b)
 
-  -- the executions between are of no request before m and of none after n
+  -- if all executions are in order, those between are of no request before m and of none after n
   pub upto : IsInOrder all → Each (λ x. (m ≤ x) × (x ≤ n)) numbers
   upto rises =
-      each_at (λ x. (m ≤ x) × (x ≤ n)) numbers
+      each_at (λ (x : ℕ). (m ≤ x) × (x ≤ n)) numbers
       (λ i x got.
       let small : i < length numbers = slice_get_within numbers i x got in (
         rises (length e) (length e + (1 + i)) m x (omega arith) at_m (at_x i x got),
         rises (length e + (1 + i)) (length e + (1 + length numbers)) x n (omega (arith, small)) (at_x i x got) at_n,
       ))
 
-  -- if the instrument acts once for the requests that `knows` names, and didn't start between, the executions between of such
-  -- requests are of requests sent between m and n
+  -- if no start came after the execution of m, all executions are in order, and the instrument acts once for the requests that
+  -- `knows` names, the executions between of such requests are of requests sent after m and before n
   pub inside : (knows : Asked → Bool) (sent : List Sent) (starts : List ℕ) → Each (λ s. s ≤ length e) starts → IsInOrder all → ActsOnce knows sent all starts
       → Each (λ x. (r : Sent) → slice_get sent x ≡ Some r → knows r.call ≡ true → (m < x) × (x < n)) numbers
   inside knows sent starts early rises once =
-      each_at (λ x. (r : Sent) → slice_get sent x ≡ Some r → knows r.call ≡ true → (m < x) × (x < n)) numbers
+      each_at (λ (x : ℕ). (r : Sent) → slice_get sent x ≡ Some r → knows r.call ≡ true → (m < x) × (x < n)) numbers
       (λ i x got r found known.
       let small : i < length numbers = slice_get_within numbers i x got in (
         once (length e) (length e + (1 + i)) m x r (omega arith) (none (length e) (length e + (1 + i)) (omega arith)) at_m (at_x i x got) found known,
@@ -93,7 +89,8 @@ module _ (e : List ℕ) (m n : ℕ) (numbers : List ℕ) where
       none : (j k : ℕ) → length e ≤ j → HasNoStart starts j k
       none j k le = each_more (λ s. s ≤ length e) (λ s. (s ≤ j) ⊎ (k < s)) (λ s l. inl (omega (arith, l, le))) starts early
 
-      -- an execution between isn't of request n
+      -- where request x is r, which is known, and x is at most n: x is below n, if it is below n in the case that request n is r,
+      -- too
       before : (x : ℕ) (r : Sent) → x ≤ n → (slice_get sent n ≡ Some r → knows r.call ≡ true → x < n) → slice_get sent x ≡ Some r → knows r.call ≡ true → x < n
       before x r le last found known = by_case (ltb x n) refl where
         -- the lemma above, by whether x is below n (`b`)
@@ -120,7 +117,7 @@ module _ {State : Type 0} (ends : Ends State) (Good : State → Type 0) (kept : 
   possible_from : (front later : List (Move State)) → s.moves ≡ front ++ later → ArePossible ends Good kept (by_ids 7 ends) later (at front)
   possible_from front later e = possible_behind 7 ends Good kept front later (ids_begun s.from) (subst (λ xs. ArePossible ends Good kept (by_ids 7 ends) xs (ids_begun s.from)) e field)
 
-  -- a request that reaches the instrument was sent by then
+  -- where a line was made on executing request n, that request had been sent before it reached the instrument
   was_sent : (n : ℕ) (call : Asked) (line : List ℕ) (h : WasMadeOn 7 ends s.from s.moves n call line) → n < length (at h.front).wire.sent
   was_sent n call line h =
       let stands = consistent_all ends Good kept h.front s.from clean (possible_to h.front (OnLine Up_deliver ∷ h.later) h.split) in
@@ -133,9 +130,10 @@ module _ {State : Type 0} (ends : Ends State) (Good : State → Type 0) (kept : 
       let split : s.moves ≡ front ++ (more ++ later) = e ∙ append_assoc front more later in
       let possible = possible_front 7 ends Good kept more later (at front) (possible_from front (more ++ later) split) in
       let did = did_all ends Good kept more (at front) possible (consistent_all ends Good kept front s.from clean (possible_to front (more ++ later) split)) in
-      (did.more, ap (λ (w : World (ById Asked) State). w.wire.sent) (moved_append 7 ends front more (ids_begun s.from)) ∙ did.sent)
+      (did.more, ap (λ (w : World (ById Asked) State). w.wire.sent) (moved_append ends (by_ids 7 ends) front more (ids_begun s.from)) ∙ did.sent)
 
-  -- a request that wasn't sent by the moves before, and was executed, was executed after them
+  -- a request that wasn't sent by the end of the moves `before`, and on whose execution a line was made, was executed after these
+  -- moves
   behind_front : (before later : List (Move State)) → s.moves ≡ before ++ later → (n : ℕ) → length (at before).wire.sent ≤ n
       → (call : Asked) (line : List ℕ) (h : WasMadeOn 7 ends s.from s.moves n call line)
       → (more : List (Move State)) × (h.front ≡ before ++ more)
@@ -167,16 +165,16 @@ module _ {State : Type 0} (ends : Ends State) (Good : State → Type 0) (kept : 
       let split_w : s.moves ≡ (f.front ++ OnLine Up_deliver ∷ []) ++ (between ++ OnLine Up_deliver ∷ h.later) =
       split_f ∙ sym (append_assoc f.front (OnLine Up_deliver ∷ []) (between ++ OnLine Up_deliver ∷ h.later)) in
       let stands_w : IsConsistent ends w.wire = subst (λ (x : World (ById Asked) State). IsConsistent ends x.wire)
-      (moved_append 7 ends f.front (OnLine Up_deliver ∷ []) (ids_begun s.from))
+      (moved_append ends (by_ids 7 ends) f.front (OnLine Up_deliver ∷ []) (ids_begun s.from))
       (consistent_all ends Good kept (f.front ++ OnLine Up_deliver ∷ []) s.from clean
       (possible_to (f.front ++ OnLine Up_deliver ∷ []) (between ++ OnLine Up_deliver ∷ h.later) split_w)) in
       let did = did_all ends Good kept between w possible stands_w in
-      let there : at h.front ≡ moved ends (by_ids 7 ends) between w = ap (λ l. at l) order ∙ moved_append 7 ends f.front (OnLine Up_deliver ∷ between) (ids_begun s.from) in
+      let there : at h.front ≡ moved ends (by_ids 7 ends) between w = ap (λ l. at l) order ∙ moved_append ends (by_ids 7 ends) f.front (OnLine Up_deliver ∷ between) (ids_begun s.from) in
       let e = v.wire.executed in
       let ran : (at h.front).wire.executed ≡ e ++ m ∷ did.numbers =
       ap (λ (x : World (ById Asked) State). x.wire.executed) there ∙ did.executed ∙ ap (λ l. l ++ did.numbers) one.0 ∙ append_assoc e (m ∷ []) did.numbers in
       let behind_last : at (h.front ++ OnLine Up_deliver ∷ []) ≡ moves ends (by_ids 7 ends) (at h.front) (OnLine Up_deliver) =
-      moved_append 7 ends h.front (OnLine Up_deliver ∷ []) (ids_begun s.from) in
+      moved_append ends (by_ids 7 ends) h.front (OnLine Up_deliver ∷ []) (ids_begun s.from) in
       let whole : (at (h.front ++ OnLine Up_deliver ∷ [])).wire.executed ≡ (e ++ m ∷ did.numbers) ++ n ∷ [] =
       ap (λ (x : World (ById Asked) State). x.wire.executed) behind_last ∙ last.0 ∙ ap (λ l. l ++ n ∷ []) ran in
       let law_there = clean_faithful ends Good kept is s.from clean (h.front ++ OnLine Up_deliver ∷ [])
@@ -219,7 +217,8 @@ module _ {State : Type 0} (ends : Ends State) (Good : State → Type 0) (kept : 
             (moved ends (by_ids 7 ends) between w).wire.state (call_m ∷ []) did.calls one.1 (did.state still) apart effect has;
       }
 
-  -- a request that is sent after the answer to another one, which is `IsSafe`, and is executed, is executed after the other one
+  -- where request m, from 8 on and `IsSafe`, was answered by the end of the moves `before`, and request n, which hadn't been sent
+  -- by then, is executed: n is executed after m, by `IsExecutedAfter`
   pub executed_behind : (before later : List (Move State)) → s.moves ≡ before ++ later → (m n : ℕ) (x : Settlement Asked) (line_m : List ℕ) → 8 ≤ m
       → IsSafe 7 ends s.from Good kept before m → slice_get (at before).wire.settled m ≡ Some x → x.outcome ≡ Answered line_m
       → length (at before).wire.sent ≤ n → (call : Asked) (line_n : List ℕ) → WasMadeOn 7 ends s.from s.moves n call line_n → IsExecutedAfter ends Good kept s m n x.call call line_m line_n

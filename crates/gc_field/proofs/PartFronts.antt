@@ -12,14 +12,15 @@ use Rattle.gc_station.specs.Model.{Model, action_at, after}
 use Rattle.gc_station.proofs.Asked.{FirstHasNoTurns, goes_begun, marks_none, nil_both, no_turns}
 use Rattle.std.proofs.lemmas.Option.{same_Some, none-some}
 
--- if the last part of the first list has requests, its turns are those of the part at its place in the second
-abbrev pub AreWhole : List Part → List Part → Type 0
+-- the first list has at least one part, and the second one at least as many; and if the last part of the first list has requests,
+-- its turns are those of the part at its place in the second
+abbrev pub AreWhole : (ps qs : List Part) → Type 0
 AreWhole [] qs = ⊥
 AreWhole (p ∷ ps) [] = ⊥
 AreWhole (p ∷ []) (q ∷ qs) = (p.marks ≡ []) ⊎ (q.turns ≡ p.turns)
 AreWhole (p ∷ next ∷ ps) (q ∷ qs) = AreWhole (next ∷ ps) qs
 
--- `AreWhole` holds of the one part in which nothing happens, and any parts
+-- `AreWhole` holds of the one part in which nothing happens, and of parts of which there is at least one (`in_front`)
 whole_none : (p : Part) (b : Bool) (ps : List Part) → AreWhole (nothing ∷ []) (in_front p b ps)
 whole_none p true ps = inl refl
 whole_none p false [] = inl refl
@@ -29,7 +30,8 @@ whole_none p false (q ∷ ps) = inl refl
 turns_alike : (p x y : Part) → x.turns ≡ [] → y.turns ≡ [] → (joined p y).turns ≡ (joined p x).turns
 turns_alike p x y e f = ap (λ l. p.turns ++ l) (f ∙ sym e)
 
--- `AreWhole` holds with part p before both lists, too, if p has no marks, or if the parts that it is joined to have no turns
+-- `AreWhole` is preserved by part p put before both lists (`b`), or joined to the first part of each (`b` is false), if p has no
+-- marks, or if the parts that it is joined to have no turns
 whole_more : (p : Part) (b : Bool) (ps qs : List Part) → (p.marks ≡ []) ⊎ (b ≡ false → FirstHasNoTurns ps × FirstHasNoTurns qs) → AreWhole ps qs → AreWhole (in_front p b ps) (in_front p b qs)
 whole_more p b [] qs k h = absurd h
 whole_more p true (x ∷ ps) [] k h = absurd h
@@ -41,15 +43,15 @@ whole_more p false (x ∷ []) (y ∷ qs) (inr g) (inl f) = inr (turns_alike p x 
 whole_more p false (x ∷ next ∷ ps) (y ∷ qs) k h = h
 
 module _ (plan : Plan) (commands : List Task) where
-  -- an act sends nothing while the station synchronizes; and once the station has synchronized, no turn comes until the next
-  -- part
-  sends_or_not : (s : Model) (act : Act) (xs ys : List Act) (b : Bool) → has_begun s.progress ≡ b → let t = after plan commands s act in
+  -- while the station synchronizes (`b` is false), an act's part has no marks; else, unless the act is the last of its part
+  -- (`loses_all`), no turn comes in the further acts, `xs` or `ys`, until the next part
+  sends_or_not : (s : Model) (act : Act) (xs ys : List Act) (b : Bool) → let t = after plan commands s act in
       ((if b then client_part plan commands s (action_at plan s) act else sync_part s (action_at plan s) act).marks ≡ [])
       ⊎ ((b && loses_all t.progress) ≡ false → FirstHasNoTurns (parts_of plan commands t xs) × FirstHasNoTurns (parts_of plan commands t ys))
-  sends_or_not s act xs ys false e = inl (marks_none plan commands s (action_at plan s) act)
-  sends_or_not s act xs ys true e =
+  sends_or_not s act xs ys false = inl (marks_none s (action_at plan s) act)
+  sends_or_not s act xs ys true =
       let t = after plan commands s act in
-      inr (λ f. (no_turns plan commands t xs (goes_begun plan commands t f), no_turns plan commands t ys (goes_begun plan commands t f)))
+      inr (λ f. (no_turns plan commands t xs (goes_begun t f), no_turns plan commands t ys (goes_begun t f)))
 
   -- `AreWhole` holds of the parts of a run's first acts, and the parts of all of its acts
   pub whole_parts : (s : Model) (xs ys : List Act) → AreWhole (parts_of plan commands s xs) (parts_of plan commands s (xs ++ ys))
@@ -58,10 +60,10 @@ module _ (plan : Plan) (commands : List Task) where
   whole_parts s (act ∷ xs) ys =
       whole_more (part_of_act plan commands s (action_at plan s) act) (ends_part plan commands s act) (parts_of plan commands (after plan commands s act) xs)
       (parts_of plan commands (after plan commands s act) (xs ++ ys))
-      (sends_or_not s act xs (xs ++ ys) (has_begun s.progress) refl)
+      (sends_or_not s act xs (xs ++ ys) (has_begun s.progress))
       (whole_parts (after plan commands s act) xs ys)
 
--- the last of these parts has a request
+-- the last of these parts, if there is one, has a request
 abbrev pub LastIsMarked : List Part → Type 0
 LastIsMarked [] = Unit {0}
 LastIsMarked (p ∷ []) = p.marks ≡ [] → ⊥

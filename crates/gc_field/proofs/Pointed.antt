@@ -13,7 +13,7 @@ use Rattle.gc_catalogue.specs.declared.call.Call.TheVariants as call
 use Rattle.gc_client.specs.OneForOne.{Wanted}
 use Rattle.gc_instrument.specs.Execution.{Executed, exec, set_if, distance_outcome, commanded, measured, is_precision, is_date, is_prism}
 use Rattle.gc_instrument.specs.Replying as calls
-use Rattle.gc_instrument.specs.Replying.{Handed, kept_line}
+use Rattle.gc_instrument.specs.Replying.{Handed, kept_line, without_kept}
 use Rattle.gc_instrument.specs.State.{State, IsFittingState}
 use Rattle.gc_instrument.proofs.Answering.{handed_again, handed_new}
 use Rattle.gc_instrument.proofs.Keeping.{commanded_by_tests, executes_apart}
@@ -39,7 +39,7 @@ use Rattle.gc_field.specs.Beginnings.{Run}
 use Rattle.gc_field.specs.Chains.{AreCalls, HasNoStartBetween, IsUndisturbed, IsChainedTo, IsExecutedInChain, stretch_wire, executing}
 use Rattle.gc_field.specs.Field.{Move, Sends, Tells, Comes, Foreign, OnLine, Anew, Changes, Joins}
 use Rattle.gc_field.specs.Laws.{asked, kept_of}
-use Rattle.gc_field.specs.Pointing.{AreStill, IsMeasuredWhereItPointed, IsPointedInChain, SimulatorHasItsEffect, bare, after_call, turns_telescope, PointsAs}
+use Rattle.gc_field.specs.Pointing.{AreStill, IsMeasuredWhereItPointed, IsPointedInChain, SimulatorHasItsEffect, after_call, turns_telescope, PointsAs}
 use Rattle.gc_field.specs.Runs.{IsInField, own_sent, world}
 use Rattle.gc_field.specs.Shown.{Stretch, stretches}
 use Rattle.gc_field.proofs.Chained.{chains_executed, sent_at}
@@ -50,24 +50,24 @@ use Rattle.std.proofs.lemmas.Bool.{true≢false}
 
 -- What executing a call makes of the simulator.
 
--- what a request makes of the simulator doesn't depend on the reply that is retained
-exec_bare : (s : State) (asked : Asked) → after_call (bare s) asked ≡ bare (after_call s asked)
-exec_bare s (Table c) = ap (λ (x : Executed). x.state) (executes_apart s None c)
-exec_bare s (Raw raw) = refl
+-- the retained reply may be left out before the effect of a request (`after_call`) or after it: that makes the same state
+call_without_kept : (s : State) (asked : Asked) → after_call (without_kept s) asked ≡ without_kept (after_call s asked)
+call_without_kept s (Table c) = ap (λ (x : Executed). x.state) (executes_apart s None c)
+call_without_kept s (Raw raw) = refl
 
 -- if the simulator sends a line again, its state stays as it was
 handed_same : (s : State) (id : ℕ) (c : Call) (o : Option (List ℕ)) → kept_line s.kept (Some id) ≡ o → (calls.handed s id c).executed ≡ false → (calls.handed s id c).state ≡ s
 handed_same s id c (Some line) e not = ap (λ (x : Handed State). x.state) (handed_again s id c line e)
 handed_same s id c None e not = absurd (true≢false (sym (ap (λ (x : Handed State). x.executed) (handed_new s id c e)) ∙ not))
 
--- if the simulator executes a request, that has the effect `after_call`
-executes : (s : State) (id : ℕ) (asked : Asked) → (handed s id asked).executed ≡ true → bare (handed s id asked).state ≡ bare (after_call s asked)
-executes s id (Table c) e = bare_after s id c e ∙ exec_bare s (Table c)
+-- if the simulator executes a request, that has the effect `after_call` on its state, but for the retained reply
+executes : (s : State) (id : ℕ) (asked : Asked) → (handed s id asked).executed ≡ true → without_kept (handed s id asked).state ≡ without_kept (after_call s asked)
+executes s id (Table c) e = bare_after s id c e ∙ call_without_kept s (Table c)
 executes s id (Raw raw) e = refl
 
 -- if the simulator doesn't execute a request, its state stays, but for the retained reply
-repeats : (s : State) (id : ℕ) (asked : Asked) → (handed s id asked).executed ≡ false → bare (handed s id asked).state ≡ bare s
-repeats s id (Table c) not = ap bare (handed_same s id c (kept_line s.kept (Some id)) refl not)
+repeats : (s : State) (id : ℕ) (asked : Asked) → (handed s id asked).executed ≡ false → without_kept (handed s id asked).state ≡ without_kept s
+repeats s id (Table c) not = ap without_kept (handed_same s id c (kept_line s.kept (Some id)) refl not)
 repeats s id (Raw raw) not = refl
 
 -- executing a request has the effect `after_call` on the simulator
@@ -76,7 +76,7 @@ has_effect =
     record {
       executes = executes;
       repeats = repeats;
-      alike = λ s t asked e. sym (exec_bare s asked) ∙ ap (λ x. after_call x asked) e ∙ exec_bare t asked;
+      alike = λ s t asked e. sym (call_without_kept s asked) ∙ ap (λ x. after_call x asked) e ∙ call_without_kept t asked;
     }
 
 -- if nothing disturbs the instrument, it doesn't start
@@ -93,12 +93,12 @@ no_start (Joins line ∷ ms) h = absurd h
 
 -- What a call that doesn't turn the telescope leaves.
 
--- a setting turns no telescope
+-- a setting whose new state, t, points as s does leaves the telescope as it was in s, also if it is refused (`b` is false)
 set_same : (b : Bool) (s t : State) → PointsAs t s → PointsAs (set_if b s t).state s
 set_same true s t h = h
 set_same false s t h = record { pointing = refl; face = refl }
 
--- telling a distance turns no telescope
+-- telling a distance in a state t that points as s does leaves the telescope as it was in s
 told_same : (s t : State) (answer_with : Decimal → Answer) (d : Option Decimal) → PointsAs t s → PointsAs (distance_outcome t answer_with d).state s
 told_same s t answer_with None h = h
 told_same s t answer_with (Some d) h = h
@@ -113,7 +113,7 @@ commanded_same s command = by_tests (int_eq command (pos 0)) (int_eq command (po
   by_tests false false true = record { pointing = refl; face = refl }
   by_tests false false false = record { pointing = refl; face = refl }
 
--- a call that turns no telescope leaves its direction and its face as they were
+-- a call that turns no telescope leaves the telescope's direction and face as they were
 call_same : (s : State) (c : Call) → turns_telescope (Table c) ≡ false → PointsAs (exec s c).state s
 unfolding exec
 call_same s (call.SetPrecision n) e = set_same (is_precision n) s (record s { precision = unsigned_abs n }) (record { pointing = refl; face = refl })
@@ -128,7 +128,7 @@ call_same s (call.ChangeFace pos_mode atr_mode dummy) e = cc
 call_same s (call.FineAdjust area_hz area_v dummy) e = cc
 call_same s c e = record { pointing = refl; face = refl }
 
--- a request that turns no telescope leaves its direction and its face as they were
+-- a request that turns no telescope leaves the telescope's direction and face as they were
 asked_same : (s : State) (asked : Asked) → turns_telescope asked ≡ false → PointsAs (after_call s asked) s
 asked_same s (Table c) e = call_same s c e
 asked_same s (Raw raw) e = record { pointing = refl; face = refl }
@@ -138,13 +138,13 @@ still_table : (asked : Asked) → (is_of_table asked ≡ true → turns_telescop
 still_table (Table c) f = f refl
 still_table (Raw raw) f = refl
 
--- a positioning leaves the telescope in the direction that it commands, in the same face as before
+-- a positioning leaves the telescope in the direction that the call commands, in the same face as before
 position_points : (s : State) (hz v : Decimal) (pos_mode atr_mode dummy : _) → let t = (exec s (call.Position hz v pos_mode atr_mode dummy)).state in
     (t.pointing ≡ record { hz = hz; v = v }) × (t.face ≡ s.face)
 unfolding exec
 position_points s hz v pos_mode atr_mode dummy = (refl, refl)
 
--- calls that turn no telescope leave its direction and its face as they were
+-- calls that turn no telescope leave the telescope's direction and face as they were
 executing_same : (calls : List Asked) (s : State) → Each (λ x. turns_telescope x ≡ false) calls → PointsAs (executing after_call s calls) s
 executing_same [] s h = record { pointing = refl; face = refl }
 executing_same (x ∷ calls) s h =
@@ -154,7 +154,8 @@ executing_same (x ∷ calls) s h =
 
 -- What was executed between.
 
--- if the requests between m and n turn no telescope, the calls that are executed between don't
+-- if those of these requests (`ns`) that are calls of the table are between m and n, and the requests sent between m and n turn
+-- no telescope, the calls of these requests (`calls`) don't
 all_still : (sent : List Sent) (m n : ℕ) (ns : List ℕ) (calls : List Asked) → AreCalls sent ns calls
     → Each (λ x. (r : Sent) → slice_get sent x ≡ Some r → is_of_table r.call ≡ true → (m < x) × (x < n)) ns
     → ((x : ℕ) (r : Sent) → m < x → x < n → slice_get sent x ≡ Some r → turns_telescope r.call ≡ false)
@@ -174,7 +175,7 @@ null_still a r e f = ap (λ (o : Wanted Asked). turns_telescope o.call) (e ∙ f
 -- a task that turns no telescope turns none at any moment
 turns_none : (task : Task) (utc : ℕ) → turns_telescope task.command.call ≡ false → turns_telescope (call_at task utc) ≡ false
 turns_none task utc still = by_clock task.now where
-  -- the lemma above, whether the task sets the clock (`true`)
+  -- the lemma above, by whether the task sets the clock (`b`)
   by_clock : (b : Bool) → turns_telescope (if b then Table (call.SetDate (date_time utc)) else task.command.call) ≡ false
   by_clock true = refl
   by_clock false = still
@@ -208,20 +209,22 @@ module _ (plan : Plan) (commands : List Task) (scope : Scope) (acts : List Act) 
         let same : asked r ≡ y.0 = same_Some (asked r) y.0 (sym (get_map asked (own_sent ends h.stretch) x r got) ∙ y.1) in
         still_by x r mark.0 above under mark.1 y.0 same y.2
 
-    -- the same by the request's number in the stretch, if the eight null procedures come first
+    -- request k of the stretch, between those of the chain's two commands, turns no telescope; the first eight requests of the
+    -- stretch are the null procedures
     still_number : (k : ℕ) (r : Sent) → 8 + h.m < k → k < 8 + h.n → slice_get (world ends h.stretch).wire.sent k ≡ Some r → turns_telescope r.call ≡ false
     still_number k r above under got =
         still_at (k - 8) r (omega (arith, above)) (omega (arith, above, under)) (get_dropped 8 (k - 8) k (world ends h.stretch).wire.sent r (omega (arith, above)) got)
 
-    -- if nothing disturbs the simulator between the two executions, the telescope points as the earlier one left it
+    -- if nothing disturbs the simulator between the two executions, the telescope points at the later one as the earlier one left
+    -- it, by `IsMeasuredWhereItPointed`
     pointed_there : IsUndisturbed h.executed.between → IsMeasuredWhereItPointed scope.reads commands (parts plan commands scope acts) ss (state_after plan commands scope acts).records a b line h
     pointed_there quiet =
         let x = h.executed in
         let s = (stretch_wire ends h.stretch x.first.front).state in
         let calls = all_still (world ends h.stretch).wire.sent (8 + h.m) (8 + h.n) x.numbers x.calls x.asked
         (x.strictly is_of_table simulator.keeps (no_start x.between quiet)) (λ k r above under got. still_number k r above under got) in
-        let there = x.state bare after_call has_effect quiet in
-        let t = after_call s h.record_a.command.call in
+        let there = x.state without_kept after_call has_effect quiet in
+        let t = after_call s h.earlier.answer.command.call in
         let same = executing_same x.calls t calls in
         let pointing = ap (λ (z : State). z.pointing) there ∙ same.pointing in
         let face = ap (λ (z : State). z.face) there ∙ same.face in

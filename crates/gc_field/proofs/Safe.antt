@@ -24,8 +24,8 @@ use Rattle.gc_station.proofs.Lists.{cons_head, cons_tail, get_behind}
 
 -- The step at which a request is sent.
 
--- these steps, split at a send before which n requests were sent, where x is the course before the steps. The client may refuse that
--- send
+-- these steps, split at a send before which n requests were sent, where x is the course before the steps. The client may refuse
+-- that send
 pub record IsSplit (steps : List (Step Asked)) (x : Course Asked) (n : ℕ) : Type 0 where
   pub front : List (Step Asked)
   pub later : List (Step Asked)
@@ -35,13 +35,13 @@ pub record IsSplit (steps : List (Step Asked)) (x : Course Asked) (n : ℕ) : Ty
   pub split : steps ≡ front ++ step.Send target call deadline ∷ later
   pub number : length (course 7 x front).sent ≡ n
 
--- a send that is refused sends nothing, and another one sends one request
+-- after a send, refused or not, at most one more request was sent
 sent_few : (x : Course Asked) (target : ℕ) (call : Asked) (o : Option (Sending (ById Asked))) → length (sent_on x target call o).sent ≤ length x.sent + 1
 sent_few x target call None = omega arith
 sent_few x target call (Some s) = omega (arith, length_push x.sent (record { target = target; call = call }))
 
--- if the course x has sent at most n requests, and more than n after these steps, the steps have a send before which n requests were
--- sent (`IsSplit`)
+-- if the course x has sent at most n requests, and more than n after these steps, the steps have a send before which n requests
+-- were sent (`IsSplit`)
 pub split_at : (steps : List (Step Asked)) (x : Course Asked) (n : ℕ) → length x.sent ≤ n → n < length (course 7 x steps).sent → IsSplit steps x n
 split_at [] x n low high = absurd (omega (arith, low, high))
 split_at (step.Send target call deadline ∷ steps) x n low high =
@@ -94,7 +94,7 @@ seen_more : {State : Type 0} (m : Move State) (s : Step Asked) (ms : List (Move 
 seen_more m s ms front target call deadline one h =
     record { before = m ∷ h.before; after = h.after; split = ap (λ l. m ∷ l) h.split; seen_before = one h.before ∙ ap (λ l. s ∷ l) h.seen_before }
 
--- a send among the steps that are seen is one of the moves
+-- where the client sees a send after the steps `front` of these moves, that send is one of the moves, as `IsSeen` says
 pub seen_at : {State : Type 0} (ms : List (Move State)) (front later : List (Step Asked)) (target : ℕ) (call : Asked) (deadline : ℕ) → seen ms ≡ front ++ step.Send target call deadline ∷ later
     → IsSeen ms front target call deadline
 seen_at [] [] later target call deadline e = let never : ⊥ = cc in absurd never
@@ -138,7 +138,8 @@ by_reply Late not = tt
 by_reply Lost not = not refl
 
 module _ {State : Type 0} (ends : Ends State) (Good : State → Type 0) (kept : State → Option KeptReply) (is : IsAnInstrument ends Good kept) where
-  -- before a move of a sound stretch, the requests sent are the eight null procedures and those of the steps that are seen
+  -- by the first moves of a sound stretch (`before`), eight more requests are sent than by the steps that the client sees of
+  -- these moves: the null procedures
   sent_count : (s : Stretch State) → IsSoundStretch ends Good kept is s → (before after : List (Move State)) → s.moves ≡ before ++ after
       → length (behind 7 ends s.from before).wire.sent ≡ 8 + length (course 7 begun (seen before)).sent
   sent_count s sound before after e =
@@ -147,7 +148,8 @@ module _ {State : Type 0} (ends : Ends State) (Good : State → Type 0) (kept : 
       let all = sent_is ends Good kept is 7 (omega arith) s.from before p in
       sym (length-map w.sent of_sent) ∙ ap length all ∙ length-append (map of_sent nulls) (course 7 begun (seen before)).sent
 
-  -- if a request is sent near the table by the steps that were seen, it is sent after the table
+  -- if the request that is sent next after the first moves of a sound stretch (`before`) is near the table by the steps that the
+  -- client sees of them, it is sent after the table (`IsBehindTheTable`)
   near_is : (s : Stretch State) → IsSoundStretch ends Good kept is s → (before after : List (Move State)) → s.moves ≡ before ++ after → IsNearTheTable (course 7 begun (seen before))
       → IsBehindTheTable (behind 7 ends s.from before).wire
   near_is s sound before after e near =
@@ -167,8 +169,8 @@ module _ {State : Type 0} (ends : Ends State) (Good : State → Type 0) (kept : 
             (8 + h.0, omega (arith, low, many), omega (arith, count, h.4), inr (r.0, h.1, r.1, sym (ap is_of_table same) ∙ h.3.0, got, by_reply h.1.outcome h.3.1)))
       ]
 
-  -- if a sound stretch shows steps in which more than n requests are sent, and each send before which n of them were sent is near the
-  -- table, request 8 + n of the stretch is sent after the table
+  -- if a sound stretch shows steps in which more than n requests are sent, and each send before which n of them were sent is near
+  -- the table, request 8 + n of the stretch is sent after the table (`WentOutBehindTheTable`)
   pub goes_out : (s : Stretch State) → IsSoundStretch ends Good kept is s → (steps : List (Step Asked)) → seen s.moves ≡ steps → (n : ℕ) → n < length (course 7 begun steps).sent
       → ((front later : List (Step Asked)) (target : ℕ) (call : Asked) (deadline : ℕ) → steps ≡ front ++ step.Send target call deadline ∷ later → length (course 7 begun front).sent ≡ n
       → IsNearTheTable (course 7 begun front)) → WentOutBehindTheTable 7 ends s.from s.moves (8 + n)

@@ -1,6 +1,5 @@
--- The instrument of a scene is an instrument in the sense of the station's promise.
-use Rattle.std.proofs.Common.{◌≡◌, ◌⊎◌, ℕ, ◌<◌, inl, inr, Bool, true, false, List, [], Option, Some, None, cond, refl, sym, ap, subst, lit<}
-use Rattle.gc_lines.proofs.Written.{reply_back}
+-- The instrument of a scene is an instrument (`IsAnInstrument`).
+use Rattle.std.proofs.Common.{◌≡◌, ℕ, ◌<◌, inl, inr, Bool, true, false, List, [], Option, Some, None, cond, refl, sym, ap, subst, lit<}
 use Rattle.gc_lines.proofs.Requests.{request_found}
 use Rattle.gc_lines.specs.Replies.{ReplyFields, reply_text}
 use Rattle.gc_catalogue.proofs.AskedRules.{asked_again}
@@ -13,57 +12,51 @@ use Rattle.gc_catalogue.specs.declared.asked.Asked.TheVariants.{Table, Raw}
 use Rattle.gc_catalogue.specs.declared.call.Call.{Call}
 use Rattle.gc_catalogue.specs.declared.fault.CallFault.TheVariants.{Unknown}
 use Rattle.gc_catalogue.specs.declared.raw.RawCall.{RawCall}
-use Rattle.gc_client.specs.Rule.{id_in, heard}
+use Rattle.gc_client.specs.Rule.{heard}
 use Rattle.gc_instrument.specs.Replying.{Handed, kept_after, refusal_line}
 use Rattle.gc_instrument.specs.State.{KeptReply, IsFittingKept, IsFittingReply}
 use Rattle.gc_scenes.proofs.Codes.{fault_bound, call_bound}
 use Rattle.gc_scenes.specs.Rules.{fault_of, answer_of}
 use Rattle.gc_scenes.specs.Params.{scripted_params}
 use Rattle.gc_scenes.specs.SceneExecution.{Played, played_call, played_raw, unless_faulted_raw, scripted, counting}
-use Rattle.gc_scenes.specs.SceneReplying.{IsPlayed, answers, names_call, names_none, Gave, resent_line, again_or_played, handed_call, handed_raw, played_or_refused, played_line, kept_if_repeating}
+use Rattle.gc_scenes.specs.SceneReplying.{IsPlayed, answers, names_call, names_none, IsHanded, resent_line, again_or_played, handed_call, handed_raw, played_or_refused, played_line, kept_if_repeating}
 use Rattle.gc_scenes.specs.SceneState.{SceneState}
 use Rattle.gc_scenes.specs.declared.rules.Scripted.{Scripted}
 use Rattle.gc_field.specs.Instrument.{KeepsItsOwn}
-use Rattle.gc_field.specs.SceneField.{scene_handed, scene_ends, scene_kept, RetainedReads, ReadsWithItsId, SceneIsAnInstrument}
-use Rattle.gc_world.proofs.Handing.{again_kept}
+use Rattle.gc_field.proofs.KeptReplies.{IsOwnOrNone, IsKeptAfter}
+use Rattle.gc_field.specs.SceneField.{scene_handed, scene_ends, scene_kept, RetainedReads, SceneIsAnInstrument}
+use Rattle.gc_world.specs.Exchange.{ReadsWithItsId}
+use Rattle.gc_world.proofs.Handing.{again_kept, kept_reads, reply_heard}
 use Rattle.std.proofs.lemmas.Option.{same_Some}
 use Rattle.std.proofs.lemmas.Bool.{true≢false}
 
 -- what the instrument does with a request, of which `known` says whether it is a call of the table, meets the clauses of
 -- `IsAnInstrument`
-record Does (s : SceneState) (id : ℕ) (known : Bool) (h : Handed SceneState) : Type 0 where
+record MeetsClauses (s : SceneState) (id : ℕ) (known : Bool) (h : Handed SceneState) : Type 0 where
   reads : ReadsWithItsId s.base.kept → heard h.reply ≡ Some id
   repeats : h.executed ≡ false → s.base.kept ≡ Some (record { id = id; line = h.reply })
-  keeps : ((h.state.base.kept ≡ None) ⊎ (h.state.base.kept ≡ Some (record { id = id; line = h.reply }))) ⊎ ((known ≡ false) × (h.state.base.kept ≡ s.base.kept))
+  keeps : IsKeptAfter known id h.reply s.base.kept h.state.base.kept
   good : ReadsWithItsId s.base.kept → ReadsWithItsId h.state.base.kept
 
--- a reply's line has its id
-line_heard : (id : ℕ) (p : Played) → id < 8 → p.rc < 65536 → heard (played_line id p) ≡ Some id
-line_heard id p small code = ap id_in (reply_back (record { rc_com = 0; id = Some id; rc = p.rc; params = p.params }) (record { rc_com = lit< tt; id = small; rc = code }))
-
 -- what is retained after a request: its own reply, or nothing
-own_or_none : (b : Bool) (id : ℕ) (line : List ℕ) (k : Option KeptReply)
-    → (cond b (kept_after k (Some id) line) None ≡ None) ⊎ (cond b (kept_after k (Some id) line) None ≡ Some (record { id = id; line = line }))
+own_or_none : (b : Bool) (id : ℕ) (line : List ℕ) (k : Option KeptReply) → IsOwnOrNone id line (cond b (kept_after k (Some id) line) None)
 own_or_none true id line k = inr refl
 own_or_none false id line k = inl refl
 
--- a line that is retained after a request reads as a reply with its id
-kept_heard : (b : Bool) (id : ℕ) (line : List ℕ) (k : Option KeptReply) → heard line ≡ Some id → ReadsWithItsId (cond b (kept_after k (Some id) line) None)
-kept_heard true id line k h = h
-kept_heard false id line k h = tt
-
--- a request that is played, or answered again by what is retained, meets the clauses
-played_does : (s : SceneState) (id : ℕ) (known : Bool) (p : Played) (o : Option (List ℕ)) → resent_line s (Some id) ≡ o → id < 8 → p.rc < 65536 → Does s id known (again_or_played s (Some id) p o)
+-- what the instrument does with a request with an id below 8 that it answers again by what it retains, or plays with a return
+-- code below 65536, meets the clauses
+played_does : (s : SceneState) (id : ℕ) (known : Bool) (p : Played) (o : Option (List ℕ)) → resent_line s (Some id) ≡ o → id < 8 → p.rc < 65536
+    → MeetsClauses s id known (again_or_played s (Some id) p o)
 played_does s id known p (Some line) again small code =
     let kept = again_kept s.repeats s.base.kept id line again in
     record { reads = λ good. subst ReadsWithItsId kept good; repeats = λ _. kept; keeps = inl (inr kept); good = λ good. good }
 played_does s id known p None again small code =
     let line = played_line id p in
     record {
-      reads = λ good. line_heard id p small code;
+      reads = λ good. reply_heard 0 id p.rc p.params (lit< tt) small code;
       repeats = λ not. absurd (true≢false not);
       keeps = inl (own_or_none p.state.repeats id line p.state.base.kept);
-      good = λ good. kept_heard p.state.repeats id line p.state.base.kept (line_heard id p small code);
+      good = λ good. kept_reads p.state.repeats id line p.state.base.kept (reply_heard 0 id p.rc p.params (lit< tt) small code);
     }
 
 -- the code of a reply that the scene gives to a procedure is below 65536
@@ -71,40 +64,42 @@ scripted_bound : (s : SceneState) (a : Option Scripted) (p : Played) → scripte
 scripted_bound s None p e = let wrong : ⊥ = cc in absurd wrong
 scripted_bound s (Some a) p e = subst (λ (q : Played). q.rc < 65536) (same_Some {A = Played} (record { state = s; rc = a.rc; params = scripted_params a.with }) p e) a.fits
 
--- the code with which a request is answered that is no call of the table is below 65536
+-- the code of a reply to a request that is no call of the table is below 65536, if the code that the scene sets for it (`o`), if
+-- any, is
 raw_bound : (s : SceneState) (rpc : ℕ) (o : Option ℕ) (p : Played) → ((code : ℕ) → o ≡ Some code → code < 65536) → unless_faulted_raw s rpc o ≡ Some p → p.rc < 65536
 raw_bound s rpc (Some code) p is e = subst (λ (q : Played). q.rc < 65536) (same_Some {A = Played} (record { state = s; rc = code; params = [] }) p e) (is code refl)
 raw_bound s rpc None p is e = scripted_bound s (answer_of rpc s.answers) p e
 
--- a call of the table meets the clauses
-call_does : (s : SceneState) (id : ℕ) (call : Call) → id < 8 → Does s id true (handed_call s (call_fields call).number (Some id) call)
+-- what the instrument does with a call of the table, with an id below 8, meets the clauses
+call_does : (s : SceneState) (id : ℕ) (call : Call) → id < 8 → MeetsClauses s id true (handed_call s (call_fields call).number (Some id) call)
 unfolding handed_call
 call_does s id call small =
     let rpc = (call_fields call).number in
     played_does s id true (played_call s rpc call) (resent_line s (Some id)) refl small (call_bound (counting rpc s) call (fault_of rpc s.faults) (fault_bound rpc s.faults))
 
--- a request that is no call of the table meets the clauses, whether the scene plays it or it is refused
-raw_by : (s : SceneState) (id rpc : ℕ) (o : Option Played) → id < 8 → ((p : Played) → o ≡ Some p → p.rc < 65536) → Does s id false (played_or_refused s rpc (Some id) o)
+-- what the instrument does with a request that is no call of the table, with an id below 8, meets the clauses, whether the scene
+-- plays it, with a code below 65536, or it is refused
+raw_by : (s : SceneState) (id rpc : ℕ) (o : Option Played) → id < 8 → ((p : Played) → o ≡ Some p → p.rc < 65536) → MeetsClauses s id false (played_or_refused s rpc (Some id) o)
 raw_by s id rpc (Some p) small code = played_does s id false p (resent_line s (Some id)) refl small (code p refl)
 raw_by s id rpc None small code = record {
-  reads = λ good. ap id_in (reply_back (record { rc_com = 3081; id = Some id; rc = 0; params = [] }) (record { rc_com = lit< tt; id = small; rc = lit< tt }));
+  reads = λ good. reply_heard 3081 id 0 [] (lit< tt) small (lit< tt);
   repeats = λ not. absurd (true≢false not);
   keeps = inr (refl, refl);
   good = λ good. good;
 }
 
--- a request that is no call of the table meets the clauses
-raw_does : (s : SceneState) (id : ℕ) (raw : RawCall) → id < 8 → Does s id false (handed_raw s raw.rpc (Some id))
+-- what the instrument does with a request that is no call of the table, with an id below 8, meets the clauses
+raw_does : (s : SceneState) (id : ℕ) (raw : RawCall) → id < 8 → MeetsClauses s id false (handed_raw s raw.rpc (Some id))
 unfolding handed_raw
 raw_does s id raw small =
     raw_by s id raw.rpc (played_raw s raw.rpc) small (λ p e. raw_bound (counting raw.rpc s) raw.rpc (fault_of raw.rpc s.faults) p (fault_bound raw.rpc s.faults) e)
 
--- any request meets the clauses
-asked_does : (s : SceneState) (id : ℕ) (asked : Asked) → id < 8 → Does s id (is_of_table asked) (scene_handed s id asked)
+-- what the instrument does with any request with an id below 8 meets the clauses
+asked_does : (s : SceneState) (id : ℕ) (asked : Asked) → id < 8 → MeetsClauses s id (is_of_table asked) (scene_handed s id asked)
 asked_does s id (Table call) small = call_does s id call small
 asked_does s id (Raw raw) small = raw_does s id raw small
 
--- what `scene_handed` says of a call of the table is what the instrument does with its line
+-- what `scene_handed` says of a call of the table that fits, with an id below 8, is what the instrument does with its line
 calls : (s : SceneState) (id : ℕ) (call : Call) → id < 8 → IsFitting call
     → IsPlayed s (request_line (Some id) call) (scene_handed s id (Table call)).state (Some (scene_handed s id (Table call)).reply)
 calls s id call small fits =
@@ -112,7 +107,7 @@ calls s id call small fits =
     let back = call_again (Some id) call small fits in
     answers q (request_found (request_line (Some id) call) q back.line) (scene_handed s id (Table call)).reply (names_call call back.is_call (record { state = refl; line = refl })) refl
 
--- what `scene_handed` says of another procedure is what the instrument does with its line
+-- what `scene_handed` says of another procedure, with an id below 8, is what the instrument does with its line
 raws : (s : SceneState) (id : ℕ) (raw : RawCall) → id < 8
     → IsPlayed s (asked_line (Some id) (Raw raw)) (scene_handed s id (Raw raw)).state (Some (scene_handed s id (Raw raw)).reply)
 raws s id raw small =

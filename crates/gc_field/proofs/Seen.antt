@@ -60,12 +60,12 @@ module _ {State : Type 0} (width : ℕ) (ends : Ends State) (same_heard : (line 
   same_up x w [] h = record { sent = h.sent; settled = h.settled; client = h.client }
   same_up x w (y ∷ rest) h = record { sent = h.sent; settled = h.settled; client = h.client }
 
-  -- `SameAs` is preserved if the requests in flight change
+  -- `SameAs` is preserved if the requests in flight change, or (`b` is false) don't
   same_with_up : (x : Course Asked) (w : World (ById Asked) State) (q : List (Numbered Request)) (b : Bool) → SameAs x w → SameAs x (on_wire w (with_up w.wire q b))
   same_with_up x w q true h = record { sent = h.sent; settled = h.settled; client = h.client }
   same_with_up x w q false h = record { sent = h.sent; settled = h.settled; client = h.client }
 
-  -- `SameAs` is preserved if the replies in flight change
+  -- `SameAs` is preserved if the replies in flight change, or (`b` is false) don't
   same_with_down : (x : Course Asked) (w : World (ById Asked) State) (q : List (Numbered (List ℕ))) (b : Bool) → SameAs x w → SameAs x (on_wire w (with_down w.wire q b))
   same_with_down x w q true h = record { sent = h.sent; settled = h.settled; client = h.client }
   same_with_down x w q false h = record { sent = h.sent; settled = h.settled; client = h.client }
@@ -84,7 +84,7 @@ module _ {State : Type 0} (width : ℕ) (ends : Ends State) (same_heard : (line 
   same_line x w Restart_instrument p h = absurd p
   same_line x w Nothing p h = record { sent = h.sent; settled = h.settled; client = h.client }
 
-  -- `SameAs` is preserved by moves: the course takes the steps that the client sees of them
+  -- `SameAs` is preserved by possible moves: the course takes the steps that the client sees of them
   pub same_all : (ms : List (Move State)) (x : Course Asked) (w : World (ById Asked) State) → ArePossible ends Good kept (by_ids width ends) ms w → SameAs x w
       → SameAs (course width x (seen ms)) (moved ends (by_ids width ends) ms w)
   same_all [] x w p h = h

@@ -8,14 +8,13 @@ use Rattle.gc_field.specs.World.{Ends}
 use Rattle.gc_field.specs.Begin.{InFlight, Model, Turn, Asks, Comes, Foreign, Reaches, Up_lose, Up_repeat, Down_lose, Down_repeat, Anew, Changes, comes, reaches, asks, turned, turns}
 use Rattle.gc_field.specs.Shown.{first_heard, shown, shows}
 
--- turns leave of the word what the lines leave that they show
 module _ {State : Type 0} (ends : Ends State) where
   -- a null procedure that is sent changes nothing in what is left of the word
   left_asks : (s : Model State) (word : List ℕ) → (asks s word).left ≡ s.left
   left_asks s [] = refl
   left_asks s (asked ∷ rest) = refl
 
-  -- a reply that comes leaves of the word what its line leaves
+  -- the front reply that comes, if there is one, leaves of the word what its line leaves
   left_comes : (s : Model State) (q : List (InFlight (List ℕ))) → (comes s q).left ≡ unanswered_after s.left (heard_in (first_heard q))
   left_comes s [] = refl
   left_comes s (x ∷ rest) = refl

@@ -18,7 +18,7 @@ pub record IsLasting {State : Type 0} (P : List Part → List (Stretch State) �
   pub later : (p : Part) (s : Stretch State) (ps : List Part) (ss : List (Stretch State)) (r : Record) → P ps ss r → P (p ∷ ps) (s ∷ ss) r
   pub any_moment : (ps : List Part) (ss : List (Stretch State)) (r : Record) → P ps ss (timeless r) → P ps ss r
 
--- what lasts doesn't depend on the moments at which records were recorded
+-- what lasts, and holds of each of these records without its moment, holds of each of them
 pub all_timeless : {State : Type 0} (P : List Part → List (Stretch State) → Record → Type 0) → IsLasting P → (ps : List Part) (ss : List (Stretch State)) (rs : List Record)
     → AllByRecursion (P ps ss) (map timeless rs) → AllByRecursion (P ps ss) rs
 all_timeless P lasts ps ss [] h = tt
@@ -52,8 +52,8 @@ module _ {State : Type 0} (ends : Ends State) (Good : State → Type 0) (kept : 
   }
 
   -- if the command of a late record was executed in a run with the parts `ps` and the stretches `ss`, it was executed in a run
-  -- with the parts `qs` and the stretches `ts` where its part and its stretch are at place k, whatever the moment (`utc`) at which
-  -- it was recorded
+  -- with the parts `qs` and the stretches `ts` where its part and its stretch are at place k, whatever the moment (`utc`) at
+  -- which it was recorded
   late_moved : (commands : List Task) (ps qs : List Part) (ss ts : List (Stretch State)) (r : Record) (utc : ℕ)
       → (h : HasExecution ends Good kept commands ps ss (record r { utc = utc })) → (k : ℕ) → slice_get qs k ≡ Some h.part → slice_get ts k ≡ Some h.stretch
       → HasExecution ends Good kept commands qs ts r
@@ -72,14 +72,14 @@ module _ {State : Type 0} (ends : Ends State) (Good : State → Type 0) (kept : 
     made_on = h.made_on;
   }
 
-  -- that an answer is its own lasts
+  -- `IsOwnAnswer` lasts
   pub own_lasts : (commands : List Task) → IsLasting (IsOwnAnswer ends Good kept commands)
   own_lasts commands = record {
     later = λ p s ps ss r own line answered. let h = own line answered in own_moved commands ps (p ∷ ps) ss (s ∷ ss) r r.utc line h (suc h.k) h.of_parts h.of_stretches;
     any_moment = λ ps ss r own line answered. let h = own line answered in own_moved commands ps ps ss ss r 0 line h h.k h.of_parts h.of_stretches;
   }
 
-  -- that a late record's command was executed lasts
+  -- `LateHasExecution` lasts
   pub late_lasts : (commands : List Task) → IsLasting (LateHasExecution ends Good kept commands)
   late_lasts commands = record {
     later = λ p s ps ss r executed late. let h = executed late in late_moved commands ps (p ∷ ps) ss (s ∷ ss) r r.utc h (suc h.k) h.of_parts h.of_stretches;

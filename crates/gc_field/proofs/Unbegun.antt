@@ -1,7 +1,7 @@
 -- Right after a synchronization, before any move, `IsFaithful` holds, whatever is in flight.
 use Rattle.std.proofs.Common.{◌≡◌, ℕ, ◌<◌, ◌≤◌, List, [], ◌∷◌, Option, Some, refl, ap, arith}
 use Rattle.std.specs.Prelude.{slice_get}
-use Rattle.std.proofs.lemmas.Option.{slice_get_within}
+use Rattle.std.proofs.lemmas.Option.{none-some, slice_get_within}
 use Rattle.gc_catalogue.specs.declared.asked.Asked.{Asked}
 use Rattle.gc_client.specs.Rule.{Settlement}
 use Rattle.gc_instrument.specs.State.{KeptReply}
@@ -10,13 +10,13 @@ use Rattle.gc_field.specs.World.{Ends, Numbered}
 use Rattle.gc_world.proofs.Settled as settled
 use Rattle.gc_field.specs.Begin.{UnderWay}
 use Rattle.gc_field.specs.Begun.{IsFaithful, nulls, nulls_settled}
-use Rattle.gc_field.proofs.BegunFaithful.{none_at, of_last}
+use Rattle.gc_field.proofs.BegunFaithful.{of_last}
 
 -- right after a synchronization no settlement has a number from 8 on
 none_own : (m : ℕ) (s : Settlement Asked) → 8 ≤ m → slice_get nulls_settled m ≡ Some s → ⊥
 none_own m s ge e = let low : m < 8 = slice_get_within nulls_settled m s e in omega (arith, low, ge)
 
--- right after a synchronization no reply in flight belongs to a request from 8 on
+-- right after a synchronization the front reply in flight, if there is one, belongs to no request from 8 on
 of_seven : (xs : List (List ℕ)) (n : ℕ) (line : List ℕ) (rest : List (Numbered (List ℕ))) → of_last xs ≡ record { number = n; line = line } ∷ rest → 8 ≤ n → ⊥
 of_seven [] n line rest e ge = cc
 of_seven (x ∷ xs) n line rest e ge = let is : 7 ≡ n = first_number (record { number = 7; line = x }) (record { number = n; line = line }) (of_last xs) rest e in omega (arith, is, ge) where
@@ -35,9 +35,9 @@ faithful_none ends Good kept u =
       booked = λ m s ge safe e bytes answered. absurd (none_own m s ge e);
       executed = λ m s line ge safe e answered. absurd (none_own m s ge e);
       made_on = λ m s line ge safe e answered. absurd (none_own m s ge e);
-      in_order = λ j k m n lt a b. absurd (none_at j m a);
+      in_order = λ j k m n lt a b. absurd (none-some m a);
       late = λ m s ge safe e late. absurd (none_own m s ge e);
-      once = λ knows keeps j k m n r lt none a b found known. absurd (none_at j m a);
+      once = λ knows keeps j k m n r lt none a b found known. absurd (none-some m a);
       agrees = refl;
       first_reply = λ n line rest e le. absurd (of_seven u.down n line rest e le);
     }

@@ -1,8 +1,9 @@
 -- Each line that comes was made for its request as its call was executed, whatever is repeated or lost, and however often the
 -- instrument starts again; requests that `E` names are excepted. M n call line is any property that the reply to each executed
 -- request has. The client is given the number of each reply's request: `count` of its requests are settled, and request n has the
--- id n - `since` modulo 8. What the instrument retains is a reply to `table`, the last request that it was handed and that `knows`
--- names, or to a later one. `AllVouched` is the invariant: each reply in flight, the retained one and each answer was made so.
+-- id n - `since` modulo 8. What the instrument retains is a reply to `table`, the last request that it was handed and that
+-- `knows` names, or to a later one. `AllVouched` is the invariant: each reply in flight, the retained one and each answer was
+-- made so.
 use Rattle.std.proofs.Common.{◌≡◌, ℕ, ◌+◌, ◌-◌, ◌%◌, ◌<◌, ◌≤◌, ◌⊎◌, inl, inr, Bool, true, false, List, [], ◌∷◌, ◌++◌, length, drop, Option, Some, None, refl, sym, ◌∙◌, ap, subst, arith, ltb, eqb}
 use Rattle.std.proofs.lemmas.List.{length_push}
 use Rattle.std.proofs.lemmas.Bool.{ltb-false, true≢false}
@@ -16,7 +17,7 @@ use Rattle.gc_world.specs.Order.{Each, Rising, numbers}
 use Rattle.gc_field.specs.World.{Request, Sent, Numbered, Ends, Step, Send, Up_deliver, Up_lose, Up_repeat, Down_deliver, Down_lose, Down_repeat, Expire, Restart_client, Restart_instrument, Nothing, World, without, doubled, idle, replied, up_delivered, with_up, with_down, started, on_wire, requested, with_settled, down_delivered, happens, written}
 use Rattle.gc_world.proofs.Booked.{Has, has_more, has_push}
 use Rattle.std.proofs.lemmas.Option.{same_Some, none-some}
-use Rattle.gc_world.proofs.Places.{get_more, get_push, each_get}
+use Rattle.gc_world.proofs.Places.{get_more, get_push, all_at}
 use Rattle.gc_world.proofs.Replay.{IsOf, of_more}
 use Rattle.gc_world.proofs.Rows.{each_append, each_more, each_without, each_doubled}
 use Rattle.gc_world.proofs.Sound.{IsGoing, Sound}
@@ -24,17 +25,17 @@ use Rattle.gc_field.specs.Field.{IsLineStep}
 use Rattle.gc_field.specs.Instrument.{IsAnInstrumentFor, KeepsItsReply}
 use Rattle.gc_field.proofs.Answered.{HoldsOfAll, all_so_more, all_so_append, all_so_settle}
 use Rattle.gc_field.proofs.Once.{IsClimbing, IsIdle, IsOrdered, IsUnknown, climbing_started, climbing_acted, climbing_handed, climbing_sent, known_not, ordered_acted, ordered_handed, unknown_more, why_acted}
-use Rattle.gc_field.proofs.KeptReplies.{KeptIs, kept_more, kept_still, newest, newest_up, newest_low, IsDealt, newest_dealt, kept_handed, IsVouched, IsOn}
+use Rattle.gc_field.proofs.KeptReplies.{IsKeptAfter, KeptIs, kept_more, kept_still, newest, newest_up, newest_low, IsDealt, newest_dealt, kept_handed, IsVouched, ReplyHas}
 use Rattle.gc_field.proofs.NearTable.{IsNear, near_same, near_on, near_of}
 use Rattle.gc_world.proofs.Once.{rising_each, rising_tail}
 
 module _ {State : Type 0} (width : ℕ) (narrow : width ≤ 7) (knows : Asked → Bool) (ends : Ends State) (Good : State → Type 0)
     (kept : State → Option KeptReply) (keeper : IsAnInstrumentFor ends Good kept knows) (low : ℕ) (E : ℕ → Type 0) (Plain : Type 0) (M : ℕ → Asked → List ℕ → Type 0) where
   -- request n is `IsDealt`; and it is one of those that are excepted, or the line is vouched for as its reply
-  abbrev pub Vouched : List Sent → List ℕ → List (Numbered (List ℕ)) → ℕ → ℕ → List ℕ → Type 0
+  abbrev pub Vouched : (sent : List Sent) (executed : List ℕ) (made : List (Numbered (List ℕ))) (table n : ℕ) (line : List ℕ) → Type 0
   Vouched sent executed made table n line = IsDealt knows sent table n × (E n ⊎ IsVouched ends Good M sent executed made n line)
 
-  -- a line stays vouched for where further requests are sent
+  -- `Vouched` is preserved where further requests are sent
   stays_sent : (sent more : List Sent) (executed : List ℕ) (made : List (Numbered (List ℕ))) (table n : ℕ) (line : List ℕ)
       → Vouched sent executed made table n line → Vouched (sent ++ more) executed made table n line
   stays_sent sent more executed made table n line h = (dealt h.0, own h.1) where
@@ -48,7 +49,8 @@ module _ {State : Type 0} (width : ℕ) (narrow : width ≤ 7) (knows : Asked �
     own (inl e) = inl e
     own (inr v) = inr (record { among = v.among; acted = v.acted; request = v.request; found = get_more sent more n v.request v.found; reply = v.reply; on = v.on })
 
-  -- a line stays vouched for where further requests are handed to the instrument
+  -- `Vouched` is preserved where further requests are handed to the instrument, if what was executed before is among what was
+  -- executed then (`after`), and the newest known request then, `next`, isn't before that of before, `table`
   stays_on : (sent : List Sent) (executed after : List ℕ) (made more : List (Numbered (List ℕ))) (table next n : ℕ) (line : List ℕ) → ((i : ℕ) → Has i executed → Has i after)
       → table ≤ next → Vouched sent executed made table n line → Vouched sent after (made ++ more) next n line
   stays_on sent executed after made more table next n line lasts le h = (dealt h.0, own h.1) where
@@ -62,18 +64,22 @@ module _ {State : Type 0} (width : ℕ) (narrow : width ≤ 7) (knows : Asked �
     own (inl e) = inl e
     own (inr v) = inr (record { among = has_more _ made more v.among; acted = lasts n v.acted; request = v.request; found = v.found; reply = v.reply; on = v.on })
 
-  -- the invariant, over the fields of a world: each reply in flight, the retained reply `k`, and each answer is vouched for;
-  -- executions are in order, and each request acts once to which the instrument retains its reply
+  -- the invariant, over the fields of a world: each reply in flight, the retained reply `k`, and each answer is vouched for; each
+  -- request in flight is one that was sent; executions are in order, and each request acts once to which the instrument retains
+  -- its reply; and the numbers fit as the fields say
   pub record AllVouchedIn (since count : ℕ) (sent : List Sent) (executed starts : List ℕ) (made : List (Numbered (List ℕ))) (settled : List (Settlement Asked))
       (up : List (Numbered Request)) (down : List (Numbered (List ℕ))) (k : Option KeptReply) : Type 0 where
     -- the number of the last request that the instrument was handed is one less than this
     pub top : ℕ
     -- the number of the newest request that is known
     pub table : ℕ
+    -- what is settled was handed to the instrument, and what was handed to it was sent
     pub counted : count ≤ top
     pub within : top ≤ length sent
+    -- the newest known request was handed, too; `low` is at most one above it
     pub lower : table < top
     pub least : low ≤ table + 1
+    -- no request in flight is before the last one handed, and no reply in flight is to a later one
     pub above : Each (λ x. top ≤ x.number + 1) up
     pub below : Each (λ x. x.number < top) down
     pub holds : KeptIs (Vouched sent executed made table) since top table k
@@ -122,7 +128,7 @@ module _ {State : Type 0} (width : ℕ) (narrow : width ≤ 7) (knows : Asked �
       near_sent r plain (inl n) = inl (n.0, n.1, each_append (λ (r : Sent). knows r.call ≡ true) sent (r ∷ []) n.2 (plain n.0, tt))
       near_sent r plain (inr n) = inr n
 
-  -- `AllVouched` is preserved if the client sends a request
+  -- `AllVouched` is preserved if the client sends a request, which is known if all have to be
   vouched_send : (w : World (ByNumber Asked) State) (target : ℕ) (call : Asked) (deadline : ℕ) (full : Bool) (x : Sending (ByNumber Asked)) → (Plain → knows call ≡ true)
       → number_send w.client target call deadline full ≡ Some x → AllVouched w → AllVouched (requested w target call (Some x))
   vouched_send w target call deadline true x plain e h = cc
@@ -133,7 +139,7 @@ module _ {State : Type 0} (width : ℕ) (narrow : width ≤ 7) (knows : Asked �
       subst (λ z. AllVouched (requested w target call (Some z))) (same_Some y x e)
       (vouched_sent c.since c.count w.wire.sent w.wire.executed w.wire.starts w.wire.made w.wire.settled w.wire.up w.wire.down (kept w.wire.state) target id call (omega arith) plain h)
 
-  -- what `AllVouched` says of the front request, x
+  -- what `AllVouched` says of the front request, x, of which `known` says whether it is one that `knows` names
   record FrontIs (w : World (ByNumber Asked) State) (h : AllVouched w) (x : Numbered Request) (known : Bool) : Type 0 where
     recent : w.client.since ≤ x.number
     sent : x.number < length w.wire.sent
@@ -146,7 +152,7 @@ module _ {State : Type 0} (width : ℕ) (narrow : width ≤ 7) (knows : Asked �
     unknown : (known ≡ false) → IsUnknown knows w.wire.sent x.number
     all : Each (λ (r : Sent). knows r.call ≡ true) w.wire.sent → known ≡ true
 
-  -- the front request of the requests in flight is as `FrontIs` says
+  -- in a sound world of which `AllVouched` holds, the front request, x, is as `FrontIs` says
   front_is : (w : World (ByNumber Asked) State) (x : Numbered Request) (rest : List (Numbered Request)) (known : Bool) → w.wire.up ≡ x ∷ rest → knows x.line.call ≡ known → Sound width ends Good w
       → (h : AllVouched w) → FrontIs w h x known
   front_is w x rest known q is s h =
@@ -164,17 +170,19 @@ module _ {State : Type 0} (width : ℕ) (narrow : width ≤ 7) (knows : Asked �
         near = near_of knows E Plain w.wire.sent h.top h.table x.number (omega (arith, g.sent, s.few, h.counted, narrow)) h.near;
         of = o;
         unknown = λ not. (o.request, o.found, ap knows o.call ∙ is ∙ not);
-        all = λ every. sym is ∙ sym (ap knows o.call) ∙ each_get (λ (r : Sent). knows r.call ≡ true) w.wire.sent x.number o.request every o.found;
+        all = λ every. sym is ∙ sym (ap knows o.call) ∙ all_at (λ (r : Sent). knows r.call ≡ true) w.wire.sent x.number o.request every o.found;
       }
 
-  -- `AllVouchedIn` is preserved if the front request, x, is handed to the instrument, if what it sends is vouched for, and the
-  -- executions are in order and act once
+  -- `AllVouchedIn` is preserved if the front request, x, is handed to the instrument: what was executed before still was
+  -- (`lasts`), what is retained then is as `IsKeptAfter` says (`now`), the line that it sends is vouched for, or x excepted
+  -- (`new`), and the executions are in order and act once
   vouched_on : (w : World (ByNumber Asked) State) (x : Numbered Request) (rest : List (Numbered Request)) (known : Bool) (line executed : List ℕ) (after : Option KeptReply) → w.wire.up ≡ x ∷ rest
-      → (h : AllVouched w) → FrontIs w h x known → Sound width ends Good w → ((i : ℕ) → Has i w.wire.executed → Has i executed)
-      → ((after ≡ None) ⊎ (after ≡ Some (record { id = x.line.id; line = line }))) ⊎ ((known ≡ false) × (after ≡ kept w.wire.state))
-      → E x.number ⊎ IsVouched ends Good M w.wire.sent executed (w.wire.made ++ record { number = x.number; line = line } ∷ []) x.number line
-      → IsOrdered (x.number + 1) executed
-      → ((keeps : Asked → Bool) → KeepsItsReply ends Good kept keeps → IsClimbing keeps ((x.number + 1 - 1 - w.client.since) % 8) (x.number + 1) w.wire.sent executed w.wire.starts after)
+      → (h : AllVouched w) → (front : FrontIs w h x known) → Sound width ends Good w → (lasts : (i : ℕ) → Has i w.wire.executed → Has i executed)
+      → (now : IsKeptAfter known x.line.id line (kept w.wire.state) after)
+      → (new : E x.number ⊎ IsVouched ends Good M w.wire.sent executed (w.wire.made ++ record { number = x.number; line = line } ∷ []) x.number line)
+      → (order : IsOrdered (x.number + 1) executed)
+      → (once : (keeps : Asked → Bool) → KeepsItsReply ends Good kept keeps
+      → IsClimbing keeps ((x.number + 1 - 1 - w.client.since) % 8) (x.number + 1) w.wire.sent executed w.wire.starts after)
       → AllVouchedIn w.client.since w.client.count w.wire.sent executed w.wire.starts (w.wire.made ++ record { number = x.number; line = line } ∷ []) w.wire.settled rest
       (w.wire.down ++ record { number = x.number; line = line } ∷ []) after
   vouched_on w x rest known line executed after q h front s lasts now new order once =
@@ -211,7 +219,7 @@ module _ {State : Type 0} (width : ℕ) (narrow : width ≤ 7) (knows : Asked �
         once = once;
       }
 
-  -- if the front request isn't executed, the line that is sent again is vouched for as its reply, or the request is excepted
+  -- if what is retained has the id of the front request, x, then x is excepted, or the retained line is vouched for as its reply
   again_own : (w : World (ByNumber Asked) State) (x : Numbered Request) (known : Bool) (line : List ℕ) (k : Option KeptReply) → (h : AllVouched w) → FrontIs w h x known → kept w.wire.state ≡ k
       → k ≡ Some (record { id = x.line.id; line = line })
       → E x.number ⊎ IsVouched ends Good M w.wire.sent w.wire.executed (w.wire.made ++ record { number = x.number; line = line } ∷ []) x.number line
@@ -226,12 +234,12 @@ module _ {State : Type 0} (width : ℕ) (narrow : width ≤ 7) (knows : Asked �
         | inr p ↦ (stays_on v.sent v.executed v.executed v.made (m ∷ []) h.table h.table x.number line (λ i has. has) (omega arith) p).1
       ]
 
-  -- what the instrument retains after the front request
+  -- what the instrument retains after the front request is as `IsKeptAfter` says
   abbrev AfterIs : World (ByNumber Asked) State → Numbered Request → Handed State → Bool → Type 0
-  AfterIs w x hd known =
-      ((kept hd.state ≡ None) ⊎ (kept hd.state ≡ Some (record { id = x.line.id; line = hd.reply }))) ⊎ ((known ≡ false) × (kept hd.state ≡ kept w.wire.state))
+  AfterIs w x hd known = IsKeptAfter known x.line.id hd.reply (kept w.wire.state) (kept hd.state)
 
-  -- if the instrument retains its reply to a request that it knows, it retains that to the front request, or doesn't know that
+  -- in a good state, if the instrument retains its reply to each request that `keeps` names: `keeps` doesn't name the front
+  -- request, x; or the reply to x is retained, with its id
   held_by : (w : World (ByNumber Asked) State) (x : Numbered Request) (hd : Handed State) (keeps : Asked → Bool) (b : Bool) → keeps x.line.call ≡ b → KeepsItsReply ends Good kept keeps
       → ends.handed w.wire.state x.line.id x.line.call ≡ hd → Good w.wire.state → (since : ℕ) → x.line.id ≡ (x.number - since) % 8 → IsOf written w.wire.sent x
       → IsUnknown keeps w.wire.sent x.number ⊎ ((kept hd.state ≡ Some (record { id = x.line.id; line = hd.reply })) × (x.line.id ≡ (x.number + 1 - 1 - since) % 8))
@@ -243,7 +251,7 @@ module _ {State : Type 0} (width : ℕ) (narrow : width ≤ 7) (knows : Asked �
       )
   held_by w x hd keeps false e is handed good since own o = inl (o.request, o.found, ap keeps o.call ∙ e)
 
-  -- `AllVouched` is preserved if the front request isn't executed, and the retained line is sent again for it
+  -- in a sound world `AllVouched` is preserved if the front request isn't executed, and the retained line is sent again for it
   vouched_again : (w : World (ByNumber Asked) State) (x : Numbered Request) (rest : List (Numbered Request)) (hd : Handed State) (known : Bool) → w.wire.up ≡ x ∷ rest
       → ends.handed w.wire.state x.line.id x.line.call ≡ hd → knows x.line.call ≡ known → kept w.wire.state ≡ Some (record { id = x.line.id; line = hd.reply }) → AfterIs w x hd known
       → Sound width ends Good w → AllVouched w → AllVouched (on_wire w (replied w.wire x.number rest (record hd { executed = false })))
@@ -257,8 +265,9 @@ module _ {State : Type 0} (width : ℕ) (narrow : width ≤ 7) (knows : Asked �
       (record { id = x.line.id; line = hd.reply }) front.top
       (held_by w x hd keeps (keeps x.line.call) refl k is s.good c.since front.id front.of) (h.once keeps k))
 
-  -- if the front request is executed, it isn't one to which the instrument retains its reply; or nothing was executed since the
-  -- last start, or it is later than all that were handed before, and its reply is retained
+  -- in a good state, if the front request, x, is executed, and the instrument retains its reply to each request that `keeps`
+  -- names: `keeps` doesn't name x; or the reply to x is retained, with its id, and either x is later than all that were handed
+  -- before, or nothing was executed since the last start
   acted_by : (w : World (ByNumber Asked) State) (x : Numbered Request) (hd : Handed State) (known : Bool) (keeps : Asked → Bool) (b : Bool) → keeps x.line.call ≡ b
       → KeepsItsReply ends Good kept keeps → ends.handed w.wire.state x.line.id x.line.call ≡ hd → hd.executed ≡ true → Good w.wire.state → (h : AllVouched w) → FrontIs w h x known
       → IsUnknown keeps w.wire.sent x.number
@@ -276,7 +285,7 @@ module _ {State : Type 0} (width : ℕ) (narrow : width ≤ 7) (knows : Asked �
       )
   acted_by w x hd known keeps false e k is exe good h front = inl (front.of.request, front.of.found, ap keeps front.of.call ∙ e)
 
-  -- `AllVouched` is preserved if the front request is executed
+  -- in a sound world `AllVouched` is preserved if the front request is executed, and its reply has the property M
   vouched_new : (w : World (ByNumber Asked) State) (x : Numbered Request) (rest : List (Numbered Request)) (hd : Handed State) (known : Bool) → w.wire.up ≡ x ∷ rest
       → ends.handed w.wire.state x.line.id x.line.call ≡ hd → knows x.line.call ≡ known → hd.executed ≡ true → M x.number x.line.call hd.reply → AfterIs w x hd known
       → Sound width ends Good w → AllVouched w → AllVouched (on_wire w (replied w.wire x.number rest (record hd { executed = true })))
@@ -307,7 +316,8 @@ module _ {State : Type 0} (width : ℕ) (narrow : width ≤ 7) (knows : Asked �
       (λ keeps k. climbing_acted keeps ((h.top - 1 - c.since) % 8) ((n + 1 - 1 - c.since) % 8) h.top n v.sent v.executed v.starts (kept v.state) (kept hd.state)
       (record { id = x.line.id; line = hd.reply }) front.top (acted_by w x hd known keeps (keeps x.line.call) refl k is exe s.good h front) (h.once keeps k))
 
-  -- `AllVouched` is preserved if the front request is handed to the instrument, whether that executes the request (`b`) or not
+  -- in a sound world `AllVouched` is preserved if the front request is handed to the instrument, whether that executes it (`b`)
+  -- or not; if it does, the reply has the property M
   vouched_handed : (w : World (ByNumber Asked) State) (x : Numbered Request) (rest : List (Numbered Request)) (hd : Handed State) (b : Bool) → w.wire.up ≡ x ∷ rest
       → ends.handed w.wire.state x.line.id x.line.call ≡ hd → hd.executed ≡ b → (hd.executed ≡ true → M x.number x.line.call hd.reply)
       → Sound width ends Good w → AllVouched w → AllVouched (on_wire w (replied w.wire x.number rest (record hd { executed = b })))
@@ -319,8 +329,7 @@ module _ {State : Type 0} (width : ℕ) (narrow : width ≤ 7) (knows : Asked �
     -- what the instrument retains after the request is as `AfterIs` says
     now : AfterIs w x hd (knows x.line.call)
     now =
-        subst (λ (k : Handed State).
-        ((kept k.state ≡ None) ⊎ (kept k.state ≡ Some (record { id = x.line.id; line = k.reply }))) ⊎ ((knows x.line.call ≡ false) × (kept k.state ≡ kept w.wire.state)))
+        subst (λ (k : Handed State). IsKeptAfter (knows x.line.call) x.line.id k.reply (kept w.wire.state) (kept k.state))
         is (keeper.keeps w.wire.state x.line.id x.line.call s.good small)
 
     -- if the request isn't executed, the line that is sent for it is the retained one
@@ -360,7 +369,7 @@ module _ {State : Type 0} (width : ℕ) (narrow : width ≤ 7) (knows : Asked �
         once = h.once;
       }
 
-  -- `AllVouched` is preserved if the front reply comes, be its request settled already (`old`) or not
+  -- where `count` counts what is settled, `AllVouched` is preserved if the front reply comes, its request settled (`old`) or not
   vouched_reply : (w : World (ByNumber Asked) State) (x : Numbered (List ℕ)) (rest : List (Numbered (List ℕ))) (old : Bool) → ltb x.number w.client.count ≡ old
       → w.wire.down ≡ x ∷ rest → length w.wire.settled ≡ w.client.count → AllVouched w
       → AllVouched (with_settled (record w.wire { down = rest }) (number_reply w.client x old))
@@ -403,7 +412,7 @@ module _ {State : Type 0} (width : ℕ) (narrow : width ≤ 7) (knows : Asked �
         once = once;
       }
 
-  -- `AllVouched` is preserved if the instrument starts again, whatever is in flight
+  -- in a good state `AllVouched` is preserved whether the instrument starts again (`b`) or not, whatever is in flight
   pub vouched_started : (w : World (ByNumber Asked) State) (b : Bool) → Good w.wire.state → AllVouched w → AllVouched (on_wire w (started ends w.wire b))
   vouched_started w false good h = h
   vouched_started w true good h =
@@ -412,15 +421,14 @@ module _ {State : Type 0} (width : ℕ) (narrow : width ≤ 7) (knows : Asked �
       still_kept w (v.starts ++ length v.executed ∷ []) (ends.restarted v.state) now h
       (λ keeps k. climbing_started keeps ((h.top - 1 - w.client.since) % 8) h.top v.sent v.executed v.starts (kept v.state) (kept (ends.restarted v.state)) now (h.once keeps k))
 
-  -- `AllVouched` is preserved if the instrument's state changes by itself
+  -- `AllVouched` is preserved if the instrument's state changes, and it retains the same
   pub vouched_changed : (w : World (ByNumber Asked) State) (state : State) → kept state ≡ kept w.wire.state → AllVouched w → AllVouched (on_wire w (record w.wire { state = state }))
   vouched_changed w state same h =
       let v = w.wire in
       still_kept w v.starts state (inr same) h
       (λ keeps k. subst (λ o. IsClimbing keeps ((h.top - 1 - w.client.since) % 8) h.top v.sent v.executed v.starts o) (sym same) (h.once keeps k))
 
-  -- `AllVouched` is preserved if the lines in flight change, if those that are in flight now still have what the invariant says
-  -- of each
+  -- `AllVouched` is preserved if the lines in flight change to others that meet its clauses on lines in flight
   vouched_queues : (w : World (ByNumber Asked) State) (up : List (Numbered Request)) (down : List (Numbered (List ℕ))) (h : AllVouched w)
       → Each (λ x. h.top ≤ x.number + 1) up → Each (IsOf written w.wire.sent) up → Each (λ x. x.number < h.top) down
       → Each (λ x. Vouched w.wire.sent w.wire.executed w.wire.made h.table x.number x.line) down → AllVouched (on_wire w (record w.wire { up = up; down = down }))
@@ -442,49 +450,42 @@ module _ {State : Type 0} (width : ℕ) (narrow : width ≤ 7) (knows : Asked �
     once = h.once;
   }
 
-  -- `AllVouched` is preserved by a step that does nothing but count itself
-  vouched_idle : (w : World (ByNumber Asked) State) → AllVouched w → AllVouched (on_wire w (idle w.wire))
-  vouched_idle w h = h
-
-  -- A move of the line, and a reply that comes.
-
-  -- `AllVouched` is preserved if the front request reaches the instrument, if `IsOn` holds of it
+  -- in a sound world `AllVouched` is preserved if the front request, if any, reaches the instrument, and `ReplyHas` holds of it
   pub vouched_up : (w : World (ByNumber Asked) State) (q : List (Numbered Request)) → w.wire.up ≡ q
-      → ((x : Numbered Request) (rest : List (Numbered Request)) → q ≡ x ∷ rest → IsOn ends M w x) → Sound width ends Good w → AllVouched w
+      → ((x : Numbered Request) (rest : List (Numbered Request)) → q ≡ x ∷ rest → ReplyHas ends M w x) → Sound width ends Good w → AllVouched w
       → AllVouched (on_wire w (up_delivered ends w.wire q))
-  vouched_up w [] e on s h = vouched_idle w h
+  vouched_up w [] e on s h = h
   vouched_up w (x ∷ rest) e on s h =
       vouched_handed w x rest (ends.handed w.wire.state x.line.id x.line.call) (ends.handed w.wire.state x.line.id x.line.call).executed e refl refl (on x rest refl) s h
 
-  -- `AllVouched` is preserved if the front reply comes
+  -- in a sound world `AllVouched` is preserved if the front reply, if one is in flight, comes
   pub vouched_down : (w : World (ByNumber Asked) State) (q : List (Numbered (List ℕ))) → w.wire.down ≡ q → Sound width ends Good w → AllVouched w → AllVouched (down_delivered (by_numbers width) w q)
-  vouched_down w [] e s h = vouched_idle w h
+  vouched_down w [] e s h = h
   vouched_down w (x ∷ rest) e s h = vouched_reply w x rest (ltb x.number w.client.count) refl e s.booked h
 
-  -- `AllVouched` is preserved by a loss or a repeat of a request in flight; if there is none at that place (`b` is false),
-  -- nothing happens
+  -- `AllVouched` is preserved if the requests in flight stay (`b` is false), or change to some that meet its clauses
   vouched_with_up : (w : World (ByNumber Asked) State) (up : List (Numbered Request)) (b : Bool) (h : AllVouched w)
       → Each (λ x. h.top ≤ x.number + 1) up → Each (IsOf written w.wire.sent) up → AllVouched (on_wire w (with_up w.wire up b))
-  vouched_with_up w up false h a l = vouched_idle w h
+  vouched_with_up w up false h a l = h
   vouched_with_up w up true h a l = vouched_queues w up w.wire.down h a l h.below h.coming
 
-  -- `AllVouched` is preserved by a loss or a repeat of a reply in flight; if there is none at that place (`b` is false), nothing
-  -- happens
+  -- `AllVouched` is preserved if the replies in flight stay (`b` is false), or change to some that meet its clauses
   vouched_with_down : (w : World (ByNumber Asked) State) (down : List (Numbered (List ℕ))) (b : Bool) (h : AllVouched w)
       → Each (λ x. x.number < h.top) down → Each (λ x. Vouched w.wire.sent w.wire.executed w.wire.made h.table x.number x.line) down
       → AllVouched (on_wire w (with_down w.wire down b))
-  vouched_with_down w down false h l c = vouched_idle w h
+  vouched_with_down w down false h l c = h
   vouched_with_down w down true h l c = vouched_queues w w.wire.up down h h.above h.lines l c
 
-  -- `AllVouched` is preserved by a send, refused or not
+  -- `AllVouched` is preserved by a send, refused or not, of a request that is known if all have to be
   pub vouched_requested : (w : World (ByNumber Asked) State) (target : ℕ) (call : Asked) (deadline : ℕ) (o : Option (Sending (ByNumber Asked))) → (Plain → knows call ≡ true)
       → (by_numbers width).send w.client target call deadline ≡ o → AllVouched w → AllVouched (requested w target call o)
   vouched_requested w target call deadline None plain e h = h
   vouched_requested w target call deadline (Some x) plain e h = vouched_send w target call deadline (eqb (length w.client.requests - w.client.count) width) x plain e h
 
-  -- `AllVouched` is preserved by a step of the line
+  -- in a sound world a step of the line preserves `AllVouched`, if `ReplyHas` holds of a front request that reaches the
+  -- instrument
   pub vouched_line : (w : World (ByNumber Asked) State) (step : Step) → IsLineStep step
-      → ((x : Numbered Request) (rest : List (Numbered Request)) → step ≡ Up_deliver → w.wire.up ≡ x ∷ rest → IsOn ends M w x) → Sound width ends Good w → AllVouched w
+      → ((x : Numbered Request) (rest : List (Numbered Request)) → step ≡ Up_deliver → w.wire.up ≡ x ∷ rest → ReplyHas ends M w x) → Sound width ends Good w → AllVouched w
       → AllVouched (happens ends (by_numbers width) w step)
   vouched_line w (Send target call deadline) p on s h = absurd p
   vouched_line w Up_deliver p on s h = vouched_up w w.wire.up refl (λ x rest e. on x rest refl e) s h
@@ -496,4 +497,4 @@ module _ {State : Type 0} (width : ℕ) (narrow : width ≤ 7) (knows : Asked �
   vouched_line w (Expire now) p on s h = absurd p
   vouched_line w Restart_client p on s h = absurd p
   vouched_line w Restart_instrument p on s h = absurd p
-  vouched_line w Nothing p on s h = vouched_idle w h
+  vouched_line w Nothing p on s h = h

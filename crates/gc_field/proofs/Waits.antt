@@ -8,7 +8,7 @@ use Rattle.gc_client.specs.Rule.{ById, Settlement, expired, hears, id_send, id_s
 use Rattle.gc_instrument.specs.State.{KeptReply}
 use Rattle.gc_world.specs.Clients.{by_ids}
 use Rattle.gc_field.specs.World.{Ends, Numbered, Request, Step, Send, Up_deliver, Up_lose, Up_repeat, Down_deliver, Down_lose, Down_repeat, Expire, Restart_client, Restart_instrument, Nothing, World, without, doubled, up_delivered, with_up, with_down, on_wire, requested, down_delivered}
-use Rattle.gc_world.proofs.Rows.{length-settle}
+use Rattle.gc_client.proofs.OneForOne.{length-settle}
 use Rattle.gc_field.specs.Field.{Move, Sends, Tells, Comes, Foreign, OnLine, Anew, Changes, Joins, IsLineStep, moves, moved, ArePossible}
 use Rattle.gc_field.specs.Runs.{times_out}
 use Rattle.gc_station.proofs.Lists.{get_more, get_dropped}
@@ -27,7 +27,7 @@ after_moves p (Anew ∷ ms) = after_moves p ms
 after_moves p (Changes state ∷ ms) = after_moves p ms
 after_moves p (Joins line ∷ ms) = after_moves p ms
 
--- a request has timed out after moves if it was before, or if a moment at or past its deadline is read
+-- after moves a request has timed out just if it had before, or if a moment at or past its deadline is read; all else of it stays
 pub after_is : {State : Type 0} (p : Pending Asked) (ms : List (Move State)) → after_moves p ms ≡ record p { given_up = p.given_up || times_out p.deadline ms }
 after_is p [] = ap (λ b. record p { given_up = b }) (sym (or-false p.given_up))
 after_is p (Tells now ∷ ms) = after_is (expired now p) ms ∙ ap (λ b. record p { given_up = b }) (or_assoc p.given_up (nat_le p.deadline now) (times_out p.deadline ms))
@@ -41,14 +41,14 @@ after_is p (Joins line ∷ ms) = after_is p ms
 
 -- where request n isn't settled yet (the first `size` requests are), it waits as `p`, at its place in the list of those that
 -- are outstanding
-abbrev pub WaitsAt : ℕ → List (Pending Asked) → ℕ → Pending Asked → Type 0
+abbrev pub WaitsAt : (size : ℕ) (waiting : List (Pending Asked)) (n : ℕ) (p : Pending Asked) → Type 0
 WaitsAt size waiting n p = size ≤ n → slice_get waiting (n - size) ≡ Some p
 
 -- in this world request n, if it isn't settled yet, waits as `p`, at its place
 abbrev pub Waits : {State : Type 0} → World (ById Asked) State → ℕ → Pending Asked → Type 0
 Waits w n p = WaitsAt (length w.wire.settled) w.client.waiting n p
 
--- a request that a reply with an id leaves unsettled waits on
+-- a request that a reply leaves unsettled waits on, whether a request waits at the place k of the reply's id (`b`) or none does
 waits_settled : (c : ById Asked) (line : List ℕ) (k : ℕ) (b : Bool) (before : List (Settlement Asked)) (n : ℕ) (p : Pending Asked) → nat_lt k (length c.waiting) ≡ b
     → WaitsAt (length before) c.waiting n p
     → WaitsAt (length (before ++ (id_settled c line k b).settlements)) (id_settled c line k b).client.waiting n p
@@ -72,33 +72,33 @@ waits_heard c line None before n p h = λ le.
 waits_heard c line (Some id) before n p h = waits_settled c line (place_in c id) (nat_lt (place_in c id) (length c.waiting)) before n p refl h
 
 module _ {State : Type 0} (ends : Ends State) (Good : State → Type 0) (kept : State → Option KeptReply) where
-  -- a request stays outstanding if a reply comes
+  -- `Waits` is preserved if the front reply comes, if there is one: a request that this doesn't settle waits on
   waits_came : (w : World (ById Asked) State) (q : List (Numbered (List ℕ))) (n : ℕ) (p : Pending Asked) → Waits w n p → Waits (down_delivered (by_ids 7 ends) w q) n p
   waits_came w [] n p h = h
   waits_came w (x ∷ rest) n p h = waits_heard w.client x.line (ends.heard x.line) w.wire.settled n p h
 
-  -- a request stays outstanding if another is sent
+  -- `Waits` is preserved if another request is sent, or is refused because the window is full (`b`)
   waits_sent : (w : World (ById Asked) State) (target : ℕ) (call : Asked) (deadline : ℕ) (b : Bool) (n : ℕ) (p : Pending Asked) → Waits w n p
       → Waits (requested w target call (id_send w.client target call deadline b)) n p
   waits_sent w target call deadline true n p h = h
   waits_sent w target call deadline false n p h = λ le. get_more w.client.waiting (pending_of target call deadline ∷ []) (n - length w.wire.settled) p (h le)
 
-  -- a request stays outstanding if another one reaches the instrument
+  -- `Waits` is preserved if the front request reaches the instrument, if there is one
   waits_up : (w : World (ById Asked) State) (q : List (Numbered Request)) (n : ℕ) (p : Pending Asked) → Waits w n p → Waits (on_wire w (up_delivered ends w.wire q)) n p
   waits_up w [] n p h = h
   waits_up w (x ∷ rest) n p h = h
 
-  -- a request stays outstanding if the requests in flight change
+  -- `Waits` is preserved if the requests in flight change, or (`b` is false) don't
   waits_with_up : (w : World (ById Asked) State) (q : List (Numbered Request)) (b : Bool) (n : ℕ) (p : Pending Asked) → Waits w n p → Waits (on_wire w (with_up w.wire q b)) n p
   waits_with_up w q true n p h = h
   waits_with_up w q false n p h = h
 
-  -- a request stays outstanding if the replies in flight change
+  -- `Waits` is preserved if the replies in flight change, or (`b` is false) don't
   waits_with_down : (w : World (ById Asked) State) (q : List (Numbered (List ℕ))) (b : Bool) (n : ℕ) (p : Pending Asked) → Waits w n p → Waits (on_wire w (with_down w.wire q b)) n p
   waits_with_down w q true n p h = h
   waits_with_down w q false n p h = h
 
-  -- a request stays outstanding if a step of the line happens
+  -- `Waits` is preserved if a step of the line happens
   waits_line : (w : World (ById Asked) State) (step : Step) (n : ℕ) (p : Pending Asked) → IsLineStep step → Waits w n p → Waits (moves ends (by_ids 7 ends) w (OnLine step)) n p
   waits_line w (Send target call deadline) n p o h = absurd o
   waits_line w Up_deliver n p o h = waits_up w w.wire.up n p h
@@ -112,7 +112,7 @@ module _ {State : Type 0} (ends : Ends State) (Good : State → Type 0) (kept : 
   waits_line w Restart_instrument n p o h = absurd o
   waits_line w Nothing n p o h = h
 
-  -- a request that isn't settled by these moves waits on after them, as `after_moves` has it
+  -- where `Waits` holds of request n and `p`, after possible moves it holds of n and what they make of `p` (`after_moves`)
   pub waits_all : (ms : List (Move State)) (w : World (ById Asked) State) (n : ℕ) (p : Pending Asked) → ArePossible ends Good kept (by_ids 7 ends) ms w → Waits w n p
       → Waits (moved ends (by_ids 7 ends) ms w) n (after_moves p ms)
   waits_all [] w n p o h = h

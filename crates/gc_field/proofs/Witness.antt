@@ -1,5 +1,5 @@
 -- The run of one command of `specs/Witness.antt` is in the field, by computation.
-use Rattle.std.proofs.Common.{◌≡◌, inl, inr, ℕ, zero, suc, ◌<◌, List, [], ◌∷◌, ◌++◌, Some, refl, sym, subst, arith, lit<, None}
+use Rattle.std.proofs.Common.{◌≡◌, inl, inr, ℕ, zero, suc, ◌<◌, List, [], ◌∷◌, Some, refl, sym, subst, arith, lit<}
 use Rattle.std.proofs.lemmas.Int.{ints}
 use Rattle.std.specs.Prelude.{codes, map, take, drop}
 use Rattle.std.specs.Fmt.{digits}
@@ -15,13 +15,12 @@ use Rattle.gc_client.specs.OneForOne.{Step}
 use Rattle.gc_instrument.specs.Execution.{exec}
 use Rattle.gc_instrument.specs.Replying.{handed}
 use Rattle.gc_instrument.specs.State.{IsFittingState, simulator_opening}
-use Rattle.gc_links.specs.Acts.{Act}
 use Rattle.gc_texts.specs.Nears.{is_elsewhere}
 use Rattle.gc_texts.specs.declared.tasks.Task.{Task}
-use Rattle.gc_station.specs.declared.plan.Plan.{Plan}
 use Rattle.gc_station.specs.Parts as part
 use Rattle.gc_station.specs.Parts.{Part, nothing, parts_of}
-use Rattle.gc_station.specs.Model.{Runs, Model, after, after_all, opening}
+use Rattle.gc_station.proofs.Going.{runs-append}
+use Rattle.gc_station.specs.Model.{Runs, opening}
 use Rattle.gc_field.specs.Plain.{plain_expected}
 use Rattle.gc_field.specs.Simulator.{ends}
 use Rattle.gc_field.specs.Begin.{begins, leaves, turned}
@@ -42,14 +41,8 @@ pub units : (n : ℕ) → Units n
 units zero = tt
 units (suc n) = (tt, units n)
 
--- acts that are a run, and others that are a run after them, are a run
-pub run_on :
-    (p : Plan) (tasks : List Task) (s : Model) (front later : List Act) → Runs p tasks s front → Runs p tasks (after_all p tasks s front) later
-    → Runs p tasks s (front ++ later)
-run_on p tasks s [] later h g = g
-run_on p tasks s (act ∷ front) later h g = (h.0, run_on p tasks (after p tasks s act) front later h.1 g)
-
--- a connection is made and cleared, and all eight null procedures are answered by the simulator, whatever is to be asked
+-- the acts by which a connection is made and cleared, and all eight null procedures are answered by the simulator, are a run,
+-- whatever is to be asked
 pub opens :
     (width : ℕ) (tasks : List Task) (reads : Asked → List ℕ → Reading)
     → Runs (plan_of width) tasks (opening (plan_of width) (record { turns = 100; reads = reads })) (begun_with replies [])
@@ -62,7 +55,7 @@ opens width tasks reads =
 abbrev pub part_of : List part.Turn → List (Step Asked) → List (ℕ × ℕ) → Part
 part_of turns steps sent = record { turns = turns; steps = steps; marks = map (λ x. Some (record { cycle = 1; place = x.0; sent = x.1; expected = plain_expected })) sent }
 
--- a run in one part, after which nothing happens
+-- the parts of a run that never resynchronizes: the part with these turns, steps and requests, and the empty one after the end
 abbrev pub one_part : List part.Turn → List (Step Asked) → List (ℕ × ℕ) → List Part
 one_part turns steps sent = part_of turns steps sent ∷ nothing ∷ []
 
@@ -130,8 +123,8 @@ asked_each (line ∷ lines) = part.Asks ∷ part.Hears line ∷ asked_each lines
 abbrev all_turns : List part.Turn
 all_turns = part.Asks ∷ part.Hears (codes "%R1P,0,0:0,654321") ∷ part.Hears answer ∷ part.Hears (codes "%R1P,0,6:0") ∷ asked_each (drop 1 replies)
 
--- the run has one part, with these turns and steps, and the request for the command at place 0, which was sent after the moment
--- 15
+-- the run's parts are these: one with these turns and steps, and with the request for the command at place 0, which was sent
+-- after the moment 15; and the empty one after the end
 parts_are : parts_of plan commands (opening plan scope) acts ≡ one_part all_turns (seen moves) ((0, 15) ∷ [])
 unfolding is_elsewhere header_at reply_at digits
 parts_are = refl
@@ -149,7 +142,7 @@ answered =
       field =
           record {
             runs =
-                run_on plan commands (opening plan scope) (take 20 acts) (drop 20 acts)
+                runs-append plan commands (opening plan scope) (take 20 acts) (drop 20 acts)
                 (tt, (refl, (tt, (refl, (tt, (tt, (tt, (tt, (refl, (tt, (tt, (refl, (tt, (tt, (refl, (tt, (tt, (refl, (tt, (tt, tt))))))))))))))))))))
                 (refl, (tt, (tt, (refl, (tt, (tt, (refl, (tt, (tt, (tt, (refl, (tt, (tt, (refl, tt))))))))))))));
             lines = record { ids = (lit< tt, tt); good = fits };

@@ -14,8 +14,8 @@ use Rattle.gc_field.specs.Field.{Move, Sends, OnLine, Comes, ArePossible}
 use Rattle.gc_field.specs.Laws.{world_after, kept_of}
 use Rattle.gc_field.specs.Made.{WasMadeOn}
 
--- the moves of a client that sends two requests at once: the first is lost, and the second has the reply that the instrument
--- retains
+-- the moves of a client that sends two requests at once: the first is lost, and the second is answered with the reply `line` that
+-- the instrument retains
 abbrev pub two_at_once : List ℕ → List (Move State)
 two_at_once line = Sends 1 (Table NullProc) 9 ∷ Sends 2 (Table NullProc) 9 ∷ OnLine (Up_lose 0) ∷ OnLine Up_deliver ∷ Comes line ∷ []
 
@@ -28,7 +28,7 @@ pub record SecondIsBookedUnexecuted (state : State) (line : List ℕ) : Type 0 w
   pub executed : (world_after WINDOW ends state (two_at_once line)).wire.executed ≡ []
   pub unmade : WasMadeOn WINDOW ends (ids_open state) (two_at_once line) 1 (Table NullProc) line → ⊥
 
--- if the simulator retains a reply with id 1, that reply is booked for the second of two requests that are sent at once, which
--- isn't executed
+-- if the simulator, in a state that fits, retains a reply with id 1, that reply is booked for the second of two requests that are
+-- sent at once, which isn't executed
 abbrev pub TwoAtOnceAreBookedWrong : Type 0
 TwoAtOnceAreBookedWrong = (state : State) (line : List ℕ) → IsFittingState state → kept_line state.kept (Some 1) ≡ Some line → SecondIsBookedUnexecuted state line

@@ -1,8 +1,8 @@
 -- A synchronization in the field, this project's own: a client that synchronizes, an instrument, and a line between them that
 -- keeps order, loses lines whole, and repeats one directly after it. The client sends null procedures with the ids
 -- 6 5 4 3 2 1 0 7, the word, each until it is answered. What is in flight from before may be anything. Connections aren't
--- spoken of, because a close is a loss of lines. A request that is cut is lost, because a line feed arrives after its front. The
--- instrument may start again at any moment.
+-- spoken of, because a close is a loss of lines. A request that is cut arrives whole or is lost, because a line feed arrives after
+-- its front. The instrument may start again at any moment.
 use Rattle.std.specs.Prelude.{◌≡◌, ℕ, ◌<◌, Bool, true, false, List, [], ◌∷◌, ◌++◌, map, Option, None}
 use Rattle.std.specs.List.{filter_map}
 use Rattle.gc_catalogue.specs.declared.asked.Asked.TheVariants.{Table}
@@ -85,13 +85,14 @@ module _ {State : Type 0} where
   asks s [] = s
   asks s (asked ∷ rest) = record s { up = s.up ++ record { old = false; line = record { id = asked; call = Table NullProc } } ∷ [] }
 
-  -- the state once the front reply came: if it has the first id of the word that isn't answered, it answers that id;
-  -- otherwise it is discarded
+  -- the state once the front reply came: if it has the first id of the word that isn't answered, it answers that id; otherwise it
+  -- is discarded. If no reply is in flight, nothing changes
   abbrev pub comes : Model State → List (InFlight (List ℕ)) → Model State
   comes s [] = s
   comes s (x ∷ rest) = record s { down = rest; left = left_by s.left (heard x.line) }
 
-  -- the state once the front request was handed to the instrument. The reply is sent, marked old if the request was
+  -- the state once the front request was handed to the instrument. The reply is sent, marked old if the request was. If no
+  -- request is in flight, nothing changes
   abbrev pub reaches : Ends State → Model State → List (InFlight Request) → Model State
   reaches ends s [] = s
   reaches ends s (x ∷ rest) =

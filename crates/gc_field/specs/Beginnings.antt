@@ -30,12 +30,13 @@ pub record HasRisingIds {State : Type 0} (u : UnderWay State) : Type 0 where
   pub few : Each (λ n. n < low + WINDOW) numbers
   pub ids : ids_under_way u ≡ map (λ n. n % 8) numbers
 
--- where `HasRisingIds` holds of what is in flight, the word is no subsequence of the ids in flight: eight ids that rise modulo 8
--- don't contain even the first three ids of the word
+-- where `HasRisingIds` holds of what is in flight, the word is no subsequence of the ids in flight: not even the first three ids
+-- of the word, in their order, are a subsequence of them
 abbrev pub RisingIdsLackTheWord : Type 0 → Type 0
 RisingIdsLackTheWord State = (u : UnderWay State) → HasRisingIds u → IsSubsequence the_word (ids_under_way u) → ⊥
 
--- once a run has synchronized cleanly, `HasRisingIds` holds of what is in flight at any time
+-- for any instrument, and a client with a window of at most `WINDOW` requests: once a run has synchronized cleanly (`IsClean`),
+-- `HasRisingIds` holds of what is in flight after any moves that are possible
 abbrev pub RunsLeaveRisingIds : Type 0 → Type 0
 RunsLeaveRisingIds State =
     (ends : Ends State) (kept : State → Option KeptReply) → IsAnInstrument ends AnyState kept →
@@ -70,6 +71,11 @@ module _ {State : Type 0} (width : ℕ) (ends : Ends State) where
   abbrev pub left_by_run : UnderWay State → Run State → UnderWay State
   left_by_run u r = left_if (after_turns ends u r).left (after_turns ends u r) r.moves
 
+  -- what is in flight after these runs, one after the other
+  abbrev pub left_by_runs : UnderWay State → List (Run State) → UnderWay State
+  left_by_runs u [] = u
+  left_by_runs u (r ∷ rs) = left_by_runs (left_by_run u r) rs
+
   -- at the end of each of these runs, at most five in a row have been killed while they synchronized, counted with the `n`
   -- before the first
   abbrev pub AreFewKilled : ℕ → UnderWay State → List (Run State) → Type 0
@@ -99,9 +105,10 @@ module _ {State : Type 0} (width : ℕ) (ends : Ends State) where
     AreOwn u [] = Unit {0}
     AreOwn u (r ∷ rs) = IsOwnIf (after_turns ends u r).left (after_turns ends u r) r.moves × AreOwn (left_by_run u r) rs
 
--- for any instrument, after a run that had synchronized, or over a line with nothing in flight (`HasRisingIds`): as long as fewer
--- than six runs in a row end while they synchronize, each run that has synchronized has done so cleanly, and `IsFaithful` holds
--- of its moves: each of its answers to a request that is `IsSafe` is its own
+-- for any instrument, and clients with a window of at most `WINDOW` requests, after a run that had synchronized, or over a line
+-- with nothing in flight (`HasRisingIds`, `IsWellFormed`): as long as fewer than six runs in a row end while they synchronize,
+-- each run that has synchronized has done so cleanly, and `IsFaithful` holds of its moves: each of its answers to a request that
+-- is `IsSafe` is its own
 abbrev pub RunsAreTheirOwn : Type 0 → Type 0
 RunsAreTheirOwn State =
     (ends : Ends State) (kept : State → Option KeptReply) → IsAnInstrument ends AnyState kept →

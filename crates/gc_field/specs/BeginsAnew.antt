@@ -25,17 +25,17 @@ use Rattle.gc_field.specs.Begin as turn
 use Rattle.gc_field.specs.Begin.{Turn, Asks, Reaches, UnderWay, begins, leaves, turned}
 use Rattle.gc_field.specs.Beginnings.{Run, left_by_run}
 use Rattle.gc_field.specs.Begun.{WasMadeOn}
-use Rattle.gc_field.specs.CountingChain.{Counter, at_start, null_replies, counting, kept_by}
+use Rattle.gc_field.specs.CountingChain.{Counter, at_start, null_replies, counting, first_reply, kept_by}
 use Rattle.gc_field.specs.Field.{Move, Sends, Tells, Comes, OnLine}
 use Rattle.gc_field.specs.Instrument.{IsAnInstrument, AnyState}
 use Rattle.gc_field.specs.Runs.{IsInField}
-use Rattle.gc_field.specs.Witness.{null_lines, at, begun_with, eight_answered, exchanged, plan_of}
+use Rattle.gc_field.specs.Witness.{null_lines, at, begun_with, eight_answered, exchanged, plan_of, run_and_end}
 
 -- the plan of this run: seven requests at a time
 abbrev pub plan : Plan
 plan = plan_of 7
 
--- a command for each of eight targets: a request for the instrument's number
+-- what a command for this target asks: the instrument's number
 abbrev pub command : ℕ → Wish
 command target = record { target = target; call = Table InstrumentNo }
 
@@ -52,10 +52,6 @@ abbrev pub seven_lines : List (List ℕ)
 seven_lines =
     codes "%R1Q,5003,0:" ∷ codes "%R1Q,5003,1:" ∷ codes "%R1Q,5003,2:" ∷ codes "%R1Q,5003,3:" ∷ codes "%R1Q,5003,4:" ∷ codes "%R1Q,5003,5:"
     ∷ codes "%R1Q,5003,6:" ∷ []
-
--- the reply to the first of the seven, with the number of requests that the instrument had executed by then
-abbrev pub first_reply : List ℕ
-first_reply = codes "%R1P,0,0:0,36"
 
 -- the reply to the seventh of the seven
 abbrev pub seventh_reply : List ℕ
@@ -108,17 +104,18 @@ acts_anew =
 abbrev pub acts : List Act
 acts = given_up ++ acts_anew
 
--- the moves by which a request is sent for each of these targets, at the moment `now` and with the deadline 115; and then the moves `ms`
-abbrev pub send_all : ℕ → List ℕ → List (Move Counter) → List (Move Counter)
-send_all now [] ms = ms
-send_all now (target ∷ others) ms = Sends target (Table InstrumentNo) 115 ∷ Tells now ∷ send_all now others ms
+-- the moves by which a request for the instrument's number is sent for each of these targets, at the moment `now` and with this
+-- deadline; and then the moves `ms`
+abbrev pub send_all : {S : Type 0} → (now deadline : ℕ) → List ℕ → List (Move S) → List (Move S)
+send_all now deadline [] ms = ms
+send_all now deadline (target ∷ others) ms = Sends target (Table InstrumentNo) deadline ∷ Tells now ∷ send_all now deadline others ms
 
 -- what the line does meanwhile: the first of the seven reaches the instrument, the five after it are lost, and the last
 -- stays in flight
 abbrev pub moves : List (Move Counter)
 moves =
     Tells 15
-    ∷ send_all 15 (1 ∷ 2 ∷ 3 ∷ 4 ∷ 5 ∷ 6 ∷ 7 ∷ []) (
+    ∷ send_all 15 115 (1 ∷ 2 ∷ 3 ∷ 4 ∷ 5 ∷ 6 ∷ 7 ∷ []) (
     OnLine Up_deliver
     ∷ OnLine (Up_lose 0)
     ∷ OnLine (Up_lose 0)
@@ -130,8 +127,9 @@ moves =
     ∷ []
     )
 
--- what the line does while the station resynchronizes: the reply to the first command comes, and the seventh request reaches
--- the instrument, whose reply is sent again for the first null procedure, which has that request's id
+-- what the line does while the station resynchronizes: the reply to the first command comes, and the seventh request reaches the
+-- instrument, whose reply is sent again for the first null procedure, which has that request's id; the other null procedures are
+-- answered
 abbrev pub turns : List (Turn Counter)
 turns = Asks ∷ turn.Comes ∷ Reaches ∷ turn.Comes ∷ Asks ∷ Reaches ∷ turn.Comes ∷ Reaches ∷ turn.Comes ∷ drop 6 eight_answered
 
@@ -145,7 +143,7 @@ run = record { turns = eight_answered; moves = moves }
 
 -- the whole run: until it resynchronizes, and from there on; after the end nothing happens
 abbrev pub runs : List (Run Counter)
-runs = run ∷ record { turns = turns; moves = moves_anew } ∷ record { turns = []; moves = [] } ∷ []
+runs = run ∷ run_and_end turns moves_anew
 
 -- what is in flight when the run resynchronizes
 abbrev pub left_by_first : UnderWay Counter

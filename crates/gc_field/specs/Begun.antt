@@ -35,16 +35,17 @@ eighth = record { id = 7; call = Table NullProc }
 abbrev pub IsOfEighth : {State : Type 0} → (State → Option KeptReply) → State → Type 0
 IsOfEighth kept state = (k : KeptReply) → kept state ≡ Some k → k.id ≡ 7
 
--- a synchronization ended cleanly: in flight are copies of its eighth null procedure, and replies to it; and what
--- the instrument retains, if it retains anything, has its id. No request from before is among them, nor a reply to one, and
--- none of the other null procedures
+-- a synchronization ended cleanly: all that is in flight is copies of its eighth null procedure, and replies to it; and what the
+-- instrument retains, if it retains anything, has its id. No request from before is in flight, nor a reply to one, and none of the
+-- other null procedures
 pub record HasBegunCleanly {State : Type 0} (kept : State → Option KeptReply) (s : Model State) : Type 0 where
   pub up : Each (λ x. (x.old ≡ false) × (x.line ≡ eighth)) s.up
   pub down : Each (λ x. (x.old ≡ false) × (heard x.line ≡ Some 7)) s.down
   pub keeps : IsOfEighth kept s.state
 
--- for any instrument: unless the word is a subsequence of the ids in flight when a synchronization begins, whatever is in
--- flight then and well formed (`IsWellFormed`), and whatever happens, once it has synchronized, it has synchronized cleanly
+-- for any instrument: unless the word is a subsequence of the ids in flight when a synchronization begins, whatever is in flight
+-- then and well formed (`IsWellFormed`), and whatever happens that is possible (`AreTurns`), once it has synchronized, it has
+-- synchronized cleanly
 abbrev pub BeginsCleanly : Type 0 → Type 0
 BeginsCleanly State =
     (ends : Ends State) (kept : State → Option KeptReply) → IsAnInstrument ends AnyState kept →
@@ -54,7 +55,7 @@ BeginsCleanly State =
 -- The client after a synchronization.
 
 -- what a synchronization leaves once it has synchronized cleanly: the instrument in a good state, copies of the eighth null
--- procedure, replies to it, and a retained reply with its id, or none
+-- procedure, replies with its id (7), and a retained reply with that id, or none
 pub record IsClean {State : Type 0} (Good : State → Type 0) (kept : State → Option KeptReply) (u : UnderWay State) : Type 0 where
   pub good : Good u.state
   pub up : Each (λ x. x ≡ eighth) u.up
@@ -152,7 +153,8 @@ module _ {State : Type 0} (width : ℕ) (ends : Ends State) (u : UnderWay State)
   -- what holds after these moves of a client that has synchronized, for an instrument whose states are good ones (`Good`).
   -- Settlement 8 + n is the client's settlement n
   pub record IsFaithful (ms : List (Move State)) (Good : State → Type 0) (kept : State → Option KeptReply) : Type 0 where
-    -- a client that takes the steps of the moves settles what the world's client settled, and ends in the same state
+    -- a client that takes the steps of the moves settles what the world's client settled after the null procedures, and ends in
+    -- the same state
     pub settled : (behind ms).wire.settled ≡ nulls_settled ++ (course width begun (seen ms)).settlements
     pub stands : (course width begun (seen ms)).client ≡ (behind ms).client
     -- one for one: what was settled and what is outstanding are the requests that were sent, in order, each once; so settlement
@@ -187,8 +189,8 @@ module _ {State : Type 0} (width : ℕ) (ends : Ends State) (u : UnderWay State)
         (n : ℕ) (line : List ℕ) (rest : List (Numbered (List ℕ))) → (behind ms).wire.down ≡ record { number = n; line = line } ∷ rest → length (behind ms).wire.settled ≤ n →
         (moves ends (by_ids width ends) (behind ms) (Comes line)).wire.settled ≡ (behind ms).wire.settled ++ settle (n - length (behind ms).wire.settled) line (behind ms).client.waiting
 
--- moves after a clean synchronization are faithful, for any instrument, whenever the client sends; no request has to be sent
--- alone
+-- possible moves after a clean synchronization (`IsClean`) are faithful, for any instrument, and a client with a window of at
+-- most `WINDOW` requests, whenever it sends; no request has to be sent alone
 abbrev pub AnswersAreTheirOwnOnceBegun : Type 0 → Type 0
 AnswersAreTheirOwnOnceBegun State =
     (ends : Ends State) (kept : State → Option KeptReply) → IsAnInstrument ends AnyState kept →

@@ -12,7 +12,8 @@ use Rattle.gc_field.specs.Begun.{IsClean, IsFaithful, behind, ids_begun}
 use Rattle.gc_field.specs.Field.{Move, ArePossible, seen}
 use Rattle.gc_field.specs.Instrument.{IsAnInstrument, AnyState}
 use Rattle.gc_field.specs.Laws.{kept_of}
-use Rattle.gc_field.specs.Meaning.{AllMean, client_after}
+use Rattle.gc_field.specs.Meaning.{AllMean}
+use Rattle.gc_station.specs.Parts.{client_after}
 
 -- acts of a station, and the moves of the line and of an instrument that go with them. The synchronization before these acts
 -- has synchronized cleanly, and left `u` in flight; `rest` are the bytes of an unfinished line that the last piece of the
@@ -28,7 +29,8 @@ pub record IsStationFaithful {State : Type 0} (ends : Ends State) (Good : State 
   pub faithful : IsFaithful WINDOW ends u ms Good kept
   pub client : client_after fresh (seen ms) ≡ (behind WINDOW ends u ms).client
 
--- acts of a station that has synchronized cleanly are faithful, for any instrument, whenever the station sends
+-- acts of a station that has synchronized cleanly (`IsCarried`) are faithful (`IsStationFaithful`), for any instrument, whenever
+-- the station sends
 abbrev pub StationsAnswersAreTheirOwn : Type 0 → Type 0
 StationsAnswersAreTheirOwn State =
     (ends : Ends State) (kept : State → Option KeptReply) → IsAnInstrument ends AnyState kept →

@@ -29,7 +29,7 @@ use Rattle.gc_field.specs.Laws.{kept_of}
 use Rattle.gc_field.specs.Pointing.{AreStill}
 use Rattle.gc_field.specs.Runs.{IsInField}
 use Rattle.gc_field.specs.Shown.{Stretch}
-use Rattle.gc_field.specs.Witness.{plan, at, begun_with, eight_answered, replies}
+use Rattle.gc_field.specs.Witness.{plan, at, begun_with, eight_answered, replies, run_and_end}
 
 -- the horizontal direction of a target, in radians
 abbrev pub hz : Decimal
@@ -143,7 +143,7 @@ stretch = record { from = leaves (turned ends eight_answered (begins at_start));
 
 -- what happens on the line: in this run, and after its end in one more, in which nothing happens
 abbrev pub runs : List (Run State)
-runs = record { turns = eight_answered; moves = moves } ∷ record { turns = []; moves = [] } ∷ []
+runs = run_and_end eight_answered moves
 
 -- this is a run in the field that recorded all three answers; the third command is of the first one's chain, no command between
 -- the two turns the telescope, and nothing disturbs the instrument. So when the third is executed, after both others, the

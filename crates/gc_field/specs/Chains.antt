@@ -1,24 +1,20 @@
 -- Chains in the field, this project's own: what the instrument had executed when it executed a command of a chain. Each earlier
 -- command of the chain had been executed before, with the reply that was booked for it; between the two only what was sent
--- between them was executed; and the instrument's state was what these executions had made of it. A part is what a station sees
--- of its run from one synchronization to the next, and a stretch what happens on the line meanwhile, once it has synchronized.
+-- between them was executed; and the instrument's state was what these executions had made of it, apart from what it retains. A
+-- part is what a station sees of its run from one synchronization to the next, and a stretch what happens on the line meanwhile,
+-- once it has synchronized.
 use Rattle.std.specs.Prelude.{◌≡◌, ℕ, Bool, ◌+◌, ◌<◌, ◌≤◌, true, false, List, [], ◌∷◌, ◌++◌, Option, Some, slice_get}
 use Rattle.std.specs.List.{AllByRecursion}
-use Rattle.gc_catalogue.specs.declared.answer.Answer.{Answer}
 use Rattle.gc_catalogue.specs.declared.answer.Reading.{Reading}
 use Rattle.gc_catalogue.specs.declared.asked.Asked.{Asked}
 use Rattle.gc_client.specs.declared.window.TheConstants.{WINDOW}
 use Rattle.gc_instrument.specs.State.{KeptReply}
 use Rattle.gc_links.specs.Acts.{Act}
-use Rattle.gc_texts.specs.Endings.{Answered}
-use Rattle.gc_texts.specs.Qualities.{is_good}
+use Rattle.gc_texts.specs.Endings.{line_of}
 use Rattle.gc_texts.specs.declared.near.Expected.{Expected}
-use Rattle.gc_texts.specs.declared.quality.Quality.{Quality}
 use Rattle.gc_texts.specs.declared.tasks.Task.{Task}
-use Rattle.gc_station.specs.Answers.{answer_of}
-use Rattle.gc_station.specs.Links.{AreChained}
+use Rattle.gc_station.specs.Links.{AreChained, WasAnsweredWell}
 use Rattle.gc_station.specs.Parts.{Part, mark_of, parts_of}
-use Rattle.gc_station.specs.Qualities.{IsOfQuality, accepted_at}
 use Rattle.gc_station.specs.Records.{Record}
 use Rattle.gc_station.specs.Runs.{state_after}
 use Rattle.gc_station.specs.Scopes.{Scope}
@@ -62,7 +58,7 @@ IsUndisturbed (Anew ∷ ms) = ⊥
 IsUndisturbed (Changes state ∷ ms) = ⊥
 IsUndisturbed (Joins line ∷ ms) = ⊥
 
--- these are the calls of the requests with these numbers
+-- these are the calls of the requests with these numbers, one for one, in order
 abbrev pub AreCalls : List Sent → List ℕ → List Asked → Type 0
 AreCalls sent [] [] = Unit {0}
 AreCalls sent (n ∷ ns) (call ∷ calls) = ((r : Sent) × (slice_get sent n ≡ Some r) × (r.call ≡ call)) × AreCalls sent ns calls
@@ -88,7 +84,8 @@ stretch_wire ends s ms = (begun.behind WINDOW ends s.from ms).wire
 module _ {State : Type 0} (ends : Ends State) (Good : State → Type 0) (kept : State → Option KeptReply) where
   -- Two executions of a stretch.
 
-  -- in a stretch request m was executed, with `line_m` as its reply, and later request n, with `line_n`
+  -- in a stretch request m, which asks for `call_m`, was executed with `line_m` as its reply, and later request n, which asks for
+  -- `call_n`, with `line_n`
   pub record IsExecutedAfter (s : Stretch State) (m n : ℕ) (call_m call_n : Asked) (line_m line_n : List ℕ) : Type 0 where
     pub first : WasMadeOn WINDOW ends s.from s.moves m call_m line_m
     pub second : WasMadeOn WINDOW ends s.from s.moves n call_n line_n
@@ -105,8 +102,8 @@ module _ {State : Type 0} (ends : Ends State) (Good : State → Type 0) (kept : 
     pub strictly :
         (knows : Asked → Bool) → KeepsItsReply ends Good kept knows → HasNoStartBetween between →
         Each (λ x. (r : Sent) → slice_get (stretch_wire ends s s.moves).sent x ≡ Some r → knows r.call ≡ true → (m < x) × (x < n)) numbers
-    -- if the instrument neither started nor changed by itself between, its state when n reached it is the state in which m
-    -- reached it, changed by executing m and then the requests between
+    -- if the instrument neither started nor changed by itself between, its state when n reached it is, apart from what it retains,
+    -- the state in which m reached it, changed by executing m and then the requests between (`HasEffect`)
     pub calls : List Asked
     pub asked : AreCalls (stretch_wire ends s s.moves).sent numbers calls
     pub state :
@@ -115,23 +112,14 @@ module _ {State : Type 0} (ends : Ends State) (Good : State → Type 0) (kept : 
 
   -- A chain of a run.
 
-  -- in a run with the parts `ps` and the stretches `ss`, the command of record b was executed after the command at place a of
-  -- the same cycle
+  -- in a run with the parts `ps` and the stretches `ss`, the command of record b was executed after the command at place a of the
+  -- same cycle. `records` are the run's records, `reads` gives what a reply says of its call, and `line_b` is the reply of record
+  -- b
   pub record IsChainedTo (reads : Asked → List ℕ → Reading) (commands : List Task) (ps : List Part) (ss : List (Stretch State))
       (records : List Record) (a : ℕ) (b : Record) (line_b : List ℕ) : Type 0 where
     -- the command at place a has a record, too, which is an answer of a good quality: with both codes 0 and values that read, or
-    -- with a return code that is accepted of that command
-    pub k : ℕ
-    pub record_a : Record
-    pub among : slice_get records k ≡ Some record_a
-    pub cycle : record_a.cycle ≡ b.cycle
-    pub place : record_a.place ≡ a
-    pub line_a : List ℕ
-    pub quality : Quality
-    pub said : Option Answer
-    pub answered : record_a.end ≡ Answered quality said line_a
-    pub well : is_good quality ≡ true
-    pub says : IsOfQuality reads (accepted_at commands a) record_a.command.call quality said line_a
+    -- with a return code that is accepted of that command (`IsGoodAnswer`)
+    pub earlier : WasAnsweredWell reads commands records b.cycle a
     -- both are requests of the client in one part of the run, number i, and so in one stretch: request m for place a, and
     -- request n, which was sent later, for record b
     pub i : ℕ
@@ -144,26 +132,26 @@ module _ {State : Type 0} (ends : Ends State) (Good : State → Type 0) (kept : 
     pub goes_on : m < n
     pub expected_a : Expected
     pub expected_b : Expected
-    pub mark_a : slice_get part.marks m ≡ Some (Some (mark_of expected_a record_a))
+    pub mark_a : slice_get part.marks m ≡ Some (Some (mark_of expected_a earlier.answer))
     pub mark_b : slice_get part.marks n ≡ Some (Some (mark_of expected_b b))
     -- the commands that were sent between them are those of the places between them, of the same cycle
     pub between : (x : ℕ) (mark : _) → m < x → x < n → slice_get part.marks x ≡ Some (Some mark) → (mark.cycle ≡ b.cycle) × (a < mark.place) × (mark.place < b.place)
     -- and they were executed in this order, with these replies
-    pub executed : IsExecutedAfter stretch (8 + m) (8 + n) record_a.command.call b.command.call line_a line_b
+    pub executed : IsExecutedAfter stretch (8 + m) (8 + n) earlier.answer.command.call b.command.call earlier.good.line line_b
 
-  -- if the command of record b, of a cycle and not of the setup, was answered, each command of its cycle before it in its chain
-  -- was executed before it
+  -- if a reply in time ended the command of record b (`line_of`), which is of a cycle and not of the setup, each command of that
+  -- cycle before it in its chain was executed before it (`IsChainedTo`)
   abbrev pub IsExecutedInChain : Plan → List Task → Scope → List Act → UnderWay State → List (Run State) → Record → Type 0
   IsExecutedInChain plan commands scope acts u rs b =
-      (line : List ℕ) (a : ℕ) → answer_of b.end ≡ Some line → 0 < b.cycle → plan.setup ≤ a → a < b.place → AreChained commands a b.place
+      (line : List ℕ) (a : ℕ) → line_of b.end ≡ Some line → 0 < b.cycle → plan.setup ≤ a → a < b.place → AreChained commands a b.place
       → IsChainedTo scope.reads commands (parts_of plan commands (opening plan scope) acts) (stretches ends u rs) (state_after plan commands scope acts).records a b line
 
   -- each record of a run is `IsExecutedInChain`
   abbrev pub AreExecutedInChain : Plan → List Task → Scope → List Act → UnderWay State → List (Run State) → Type 0
   AreExecutedInChain plan commands scope acts u rs = AllByRecursion (IsExecutedInChain plan commands scope acts u rs) (state_after plan commands scope acts).records
 
--- each record is `IsExecutedInChain`: for any instrument, every plan, all commands, every run of the station, and all that the
--- line and the instrument may do meanwhile
+-- each record is `IsExecutedInChain`: for any instrument, every plan, all commands, every run of the station in the field
+-- (`IsInField`), and all that the line and the instrument may do meanwhile
 abbrev pub ChainsAreExecuted : Type 0 → Type 0
 ChainsAreExecuted State =
     (ends : Ends State) (kept : State → Option KeptReply) → IsAnInstrument ends AnyState kept →

@@ -20,7 +20,7 @@ use Rattle.gc_field.specs.Instrument.{IsAnInstrument, KeepsItsReply, AnyState, a
 use Rattle.gc_field.specs.Needed.{Keeper, held, kept, giving}
 use Rattle.gc_field.specs.Runs.{IsInField}
 use Rattle.gc_field.specs.Shown.{Stretch}
-use Rattle.gc_field.specs.Witness.{plan, eight_answered}
+use Rattle.gc_field.specs.Witness.{plan, eight_answered, run_and_end}
 
 -- the state of this instrument: how many requests it has executed since it started, and what it retains: the last request's id,
 -- and the count by then
@@ -28,8 +28,8 @@ pub record Counter : Type 0 where
   pub count : ℕ
   pub keeps : Keeper
 
--- what the instrument does with a request: it sends again what it retains for the request's id, or executes the request and
--- counts it
+-- what the instrument does with a request, by the count that it retains for the request's id: it sends that count again; or, if
+-- there is none (None), it executes the request, counts it, and retains that reply
 abbrev pub counted_or : Counter → ℕ → Option ℕ → Handed Counter
 counted_or s id (Some n) = record { state = s; reply = giving id n; executed = false }
 counted_or s id None = record { state = record { count = suc s.count; keeps = Some (id, suc s.count) }; reply = giving id (suc s.count); executed = true }
@@ -86,7 +86,7 @@ stretch = record { from = leaves (turned counting eight_answered (begins at_star
 
 -- what happens on the line: in this run, and after its end in one more, in which nothing happens
 abbrev pub runs : List (Run Counter)
-runs = record { turns = eight_answered; moves = moves } ∷ record { turns = []; moves = [] } ∷ []
+runs = run_and_end eight_answered moves
 
 -- this run meets all premises of the law of chains: `counting` is an instrument in each of its states, retains its reply, and a
 -- call has the effect `counts` on its state. The run is in the field, its third command is of the first one's chain, and

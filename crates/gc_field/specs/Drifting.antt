@@ -31,7 +31,7 @@ use Rattle.gc_field.specs.Begun.{WasMadeOn}
 use Rattle.gc_field.specs.Field.{Move, Sends, Tells, Comes, OnLine, Anew, Changes}
 use Rattle.gc_field.specs.Instrument.{IsAnInstrument, AnyState, nothing}
 use Rattle.gc_field.specs.Runs.{IsInField}
-use Rattle.gc_field.specs.Witness.{null_lines, at, eight_answered, exchanged}
+use Rattle.gc_field.specs.Witness.{null_lines, at, eight_answered, exchanged, run_and_end}
 
 -- the instrument: its state is the number that it measures, with which it answers every request; a start sets it to 0
 abbrev pub drifting : Ends ℕ
@@ -139,7 +139,7 @@ moves raw =
 
 -- what happens on the line: in this run, and after its end in one more, in which nothing happens
 abbrev pub runs : RawCall → List (Run ℕ)
-runs raw = record { turns = turns; moves = moves raw } ∷ record { turns = []; moves = [] } ∷ []
+runs raw = run_and_end turns (moves raw)
 
 -- `drifting` is an instrument, and this is a run in the field, after which no act follows. The run recorded the first command
 -- as lost, and the second one's answer, which was made on executing the second command's request

@@ -14,8 +14,8 @@ use Rattle.gc_catalogue.specs.Asked.{is_of_table}
 
 -- one step in the field
 pub data Move (State : Type 0) : Type 0 where
-  -- the client's part: a request is sent, whole or in part; a moment is read; a reply comes; a line comes that is no reply with
-  -- an id
+  -- the client's part: it is handed a request, which it sends, whole or in part, or refuses; a moment is read; a reply comes; a
+  -- line comes that is no reply with an id
   Sends : (target : ℕ) (call : Asked) (deadline : ℕ) → Move State
   Tells : (now : ℕ) → Move State
   Comes : (line : List ℕ) → Move State
@@ -44,8 +44,9 @@ IsLineStep Restart_client = ⊥
 IsLineStep Restart_instrument = ⊥
 IsLineStep Nothing = Unit {0}
 
--- the wire once the two front requests reached the instrument as one line, which has this reply: it counts as the reply to the
--- first of them. Nothing counts as executed, and the instrument's state stays. If fewer than two are in flight, nothing happens
+-- the wire once the two front ones of these requests, which are in flight to the instrument, reached it as one line, which has
+-- this reply: the reply counts as that to the first of them. Nothing counts as executed, and the instrument's state stays. If
+-- fewer than two are in flight, nothing happens
 abbrev pub joined : {State : Type 0} → Wire State → List (Numbered Request) → List ℕ → Wire State
 joined w (x ∷ y ∷ rest) line =
     let reply : Numbered (List ℕ) = record { number = x.number; line = line } in
@@ -100,7 +101,8 @@ seen (Anew ∷ ms) = seen ms
 seen (Changes state ∷ ms) = seen ms
 seen (Joins line ∷ ms) = seen ms
 
--- at most one request is sent before the first reply comes: none if the first request was sent before these moves (`out`)
+-- the client is handed at most one request before the first reply comes among these moves: none if it was handed the first
+-- request before these moves (`out`)
 abbrev pub IsFirstAlone : {State : Type 0} → Bool → List (Move State) → Type 0
 IsFirstAlone out [] = Unit {0}
 IsFirstAlone out (Sends target call deadline ∷ ms) = (out ≡ false) × IsFirstAlone true ms
@@ -112,7 +114,7 @@ IsFirstAlone out (Anew ∷ ms) = IsFirstAlone out ms
 IsFirstAlone out (Changes state ∷ ms) = IsFirstAlone out ms
 IsFirstAlone out (Joins line ∷ ms) = IsFirstAlone out ms
 
--- each request that is sent is one that `knows` names
+-- each request that the client is handed, also one that it refuses, is one that `knows` names
 abbrev pub AsksOnly : {State : Type 0} → (Asked → Bool) → List (Move State) → Type 0
 AsksOnly knows [] = Unit {0}
 AsksOnly knows (Sends target call deadline ∷ ms) = (knows call ≡ true) × AsksOnly knows ms
@@ -124,12 +126,12 @@ AsksOnly knows (Anew ∷ ms) = AsksOnly knows ms
 AsksOnly knows (Changes state ∷ ms) = AsksOnly knows ms
 AsksOnly knows (Joins line ∷ ms) = AsksOnly knows ms
 
--- each request that is sent is a call of the table
+-- each request that the client is handed, also one that it refuses, is a call of the table
 abbrev pub AsksTheTable : {State : Type 0} → List (Move State) → Type 0
 AsksTheTable ms = AsksOnly is_of_table ms
 
--- from a new client on, and with nothing in flight, these moves are possible, whatever reply the instrument retains; the requests
--- are calls of the table; and the first one is sent alone
+-- from a new client on, with a window of this width, and with nothing in flight, these moves are possible, whatever reply the
+-- instrument retains; the requests are calls of the table (`AsksTheTable`); and the first one is sent alone (`IsFirstAlone`)
 pub record IsField {State : Type 0} (width : ℕ) (ends : Ends State) (Good : State → Type 0) (kept : State → Option KeptReply) (state : State) (ms : List (Move State)) : Type 0 where
   pub possible : ArePossible ends Good kept (by_ids width ends) ms (ids_open state)
   pub table : AsksTheTable ms

@@ -28,7 +28,8 @@ abbrev pub CutRequestsAreWholeOrNothing : Type 0
 CutRequestsAreWholeOrNothing = (id : ℕ) (call : Call) → IsFitting call → IsWholeOrNothing id call
 
 -- if the line feed after the front of a request is lost, the front and the next request are one line. If that line is a request
--- at all, it has the front's id and procedure
+-- at all, it has the id and the procedure of the request that was cut: for a front of at least one byte, without the CR, of a
+-- request with an id from 0 to 7 and a call that fits; the next request (`next`, `behind`) may have any id and call
 abbrev pub JoinedRequestsHaveTheFrontsId : Type 0
 JoinedRequestsHaveTheFrontsId =
     (id : ℕ) (call : Call) (next : ℕ) (behind : Call) (count : ℕ) → id < 8 → IsFitting call → 0 < count → (q : RequestFields) →

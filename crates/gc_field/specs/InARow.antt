@@ -12,7 +12,7 @@ use Rattle.gc_station.specs.Model.{Runs, opening}
 use Rattle.gc_field.specs.Simulator.{ends}
 use Rattle.gc_field.specs.World.{Ends}
 use Rattle.gc_field.specs.Begin.{IsWellFormed, Turn, UnderWay}
-use Rattle.gc_field.specs.Beginnings.{AreRuns, HasRisingIds, Run, killed_if, left_by_run, after_turns}
+use Rattle.gc_field.specs.Beginnings.{AreRuns, HasRisingIds, Run, killed_if, left_by_run, left_by_runs, after_turns}
 use Rattle.gc_field.specs.Instrument.{AnyState, IsAnInstrument}
 use Rattle.gc_field.specs.Laws.{kept_of}
 use Rattle.gc_field.specs.Runs.{IsRunFaithful}
@@ -28,13 +28,9 @@ pub record Program (State : Type 0) : Type 0 where
   pub runs : List (Run State)
 
 module _ {State : Type 0} (ends : Ends State) where
-  -- what is in flight after these runs
-  abbrev pub left_over : UnderWay State → List (Run State) → UnderWay State
-  left_over u [] = u
-  left_over u (r ∷ rs) = left_over (left_by_run WINDOW ends u r) rs
-
-  -- how many runs in a row were killed while they synchronized, up to the run r, where `n` were before it. The list is the run's
-  -- turns: a run without turns, in which nothing happened, leaves the count as it was
+  -- how many runs in a row were killed while they synchronized, up to the run r, where `n` were before it; `u` is what is in
+  -- flight when it begins. The list is the run's turns: a run without turns, in which nothing happened, leaves the count as it
+  -- was
   abbrev pub killed_by : ℕ → UnderWay State → Run State → List (Turn State) → ℕ
   killed_by n u r [] = n
   killed_by n u r (t ∷ ts) = killed_if (after_turns ends u r).left n
@@ -51,8 +47,9 @@ module _ {State : Type 0} (ends : Ends State) where
   AreFewKilledWithTurns n u (r ∷ rs) = (killed_by n u r r.turns ≤ 5) × AreFewKilledWithTurns (killed_by n u r r.turns) (left_by_run WINDOW ends u r) rs
 
   module _ (Good : State → Type 0) (kept : State → Option KeptReply) where
-    -- a program is a run of its station over what is in flight, where `n` runs in a row were killed before while they
-    -- synchronized; and counted with these, at most five in a row are (`AreFewKilledWithTurns`)
+    -- a program is a run of its station over what is in flight (`u`): what happens on the line is possible (`AreRuns`), and shows
+    -- the station that run (`AreShownAs`). Where `n` runs in a row were killed before while they synchronized, at most five in a
+    -- row are, counted with those `n` (`AreFewKilledWithTurns`)
     pub record IsNextProgram (n : ℕ) (u : UnderWay State) (x : Program State) : Type 0 where
       pub runs : Runs x.plan x.commands (opening x.plan x.scope) x.acts
       pub shown : AreShownAs ends u x.runs (parts_of x.plan x.commands (opening x.plan x.scope) x.acts)
@@ -62,15 +59,16 @@ module _ {State : Type 0} (ends : Ends State) where
     -- each of these programs is `IsNextProgram`, over what the one before it left
     abbrev pub AreInARow : ℕ → UnderWay State → List (Program State) → Type 0
     AreInARow n u [] = Unit {0}
-    AreInARow n u (x ∷ xs) = IsNextProgram n u x × AreInARow (killed_over n u x.runs) (left_over u x.runs) xs
+    AreInARow n u (x ∷ xs) = IsNextProgram n u x × AreInARow (killed_over n u x.runs) (left_by_runs WINDOW ends u x.runs) xs
 
     -- each of these programs is a faithful run, over what the one before it left
     abbrev pub AreFaithful : UnderWay State → List (Program State) → Type 0
     AreFaithful u [] = Unit {0}
-    AreFaithful u (x ∷ xs) = IsRunFaithful ends Good kept x.plan x.commands x.scope x.acts u x.runs × AreFaithful (left_over u x.runs) xs
+    AreFaithful u (x ∷ xs) = IsRunFaithful ends Good kept x.plan x.commands x.scope x.acts u x.runs × AreFaithful (left_by_runs WINDOW ends u x.runs) xs
 
--- for any instrument, after a run that had synchronized, or over a line with nothing in flight (`HasRisingIds`): as long as fewer
--- than six runs in a row end while they synchronize, each program is a faithful run
+-- for any instrument, after a run that had synchronized, or over a line with nothing in flight (`HasRisingIds`, `IsWellFormed`):
+-- as long as fewer than six runs in a row end while they synchronize, each program of programs in a row (`AreInARow`) is a
+-- faithful run
 abbrev pub StationsInARowAreFaithful : Type 0 → Type 0
 StationsInARowAreFaithful State =
     (ends : Ends State) (kept : State → Option KeptReply) → IsAnInstrument ends AnyState kept →

@@ -1,9 +1,10 @@
--- What is asked of an instrument, this project's own: it answers in turn, one request at a time, each with its request's id,
--- and what it sends again is its reply to the request directly before, or to the last call of the table before that. By this
--- and by when a client sends (`IsBehindTheTable`) each answer is its own request's. Its states are of any kind. It may do with
--- a request whatever it likes, and carry it out or refuse it, with any codes and any parameters, also such as don't read.
--- `executed` means that the line was made now, for this request, be it an answer or a refusal; if it isn't so, the line is an
--- older one that is sent again.
+-- What is asked of an instrument, this project's own: it answers in turn, one request at a time, each with its request's id, and
+-- what it sends again is its reply to the request directly before, or to an earlier one after which only requests came that are
+-- no calls of the table. By this and by when a client sends (`IsBehindTheTable`) each answer is its own request's. Its states are
+-- of any kind. It may do with a request whatever it likes, and carry it out or refuse it, with any codes and any parameters, also
+-- such as don't read. `executed` means that the line was made now, for this request, be it an answer or a refusal; if it isn't
+-- so, the line is an older one that is sent again. What is asked of it at a request or a start is asked only in good states
+-- (`Good`), and only for requests with an id from 0 to 7 (below `IDS`).
 use Rattle.std.specs.Prelude.{◌≡◌, ℕ, ◌<◌, ◌⊎◌, Bool, true, false, List, Option, Some, None}
 use Rattle.gc_catalogue.specs.declared.asked.Asked.{Asked}
 use Rattle.gc_client.specs.declared.window.TheConstants.{IDS}
@@ -78,8 +79,8 @@ module _ {State : Type 0} (ends : Ends State) where
       abbrev pub TreatsRawsAlike : Type 0
       TreatsRawsAlike = (state : State) (id : ℕ) (call : Asked) → Good state → id < IDS → KeepsItsOwn state id call
 
-      -- an instrument that retains its reply to each request that it knows (`knows`), and sends that reply again if the next
-      -- request has the same id
+      -- an instrument that retains its reply to each request that it knows (`knows`), and, as long as it retains that reply, sends
+      -- it again for a request that it knows with the same id
       pub record KeepsItsReply (knows : Asked → Bool) : Type 0 where
         -- it doesn't execute a request that it knows and that has the id of the line that it retains
         pub again :
@@ -91,7 +92,7 @@ module _ {State : Type 0} (ends : Ends State) where
             kept (ends.handed state id call).state ≡ Some (record { id = id; line = (ends.handed state id call).reply })
 
 -- an instrument's state may change by itself between two requests, as by a hand at its keys, a clock, or the noise of a
--- measurement: into any good state that retains the same line
+-- measurement: into any good state that retains the same reply as before, or none if none was retained
 abbrev pub MayBecome : {State : Type 0} → (State → Type 0) → (State → Option KeptReply) → (before after : State) → Type 0
 MayBecome Good kept before after = Good after × (kept after ≡ kept before)
 
@@ -107,8 +108,8 @@ all_known call = true
 abbrev pub nothing : {State : Type 0} → State → Option KeptReply
 nothing state = None
 
--- what retains no reply and executes each request is an instrument, if the client reads its lines by the grammar of replies,
--- and each of its replies reads as one with its request's id
+-- what retains no reply and executes each request is an instrument, if the client reads its lines by the grammar of replies, and
+-- each of its replies to a request with an id from 0 to 7 reads as one with that id
 abbrev pub KeepingNothingSuffices : Type 0 → Type 0
 KeepingNothingSuffices State =
     (ends : Ends State) → ((line : List ℕ) → ends.heard line ≡ heard line) →

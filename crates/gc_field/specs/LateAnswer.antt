@@ -5,7 +5,7 @@ use Rattle.gc_catalogue.specs.declared.answer.Answer.TheVariants.{Long}
 use Rattle.gc_catalogue.specs.declared.asked.Asked.TheVariants.{Table}
 use Rattle.gc_catalogue.specs.declared.call.Call.TheVariants.{InstrumentNo}
 use Rattle.gc_client.specs.declared.window.TheConstants.{WINDOW}
-use Rattle.gc_instrument.specs.State.{State, IsFittingState, simulator_opening}
+use Rattle.gc_instrument.specs.State.{State, IsFittingState}
 use Rattle.gc_texts.specs.declared.tasks.Task.{Task}
 use Rattle.gc_texts.specs.Endings as end
 use Rattle.gc_texts.specs.declared.quality.Quality.TheVariants.{Fine}
@@ -15,13 +15,14 @@ use Rattle.gc_station.specs.Runs.{state_after}
 use Rattle.gc_field.specs.Plain.{plain_task, plain_turn}
 use Rattle.gc_field.specs.Simulator.{ends}
 use Rattle.gc_field.specs.World.{Up_deliver}
-use Rattle.gc_field.specs.Begin.{UnderWay, begins, leaves, none_under_way, turned}
+use Rattle.gc_field.specs.Begin.{UnderWay, begins, leaves, turned}
 use Rattle.gc_field.specs.Beginnings.{Run}
 use Rattle.gc_field.specs.Begun.{WasMadeOn}
+use Rattle.gc_field.specs.ChainWitness.{at_start}
 use Rattle.gc_field.specs.Field.{Move, Sends, Tells, Comes, OnLine}
 use Rattle.gc_field.specs.Laws.{kept_of}
 use Rattle.gc_field.specs.Runs.{IsInField}
-use Rattle.gc_field.specs.Witness.{plan, scope, at, begun_with, eight_answered, replies}
+use Rattle.gc_field.specs.Witness.{plan, scope, at, begun_with, eight_answered, replies, run_and_end}
 
 -- two requests for the instrument's number
 abbrev pub commands : List Task
@@ -75,18 +76,14 @@ moves =
 
 -- what happens on the line: in this run, and after its end in one more, in which nothing happens
 abbrev pub runs : List (Run State)
-runs = record { turns = eight_answered; moves = moves } ∷ record { turns = []; moves = [] } ∷ []
-
--- at the start of the run nothing is in flight
-abbrev pub at_start : UnderWay State
-at_start = none_under_way simulator_opening
+runs = run_and_end eight_answered moves
 
 -- what is in flight once the run has synchronized
 abbrev pub from : UnderWay State
 from = leaves (turned ends eight_answered (begins at_start))
 
--- this is a run in the field, after which no act follows. It recorded the first command as late, and the second one's answer;
--- and each of these lines was made on executing its own request
+-- this is a run in the field over a line with nothing in flight, after which no act follows. It recorded the first command as late,
+-- and the second one's answer; and each of these lines was made on executing its own request
 pub record IsLateInField : Type 0 where
   pub field : IsInField ends IsFittingState kept_of plan commands scope acts at_start runs
   pub over : is_over (state_after plan commands scope acts).progress ≡ true

@@ -9,6 +9,7 @@ use Rattle.gc_client.specs.declared.window.TheConstants.{WINDOW, IDS}
 use Rattle.gc_client.specs.OneForOne.{Wanted, begun, course, of_settled, of_pending}
 use Rattle.gc_client.specs.Rule.{ById, Settlement, Answered, Late, settle}
 use Rattle.gc_instrument.specs.Replying.{IsReplied}
+pub use Rattle.gc_instrument.specs.Replying.{kept_of}
 use Rattle.gc_instrument.specs.State.{KeptReply, State, IsFittingState}
 use Rattle.gc_world.specs.Clients.{by_ids, by_numbers, ids_open, numbers_open}
 use Rattle.gc_field.specs.Simulator.{ends, handed}
@@ -81,16 +82,12 @@ AnswersAreTheirOwn State =
     (ends : Ends State) (kept : State → Option KeptReply) → IsAnInstrument ends AnyState kept →
     (width : ℕ) → width ≤ WINDOW → (state : State) (ms : List (Move State)) → IsField width ends AnyState kept state ms → IsFaithfulUnsynchronized width ends state ms AnyState kept
 
--- the reply that the simulator retains
-abbrev pub kept_of : State → Option KeptReply
-kept_of s = s.kept
-
 -- the simulator is an instrument, in any state that fits, and one that retains its reply to each call of its table. It refuses
--- other requests, and its refusals leave the retained reply
+-- other requests, and these refusals leave the retained reply as it is
 pub record SimulatorIsAnInstrument : Type 0 where
   pub instrument : IsAnInstrument ends IsFittingState kept_of
   pub keeps : KeepsItsReply ends IsFittingState kept_of is_of_table
-  -- `handed` is what the simulated instrument does with the line of a request that isn't in its table
+  -- `handed` is what the simulated instrument does with the line of a request that isn't in its table, for an id from 0 to 7
   pub refuses :
       (state : State) (id : ℕ) (raw : RawCall) → id < IDS
       → IsReplied state (asked_line (Some id) (Raw raw)) (handed state id (Raw raw)).state (Some (handed state id (Raw raw)).reply)

@@ -7,11 +7,12 @@ use Rattle.gc_lines.specs.Lines.{with_end}
 use Rattle.gc_catalogue.specs.declared.asked.Asked.{Asked}
 use Rattle.gc_catalogue.specs.Asked.{asked_line}
 use Rattle.gc_client.specs.declared.window.TheConstants.{WINDOW}
-use Rattle.gc_client.specs.OneForOne.{Step, Send, Hear, Expire, course_after}
+use Rattle.gc_client.specs.OneForOne.{Step, Send, Hear, Expire}
 use Rattle.gc_client.specs.Rule.{ById, Sending, sends}
 use Rattle.gc_links.specs.declared.link.Moment.{Moment}
 use Rattle.gc_links.specs.Acts.{Act, Told, Untold, Put, Cut, Gave, Silent, Ended, Broke, Closed, Opened, Unopened}
 use Rattle.gc_station.specs.Model.{lines_completed}
+use Rattle.gc_station.specs.Parts.{client_after}
 
 -- these bytes are the line of a request that the client sends by this step
 pub record IsSentRequest (client : ById Asked) (bytes : List ℕ) (steps : List (Step Asked)) : Type 0 where
@@ -28,9 +29,9 @@ pub record IsSentRequest (client : ById Asked) (bytes : List ℕ) (steps : List 
 abbrev pub IsPut : ById Asked → List ℕ → List (Step Asked) → Type 0
 IsPut client bytes steps = ((bytes ≡ 10 ∷ []) × (steps ≡ [])) ⊎ IsSentRequest client bytes steps
 
--- what a piece that is heard means to a client: first the moment `m` is read, at which requests past their deadline have timed
--- out; then each line that the piece completes is heard. `before` and `behind` are the bytes since the last line feed, before
--- the piece and after it
+-- what a piece that is heard means to a client: first the moment `m` is read, and a request times out whose deadline is at most
+-- this moment; then each line that the piece completes is heard. `before` and `behind` are the bytes since the last line feed,
+-- before the piece and after it
 pub record IsHeard (before piece : List ℕ) (m : Moment) (steps : List (Step Asked)) (behind : List ℕ) : Type 0 where
   pub lines : steps ≡ Expire m.elapsed ∷ map Hear (lines_completed before piece)
   pub rest : behind ≡ rest_behind before piece
@@ -56,15 +57,6 @@ Means client before Broke steps behind = (steps ≡ []) × (behind ≡ before)
 Means client before Closed steps behind = (steps ≡ []) × (behind ≡ [])
 Means client before Opened steps behind = (steps ≡ []) × (behind ≡ before)
 Means client before Unopened steps behind = (steps ≡ []) × (behind ≡ before)
-
--- a client after a step, by its rule with the window of seven
-abbrev pub stepped : ById Asked → Step Asked → ById Asked
-stepped client step = (course_after WINDOW (record { sent = []; settlements = []; client = client }) step).client
-
--- a client after several steps, in order
-abbrev pub client_after : ById Asked → List (Step Asked) → ById Asked
-client_after client [] = client
-client_after client (step ∷ steps) = client_after (stepped client step) steps
 
 -- these acts, in order, mean these steps, in order: for a client that begins in this state, with these bytes since the last
 -- line feed

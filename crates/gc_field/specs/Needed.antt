@@ -52,8 +52,8 @@ pub record IsBookedUnexecuted {State : Type 0} (ends : Ends State) (Good : State
   pub settled : slice_get (behind WINDOW ends (none_under_way state) ms).wire.settled m ≡ Some (record { target = 7; call = call; outcome = Answered line })
   pub executed : WasExecuted (behind WINDOW ends (none_under_way state) ms).wire.executed m → ⊥
 
--- the clause x is needed: this instrument meets every other one, and in these moves, from this good state on, the client books its line
--- as the answer to request m, which it never executed
+-- the clause x is needed: this instrument meets every other one, and in these moves, from this good state on, the client books
+-- the instrument's line as the answer to request m, which the instrument never executed
 pub record IsNeeded {State : Type 0} (x : Clause) (ends : Ends State) (Good : State → Type 0) (kept : State → Option KeptReply) (state : State)
     (ms : List (Move State)) (m : ℕ) (call : Asked) (line : List ℕ) : Type 0 where
   pub all_but : IsAllBut x ends Good kept
@@ -224,7 +224,8 @@ pub record IsAllNeeded : Type 0 where
   pub rule_is : IsAnInstrument refuses_raws AnyState kept
   pub rule : (raw : RawCall) → IsBookedUnexecuted refuses_raws AnyState kept None (nine_requests (Raw raw)) 16 (Table NullProc) (giving 0 0)
   -- two limits of what may change by itself are needed: what is retained may not change, as it does if another client sends;
-  -- and the new state has to be a good one
+  -- and the new state has to be a good one. The moves keep to all other limits: `nothing` in place of what the instrument retains,
+  -- and `AnyState` in place of its good states, leave out one limit each
   pub shared_is : IsAnInstrument keeper AnyState kept
   pub changes_kept : IsBookedUnexecuted keeper AnyState nothing None changed_between 9 (Table InstrumentNo) (giving 1 27)
   pub sound_is : IsAnInstrument sound IsUnbroken nothing

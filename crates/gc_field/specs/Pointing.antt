@@ -1,7 +1,7 @@
 -- Where the telescope pointed when a command of a chain was executed, of the simulated instrument: this project's own. A part
 -- is what a station sees of its run from one synchronization to the next, and a stretch what happens on the line meanwhile,
 -- once it has synchronized.
-use Rattle.std.specs.Prelude.{◌≡◌, ℕ, ◌<◌, ◌≤◌, Bool, true, false, List, Some, None, slice_get}
+use Rattle.std.specs.Prelude.{◌≡◌, ℕ, ◌<◌, ◌≤◌, Bool, true, false, List, Some, slice_get}
 use Rattle.std.specs.List.{AllByRecursion}
 use Rattle.gc_values.specs.declared.decimal.Decimal.{Decimal}
 use Rattle.gc_catalogue.specs.declared.answer.Reading.{Reading}
@@ -9,11 +9,11 @@ use Rattle.gc_catalogue.specs.declared.asked.Asked.{Asked}
 use Rattle.gc_catalogue.specs.declared.asked.Asked.TheVariants.{Table, Raw}
 use Rattle.gc_catalogue.specs.declared.call.Call.TheVariants.{Position, ChangeFace, FineAdjust}
 use Rattle.gc_instrument.specs.Execution.{exec}
-use Rattle.gc_instrument.specs.Replying.{with_kept}
+use Rattle.gc_instrument.specs.Replying.{without_kept}
 use Rattle.gc_instrument.specs.State.{State, IsFittingState}
 use Rattle.gc_links.specs.Acts.{Act}
 use Rattle.gc_texts.specs.declared.tasks.Task.{Task}
-use Rattle.gc_station.specs.Answers.{answer_of}
+use Rattle.gc_texts.specs.Endings.{line_of}
 use Rattle.gc_station.specs.Links.{AreChained}
 use Rattle.gc_station.specs.Parts.{Part, parts_of}
 use Rattle.gc_station.specs.Records.{Record}
@@ -29,14 +29,10 @@ use Rattle.gc_field.specs.Laws.{kept_of}
 use Rattle.gc_field.specs.Runs.{IsInField}
 use Rattle.gc_field.specs.Shown.{Stretch, stretches}
 
--- the simulator's state after a request: a procedure that isn't in the table changes nothing
+-- the simulator's state once it has executed a request: a procedure that isn't in the table changes nothing
 abbrev pub after_call : State → Asked → State
 after_call s (Table call) = (exec s call).state
 after_call s (Raw raw) = s
-
--- the simulator's state without the reply that it retains
-abbrev pub bare : State → State
-bare s = with_kept None s
 
 -- whether a request may turn the simulator's telescope
 abbrev pub turns_telescope : Asked → Bool
@@ -56,29 +52,30 @@ pub record PointsAs (s t : State) : Type 0 where
 
 -- when the command of record b was executed, after the command at place a (by `h`), the telescope pointed where executing the
 -- latter had left it; and if the latter was a positioning, in the direction that it commanded, in the face in which the telescope
--- was before
+-- was before. `ps`, `ss` and `records` are the parts, the stretches and the records of the run, `reads` gives what a reply says
+-- of its call, and `line` is the reply of record b
 pub record IsMeasuredWhereItPointed (reads : Asked → List ℕ → Reading) (commands : List Task) (ps : List Part) (ss : List (Stretch State))
     (records : List Record) (a : ℕ) (b : Record) (line : List ℕ) (h : IsChainedTo ends IsFittingState kept_of reads commands ps ss records a b line) : Type 0 where
-  pub as_left : PointsAs (stretch_wire ends h.stretch h.executed.second.front).state (after_call (stretch_wire ends h.stretch h.executed.first.front).state h.record_a.command.call)
+  pub as_left : PointsAs (stretch_wire ends h.stretch h.executed.second.front).state (after_call (stretch_wire ends h.stretch h.executed.first.front).state h.earlier.answer.command.call)
   pub as_commanded :
-      (hz v : Decimal) (pos_mode atr_mode dummy : _) → h.record_a.command.call ≡ Table (Position hz v pos_mode atr_mode dummy)
+      (hz v : Decimal) (pos_mode atr_mode dummy : _) → h.earlier.answer.command.call ≡ Table (Position hz v pos_mode atr_mode dummy)
       → ((stretch_wire ends h.stretch h.executed.second.front).state.pointing ≡ record { hz = hz; v = v })
       × ((stretch_wire ends h.stretch h.executed.second.front).state.face ≡ (stretch_wire ends h.stretch h.executed.first.front).state.face)
 
--- if the command of record b, of a cycle and not of the setup, was answered, and is chained to the command of its cycle at
--- place a, it was executed after the latter. If no command of the places between turns the telescope, and the instrument
--- neither started again nor changed by itself between the two executions, it was executed with the telescope as the latter had
--- left it
+-- if a reply in time ended the command of record b (`line_of`), which is of a cycle and not of the setup, and that command is
+-- chained to the command of its cycle at place a, then it was executed after the one at place a (`h`). If no command of the
+-- places between turns the telescope, and the instrument neither started again nor changed by itself between the two executions,
+-- it was executed with the telescope as the one at place a had left it (`IsMeasuredWhereItPointed`)
 abbrev pub IsPointedInChain : Plan → List Task → Scope → List Act → UnderWay State → List (Run State) → Record → Type 0
 IsPointedInChain plan commands scope acts u rs b =
-    (line : List ℕ) (a : ℕ) → answer_of b.end ≡ Some line → 0 < b.cycle → plan.setup ≤ a → a < b.place → AreChained commands a b.place
+    (line : List ℕ) (a : ℕ) → line_of b.end ≡ Some line → 0 < b.cycle → plan.setup ≤ a → a < b.place → AreChained commands a b.place
     → (h : IsChainedTo ends IsFittingState kept_of scope.reads commands (parts_of plan commands (opening plan scope) acts) (stretches ends u rs)
     (state_after plan commands scope acts).records a b line)
     × (AreStill commands a b.place → IsUndisturbed h.executed.between
     → IsMeasuredWhereItPointed scope.reads commands (parts_of plan commands (opening plan scope) acts) (stretches ends u rs) (state_after plan commands scope acts).records a b line h)
 
--- each record is `IsPointedInChain`: for every plan, all commands, every run of the station over the simulator, and all that the
--- line and the simulator may do meanwhile
+-- each record is `IsPointedInChain`: for every plan, all commands, every run of the station in the field (`IsInField`) over the
+-- simulator, and all that the line and the simulator may do meanwhile
 abbrev pub ChainsAreMeasuredWhereTheyPointed : Type 0
 ChainsAreMeasuredWhereTheyPointed =
     (plan : Plan) (commands : List Task) (scope : Scope) (acts : List Act) (u : UnderWay State) (rs : List (Run State)) → IsInField ends IsFittingState kept_of plan commands scope acts u rs →
@@ -87,4 +84,4 @@ ChainsAreMeasuredWhereTheyPointed =
 -- executing a call of the table makes of the simulator's state what the execution table says, apart from the reply that is
 -- retained; another request changes nothing
 abbrev pub SimulatorHasItsEffect : Type 0
-SimulatorHasItsEffect = HasEffect ends bare after_call
+SimulatorHasItsEffect = HasEffect ends without_kept after_call

@@ -16,7 +16,7 @@ use Rattle.gc_texts.specs.declared.tasks.Task.{Task}
 use Rattle.gc_texts.specs.Endings as end
 use Rattle.gc_station.specs.declared.plan.Plan.{Plan}
 use Rattle.gc_links.specs.Acts.{Act}
-use Rattle.gc_station.specs.Answers.{answer_of}
+use Rattle.gc_texts.specs.Endings.{line_of}
 use Rattle.gc_station.specs.Beginnings.{unanswered_after}
 use Rattle.gc_station.specs.Begun.{AreBegun, heard_in}
 use Rattle.gc_station.specs.Deciding.{has_begun}
@@ -67,9 +67,9 @@ module _ {State : Type 0} (ends : Ends State) where
   AreSentAs commands (p ∷ ps) (s ∷ ss) = MarksAsk commands p.marks (map asked (own_sent s)) × AreSentAs commands ps ss
   AreSentAs commands _ _ = ⊥
 
-  -- in time: if a request is sent, and later a reply to it comes while it isn't settled, that reply settles it. The request is
-  -- answered by that line if no moment at or past its deadline was read before, and else it is late. `before` are the moves
-  -- before it is sent, and `between` those from then on until the reply comes
+  -- in time: if a request is sent while fewer than seven are outstanding, and later a reply to it comes while it isn't settled,
+  -- that reply settles it. The request is answered by that line if no moment at or past its deadline was read in between, and else
+  -- it is late. `before` are the moves before it is sent, and `between` those from then on until the reply comes
   abbrev pub IsInTime : Stretch State → Type 0
   IsInTime s =
       (before between later : List (Move State)) (target : ℕ) (call : Asked) (deadline : ℕ) (line : List ℕ) (rest : List (Numbered (List ℕ)))
@@ -80,8 +80,8 @@ module _ {State : Type 0} (ends : Ends State) where
       → slice_get (world s).wire.settled (length (behind WINDOW ends s.from before).wire.sent)
       ≡ Some (record { target = target; call = call; outcome = if times_out deadline between then Late else Answered line })
 
-  -- the records that these stretches record, with the moment 0: how each command ended in its own stretch, and as lost what is
-  -- outstanding when the next stretch begins
+  -- the records that a run with these parts and stretches records, with the moment 0, where `reads` gives what a line says of its
+  -- call: how each command ended in its own stretch, and as lost what is outstanding when the next stretch begins
   abbrev pub written_over : (Asked → List ℕ → Reading) → List Part → List (Stretch State) → List Record
   written_over reads (p ∷ []) (s ∷ []) = records_of reads 0 p.marks (own_settled s)
   written_over reads (p ∷ q ∷ ps) (s ∷ t ∷ ss) =
@@ -95,7 +95,7 @@ abbrev pub IsMeant : Bool → Model → Act → Part → Model → Type 0
 IsMeant true s act p t = (p.turns ≡ []) × Means s.client s.rest act p.steps t.rest
 IsMeant false s act p t = (p.steps ≡ []) × MeansTurns s.progress.word s.rest act p.turns t.rest × (t.progress.word ≡ unanswered_after s.progress.word (heard_in p.turns))
 
--- each act of a run means what the parts of the run count for it (`part_of_act`)
+-- each act of a run, from the model s on, means what the parts of the run count for it (`part_of_act`, `IsMeant`)
 abbrev pub AreMeant : Plan → List Task → Model → List Act → Type 0
 AreMeant plan commands s [] = Unit {0}
 AreMeant plan commands s (act ∷ acts) =
@@ -140,7 +140,7 @@ module _ {State : Type 0} (ends : Ends State) (Good : State → Type 0) (kept : 
 
   -- if a record is of a reply in time, its line was made on executing its own request: by `IsItsOwn`
   abbrev pub IsOwnAnswer : List Task → List Part → List (Stretch State) → Record → Type 0
-  IsOwnAnswer commands ps ss r = (line : List ℕ) → answer_of r.end ≡ Some line → IsItsOwn commands ps ss r line
+  IsOwnAnswer commands ps ss r = (line : List ℕ) → line_of r.end ≡ Some line → IsItsOwn commands ps ss r line
 
   -- the instrument executed the command of a late record `r`, in a run with the parts `ps` and the stretches `ss`: in stretch
   -- k, the client's request m is the command of the record's cycle and place, and the instrument made a line on executing that
@@ -185,13 +185,13 @@ module _ {State : Type 0} (ends : Ends State) (Good : State → Type 0) (kept : 
     pub sent : AreSentAs ends commands (parts_of plan commands (opening plan scope) acts) (stretches ends u rs)
     pub written : map timeless (sent_of (state_after plan commands scope acts).records) ≡ written_over ends scope.reads (parts_of plan commands (opening plan scope) acts) (stretches ends u rs)
     -- the turns and steps of a run are what its acts are to a synchronization and to a client: the bytes that are sent are the
-    -- lines of these requests
+    -- lines of these requests, and line feeds that clear the receiver
     pub meant : AreMeant plan commands (opening plan scope) acts
-    -- in time: the first reply to a request that isn't settled settles it, as answered, or as late if its deadline was read
-    -- before
+    -- in time: a reply that comes while its request isn't settled settles it, as answered, or as late if a moment at or past its
+    -- deadline was read since it was sent
     pub in_time : AllByRecursion (IsInTime ends) (stretches ends u rs)
-    -- each stretch is faithful, and so acts once: between two starts of the instrument each request is executed at most once, in
-    -- order
+    -- each stretch is faithful after its first moves, however many. So it acts once: if the instrument retains its reply to each
+    -- request that it knows, between two of its starts each of these is executed at most once
     pub each : AllByRecursion IsFaithfulThroughout (stretches ends u rs)
 
 -- every run in the field is faithful: for any instrument, every plan, all commands, every run of the station, and all that the

@@ -1,6 +1,6 @@
 -- The instrument of a scene with rules, of which any procedure is asked, this project's own: what it does with each request, and
 -- what is claimed of it.
-use Rattle.std.specs.Prelude.{◌≡◌, ℕ, ◌<◌, true, Option, Some, None}
+use Rattle.std.specs.Prelude.{ℕ, ◌<◌, true, Option, Some}
 use Rattle.gc_catalogue.specs.Asked.{asked_line}
 use Rattle.gc_catalogue.specs.Calls.{call_fields, IsFitting}
 use Rattle.gc_catalogue.specs.Texts.{request_line}
@@ -14,6 +14,7 @@ use Rattle.gc_instrument.specs.Replying.{Handed}
 use Rattle.gc_instrument.specs.State.{KeptReply}
 use Rattle.gc_scenes.specs.SceneReplying.{IsPlayed, handed_call, handed_raw}
 use Rattle.gc_scenes.specs.SceneState.{SceneState, scene_restarted, at_moment}
+use Rattle.gc_world.specs.Exchange.{ReadsWithItsId}
 use Rattle.gc_field.specs.Instrument.{IsAnInstrument, MayBecome}
 use Rattle.gc_field.specs.World.{Ends}
 
@@ -30,11 +31,6 @@ scene_ends = record { handed = scene_handed; restarted = scene_restarted; heard 
 abbrev pub scene_kept : SceneState → Option KeptReply
 scene_kept s = s.base.kept
 
--- the line of this retained reply, if there is one, reads as a reply with the id that it is retained for
-abbrev pub ReadsWithItsId : Option KeptReply → Type 0
-ReadsWithItsId None = Unit {0}
-ReadsWithItsId (Some k) = heard k.line ≡ Some k.id
-
 -- the good states of the instrument of a scene: the reply that is retained, if any, reads as a reply with its id
 abbrev pub RetainedReads : SceneState → Type 0
 RetainedReads s = ReadsWithItsId s.base.kept
@@ -44,7 +40,8 @@ pub record SceneIsAnInstrument : Type 0 where
   pub instrument : IsAnInstrument scene_ends RetainedReads scene_kept
   -- the scene's clock may show another moment: that is one of the changes that an instrument's state may have by itself
   pub passes : (s : SceneState) (moment : ℕ) → RetainedReads s → MayBecome RetainedReads scene_kept s (at_moment moment s)
-  -- `scene_handed` is what the scene's instrument does with the line of a request, for a call of the table and for any other
+  -- `scene_handed` is what the scene's instrument does with the line of a request with an id from 0 to 7, for a call of the table
+  -- that fits (`IsFitting`), and for any procedure that isn't in the table
   pub calls : (s : SceneState) (id : ℕ) (call : Call) → id < IDS → IsFitting call
       → IsPlayed s (request_line (Some id) call) (scene_handed s id (Table call)).state (Some (scene_handed s id (Table call)).reply)
   pub raws : (s : SceneState) (id : ℕ) (raw : RawCall) → id < IDS

@@ -56,8 +56,8 @@ null_lines = codes "%R1Q,0,6:" ∷ codes "%R1Q,0,5:" ∷ codes "%R1Q,0,4:" ∷ c
 abbrev pub replies : List (List ℕ)
 replies = codes "%R1P,0,6:0" ∷ codes "%R1P,0,5:0" ∷ codes "%R1P,0,4:0" ∷ codes "%R1P,0,3:0" ∷ codes "%R1P,0,2:0" ∷ codes "%R1P,0,1:0" ∷ codes "%R1P,0,0:0" ∷ codes "%R1P,0,7:0" ∷ []
 
--- the acts by which each of these lines is sent at the moment `now`, and its reply, the next of the second list, comes; and
--- then `acts`
+-- the acts by which each of these lines is sent at the moment `now`, and its reply, the next of the second list, comes, until
+-- either list ends; and then `acts`
 abbrev pub exchanged : ℕ → (requests answers : List (List ℕ)) → List Act → List Act
 exchanged now (line ∷ others) (reply ∷ later) acts = Put (with_end line) ∷ Told (at now) ∷ Gave (with_end reply) (at now) ∷ exchanged now others later acts
 exchanged now _ _ acts = acts
@@ -72,6 +72,10 @@ abbrev pub eight_answered : {S : Type 0} → List (Turn S)
 eight_answered =
     Asks ∷ Reaches ∷ turn.Comes ∷ Asks ∷ Reaches ∷ turn.Comes ∷ Asks ∷ Reaches ∷ turn.Comes ∷ Asks ∷ Reaches ∷ turn.Comes
     ∷ Asks ∷ Reaches ∷ turn.Comes ∷ Asks ∷ Reaches ∷ turn.Comes ∷ Asks ∷ Reaches ∷ turn.Comes ∷ Asks ∷ Reaches ∷ turn.Comes ∷ []
+
+-- a run with these turns and moves, and after its end one more, in which nothing happens
+abbrev pub run_and_end : {S : Type 0} → List (Turn S) → List (Move S) → List (Run S)
+run_and_end turns moves = record { turns = turns; moves = moves } ∷ record { turns = []; moves = [] } ∷ []
 
 -- in flight at the start: a reply with id 0, and a request with that id, which the first command will have too
 abbrev pub at_start : UnderWay State
@@ -113,7 +117,7 @@ moves = Tells 15 ∷ Sends 7 (Table InstrumentNo) 115 ∷ Tells 15 ∷ OnLine Up
 
 -- what happens on the line: in this run, and after its end in one more, in which nothing happens
 abbrev pub runs : List (Run State)
-runs = record { turns = turns; moves = moves } ∷ record { turns = []; moves = [] } ∷ []
+runs = run_and_end turns moves
 
 -- this is a run in the field, after which no act follows; it recorded the command's answer, which was made on executing the
 -- command's request

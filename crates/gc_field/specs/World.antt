@@ -46,8 +46,8 @@ abbrev pub Step : Type 0
 Step = Worlds.Step Asked
 
 module _ {Client State : Type 0} where
-  -- the world after a call of the client's send: the request is sent, and goes to the back of the upward queue; or, if the client
-  -- refused it (None), a refusal is counted
+  -- the world after a call of the client's send, by what its rule gave (`sending`): the request is sent, and goes to the back of
+  -- the upward queue; or, if the client refused it (None), a refusal is counted
   abbrev pub requested : World Client State → ℕ → Asked → Option (Sending Client) → World Client State
   requested w target call sending = Worlds.requested written w target call sending
 

@@ -8,16 +8,17 @@ ghost use Rattle.gc_field.specs.Begun.{AnswersAreTheirOwnOnceBegun, BeginsCleanl
 
 /// For any instrument, whatever the line loses or repeats, and whatever is in flight when a synchronization begins, unless the
 /// ids in flight then have the word 6 5 4 3 2 1 0 7 as a subsequence: once it is done, no request from before is in flight, nor
-/// a reply to one. All that may be in flight is copies of its eighth null procedure and of replies to that. The instrument
-/// retains a reply with that procedure's id, or none.
+/// a reply to one. All that may be in flight is copies of its eighth null procedure, and replies to these. The instrument
+/// retains a reply with that procedure's id, or none. (A request in flight has an id from 0 to 7, by `IsWellFormed`.)
 pub fn begins_cleanly<State>()
     ensures { BeginsCleanly State }
 {}
 
-/// After a clean synchronization each answer that a new client settles was made on executing that very request, from its first
-/// request on, however many are sent at once, if all are calls of the table, or the instrument retains after each request its
-/// own reply or none, or one of the seven requests before it is a call of the table that a reply ended, or the synchronization's
-/// eighth null procedure (`IsSafe`); and the rest of what `answers_are_their_own` says holds as well.
+/// For any instrument, and a new client after a clean synchronization: each answer, from the client's first request on, was made
+/// on executing its very request, however many are sent at once, and the instrument executed each request that is late, if the
+/// request in question is safe (`IsSafe`): all requests are calls of the table, or the instrument retains after each request its
+/// own reply or none, or one of the seven requests before it is a call of the table that a reply had ended, or the
+/// synchronization's eighth null procedure. The rest of what `answers_are_their_own` says holds whether requests are safe or not.
 pub fn answers_are_their_own_once_begun<State>()
     ensures { AnswersAreTheirOwnOnceBegun State }
 {}
@@ -40,9 +41,9 @@ pub fn runs_leave_rising_ids<State>()
     ensures { RunsLeaveRisingIds State }
 {}
 
-/// One run after the other, each killed at any time. At the start nothing is in flight, or what a run that had synchronized may
-/// leave (`HasRisingIds`). As long as fewer than six in a row end while they synchronize, each run that has synchronized has
-/// done so cleanly, and all that `answers_are_their_own_once_begun` says holds of it.
+/// For any instrument: one run after the other, each killed at any time. At the start nothing is in flight, or what a run that
+/// had synchronized may leave (`HasRisingIds`). As long as fewer than six in a row end while they synchronize, each run that has
+/// synchronized has done so cleanly, and all that `answers_are_their_own_once_begun` says holds of it.
 pub fn runs_are_their_own<State>()
     ensures { RunsAreTheirOwn State }
 {}

@@ -22,11 +22,11 @@ ghost use Rattle.gc_field.specs.Runs.{RunsAreFaithful, SimulatorsRunsAreFaithful
 ghost use Rattle.gc_field.specs.SecondExecution.{IsExecutedAgain};
 ghost use Rattle.gc_field.specs.Witness.{SomeRunIsInField};
 
-/// For any instrument, and a client that doesn't synchronize, as that of `geocom ask`, with nothing in flight: over any number
-/// of connections, and whenever the client sends calls of the table, apart from its first request, which is sent alone: each
-/// answer that it settles was made on executing that very request, and the instrument executed each request that is late. Also
-/// executions are in the order of sending; and if the instrument retains its reply to each request that it knows, it executes
-/// each of these at most once between two of its restarts.
+/// For any instrument, and a client that doesn't synchronize, as that of `geocom ask`, with nothing in flight, over any number
+/// of connections: if the client asks only for calls of the table, and sends its first request alone, each answer was made on
+/// executing its very request, and the instrument executed each request that is late. The first request is excepted from both:
+/// its answer may be an older reply. Also executions are in the order of sending; and if the instrument retains its reply to each
+/// request that it knows, it executes each of these at most once between two of its restarts.
 pub fn answers_are_their_own<State>()
     ensures { AnswersAreTheirOwn State }
 {}
@@ -39,25 +39,25 @@ pub fn stations_answers_are_their_own<State>()
     ensures { StationsAnswersAreTheirOwn State }
 {}
 
-/// What holds of every run of a station, for any instrument, which may restart and change by itself at any time, over any
-/// number of connections, with whatever the line does, and whatever is in flight at the start, unless the ids in flight then
-/// have the word 6 5 4 3 2 1 0 7 as a subsequence. The run synchronizes cleanly, at first and wherever it resynchronizes. Each
-/// answer that it records, from its first command on, also one that is unreadable or elsewhere, was made on executing the very
-/// request of that cycle and place. The instrument executed each request that is late. The records and the outstanding commands
-/// of cycles are the commands of cycles that had their turn, one for one, but for further attempts that were left out. The bytes
-/// that the station sends are the lines of its requests, and its records are how these ended on the line; the first reply to a
-/// request that isn't settled settles it. And each stretch from one synchronization to the next is faithful: its settlements
-/// and what is outstanding are its requests, one for one and in order; requests are executed in the order of sending; and if
-/// the instrument retains its reply to each request that it knows, it executes each of these at most once between two of its
-/// restarts.
+/// What holds of every run of a station, for any instrument, which may restart and change by itself at any time, over any number
+/// of connections, with whatever the line does, and whatever is in flight at the start, unless the ids in flight then have the
+/// word 6 5 4 3 2 1 0 7 as a subsequence. The run sends no command before it has synchronized, at first or again; and where it
+/// has, it has done so cleanly. Each answer that it records, from its first command on, also one that is unreadable or elsewhere,
+/// was made on executing the very request of that cycle and place. The instrument executed each request that is late. The records
+/// and the outstanding commands of cycles are the commands of cycles that had their turn, one for one, but for further attempts
+/// that were left out. The bytes that the station sends are the lines of its requests, and line feeds that clear the receiver.
+/// Its records of commands that were sent are how these ended on the line; the first reply to a request that isn't settled
+/// settles it. And each stretch from one synchronization to the next is faithful: its settlements and what is outstanding are its
+/// requests, one for one and in order; requests are executed in the order of sending; and if the instrument retains its reply to
+/// each request that it knows, it executes each of these at most once between two of its restarts.
 pub fn runs_are_faithful<State>()
     ensures { RunsAreFaithful State }
 {}
 
-/// Stations run one after the other over a line that outlives them, each with its own plan and commands, and each killed at any
-/// time. At the start nothing is in flight, or what a run that had synchronized may leave (`HasRisingIds`). As long as fewer
-/// than six in a row end while they synchronize, all that `runs_are_faithful` says holds of each, without the premise on the
-/// word.
+/// For any instrument: stations run one after the other over a line that outlives them, each with its own plan and commands, and
+/// each killed at any time. At the start nothing is in flight, or what a run that had synchronized may leave (`HasRisingIds`). As
+/// long as fewer than six in a row end while they synchronize, all that `runs_are_faithful` says holds of each, without the
+/// premise on the word.
 pub fn stations_in_a_row_are_faithful<State>()
     ensures { StationsInARowAreFaithful State }
 {}
@@ -71,21 +71,21 @@ pub fn simulators_stations_in_a_row_are_faithful()
 /// not of the setup, was executed after each earlier command of the chain, in the same stretch, and the answers of both are the
 /// replies to these executions. If the instrument didn't restart between the two executions, each request that it executed
 /// between them, and to which it retains its reply, was sent between them. If it didn't change by itself either, its state at
-/// the later execution is what the executions from the earlier one on made of it.
+/// the later execution is what the executions from the earlier one on made of it, apart from what it retains.
 pub fn chains_are_executed<State>()
     ensures { ChainsAreExecuted State }
 {}
 
-/// In every such run over the simulator, of two commands of a chain of a cycle that are answered: if no command between them
-/// turns the telescope, and the simulator neither restarted nor changed by itself between their executions, the telescope
-/// pointed, when the later one was executed, where the earlier one had left it. If that one was a positioning, this is the
-/// direction that it commanded, in the same face.
+/// In every run that `simulators_runs_are_faithful` speaks of, of two commands of a chain of a cycle that are answered: if no
+/// command between them turns the telescope, and the simulator neither restarted nor changed by itself between their executions,
+/// the telescope pointed, when the later one was executed, where the earlier one had left it. If the earlier one was a
+/// positioning, this is the direction that it commanded, in the face in which the telescope was before it.
 pub fn chains_are_measured_where_they_pointed()
     ensures { ChainsAreMeasuredWhereTheyPointed }
 {}
 
-/// The simulator is an instrument, and one that retains its reply to each call of its table. It refuses other requests with
-/// 3081, and its refusals leave the retained reply.
+/// The simulator is an instrument, and one that retains its reply to each call of its table, in any state whose values lie in
+/// their types (`IsFittingState`). It refuses other requests with 3081, and these refusals leave the retained reply as it is.
 pub fn simulator_is_an_instrument()
     ensures { SimulatorIsAnInstrument }
 {}
@@ -124,8 +124,9 @@ pub fn what_is_asked_is_needed()
     ensures { IsAllNeeded }
 {}
 
-/// A request that is cut reaches the instrument complete or not at all: no front of it without the CR is a request with a line
-/// feed after it, and no tail is one; the front with the CR and a line feed after it is the whole request.
+/// A request that is cut reaches the instrument complete or not at all: a front without the CR gives no line, though a line feed
+/// follows it; no line of what is left of it after a front is a request; and the front with the CR, with a line feed after it, is the
+/// whole request.
 pub fn cut_requests_are_whole_or_nothing()
     ensures { CutRequestsAreWholeOrNothing }
 {}
@@ -142,29 +143,29 @@ pub fn a_lost_line_feed_is_booked_wrong()
     ensures { IsBookedJoined }
 {}
 
-/// Why a client that doesn't synchronize sends its first request alone: an instrument that retains a reply with the id of the
-/// second request answers with that reply. It is booked, though nothing was executed.
+/// Why a client that doesn't synchronize sends its first request alone: if the simulator retains a reply with the id of the
+/// second of two requests that are sent at once, and the first is lost, it answers the second with that reply. The reply is
+/// booked for the second, though nothing was executed.
 pub fn two_at_once_are_booked_wrong()
     ensures { TwoAtOnceAreBookedWrong }
 {}
 
-/// Some run meets every premise of `runs_are_faithful`: over a line on which an earlier request and an earlier reply are still
-/// in flight, each with the id of its first command, it synchronizes, and records the answer that was made on executing its own
-/// request.
+/// Some run meets every premise of `simulators_runs_are_faithful`: over a line on which an earlier request and an earlier reply
+/// are still in flight, each with the id of the run's command, it synchronizes, and records that command's answer, which was
+/// made on executing the command's own request.
 pub fn some_run_is_in_the_field()
     ensures { SomeRunIsInField }
 {}
 
-/// Some run is over an instrument that retains no reply and changes by itself: with a synchronization that goes on over a
-/// second connection, a lost reply, a request that times out, a restart of the instrument and a third connection. Its second
-/// command asks for a procedure that isn't in the table, whichever that is, and its answer was made on executing that very
-/// request.
+/// Some run is over an instrument that retains no reply and changes by itself: with a synchronization that goes on over a second
+/// connection, a lost reply, a request that times out, a restart of the instrument and a third connection. Its second command
+/// asks for a procedure that isn't in the table, whichever that is, and the answer to it was made on executing its own request.
 pub fn some_run_is_over_a_drifting_instrument()
     ensures { SomeRunIsOverADriftingInstrument }
 {}
 
-/// Some run that meets every premise of `runs_are_faithful` has a late record: its command's reply arrives after the deadline,
-/// and was made on executing its request all the same.
+/// Some run that meets every premise of `simulators_runs_are_faithful` has a late record: its command's reply arrives after the
+/// deadline, and was made on executing its request all the same.
 pub fn some_late_record_is_in_the_field()
     ensures { IsLateInField }
 {}
@@ -176,14 +177,14 @@ pub fn some_run_begins_anew()
     ensures { IsAnsweredAnew }
 {}
 
-/// Some run of a chain over the simulator meets every premise of `runs_are_faithful`: it points the telescope, measures, and
+/// Some run of a chain meets every premise of `chains_are_measured_where_they_pointed`: it points the telescope, measures, and
 /// reads the angles and the distance there.
 pub fn some_chain_is_in_the_field()
     ensures { IsPointedInField }
 {}
 
 /// Some run of a chain is over an instrument that counts what it executes and retains its reply, and meets every premise of
-/// `chains_are_executed`: its count at the third command is what the first and the second made of it.
+/// `chains_are_executed`: the instrument's count at the third command is what the first and the second made of it.
 pub fn some_chain_is_over_a_counting_instrument()
     ensures { IsCountedInField }
 {}

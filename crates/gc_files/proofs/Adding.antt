@@ -2,22 +2,18 @@
 -- is to cut off what follows its last line feed, and to sync that. An opening mends a file, and writes the head where it has
 -- no whole row.
 use Rattle.std.proofs.Common.{◌≡◌, inl, inr, ℕ, ◌≤◌, ◌<◌, ◌==◌, true, false, List, [], ◌∷◌, ◌++◌, length, take, refl, sym, ◌∙◌, ap, subst, arith, append_assoc, Bool, if◌then◌else◌, Option, Some, None}
-use Rattle.std.proofs.lemmas.Bool.{cases_Bool, eqb-true, eq-eqb}
+use Rattle.std.proofs.lemmas.Bool.{cases_Bool, eqb-true}
 use Rattle.std.proofs.lemmas.List.{append-nil}
 use Rattle.std.specs.Io.KnownBytes.{Appends, Keeps}
 use Rattle.gc_files.specs.Sinks.{known_content}
 use Rattle.gc_files.proofs.Moments.{behind_two}
 use Rattle.gc_files.specs.Files.{Step, Append, Cut, Sync, Life, has_sync, content, later_by, Adds}
 use Rattle.gc_files.specs.Runs.{synced}
-use Rattle.gc_files.specs.Rows.{whole, is_empty, mended, cuts_none, appended, MendedAndPut, IsFront, Opens, OpensInPart, PutsAll}
+use Rattle.gc_files.specs.Rows.{whole, is_empty, mended, cuts_none, appended, MendedAndPut, IsFront, Opens, OpensInPart, PutsAll, IsEndOfRows, IsMended, IsMendedInPart}
 
 -- adding the steps `xs` to a life, and then `ys`, is adding `xs ++ ys`
 pub later_two : (xs ys : List Step) (life : Life) → later_by ys (later_by xs life) ≡ later_by (xs ++ ys) life
 later_two xs ys life = ap (λ (steps : List Step). record { start = life.start; steps = steps }) (append_assoc life.steps xs ys)
-
--- adding no steps leaves a life as it is
-pub later_none : (life : Life) → life ≡ later_by [] life
-later_none life = ap (λ (steps : List Step). record { start = life.start; steps = steps }) (sym (append-nil life.steps))
 
 -- where the steps `xs` were added to a file's life, and then `ys`, the steps `xs ++ ys` were added to it
 pub adds_two : (old mid new : Option Life) (xs ys : List Step) → Adds old mid xs → Adds mid new ys → Adds old new (xs ++ ys)
@@ -37,39 +33,36 @@ appended_two (Append bytes ∷ xs) ys = ap (λ (l : List ℕ). bytes ++ l) (appe
 appended_two (Sync ∷ xs) ys = appended_two xs ys
 appended_two (Cut size ∷ xs) ys = appended_two xs ys
 
--- where bytes were appended, and then more by one append, both were appended
-pub puts_more : (old mid new : Option Life) (done bytes : List ℕ) → PutsAll old mid done → Adds mid new (Append bytes ∷ []) → PutsAll old new (done ++ bytes)
-puts_more old mid new done bytes puts adds life is =
-    let first = puts life is in (
-      first.0 ++ Append bytes ∷ [],
-      adds (later_by first.0 life) first.1 ∙ ap (λ (l : Life). Some l) (later_two first.0 (Append bytes ∷ []) life),
+-- where `xs` were appended, and then `ys`, `xs ++ ys` were appended
+pub puts_two : (old mid new : Option Life) (xs ys : List ℕ) → PutsAll old mid xs → PutsAll mid new ys → PutsAll old new (xs ++ ys)
+puts_two old mid new xs ys first second life is =
+    let one = first life is in
+    let two = second (later_by one.0 life) one.1 in (
+      one.0 ++ two.0,
+      two.1 ∙ ap (λ (l : Life). Some l) (later_two one.0 two.0 life),
       record {
-        none_cut = cuts_two first.0 (Append bytes ∷ []) first.2.none_cut refl;
-        all = appended_two first.0 (Append bytes ∷ []) ∙ ap (λ (l : List ℕ). l ++ (bytes ++ [])) first.2.all ∙ ap (λ (l : List ℕ). done ++ l) (append-nil bytes);
+        none_cut = cuts_two one.0 two.0 one.2.none_cut two.2.none_cut;
+        all = appended_two one.0 two.0 ∙ ap (λ (l : List ℕ). l ++ appended two.0) one.2.all ∙ ap (λ (l : List ℕ). xs ++ l) two.2.all;
       },
     )
 
--- a file with bytes after its whole rows is mended by a cut and a sync
+-- where the bytes `done` were appended, and then `bytes` by one append, `done ++ bytes` were appended
+pub puts_more : (old mid new : Option Life) (done bytes : List ℕ)
+    → PutsAll old mid done → Adds mid new (Append bytes ∷ []) → PutsAll old new (done ++ bytes)
+puts_more old mid new done bytes puts adds =
+    puts_two old mid new done bytes puts (λ life is. (Append bytes ∷ [], adds life is, record { none_cut = refl; all = append-nil bytes }))
+
+-- a file with bytes after its whole rows is mended by a cut at the end of these rows, and a sync
 pub mended_by_cut : (held : List ℕ) (end len : ℕ) → end < len → len ≡ length held → end ≡ length (whole held) → mended held ≡ Cut end ∷ Sync ∷ []
 mended_by_cut held end len less is ends = elim (cases_Bool (length (whole held) == length held)) [
   | inl same ↦ absurd (omega (arith, less, is, ends, eqb-true (length (whole held)) (length held) same))
   | inr differs ↦ rw (differs) (ap (λ n. Cut n ∷ Sync ∷ []) (sym ends))
 ]
 
--- a file of whole rows alone is mended by nothing
-pub mended_by_nothing : (held : List ℕ) (end len : ℕ) → len ≤ end → end ≤ len → len ≡ length held → end ≡ length (whole held) → mended held ≡ []
-mended_by_nothing held end len more within is ends = elim (cases_Bool (length (whole held) == length held)) [
-  | inl same ↦ rw (same) refl
-  | inr differs ↦ absurd (wrong (length (whole held)) (length held) (omega (arith, more, within, is, ends)) differs)
-]
-  where
-    -- equal numbers don't test as unequal
-    wrong : (a b : ℕ) → a ≡ b → (a == b) ≡ false → ⊥
-    wrong a b same differs = let both : true ≡ false = sym (eq-eqb a b same) ∙ differs in cc
-
--- a cut after the whole rows, and a sync after it, mend a file
-pub mend_all : (old mid new : Option Life) (known : Life) (end len : ℕ) → end < len → len ≡ length (content known) → end ≡ length (whole (content known))
-    → Adds old mid (Cut end ∷ []) → Adds mid new (Sync ∷ []) → Adds old new (mended (content known))
+-- a cut after the whole rows of a file that has more bytes, and a sync after it, mend the file
+pub mend_all : (old mid new : Option Life) (known : Life) (end len : ℕ)
+    (less : end < len) (is : len ≡ length (content known)) (ends : end ≡ length (whole (content known)))
+    (cut : Adds old mid (Cut end ∷ [])) (sync : Adds mid new (Sync ∷ [])) → Adds old new (mended (content known))
 mend_all old mid new known end len less is ends cut sync =
     subst (λ (steps : List Step). Adds old new steps) (sym (mended_by_cut (content known) end len less is ends)) (adds_two old mid new (Cut end ∷ []) (Sync ∷ []) cut sync)
 
@@ -84,8 +77,7 @@ head_without_rows head [] none = refl
 head_without_rows head (b ∷ l) none = absurd (omega (arith, none))
 
 -- a file with a whole row is opened once it is mended
-pub opens_whole : (head : List ℕ) (old new : Option Life) (end : ℕ) → 0 < end → ((life : Life) → old ≡ Some life → end ≡ length (whole (content life)))
-    → ((known : Life) → old ≡ Some known → Adds old new (mended (content known))) → Opens head old new
+pub opens_whole : (head : List ℕ) (old new : Option Life) (end : ℕ) → 0 < end → IsEndOfRows old end → IsMended old new → Opens head old new
 opens_whole head old new end more ends adds life is = (
   mended (content life),
   adds life is life is,
@@ -97,8 +89,8 @@ opens_whole head old new end more ends adds life is = (
 )
 
 -- a file that was mended, and to which these bytes were then appended, has added to its life such steps as `MendedAndPut` asks for
-pub ran_more : (old mid new : Option Life) (bytes : List ℕ) → ((known : Life) → old ≡ Some known → Adds old mid (mended (content known)))
-    → PutsAll mid new bytes → (life : Life) → old ≡ Some life → (steps : List Step) × (new ≡ Some (later_by steps life)) × MendedAndPut (content life) steps bytes
+pub ran_more : (old mid new : Option Life) (bytes : List ℕ) → IsMended old mid → PutsAll mid new bytes
+    → (life : Life) → old ≡ Some life → (steps : List Step) × (new ≡ Some (later_by steps life)) × MendedAndPut (content life) steps bytes
 ran_more old mid new bytes adds puts life is =
     let second = puts (later_by (mended (content life)) life) (adds life is life is) in (
       mended (content life) ++ second.0,
@@ -106,45 +98,45 @@ ran_more old mid new bytes adds puts life is =
       record { later = second.0; split = refl; puts = second.2 },
     )
 
--- a file without a whole row is opened once it is mended and has the head
-pub opens_head : (head : List ℕ) (old mid new : Option Life) (end : ℕ) → end ≤ 0 → ((life : Life) → old ≡ Some life → end ≡ length (whole (content life)))
-    → ((known : Life) → old ≡ Some known → Adds old mid (mended (content known))) → PutsAll mid new head → Opens head old new
+-- a file without a whole row is opened once it is mended and the head is appended
+pub opens_head : (head : List ℕ) (old mid new : Option Life) (end : ℕ)
+    → end ≤ 0 → IsEndOfRows old end → IsMended old mid → PutsAll mid new head → Opens head old new
 opens_head head old mid new end none ends adds puts life is =
     let ran = ran_more old mid new head adds puts life is in
     (ran.0, ran.1, subst (λ (bytes : List ℕ). MendedAndPut (content life) ran.0 bytes) (sym (head_without_rows head (whole (content life)) (omega (arith, none, ends life is)))) ran.2)
 
 -- a file that was mended, in part or whole, was opened as far as the opening came (`OpensInPart`)
-pub opens_part : (head : List ℕ) (old new : Option Life) → ((known : Life) → old ≡ Some known → (count : ℕ) × Adds old new (take count (mended (content known)))) → OpensInPart head old new
+pub opens_part : (head : List ℕ) (old new : Option Life) → IsMendedInPart old new → OpensInPart head old new
 opens_part head old new part life is =
     let p = part life is in
     (take p.0 (mended (content life)), p.1 life is, inl (record { count = p.0; is = refl }))
 
 -- a file without a whole row that was mended, and to which a front of the head was appended, was opened as far as the opening
 -- came (`OpensInPart`)
-pub opens_head_part : (head : List ℕ) (old mid new : Option Life) (end : ℕ) → end ≤ 0
-    → ((life : Life) → old ≡ Some life → end ≡ length (whole (content life))) → ((known : Life) → old ≡ Some known → Adds old mid (mended (content known)))
+pub opens_head_part : (head : List ℕ) (old mid new : Option Life) (end : ℕ) → end ≤ 0 → IsEndOfRows old end → IsMended old mid
     → (front : List ℕ) × IsFront front head × PutsAll mid new front → OpensInPart head old new
 opens_head_part head old mid new end none ends adds part life is =
     let ran = ran_more old mid new part.0 adds part.2 life is in
     (ran.0, ran.1, inr (part.0, ran.2, subst (λ (all : List ℕ). IsFront part.0 all) (sym (head_without_rows head (whole (content life)) (omega (arith, none, ends life is)))) part.1))
 
 -- the known content of a file grows by what is appended
-pub content_more : (old new : Option Life) (bytes : List ℕ) → Adds old new (Append bytes ∷ []) → Appends (known_content old) (known_content new) bytes
+pub content_more : (old new : Option Life) (bytes : List ℕ)
+    → Adds old new (Append bytes ∷ []) → Appends (known_content old) (known_content new) bytes
 content_more None new bytes adds = tt
 content_more (Some life) new bytes adds =
     subst (λ (now : Option Life). Appends (Some (content life)) (known_content now) bytes) (sym (adds life refl)) (behind_two life.start life.steps (Append bytes ∷ []))
 
--- a sync leaves the known content of a file
+-- a sync leaves the known content of a file as it was
 pub content_same : (old new : Option Life) → Adds old new (Sync ∷ []) → Keeps (known_content old) (known_content new)
 content_same None new adds = tt
 content_same (Some life) new adds =
     subst (λ (now : Option Life). Keeps (Some (content life)) (known_content now)) (sym (adds life refl)) (behind_two life.start life.steps (Sync ∷ []))
 
--- one more append appends its bytes
+-- steps with one more append after them append what they did, and then the bytes of that append
 pub appended_more : (steps : List Step) (bytes : List ℕ) → appended (steps ++ Append bytes ∷ []) ≡ appended steps ++ bytes
 appended_more steps bytes = appended_two steps (Append bytes ∷ []) ∙ ap (λ (xs : List ℕ). appended steps ++ xs) (append-nil bytes)
 
--- one more sync appends nothing
+-- steps with one more sync after them append what they did
 pub appended_sync : (steps : List Step) → appended (steps ++ Sync ∷ []) ≡ appended steps
 appended_sync steps = appended_two steps (Sync ∷ []) ∙ append-nil (appended steps)
 

@@ -6,7 +6,7 @@ use Rattle.std.proofs.lemmas.List.{append-nil}
 use Rattle.gc_files.specs.Files.{Life, content, later_by}
 use Rattle.gc_files.specs.Rows.{has_feed, table, is_empty}
 use Rattle.gc_files.specs.Runs.{Run, IsHead, IsRun, HasRows}
-use Rattle.gc_files.specs.Failing.{Sides, settled, same_sides, done_by, Loses, Event, Ran, Failed, Copied, Crashed, sides_after, Occur, runs_of, IsTrusted, IsFound}
+use Rattle.gc_files.specs.Failing.{Sides, settled, same_sides, done_by, Loses, Event, Ran, Failed, Copied, Crashed, sides_after, Occur, runs_of, IsTrusted, IsFound, TablesOutlastFailures}
 use Rattle.gc_files.proofs.Whole.{whole_front}
 use Rattle.gc_files.proofs.Moments.{may_stay}
 use Rattle.gc_files.proofs.Lasting.{Lasts, one_more}
@@ -24,27 +24,34 @@ hole_is_none head front hole none = ap (λ (l : List ℕ). l ++ (if is_empty l t
 
 -- where a file that holds `held` has the rows of these runs, a file that holds `left` and has the same table has these rows,
 -- too
-same_rows : (head before : List ℕ) (runs : List Run) (held left : List ℕ) → HasRows head before runs held → table head left ≡ table head held → HasRows head before runs left
+same_rows : (head before : List ℕ) (runs : List Run) (held left : List ℕ)
+    → HasRows head before runs held → table head left ≡ table head held → HasRows head before runs left
 same_rows head before runs held left has same = (has.0, has.1, same ∙ has.2)
 
 -- where all that a file holds is on the disk, and it has the rows of these runs, whatever a crash leaves has them
-settled_lasts : (head before : List ℕ) (runs : List Run) (held : List ℕ) → HasRows head before runs held → Lasts head before runs (settled held)
+settled_lasts : (head before : List ℕ) (runs : List Run) (held : List ℕ)
+    → HasRows head before runs held → Lasts head before runs (settled held)
 settled_lasts head before runs held has left may = subst (HasRows head before runs) (sym may) has
 
 -- where whatever a crash leaves of a side has the rows of these runs, what a failed sync makes of that side has them, too
-lost_has : (head before : List ℕ) (runs : List Run) (life : Life) (now : List ℕ) → Lasts head before runs life → Loses life now → HasRows head before runs now
+lost_has : (head before : List ℕ) (runs : List Run) (life : Life) (now : List ℕ)
+    → Lasts head before runs life → Loses life now → HasRows head before runs now
 lost_has head before runs life now lasts lost =
     same_rows head before runs lost.front now (lasts lost.front lost.may) (ap (table head) lost.is ∙ hole_is_none head lost.front lost.hole lost.none)
 
 -- for a file with this head, and `before` as its table before all runs
 module _ (head before : List ℕ) (heads : IsHead head) where
-  -- after a run in a file that isn't in doubt, the disk has the run's rows, too
-  run_lasts : (runs : List Run) (sides : Sides) (run : Run) → Lasts head before runs sides.disk → sides.read ≡ sides.disk → IsRun head (content sides.read) run
+  -- where the side on the disk has the rows of some runs (`Lasts`), both sides are the same, and one more run is over what a read
+  -- returns (`IsRun`), then after the steps of that run the side on the disk has the rows of all these runs
+  run_lasts : (runs : List Run) (sides : Sides) (run : Run)
+      → Lasts head before runs sides.disk → sides.read ≡ sides.disk → IsRun head (content sides.read) run
       → Lasts head before (runs ++ run ∷ []) (later_by run.steps sides.disk)
   run_lasts runs sides run lasts same is = one_more head before heads runs sides.disk run lasts (subst (λ (life : Life). IsRun head (content life) run) same is)
 
-  -- after a run in a file that isn't in doubt both sides have the run's rows, and are the same
-  after_run : (runs : List Run) (sides : Sides) (run : Run) → Lasts head before runs sides.disk → sides.read ≡ sides.disk → IsRun head (content sides.read) run
+  -- where the side on the disk has the rows of some runs (`Lasts`), both sides are the same, and one more run is over what a read
+  -- returns (`IsRun`), then after the steps of that run both sides have the rows of all these runs, and are the same
+  after_run : (runs : List Run) (sides : Sides) (run : Run)
+      → Lasts head before runs sides.disk → sides.read ≡ sides.disk → IsRun head (content sides.read) run
       → HasRowsOnBothSides head before (runs ++ run ∷ []) (done_by run.steps sides) false
   after_run runs sides run lasts same is =
       let more = run_lasts runs sides run lasts same is in
@@ -56,9 +63,12 @@ module _ (head before : List ℕ) (heads : IsHead head) where
         same = λ _. both;
       }
 
-  -- after a run whose last sync failed both sides have its rows, and the file is in doubt
-  after_failed_sync : (runs : List Run) (sides : Sides) (run : Run) (read disk : List ℕ) → Lasts head before runs sides.disk → sides.read ≡ sides.disk → IsRun head (content sides.read) run
-      → Loses (later_by run.steps sides.read) read → Loses (later_by run.steps sides.disk) disk
+  -- where the side on the disk has the rows of some runs (`Lasts`), both sides are the same, and one more run is over what a read
+  -- returns (`IsRun`), then after the steps of that run, and whatever a failed sync made of each side (`Loses`), both sides have
+  -- the rows of all these runs; here the file is in doubt
+  after_failed_sync : (runs : List Run) (sides : Sides) (run : Run) (read disk : List ℕ)
+      (lasts : Lasts head before runs sides.disk) (same : sides.read ≡ sides.disk) (is : IsRun head (content sides.read) run)
+      (loses_read : Loses (later_by run.steps sides.read) read) (loses_disk : Loses (later_by run.steps sides.disk) disk)
       → HasRowsOnBothSides head before (runs ++ run ∷ []) (record { read = settled read; disk = settled disk }) true
   after_failed_sync runs sides run read disk lasts same is loses_read loses_disk =
       let all = runs ++ run ∷ [] in
@@ -70,8 +80,10 @@ module _ (head before : List ℕ) (heads : IsHead head) where
         same = λ wrong. let clash : true ≡ false = wrong in cc;
       }
 
-  -- where both sides have the rows of the runs `done`, whatever is found after more events has the rows of their runs, too
-  lasts_over_events : (done : List Run) (sides : Sides) (doubted : Bool) (events : List Event) → HasRowsOnBothSides head before done sides doubted → Occur IsTrusted head sides doubted events
+  -- where both sides have the rows of the runs `done`, whatever is found after more events, among which runs go on only in a file
+  -- that isn't in doubt, has the rows of `done`, and then those of the runs among these events
+  lasts_over_events : (done : List Run) (sides : Sides) (doubted : Bool) (events : List Event)
+      → HasRowsOnBothSides head before done sides doubted → Occur IsTrusted head sides doubted events
       → (left : List ℕ) → IsFound (sides_after sides events) left → HasRows head before (done ++ runs_of events) left
   lasts_over_events done sides doubted [] good occur left found =
       subst (λ (rs : List Run). HasRows head before rs left) (sym (append-nil done)) (elim found [
@@ -105,9 +117,8 @@ module _ (head before : List ℕ) (heads : IsHead head) where
       let next : HasRowsOnBothSides head before done (same_sides (settled there)) false = record { read = has; disk = settled_lasts head before done there has; same = λ _. refl } in
       lasts_over_events done (same_sides (settled there)) false events next occur.1 left found
 
--- the law: the table lasts over failed syncs, too
-pub tables_outlast_failures : (head held : List ℕ) → IsHead head → (events : List Event) → Occur IsTrusted head (same_sides (settled held)) false events
-    → (left : List ℕ) → IsFound (sides_after (same_sides (settled held)) events) left → HasRows head (table head held) (runs_of events) left
+-- the law: the table lasts over failed syncs, too, where no run goes on in a file in doubt
+pub tables_outlast_failures : TablesOutlastFailures
 tables_outlast_failures head held heads events occur left found =
     let has : HasRows head (table head held) [] held = ([], tt, sym (append-nil (table head held))) in
     lasts_over_events head (table head held) heads [] (same_sides (settled held)) false events

@@ -1,13 +1,13 @@
 -- A file that is copied block by block: `at` is how many of its bytes were copied so far, and each line feed among them is
 -- counted.
-use Rattle.std.proofs.Common.{◌≡◌, inl, inr, ℕ, zero, suc, ◌+◌, ◌≤◌, ◌<◌, ◌==◌, List, [], ◌∷◌, ◌++◌, length, take, drop, slice_index, refl, sym, ◌∙◌, ap, subst, arith, Option, Some}
+use Rattle.std.proofs.Common.{◌≡◌, inl, inr, ℕ, zero, suc, ◌+◌, ◌≤◌, ◌<◌, ◌==◌, List, [], ◌∷◌, ◌++◌, length, take, drop, slice_index, refl, sym, ◌∙◌, ap, subst, arith, Option}
 use Rattle.std.proofs.Math.Seq.{take-add}
 use Rattle.std.proofs.lemmas.Bool.{cases_Bool}
 use Rattle.std.proofs.lemmas.List.{append-nil, take_all}
 use Rattle.gc_files.specs.Failing.{feed_of, feeds}
-use Rattle.gc_files.specs.Files.{Sync, Life, later_by, Adds}
-use Rattle.gc_files.specs.Rows.{appended, PutsAll}
-use Rattle.gc_files.proofs.Adding.{cuts_two, appended_two, later_two, later_none}
+use Rattle.gc_files.specs.Files.{Sync, Life, Adds}
+use Rattle.gc_files.specs.Rows.{PutsAll}
+use Rattle.gc_files.proofs.Adding.{puts_two}
 
 -- the first n + 1 bytes have the line feeds of the first n, and one more if byte n is a line feed
 feeds_suc : (xs : List ℕ) (n : ℕ) → n < length xs → feeds (take (suc n) xs) ≡ feeds (take n xs) + feed_of (slice_index xs n)
@@ -22,14 +22,16 @@ one_feed b = elim (cases_Bool (b == 10)) [
   | inr isnt ↦ rw (isnt) (omega arith)
 ]
 
--- `count` is the number of line feeds among the first `at` bytes
+-- there are at least `at` bytes, and `count`, at most `at`, is the number of line feeds among the first `at`
 pub record Counted (xs : List ℕ) (count at : ℕ) : Type 0 where
   pub within : at ≤ length xs
   pub few : count ≤ at
   pub is : count ≡ feeds (take at xs)
 
--- where the line feeds of the first `at` bytes are counted, adding that of the next byte counts those of the first `at + 1`
-pub counted_next : (xs : List ℕ) (count at more : ℕ) → at < length xs → count ≤ at → count ≡ feeds (take at xs) → more ≡ feed_of (slice_index xs at) → Counted xs (count + more) (at + 1)
+-- where there are more than `at` bytes, `count`, at most `at`, is the number of line feeds among the first `at`, and `more` is 1
+-- if the next byte is a line feed and else 0, `count + more` is the number of them among the first `at + 1` bytes (`Counted`)
+pub counted_next : (xs : List ℕ) (count at more : ℕ)
+    → at < length xs → count ≤ at → count ≡ feeds (take at xs) → more ≡ feed_of (slice_index xs at) → Counted xs (count + more) (at + 1)
 counted_next xs count at more less few is feed =
     let next : at + 1 ≡ suc at = omega arith in
     record {
@@ -43,37 +45,20 @@ pub feeds_two : (xs ys : List ℕ) → feeds (xs ++ ys) ≡ feeds xs + feeds ys
 feeds_two [] ys = omega arith
 feeds_two (b ∷ xs) ys = omega (arith, feeds_two xs ys)
 
--- to a file of which no call was made, nothing was appended
-pub puts_none : (old : Option Life) → PutsAll old old []
-puts_none old life is = ([], is ∙ ap (λ (l : Life). Some l) (later_none life), record { none_cut = refl; all = refl })
-
--- where `xs` were appended, and then `ys`, `xs ++ ys` were appended
-pub puts_two : (old mid new : Option Life) (xs ys : List ℕ) → PutsAll old mid xs → PutsAll mid new ys → PutsAll old new (xs ++ ys)
-puts_two old mid new xs ys first second life is =
-    let one = first life is in
-    let two = second (later_by one.0 life) one.1 in (
-      one.0 ++ two.0,
-      two.1 ∙ ap (λ (l : Life). Some l) (later_two one.0 two.0 life),
-      record {
-        none_cut = cuts_two one.0 two.0 one.2.none_cut two.2.none_cut;
-        all = appended_two one.0 two.0 ∙ ap (λ (l : List ℕ). l ++ appended two.0) one.2.all ∙ ap (λ (l : List ℕ). xs ++ l) two.2.all;
-      },
-    )
-
--- where bytes were appended, and then a sync was made, still these bytes were appended
+-- where `xs` were appended from `old` to `mid`, and one sync was made from `mid` to `new`, `xs` were appended from `old` to `new`
 pub puts_synced : (old mid new : Option Life) (xs : List ℕ) → PutsAll old mid xs → Adds mid new (Sync ∷ []) → PutsAll old new xs
 puts_synced old mid new xs puts sync =
     subst (PutsAll old new) (append-nil xs) (puts_two old mid new xs [] puts (λ life is. (Sync ∷ [], sync life is, record { none_cut = refl; all = refl })))
 
--- where the first `at` bytes were appended, and then the block after them, the first `at + size` bytes were
+-- where the first `at` bytes were appended, and then the block of the `size` bytes after them, the first `at + size` bytes were
 pub puts_block : (old mid new : Option Life) (held block : List ℕ) (at size : ℕ) → block ≡ take (length block) (drop at held) → length block ≡ size
     → PutsAll old mid (take at held) → PutsAll mid new block → PutsAll old new (take (at + size) held)
 puts_block old mid new held block at size is long first second =
     subst (PutsAll old new) (ap (λ (l : List ℕ). take at held ++ l) (is ∙ ap (λ n. take n (drop at held)) long) ∙ sym (take-add at size held))
     (puts_two old mid new (take at held) block first second)
 
--- where `lines` is the number of line feeds in the first `at` bytes, and `more` that of the block after them, their sum is
--- that of the first `at + size`
+-- where `lines` is the number of line feeds in the first `at` bytes, and `more` that of the block of the `size` bytes after them,
+-- their sum is that of the first `at + size`
 pub counts_block : (held block : List ℕ) (at size lines more : ℕ) → block ≡ take (length block) (drop at held) → length block ≡ size
     → lines ≡ feeds (take at held) → more ≡ feeds block → lines + more ≡ feeds (take (at + size) held)
 counts_block held block at size lines more is long first second =
@@ -82,9 +67,11 @@ counts_block held block at size lines more is long first second =
 
 -- where the first `at` bytes of a file, which are all that it holds, were appended to a copy, and the copy was synced, all that
 -- the file holds was appended to the copy
-pub puts_all : (old mid new : Option Life) (held : List ℕ) (at : ℕ) → length held ≤ at → PutsAll old mid (take at held) → Adds mid new (Sync ∷ []) → PutsAll old new held
+pub puts_all : (old mid new : Option Life) (held : List ℕ) (at : ℕ)
+    → length held ≤ at → PutsAll old mid (take at held) → Adds mid new (Sync ∷ []) → PutsAll old new held
 puts_all old mid new held at all puts sync = subst (PutsAll old new) (take_all at held all) (puts_synced old mid new (take at held) puts sync)
 
--- where the line feeds of the first `at` bytes are counted, and these are all bytes, all line feeds of the file are counted
+-- where `lines` is the number of line feeds in the first `at` bytes of a file, and these are all its bytes, `lines` is the number
+-- of line feeds in the file
 pub counts_all : (held : List ℕ) (at lines : ℕ) → length held ≤ at → lines ≡ feeds (take at held) → lines ≡ feeds held
 counts_all held at lines all is = is ∙ ap feeds (take_all at held all)

@@ -3,22 +3,23 @@ use Rattle.std.proofs.Common.{◌≡◌, inl, inr, ℕ, ◌≤◌, true, false, 
 use Rattle.std.proofs.lemmas.List.{append-nil}
 use Rattle.gc_files.specs.Files.{Step, Append, Cut, Sync, Life, has_sync, held_after, content, later_by}
 use Rattle.gc_files.specs.Rows.{table, start_of, mended, cuts_none, appended, Puts, MendedAndPut, IsFront, ComesTo}
-use Rattle.gc_files.specs.Runs.{synced, Run, lines, AreRows, IsHead, WereKept, IsRun, life_after, life_once_ended, HasRows, IsKilled, AreKilled}
+use Rattle.gc_files.specs.Runs.{synced, Run, lines, AreRows, IsHead, WereKept, IsRun, life_after, life_once_ended, HasRows, IsKilled, AreKilled, KillsLoseNothing}
 use Rattle.gc_files.proofs.Adding.{cuts_two, appended_two, synced_all}
 use Rattle.gc_files.proofs.Lasting.{RunHas, run_moments, has_more}
 use Rattle.gc_files.proofs.Moments.{may_stay, behind_two, two_steps, mend_synced}
 
--- a sync after a run keeps all that the run appended
+-- where steps mended a file, and then appended `bytes`, what they and a sync after them have synced is `bytes`
 pub ran_synced : (held : List ℕ) (steps : List Step) (bytes : List ℕ) → MendedAndPut held steps bytes → synced (steps ++ Sync ∷ []) ≡ bytes
 ran_synced held steps bytes ran =
     let at : steps ++ Sync ∷ [] ≡ take 2 (mended held) ++ (ran.later ++ Sync ∷ []) =
     ap (λ (xs : List Step). xs ++ Sync ∷ []) ran.split ∙ append_assoc (mended held) ran.later (Sync ∷ []) ∙ ap (λ (xs : List Step). xs ++ (ran.later ++ Sync ∷ [])) (sym (two_steps held)) in
     ap synced at ∙ mend_synced held 2 (ran.later ++ Sync ∷ []) ∙ synced_all ran.later ∙ ran.puts.all
 
--- an opening, and after it appends and syncs of a front of the lines of some rows, are a run of these rows
+-- an opening, and after it appends and syncs of a front of the lines of some rows, of which the first `kept` were kept, are a run of these
+-- rows
 pub calls_opened : (head held : List ℕ) (opening later : List Step) (front : List ℕ) (rows : List (List ℕ)) (kept : ℕ) (left : Option (List ℕ))
-    → MendedAndPut held opening (start_of head held) → Puts later front → IsFront front (lines rows) → AreRows rows → kept ≤ length rows
-    → WereKept head held rows kept (opening ++ later)
+    (ran : MendedAndPut held opening (start_of head held)) (puts : Puts later front) (is_front : IsFront front (lines rows))
+    (are : AreRows rows) (few : kept ≤ length rows) (were : WereKept head held rows kept (opening ++ later))
     → IsRun head held (record { rows = rows; steps = opening ++ later; kept = kept; left = left })
 calls_opened head held opening later front rows kept left ran puts is_front are few were = record {
   rows = are;
@@ -41,7 +42,7 @@ calls_opened head held opening later front rows kept left ran puts is_front are 
   kept = were;
 }
 
--- an opening that failed is a run without rows
+-- the steps of an opening, as far as it came (`ComesTo`), are a run without rows
 pub calls_failed : (head held : List ℕ) (steps : List Step) (left : Option (List ℕ)) → ComesTo held (start_of head held) steps
     → IsRun head held (record { rows = []; steps = steps; kept = 0; left = left })
 calls_failed head held steps left comes = record {
@@ -55,7 +56,7 @@ calls_failed head held steps left comes = record {
 abbrev synced_run : Run → Run
 synced_run run = record run { steps = run.steps ++ Sync ∷ [] }
 
--- a file after a run that ended by itself or by a kill has first rows of the run, at least those that went out whole (`RunHas`)
+-- a file after a run that ended by itself or by a kill has first rows of the run, at least those that count as kept (`RunHas`)
 killed_has : (head held : List ℕ) (run : Run) → IsHead head → IsKilled head held run → RunHas head held run (held_after held run.steps)
 killed_has head held run heads one = elim one.written [
   | inl none ↦ run_moments head held run (held_after held run.steps) heads (record { rows = one.rows; steps = one.steps; few = one.few; kept = inl none }) (may_stay held run.steps)
@@ -90,8 +91,10 @@ killed_has head held run heads one = elim one.written [
       }
 ]
 
--- runs that end by themselves or by a kill add their rows, one after the other
-killed_runs_add_rows : (head before : List ℕ) → IsHead head → (done runs : List Run) (life : Life) → HasRows head before done (content life) → AreKilled head life runs
+-- where a file has the rows of the runs `done`, and `runs` follow, each ended by itself or by a kill (`AreKilled`), then
+-- after `runs` the file has the rows of all of them
+killed_runs_add_rows : (head before : List ℕ) → IsHead head → (done runs : List Run) (life : Life)
+    → HasRows head before done (content life) → AreKilled head life runs
     → HasRows head before (done ++ runs) (content (life_after life runs))
 killed_runs_add_rows head before heads done [] life has killed = subst (λ (rs : List Run). HasRows head before rs (content life)) (sym (append-nil done)) has
 killed_runs_add_rows head before heads done (run ∷ runs) life has killed =
@@ -102,7 +105,7 @@ killed_runs_add_rows head before heads done (run ∷ runs) life has killed =
     subst (λ (rs : List Run). HasRows head before rs (content (life_after life (run ∷ runs)))) (append_assoc done (run ∷ []) runs)
     (subst (λ (o : Option (List ℕ)). HasRows head before ((done ++ run ∷ []) ++ runs) (content (life_after (life_once_ended life run o) runs))) (sym killed.0.killed) all)
 
--- the law: while the machine goes on no row is lost
-pub kills_lose_nothing : (head : List ℕ) → IsHead head → (life : Life) (runs : List Run) → AreKilled head life runs
-    → HasRows head (table head (content life)) runs (content (life_after life runs))
-kills_lose_nothing head heads life runs killed = killed_runs_add_rows head (table head (content life)) heads [] runs life ([], tt, sym (append-nil (table head (content life)))) killed
+-- the law: while the machine goes on no row is lost that went out whole
+pub kills_lose_nothing : KillsLoseNothing
+kills_lose_nothing head heads life runs killed =
+    killed_runs_add_rows head (table head (content life)) heads [] runs life ([], tt, sym (append-nil (table head (content life)))) killed

@@ -5,24 +5,25 @@ use Rattle.std.proofs.lemmas.Bool.{cases_Bool}
 use Rattle.std.proofs.lemmas.List.{append-nil}
 use Rattle.gc_files.specs.Files.{Step, Append, Cut, Sync, Life, settled, has_sync, content, later_by, MayLeave}
 use Rattle.gc_files.specs.Rows.{whole, line, is_empty, start_of, table, mended, appended, MendedAndPut, IsFront}
-use Rattle.gc_files.specs.Runs.{synced, Run, lines, AreRows, IsHead, IsRun, life_once_ended, CrashMayLeave, Happen, life_after, rows_of, AreRowCounts, HasRows}
+use Rattle.gc_files.specs.Runs.{synced, Run, lines, AreRows, IsHead, IsRun, life_once_ended, CrashMayLeave, Happen, life_after, rows_of, AreRowCounts, HasRows, TablesLast}
 use Rattle.gc_files.proofs.Whole.{whole_whole, whole_more, within}
 use Rattle.gc_files.proofs.Moments.{may_stay, leaves_two, no_sync, mended_leaves_whole, mend_moments, two_steps, mend_synced, front_take, put_moments}
 
--- `left` has some of these rows after what was there before, at least all those that end within the first k bytes
-pub record Has (head held : List ℕ) (rows : List (List ℕ)) (k : ℕ) (left : List ℕ) : Type 0 where
+-- the table of a file that holds `left` is the one from before a run and the first `count` of the run's rows, at least all that end within
+-- the first k bytes of what the run appends
+pub record HasRowsWithin (head held : List ℕ) (rows : List (List ℕ)) (k : ℕ) (left : List ℕ) : Type 0 where
   pub count : ℕ
   pub few : count ≤ length rows
   pub is : table head left ≡ table head held ++ lines (take count rows)
   pub least : (m : ℕ) → m ≤ length rows → length (start_of head held ++ lines (take m rows)) ≤ k → m ≤ count
 
--- a file's table is its whole rows, or the head where there are none
+-- where `rows` are the whole rows of a file that holds `left`, the file's table is `rows`, or the head where `rows` is empty
 table_by : (head left : List ℕ) (rows : List ℕ) → whole left ≡ rows → table head left ≡ rows ++ (if is_empty rows then head else [])
 table_by head left rows is = ap (λ (l : List ℕ). l ++ (if is_empty l then head else [])) is
 
--- a file whose table is as it was before a run has what `Has` asks for 0 bytes: none of the run's rows, as none ends within 0
--- bytes
-pub none_more : (head held : List ℕ) (rows : List (List ℕ)) (left : List ℕ) → AreRows rows → table head left ≡ table head held → Has head held rows 0 left
+-- where what is found, `left`, has the same table as what was there before a run, `held`, `HasRowsWithin` is true for 0 bytes:
+-- none of the run's rows was added, and none ends within 0 bytes
+pub none_more : (head held : List ℕ) (rows : List (List ℕ)) (left : List ℕ) → AreRows rows → table head left ≡ table head held → HasRowsWithin head held rows 0 left
 none_more head held rows left are same =
     let w = within rows 0 are in
     record {
@@ -41,9 +42,10 @@ line_first : (row : List ℕ) → (b : ℕ) × (bs : List ℕ) × (line row ≡ 
 line_first [] = (10, [], refl)
 line_first (b ∷ row) = (b, row ++ 10 ∷ [], refl)
 
--- a file with a whole row, to which a run appended the first k of its bytes, has the rows that end within them (`Has`)
+-- where a file held a whole row before a run, and `left` is its whole rows and then the first k bytes that the run appends,
+-- `left` has the rows that end within these k bytes (`HasRowsWithin`)
 behind_rows : (head held : List ℕ) (b : ℕ) (bs : List ℕ) (rows : List (List ℕ)) (k : ℕ) (left : List ℕ) → AreRows rows → whole held ≡ b ∷ bs
-    → left ≡ whole held ++ take k (start_of head held ++ lines rows) → Has head held rows k left
+    → left ≡ whole held ++ take k (start_of head held ++ lines rows) → HasRowsWithin head held rows k left
 behind_rows head held b bs rows k left are some is =
     let w = within rows k are in
     let start : start_of head held ≡ [] = ap (λ (l : List ℕ). if is_empty l then head else []) some in
@@ -57,10 +59,10 @@ behind_rows head held b bs rows k left are some is =
       least = λ m few le. w.least m few (subst (λ (l : List ℕ). length (l ++ lines (take m rows)) ≤ k) start le);
     }
 
--- a file without a whole row, and for which there is no head, to which a run appended the first k of its bytes, has the rows
--- that end within them (`Has`)
+-- where a file held no whole row before a run, there is no head, and `left` is the first k bytes that the run appends, `left` has
+-- the rows that end within these k bytes (`HasRowsWithin`)
 behind_nothing : (held : List ℕ) (rows : List (List ℕ)) (k : ℕ) (left : List ℕ) → AreRows rows → whole held ≡ []
-    → left ≡ whole held ++ take k (start_of [] held ++ lines rows) → Has [] held rows k left
+    → left ≡ whole held ++ take k (start_of [] held ++ lines rows) → HasRowsWithin [] held rows k left
 behind_nothing held rows k left are none is =
     let w = within rows k are in
     let start : start_of [] held ≡ [] = ap (λ (l : List ℕ). if is_empty l then [] else []) none in
@@ -81,10 +83,12 @@ behind_nothing held rows k left are none is =
     plain : (l : List ℕ) → table [] l ≡ whole l
     plain l = ap (λ (e : List ℕ). whole l ++ e) (either_same [] (is_empty (whole l))) ∙ append-nil (whole l)
 
--- in a file without a whole row, where the run first writes a head, which is the line `row`: where the file has the first
--- `count` of the lines of head and rows, at least all that end within k bytes, it has the rows that end within k bytes (`Has`)
-head_first : (row held : List ℕ) (rows : List (List ℕ)) (k : ℕ) (left : List ℕ) → whole held ≡ [] → (count : ℕ) → count ≤ length (row ∷ rows) → whole left ≡ lines (take count (row ∷ rows))
-    → ((m : ℕ) → m ≤ length (row ∷ rows) → length (lines (take m (row ∷ rows))) ≤ k → m ≤ count) → Has (line row) held rows k left
+-- where a file held no whole row before a run, the head is the line of `row`, and the whole rows of `left` are the first `count`
+-- of the lines of `row` and of the run's rows, at least all that end within k bytes, `left` has the run's rows that end within
+-- the first k bytes that the run appends (`HasRowsWithin`)
+head_first : (row held : List ℕ) (rows : List (List ℕ)) (k : ℕ) (left : List ℕ) → whole held ≡ []
+    → (count : ℕ) → count ≤ length (row ∷ rows) → whole left ≡ lines (take count (row ∷ rows))
+    → ((m : ℕ) → m ≤ length (row ∷ rows) → length (lines (take m (row ∷ rows))) ≤ k → m ≤ count) → HasRowsWithin (line row) held rows k left
 head_first row held rows k left none zero few is least =
     let start : start_of (line row) held ≡ line row = ap (λ (l : List ℕ). if is_empty l then line row else []) none in
     record {
@@ -109,20 +113,21 @@ list_cases : (xs : List ℕ) → (xs ≡ []) ⊎ ((b : ℕ) × (bs : List ℕ) �
 list_cases [] = inl refl
 list_cases (b ∷ bs) = inr (b, bs, refl)
 
--- a file to which a run appended the first k of its bytes has the rows that end within them (`Has`)
+-- where `left` is the whole rows that a file held before a run, and then the first k bytes that the run appends, `left` has the
+-- rows that end within these k bytes (`HasRowsWithin`)
 pub reached : (head held : List ℕ) (rows : List (List ℕ)) (k : ℕ) (left : List ℕ) → IsHead head → AreRows rows
-    → left ≡ whole held ++ take k (start_of head held ++ lines rows) → Has head held rows k left
+    → left ≡ whole held ++ take k (start_of head held ++ lines rows) → HasRowsWithin head held rows k left
 reached head held rows k left heads are is = elim (list_cases (whole held)) [
   | inr some ↦ behind_rows head held some.0 some.1 rows k left are some.2 is
   | inl none ↦ elim heads [
-    | inl empty ↦ subst (λ (h : List ℕ). Has h held rows k left) (sym empty)
+    | inl empty ↦ subst (λ (h : List ℕ). HasRowsWithin h held rows k left) (sym empty)
         (behind_nothing held rows k left are none (subst (λ (h : List ℕ). left ≡ whole held ++ take k (start_of h held ++ lines rows)) empty is))
     | inr one ↦
         let row = one.0 in
         let w = within (row ∷ rows) k (one.1, are) in
         let start : start_of head held ≡ line row = ap (λ (l : List ℕ). if is_empty l then head else []) none ∙ one.2 in
         let at : left ≡ take k (lines (row ∷ rows)) = is ∙ ap (λ (l : List ℕ). l ++ take k (start_of head held ++ lines rows)) none ∙ ap (λ (l : List ℕ). take k (l ++ lines rows)) start in
-        subst (λ (h : List ℕ). Has h held rows k left) (sym one.2) (head_first row held rows k left none w.count w.few (ap whole at ∙ w.is) w.least)
+        subst (λ (h : List ℕ). HasRowsWithin h held rows k left) (sym one.2) (head_first row held rows k left none w.count w.few (ap whole at ∙ w.is) w.least)
   ]
 ]
 
@@ -138,9 +143,11 @@ pub record RunHas (head held : List ℕ) (run : Run) (left : List ℕ) : Type 0 
 front_length : (front all : List ℕ) → IsFront front all → length front ≤ length all
 front_length front all f = omega (arith, ap length f.split, length-append front f.rest)
 
--- where a file has the rows that end within the first k bytes of a run, and at most k of the run's bytes were synced, the kept
--- rows are among them
-kept_within : (head held : List ℕ) (run : Run) (left : List ℕ) (k : ℕ) → IsRun head held run → length (synced run.steps) ≤ k → Has head held run.rows k left → RunHas head held run left
+-- where a run is one over `held` (`IsRun`), at most k of the bytes that it appended were synced, and `left` has the rows that end
+-- within the first k bytes that the run appends (`HasRowsWithin`), `left` has first rows of the run, at least the kept ones
+-- (`RunHas`)
+kept_within : (head held : List ℕ) (run : Run) (left : List ℕ) (k : ℕ)
+    → IsRun head held run → length (synced run.steps) ≤ k → HasRowsWithin head held run.rows k left → RunHas head held run left
 kept_within head held run left k one enough has = record {
   count = has.count;
   least = elim one.kept [
@@ -151,8 +158,8 @@ kept_within head held run left k one enough has = record {
   is = has.is;
 }
 
--- where nothing of a run was synced, none of its rows is kept, so that a file to which nothing was added has what the run must
--- leave (`RunHas`)
+-- where a run is one over `held` (`IsRun`), and nothing of it was synced, `RunHas` is true with any bytes `left` both as what was
+-- there before the run and as what is found: none of the run's rows is kept, and none is added
 no_row_kept : (head held : List ℕ) (run : Run) (left : List ℕ) → IsRun head held run → synced run.steps ≡ [] → RunHas head left run left
 no_row_kept head held run left one nothing =
     let w = within run.rows 0 one.rows in
@@ -171,7 +178,7 @@ no_row_kept head held run left one nothing =
 same_table : (head left held : List ℕ) → whole left ≡ whole held → table head left ≡ table head held
 same_table head left held same = ap (λ (l : List ℕ). l ++ (if is_empty l then head else [])) same
 
--- no more is synced than was appended
+-- no more bytes were synced than were appended
 pub synced_length : (steps : List Step) → length (synced steps) ≤ length (appended steps)
 synced_length [] = omega arith
 synced_length (Append bytes ∷ steps) = elim (cases_Bool (has_sync steps)) [
@@ -181,8 +188,10 @@ synced_length (Append bytes ∷ steps) = elim (cases_Bool (has_sync steps)) [
 synced_length (Sync ∷ steps) = synced_length steps
 synced_length (Cut size ∷ steps) = synced_length steps
 
--- whatever a crash leaves of a run has first rows of it, at least the kept ones (`RunHas`)
-pub run_moments : (head held : List ℕ) (run : Run) (left : List ℕ) → IsHead head → IsRun head held run → MayLeave held run.steps left → RunHas head held run left
+-- whatever a crash in a run, or after it, may leave of a file has the table from before and first rows of the run, at least the
+-- kept ones (`RunHas`)
+pub run_moments : (head held : List ℕ) (run : Run) (left : List ℕ)
+    → IsHead head → IsRun head held run → MayLeave held run.steps left → RunHas head held run left
 run_moments head held run left heads one may = elim one.steps [
   | inl mending ↦
       let here = subst (λ (steps : List Step). MayLeave held steps left) mending.is may in
@@ -191,8 +200,9 @@ run_moments head held run left heads one may = elim one.steps [
   | inr all ↦ ran_moments all.0 all.1 all.2
 ]
   where
-    -- whatever a crash leaves of a run that mended the file, and then appended a front of the head and its rows, has first rows of
-    -- the run, at least the kept ones (`RunHas`)
+    -- where the run mended the file whole, and then appended `bytes`, a front of the head (where no whole row was there) and,
+    -- after it, the lines of the run's rows, then what a crash left, `left`, has the table from before and first rows of the run,
+    -- at least the kept ones (`RunHas`)
     ran_moments : (bytes : List ℕ) → MendedAndPut held run.steps bytes → IsFront bytes (start_of head held ++ lines run.rows) → RunHas head held run left
     ran_moments bytes ran front =
         let steps = mended held ++ ran.later in
@@ -215,27 +225,33 @@ run_moments head held run left heads one may = elim one.steps [
               kept_within head held run left t.0 one enough (reached head held run.rows t.0 left heads one.rows (at_bytes ∙ t.2))
         ]
       where
-        -- mending appends nothing, so what is synced is what the later steps have synced
+        -- of the steps that mend a file, and of the steps `later` after them, the same is synced as of `later` alone
         whole_mended : (later : List Step) → synced (mended held ++ later) ≡ synced later
         whole_mended later = ap (λ (steps : List Step). synced (steps ++ later)) (sym (two_steps held)) ∙ mend_synced held 2 later
 
--- counts for some runs, and after them a count for one more run, are counts for all of these runs
-pub counts_more : (runs : List Run) (counts : List ℕ) (run : Run) (n : ℕ) → AreRowCounts runs counts → run.kept ≤ n → n ≤ length run.rows → AreRowCounts (runs ++ run ∷ []) (counts ++ n ∷ [])
+-- counts for some runs, and after them a count for one more run, at least its kept rows and at most all its rows, are counts for
+-- all of these runs (`AreRowCounts`)
+pub counts_more : (runs : List Run) (counts : List ℕ) (run : Run) (n : ℕ)
+    → AreRowCounts runs counts → run.kept ≤ n → n ≤ length run.rows → AreRowCounts (runs ++ run ∷ []) (counts ++ n ∷ [])
 counts_more [] [] run n cs least few = (least, few, tt)
 counts_more [] (m ∷ counts) run n cs least few = absurd cs
 counts_more (r ∷ runs) [] run n cs least few = absurd cs
 counts_more (r ∷ runs) (m ∷ counts) run n cs least few = (cs.0, cs.1, counts_more runs counts run n cs.2 least few)
 
--- the rows of one more run come after those of the others
-pub rows_more : (runs : List Run) (counts : List ℕ) (run : Run) (n : ℕ) → AreRowCounts runs counts → rows_of (runs ++ run ∷ []) (counts ++ n ∷ []) ≡ rows_of runs counts ++ lines (take n run.rows)
+-- where each of some runs has its count, the rows of these runs and of one more, whose count is n, are the rows of these runs,
+-- and then the first n of that one
+pub rows_more : (runs : List Run) (counts : List ℕ) (run : Run) (n : ℕ)
+    → AreRowCounts runs counts → rows_of (runs ++ run ∷ []) (counts ++ n ∷ []) ≡ rows_of runs counts ++ lines (take n run.rows)
 rows_more [] [] run n cs = append-nil (lines (take n run.rows))
 rows_more [] (m ∷ counts) run n cs = absurd cs
 rows_more (r ∷ runs) [] run n cs = absurd cs
 rows_more (r ∷ runs) (m ∷ counts) run n cs = ap (λ (l : List ℕ). lines (take m r.rows) ++ l) (rows_more runs counts run n cs.2)
     ∙ sym (append_assoc (lines (take m r.rows)) (rows_of runs counts) (lines (take n run.rows)))
 
--- where a file has the rows of some runs, and one more run added its own, the file has the rows of all
-pub has_more : (head before : List ℕ) (runs : List Run) (run : Run) (held left : List ℕ) → HasRows head before runs held → RunHas head held run left → HasRows head before (runs ++ run ∷ []) left
+-- where a file has the rows of some runs, and what is found of it after one more run, `left`, has first rows of that run, at
+-- least the kept ones (`RunHas`), `left` has the rows of all these runs
+pub has_more : (head before : List ℕ) (runs : List Run) (run : Run) (held left : List ℕ)
+    → HasRows head before runs held → RunHas head held run left → HasRows head before (runs ++ run ∷ []) left
 has_more head before runs run held left has more = (
   has.0 ++ more.count ∷ [],
   counts_more runs has.0 run more.count has.1 more.least more.few,
@@ -244,13 +260,15 @@ has_more head before runs run held left has more = (
 )
 
 -- whatever a crash leaves of a file with this life has the rows of the runs after the table `before`
-abbrev pub Lasts : List ℕ → List ℕ → List Run → Life → Type 0
+abbrev pub Lasts : (head before : List ℕ) → List Run → Life → Type 0
 Lasts head before runs life = (left : List ℕ) → MayLeave life.start life.steps left → HasRows head before runs left
 
 -- for a file with this head, and `before` as its table before all runs
 module _ (head before : List ℕ) (heads : IsHead head) where
-  -- the table lasts over one more run
-  pub one_more : (runs : List Run) (life : Life) (run : Run) → Lasts head before runs life → IsRun head (content life) run → Lasts head before (runs ++ run ∷ []) (later_by run.steps life)
+  -- where `Lasts` is true of a life and some runs, and one more run is over what the file then holds, `Lasts` is true of the life
+  -- with that run's steps, and of all these runs
+  pub one_more : (runs : List Run) (life : Life) (run : Run)
+      → Lasts head before runs life → IsRun head (content life) run → Lasts head before (runs ++ run ∷ []) (later_by run.steps life)
   one_more runs life run lasts one left may = elim (leaves_two life.start life.steps run.steps left may) [
     | inl old ↦
         let nothing = no_sync run.steps old.0 in
@@ -259,22 +277,25 @@ module _ (head before : List ℕ) (heads : IsHead head) where
     | inr new ↦ has_more head before runs run (content life) left (lasts (content life) (may_stay life.start life.steps)) (run_moments head (content life) run left heads one new)
   ]
 
-  -- the table lasts over one more run and its end, also where that end is a crash of the machine
+  -- where `Lasts` is true of a life and some runs, and one more run is over what the file then holds, and ended in a crash that
+  -- left what it may leave (`Some`), or in none (`None`), `Lasts` is true of the life once that run has ended, and of all these
+  -- runs
   one_more_ended : (runs : List Run) (life : Life) (run : Run) (left : Option (List ℕ)) → Lasts head before runs life → IsRun head (content life) run
       → CrashMayLeave life run left → Lasts head before (runs ++ run ∷ []) (life_once_ended life run left)
   one_more_ended runs life run None lasts one end = one_more runs life run lasts one
   one_more_ended runs life run (Some there) lasts one end = λ left may. subst (HasRows head before (runs ++ run ∷ [])) (sym may) (one_more runs life run lasts one there end)
 
-  -- the table lasts over all runs
-  all_runs : (earlier runs : List Run) (life : Life) → Lasts head before earlier life → Happen head life runs → Lasts head before (earlier ++ runs) (life_after life runs)
+  -- where `Lasts` is true of a life and the runs `earlier`, and `runs` happen after these (`Happen`), `Lasts` is true of the life
+  -- after `runs`, and of all these runs
+  all_runs : (earlier runs : List Run) (life : Life)
+      → Lasts head before earlier life → Happen head life runs → Lasts head before (earlier ++ runs) (life_after life runs)
   all_runs earlier [] life lasts happen = subst (λ (rs : List Run). Lasts head before rs life) (sym (append-nil earlier)) lasts
   all_runs earlier (run ∷ runs) life lasts happen =
       subst (λ (rs : List Run). Lasts head before rs (life_after (life_once_ended life run run.left) runs)) (append_assoc earlier (run ∷ []) runs)
       (all_runs (earlier ++ run ∷ []) runs (life_once_ended life run run.left) (one_more_ended earlier life run run.left lasts happen.0 happen.1) happen.2)
 
 -- the law: over any runs and crashes the table lasts
-pub tables_last : (head held : List ℕ) → IsHead head → (runs : List Run) → Happen head (settled held) runs
-    → Lasts head (table head held) runs (life_after (settled held) runs)
+pub tables_last : TablesLast
 tables_last head held heads runs happen =
     all_runs head (table head held) heads [] runs (settled held)
     (λ left may. ([], tt, ap (table head) may ∙ sym (append-nil (table head held)))) happen

@@ -28,7 +28,7 @@ fits_from k sign held same =
     (sym (take-append-drop k held) ∙ ap (λ (l : List ℕ). l ++ drop k held) (sym same))
     ∙ fits_behind (take k sign) (drop k sign) (drop k held)
 
--- where the first k bytes differ, neither begins with the other
+-- where a sign and a file both have at least k bytes, and their first k bytes differ, neither begins with the other
 pub fits_not : (k : ℕ) (sign held : List ℕ) → k ≤ length sign → k ≤ length held → (take k sign ≡ take k held → ⊥) → fits sign held ≡ false
 fits_not zero sign held one two differ = absurd (differ refl)
 fits_not (suc k) [] held one two differ = absurd (omega (arith, one))
@@ -40,12 +40,13 @@ fits_not (suc k) (a ∷ sign) (b ∷ held) one two differ = elim (cases_Bool (a 
 ]
 
 -- where the next k bytes of the file are those of the sign, the file fits the sign from there exactly if it does from k bytes later
-pub looked_on : (at k : ℕ) (sign held rest : List ℕ) → rest ≡ drop at sign → take k rest ≡ take k (drop at held) → fits (drop at sign) (drop at held) ≡ fits (drop (at + k) sign) (drop (at + k) held)
+pub looked_on : (at k : ℕ) (sign held rest : List ℕ) → rest ≡ drop at sign → take k rest ≡ take k (drop at held)
+    → fits (drop at sign) (drop at held) ≡ fits (drop (at + k) sign) (drop (at + k) held)
 looked_on at k sign held rest is same =
     fits_from k (drop at sign) (drop at held) (ap (take k) (sym is) ∙ same)
     ∙ ap (λ (s : List ℕ). fits s (drop k (drop at held))) (drop-drop k at sign) ∙ ap (λ (h : List ℕ). fits (drop (at + k) sign) h) (drop-drop k at held)
 
--- where a piece of the file differs from the sign, the file doesn't fit the sign
+-- where the file and the sign both have k bytes from place `at` on, and these differ, the file doesn't fit the sign from there on
 pub looked_not : (at k : ℕ) (sign held rest : List ℕ) → rest ≡ drop at sign → k ≤ length rest → at + k ≤ length held
     → (take k rest ≡ take k (drop at held) → ⊥) → fits (drop at sign) (drop at held) ≡ false
 looked_not at k sign held rest is one two differ =
@@ -55,9 +56,10 @@ looked_not at k sign held rest is one two differ =
 pub looked_all : (at : ℕ) (sign held : List ℕ) → length held ≤ at → fits (drop at sign) (drop at held) ≡ true
 looked_all at sign held past = ap (fits (drop at sign)) (drop_all at held past) ∙ fits_none (drop at sign)
 
--- where the first `done` bytes of a buffer are the file's from place `at` on, and n more are read after them, its first
--- `done + n` bytes are the file's
-pub read_more : (done n at k : ℕ) (buf ys held : List ℕ) → done ≤ length buf → n ≤ length ys → take done buf ≡ take done (drop at held) → take n ys ≡ take n (drop (at + done) held)
+-- where the first `done` bytes of a buffer are the file's from place `at` on, and in place of the k bytes after them `ys` is put, of which
+-- the first n are the file's bytes that follow, the first `done + n` bytes of the buffer are then the file's
+pub read_more : (done n at k : ℕ) (buf ys held : List ℕ) → done ≤ length buf → n ≤ length ys
+    → take done buf ≡ take done (drop at held) → take n ys ≡ take n (drop (at + done) held)
     → take (done + n) (put_mid done k buf ys) ≡ take (done + n) (drop at held)
 read_more done n at k buf ys held within few first second =
     ap (λ m. take (m + n) (put_mid done k buf ys)) (sym (length-take-le done buf within))
@@ -67,8 +69,9 @@ read_more done n at k buf ys held within few first second =
     ∙ ap (λ (l : List ℕ). take done (drop at held) ++ l) (second ∙ ap (take n) (sym (drop-drop done at held)))
     ∙ sym (take-add done n (drop at held))
 
--- a buffer keeps its length as a piece is put into it
-pub length-put : (done k : ℕ) (buf ys : List ℕ) → done ≤ length buf → k ≡ length buf - done → length ys ≡ k → length (put_mid done k buf ys) ≡ length buf
+-- a buffer keeps its length where `ys`, of k bytes, is put in place of all k bytes after the first `done`
+pub length-put : (done k : ℕ) (buf ys : List ℕ)
+    → done ≤ length buf → k ≡ length buf - done → length ys ≡ k → length (put_mid done k buf ys) ≡ length buf
 length-put done k buf ys within is size =
     omega (
       arith,
@@ -76,8 +79,7 @@ length-put done k buf ys within is size =
       is,
       size,
       length-append (take done buf) (ys ++ drop k (drop done buf)),
-      length-append ys
-          (drop k (drop done buf)),
+      length-append ys (drop k (drop done buf)),
       length-take-le done buf within,
       length-drop k (drop done buf),
       length-drop done buf,
@@ -104,8 +106,9 @@ some_feed (b ∷ xs) (suc k) less is = elim (cases_Bool (b == 10)) [
 whole_first : (b : ℕ) (xs : List ℕ) → has_feed (b ∷ xs) ≡ true → length (whole (b ∷ xs)) ≡ suc (length (whole xs))
 whole_first b xs some = rw (some) refl
 
--- the last line feed ends the whole rows
-last_feed : (xs : List ℕ) (k : ℕ) → k < length xs → (slice_index xs k == 10) ≡ true → ((j : ℕ) → k < j → j < length xs → (slice_index xs j == 10) ≡ true → ⊥) → suc k ≡ length (whole xs)
+-- where byte k is the last line feed, the whole rows have k + 1 bytes
+last_feed : (xs : List ℕ) (k : ℕ) → k < length xs → (slice_index xs k == 10) ≡ true
+    → ((j : ℕ) → k < j → j < length xs → (slice_index xs j == 10) ≡ true → ⊥) → suc k ≡ length (whole xs)
 last_feed [] k less is none = absurd (omega (arith, less))
 last_feed (b ∷ xs) zero less is none =
     let nothing : whole xs ≡ [] = whole_none xs (none_feed xs (λ j below. none (suc j) (omega arith) (omega (arith, below)))) in
@@ -114,7 +117,7 @@ last_feed (b ∷ xs) (suc k) less is none =
     let rest = last_feed xs k (omega (arith, less)) is (λ j above below. none (suc j) (omega (arith, above)) (omega (arith, below))) in
     sym (whole_first b xs (some_feed (b ∷ xs) (suc k) less is) ∙ ap suc (sym rest))
 
--- the whole rows of a block end with the last line feed that was found
+-- where the last line feed of a block was found at place `last`, the block's whole rows have `last + 1` bytes
 pub last_some : (block : List ℕ) (last : ℕ) → IsLastByte (is_byte 10) block (Some last) → last + 1 ≡ length (whole block)
 last_some block last h = omega (arith, last_feed block last h.0.high h.1 (λ j above below. h.0.after j (omega (arith, above)) below))
 
@@ -122,7 +125,8 @@ last_some block last h = omega (arith, last_feed block last h.0.high h.1 (λ j a
 pub last_none : (block : List ℕ) → IsLastByte (is_byte 10) block None → 0 ≡ length (whole block)
 last_none block h = sym (ap length (whole_none block (none_feed block (λ j below. h j (omega arith) below))))
 
--- a file is what is before a block, the block, and what follows it
+-- a file is its first `at` bytes, the block of the `size` bytes after them, or of those that there are, and what follows the
+-- block
 split_at : (at size : ℕ) (held block : List ℕ) → block ≡ take size (drop at held) → held ≡ take at held ++ (block ++ drop (at + size) held)
 split_at at size held block is =
     sym (take-append-drop at held) ∙ ap (λ (l : List ℕ). take at held ++ l)
@@ -148,7 +152,7 @@ some_whole xs some = elim (cases_Bool (has_feed xs)) [
   | inr isnt ↦ absurd (omega (arith, some, ap length (whole_none xs isnt)))
 ]
 
--- where a block of a file has no whole row, and no line feed follows the block, none follows the block's beginning
+-- where a block of a file has no whole row, and no line feed follows the block, there is none from the block's beginning on
 pub block_none : (at size end : ℕ) (held block : List ℕ) → block ≡ take size (drop at held) → at + size ≡ end → has_feed (drop end held) ≡ false
     → length (whole block) ≤ 0 → has_feed (drop at held) ≡ false
 block_none at size end held block is ends none no_rows =
@@ -158,8 +162,9 @@ block_none at size end held block is ends none no_rows =
 
 -- where a block of a file has a whole row, and no line feed follows the block, the file's whole rows end where the block's
 -- do
-pub block_some : (at size end : ℕ) (held block : List ℕ) → block ≡ take size (drop at held) → at + size ≡ end → at ≤ length held
-    → has_feed (drop end held) ≡ false → 0 < length (whole block) → at + length (whole block) ≡ length (whole held)
+pub block_some : (at size end : ℕ) (held block : List ℕ)
+    (is : block ≡ take size (drop at held)) (ends : at + size ≡ end) (within : at ≤ length held)
+    (none : has_feed (drop end held) ≡ false) (rows : 0 < length (whole block)) → at + length (whole block) ≡ length (whole held)
 block_some at size end held block is ends within none rows =
     let behind : has_feed (drop (at + size) held) ≡ false = ap (λ n. has_feed (drop n held)) ends ∙ none in
     let whole_is : whole held ≡ take at held ++ whole block =
@@ -174,15 +179,15 @@ put_more old mid new bytes piece done n is puts adds =
     subst (PutsAll old new) (ap (λ (l : List ℕ). take done bytes ++ take n l) is ∙ sym (take-add done n bytes)) (puts_more old mid new (take done bytes) (take n piece) puts adds)
 
 -- where the first `done` bytes were appended, and then nothing more, a front of the bytes was appended
-pub put_part : (old mid new : Option Life) (bytes : List ℕ) (done : ℕ) → PutsAll old mid (take done bytes) → new ≡ mid → (front : List ℕ) × IsFront front bytes × PutsAll old new front
+pub put_part : (old mid new : Option Life) (bytes : List ℕ) (done : ℕ) → PutsAll old mid (take done bytes) → new ≡ mid
+    → (front : List ℕ) × IsFront front bytes × PutsAll old new front
 put_part old mid new bytes done puts same = (
   take done bytes,
   record { rest = drop done bytes; split = sym (take-append-drop done bytes) },
-  subst
-      (λ (life : Option Life). PutsAll old life (take done bytes)) (sym same) puts,
+  subst (λ (life : Option Life). PutsAll old life (take done bytes)) (sym same) puts,
 )
 
--- a block as long as the first k bytes of a buffer has k bytes
+-- a block as long as the first k bytes of a buffer, which has at least k, has k bytes
 pub size_of : (k : ℕ) (buf block : List ℕ) → k ≤ length buf → length block ≡ length (take k buf) → length block ≡ k
 size_of k buf block within same = same ∙ length-take-le k buf within
 

@@ -8,7 +8,7 @@ use Rattle.gc_files.specs.Rows.{whole, mended, cuts_none, appended, IsFront}
 use Rattle.gc_files.specs.Runs.{synced}
 use Rattle.gc_files.proofs.Whole.{Torn, torn_of, whole_take}
 
--- what is there now is among what a crash may leave
+-- what a file holds after these steps is among what a crash after them may leave
 pub may_stay : (held : List ℕ) (steps : List Step) → MayLeave held steps (held_after held steps)
 may_stay held [] = refl
 may_stay held (step ∷ steps) = inr (may_stay (stepped held step) steps)
@@ -31,7 +31,8 @@ sync_two (Sync ∷ xs) ys none = absurd (true≢false none)
 
 -- what a crash may leave after the steps `xs ++ ys` is what it may leave after `xs` alone, where `ys` have no sync, or what it
 -- may leave after `ys` of the file that `xs` made
-pub leaves_two : (held : List ℕ) (xs ys : List Step) (left : List ℕ) → MayLeave held (xs ++ ys) left → ((has_sync ys ≡ false) × MayLeave held xs left) ⊎ MayLeave (held_after held xs) ys left
+pub leaves_two : (held : List ℕ) (xs ys : List Step) (left : List ℕ) → MayLeave held (xs ++ ys) left
+    → ((has_sync ys ≡ false) × MayLeave held xs left) ⊎ MayLeave (held_after held xs) ys left
 leaves_two held [] ys left may = inr may
 leaves_two held (step ∷ xs) ys left (inl now) =
     let two = sync_two (step ∷ xs) ys now.0 in
@@ -41,7 +42,7 @@ leaves_two held (step ∷ xs) ys left (inr next) = elim (leaves_two (stepped hel
   | inr second ↦ inr second
 ]
 
--- without a sync nothing was synced
+-- of steps without a sync nothing was synced
 pub no_sync : (steps : List Step) → has_sync steps ≡ false → synced steps ≡ []
 no_sync [] none = refl
 no_sync (Append bytes ∷ steps) none = rw (none) refl
@@ -63,10 +64,12 @@ mended_leaves_whole held = elim (cases_Bool (length (whole held) == length held)
   where
     -- a file whose whole rows have its length is its whole rows
     all : (held : List ℕ) (t : Torn held) → length (whole held) ≡ length held → held ≡ whole held
-    all held t same = sym (take_all (length held) held (omega arith)) ∙ ap
-        (λ n. take n held) (sym same) ∙ ap (take (length (whole held))) t.split ∙ take_at (whole held) t.torn (length (whole held)) refl
+    all held t same =
+        sym (take_all (length held) held (omega arith)) ∙ ap (λ n. take n held) (sym same)
+        ∙ ap (take (length (whole held))) t.split ∙ take_at (whole held) t.torn (length (whole held)) refl
 
--- at each moment of a cut after the whole rows, and of a sync after it, whatever a crash leaves has the same whole rows
+-- at each moment of a cut after the whole rows of a file, and of a sync after that cut, whatever a crash leaves has the same
+-- whole rows as the file
 cut_moments : (held : List ℕ) (count : ℕ) (left : List ℕ) → MayLeave held (take count (Cut (length (whole held)) ∷ Sync ∷ [])) left → whole left ≡ whole held
 cut_moments held zero left may = ap whole may
 cut_moments held (suc zero) left (inl now) = ap whole now.1.2 ∙ whole_take held now.1.0 now.1.1
@@ -76,7 +79,7 @@ cut_moments held (suc (suc n)) left (inr (inl now)) = absurd (true≢false now.0
 cut_moments held (suc (suc n)) left (inr (inr next)) =
     ap whole (subst (λ (steps : List Step). MayLeave (take (length (whole held)) held) steps left) (take_nil n) next) ∙ whole_take held (length (whole held)) (omega arith)
 
--- at each moment of mending a file, in part or to the end, whatever a crash leaves has the same whole rows
+-- at each moment of mending a file, in part or to the end, whatever a crash leaves has the same whole rows as the file
 pub mend_moments : (held : List ℕ) (count : ℕ) (left : List ℕ) → MayLeave held (take count (mended held)) left → whole left ≡ whole held
 mend_moments held count left may = elim (cases_Bool (length (whole held) == length held)) [
   | inl same ↦
@@ -95,7 +98,8 @@ two_steps held = elim (cases_Bool (length (whole held) == length held)) [
   | inr less ↦ rw (less) refl
 ]
 
--- mending a file appends nothing: what was synced of it and later steps is what was synced of the later steps alone
+-- mending a file, in part or whole, appends nothing: what was synced of it and later steps is what was synced of the later steps
+-- alone
 pub mend_synced : (held : List ℕ) (count : ℕ) (later : List Step) → synced (take count (mended held) ++ later) ≡ synced later
 mend_synced held count later = elim (cases_Bool (length (whole held) == length held)) [
   | inl same ↦
@@ -118,16 +122,19 @@ pub record Reached (held all least left : List ℕ) : Type 0 where
   pub is : left ≡ held ++ take count all
   pub enough : length least ≤ count
 
--- the first k bytes of a front are the first `count` bytes of the whole, and `count` is at least k or at least the front's
+-- after `held`, the first k bytes of a front are the first `count` bytes of the whole, and `count` is at least k or at least the front's
 -- length
-pub front_take : (held all bytes : List ℕ) (k : ℕ) (f : IsFront bytes all) → (count : ℕ) × (k ≤ count ⊎ length bytes ≤ count) × (held ++ take k bytes ≡ held ++ take count all)
+pub front_take : (held all bytes : List ℕ) (k : ℕ) (f : IsFront bytes all)
+    → (count : ℕ) × (k ≤ count ⊎ length bytes ≤ count) × (held ++ take k bytes ≡ held ++ take count all)
 front_take held all bytes k f = elim (cases_lt k (length bytes)) [
   | inl less ↦ (k, inl (omega arith), ap (λ (l : List ℕ). held ++ l) (sym (take-append-le k bytes f.rest (omega (arith, less))) ∙ ap (take k) (sym f.split)))
   | inr more ↦ (length bytes, inr (omega arith), ap (λ (l : List ℕ). held ++ l) (take_all k bytes more ∙ sym (take_at bytes f.rest (length bytes) refl) ∙ ap (take (length bytes)) (sym f.split)))
 ]
 
--- steps that cut nothing leave, at each moment, a front of what they append, and at least what was synced of it
-pub put_moments : (steps : List Step) (held left : List ℕ) → cuts_none steps ≡ true → MayLeave held steps left → Reached held (appended steps) (synced steps) left
+-- what a crash may leave after steps that cut nothing is what the file held before them, and then a front of what they append, at
+-- least as much as was synced of it (`Reached`)
+pub put_moments : (steps : List Step) (held left : List ℕ)
+    → cuts_none steps ≡ true → MayLeave held steps left → Reached held (appended steps) (synced steps) left
 put_moments [] held left none may = record { count = 0; is = may ∙ sym (append-nil held); enough = omega arith }
 put_moments (Append bytes ∷ steps) held left none (inl now) =
     let at = front_take held (bytes ++ appended steps) bytes now.1.0 (record { rest = appended steps; split = refl }) in

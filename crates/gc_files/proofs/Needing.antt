@@ -2,7 +2,7 @@
 use Rattle.std.proofs.Common.{◌≡◌, inl, inr, ℕ, false, List, [], ◌∷◌, refl, arith, None}
 use Rattle.gc_files.specs.Files.{Append, Sync}
 use Rattle.gc_files.specs.Runs.{Run, IsRun, rows_of}
-use Rattle.gc_files.specs.Failing.{settled, same_sides, Event, Ran, Failed, Occur, runs_of, TablesLastWhere}
+use Rattle.gc_files.specs.Failing.{settled, same_sides, Event, Ran, Failed, Occur, runs_of, CopiesAreNeeded}
 
 -- a head that is a line feed
 abbrev line_feed_head : List ℕ
@@ -39,7 +39,7 @@ second_is_a_run = record {
   kept = inr (record { rest = []; split = refl });
 }
 
--- the events happen
+-- these events can happen to an empty file, where runs go on in any file
 events_occur : Occur (λ doubted. Unit {0}) line_feed_head (same_sides (settled [])) false events
 events_occur = (
   tt,
@@ -49,8 +49,8 @@ events_occur = (
   (tt, second_is_a_run, tt),
 )
 
--- the law: where runs go on in a file in doubt, the table doesn't last
-pub copies_are_needed : TablesLastWhere (λ doubted. Unit {0}) → ⊥
+-- the law: where runs go on in any file, in doubt or not, the table doesn't last
+pub copies_are_needed : CopiesAreNeeded
 copies_are_needed lasts =
     let has = lasts line_feed_head [] (inr ([], refl, refl)) events events_occur (0 ∷ 65 ∷ 10 ∷ []) (inr (inr (inr refl))) in
     let wrong : 0 ∷ 65 ∷ 10 ∷ [] ≡ 10 ∷ rows_of (runs_of events) has.0 = has.2 in

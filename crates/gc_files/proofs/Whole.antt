@@ -52,7 +52,7 @@ pub record Torn (xs : List ℕ) : Type 0 where
   pub none : has_feed torn ≡ false
   pub split : xs ≡ whole xs ++ torn
 
--- each file is its whole rows and what follows the last line feed
+-- bytes are their whole rows and, after these, bytes without a line feed (`Torn`)
 pub torn_of : (xs : List ℕ) → Torn xs
 torn_of [] = record { torn = []; none = refl; split = refl }
 torn_of (b ∷ xs) = elim (cases_Bool (has_feed (b ∷ xs))) [
@@ -71,7 +71,7 @@ whole_whole xs =
     let t = torn_of xs in
     sym (ap whole t.split ∙ whole_front (whole xs) t.torn t.none)
 
--- the whole rows of whole rows with further bytes are these rows and the whole rows of the further bytes
+-- where `xs` are whole rows and nothing else, the whole rows of `xs ++ ys` are `xs` and then the whole rows of `ys`
 pub whole_more : (xs ys : List ℕ) → whole xs ≡ xs → whole (xs ++ ys) ≡ xs ++ whole ys
 whole_more xs ys is = elim (cases_Bool (has_feed ys)) [
   | inl some ↦ whole_behind xs ys some
@@ -82,7 +82,7 @@ whole_more xs ys is = elim (cases_Bool (has_feed ys)) [
 pub whole_line : (row : List ℕ) → whole (line row) ≡ line row
 whole_line row = whole_behind row (10 ∷ []) refl
 
--- a cut that leaves the last line feed leaves the whole rows
+-- where the whole rows have no more than k bytes, the first k bytes have the same whole rows as all bytes
 pub whole_take : (xs : List ℕ) (k : ℕ) → length (whole xs) ≤ k → whole (take k xs) ≡ whole xs
 whole_take xs k far =
     let t = torn_of xs in
@@ -105,10 +105,11 @@ pub record Within (rows : List (List ℕ)) (k : ℕ) : Type 0 where
 length-line : (row : List ℕ) → length (line row) ≡ suc (length row)
 length-line row = length-append row (10 ∷ []) ∙ omega arith
 
--- where the bytes end within the first row's line, no row ends in them
-no_more : (row : List ℕ) (rows : List (List ℕ)) (k : ℕ) → k < length (line row) → (m : ℕ) → length (lines (take m (row ∷ rows))) ≤ k → m ≤ 0
-no_more row rows k less zero le = omega arith
-no_more row rows k less (suc m) le = absurd (omega (arith, less, le, length-append (line row) (lines (take m rows))))
+-- where k bytes are fewer than the first row's line has, no row ends within them
+none_ends_within : (row : List ℕ) (rows : List (List ℕ)) (k : ℕ) → k < length (line row)
+    → (m : ℕ) → length (lines (take m (row ∷ rows))) ≤ k → m ≤ 0
+none_ends_within row rows k less zero le = omega arith
+none_ends_within row rows k less (suc m) le = absurd (omega (arith, less, le, length-append (line row) (lines (take m rows))))
 
 -- for each k it can be said how many rows are whole in the first k bytes of their lines (`Within`)
 pub within : (rows : List (List ℕ)) (k : ℕ) → AreRows rows → Within rows k
@@ -119,7 +120,7 @@ within (row ∷ rows) k are = elim (cases_lt k (length (line row))) [
       let at : take k (lines (row ∷ rows)) ≡ take k row =
       take-append-le k (line row) (lines rows) (omega (arith, less)) ∙ take-append-le k row (10 ∷ []) inside in
       let none : has_feed (take k row) ≡ false = feed_first (take k row) (drop k row) (ap has_feed (take-append-drop k row) ∙ are.0) in
-      record { count = 0; few = omega arith; is = ap whole at ∙ whole_none (take k row) none; least = λ m few le. no_more row rows k less m le }
+      record { count = 0; few = omega arith; is = ap whole at ∙ whole_none (take k row) none; least = λ m few le. none_ends_within row rows k less m le }
   | inr more ↦
       let rest = within rows (k - length (line row)) are.1 in
       let is_k : k ≡ length (line row) + (k - length (line row)) = omega (arith, more) in
@@ -133,9 +134,10 @@ within (row ∷ rows) k are = elim (cases_lt k (length (line row))) [
       }
 ]
   where
-    -- where `count` is at least the number of later rows that end within the bytes after the first row's line, `count + 1`
-    -- is at least the number of all rows that end within k bytes
-    least_more : (row : List ℕ) (rows : List (List ℕ)) (k count : ℕ) → ((m : ℕ) → m ≤ length rows → length (lines (take m rows)) ≤ k - length (line row) → m ≤ count)
+    -- where `count` is at least the number of the later rows that end within the bytes that the first row's line leaves of k,
+    -- `count + 1` is at least the number of all rows that end within k bytes
+    least_more : (row : List ℕ) (rows : List (List ℕ)) (k count : ℕ)
+        → ((m : ℕ) → m ≤ length rows → length (lines (take m rows)) ≤ k - length (line row) → m ≤ count)
         → (m : ℕ) → m ≤ length (row ∷ rows) → length (lines (take m (row ∷ rows))) ≤ k → m ≤ suc count
     least_more row rows k count least zero few le = omega arith
     least_more row rows k count least (suc m) few le =

@@ -1,5 +1,5 @@
--- The coding of a file's steps as numbers and bytes, from which the steps come back. A field for proofs alone holds what has one
--- (`Coded`); nothing of it is on the disk.
+-- The coding of a file's steps as numbers and bytes, from which the steps come back. A field for proofs alone has to have a coding
+-- (`Coded`) of what it holds; nothing of it is on the disk.
 use Rattle.std.specs.Prelude.{◌≡◌, ℕ, List, [], cond, ◌==◌, refl}
 use Rattle.std.specs.Coded.{Coded, code_by, coded×, coded_ℕ, coded_list}
 use Rattle.gc_files.specs.Files.{Step, Append, Cut, Sync}
@@ -14,7 +14,7 @@ to_parts (Append bytes) = (0, (bytes, 0))
 to_parts (Cut size) = (1, ([], size))
 to_parts Sync = (2, ([], 0))
 
--- the step of these parts
+-- the step of these parts; a kind above 2, which no step has, counts as 2
 abbrev from_parts : Parts → Step
 from_parts p = cond (p.0 == 0) (Append p.1.0) (cond (p.0 == 1) (Cut p.1.1) Sync)
 

@@ -18,8 +18,9 @@ feeds (b ∷ bs) = feed_of b + feeds bs
 abbrev pub IsFeedCount : Option Life → (count : ℕ) → Type 0
 IsFeedCount life count = (known : Life) → life ≡ Some known → count ≡ feeds (content known)
 
--- The two sides of a file. What a read returns comes of one life, and what a crash may leave of the other. They are one until a sync fails:
--- the system may have dropped bytes that it couldn't write, still return them, and count them as written.
+-- The two sides of a file. What a read returns comes of one life, and what a crash may leave of the other. They are one until a
+-- sync fails, after which the system may have dropped bytes that it couldn't write, still return them, and count them as written;
+-- or until a copy takes the file's place whose name isn't on the disk.
 pub record Sides : Type 0 where
   pub read : Life
   pub disk : Life
@@ -32,8 +33,8 @@ same_sides life = record { read = life; disk = life }
 abbrev pub done_by : (steps : List Step) → Sides → Sides
 done_by steps sides = record { read = later_by steps sides.read; disk = later_by steps sides.disk }
 
--- what a failed sync may make of a side: a front that a crash might have left, and after it, in place of what is lost, bytes
--- without a line feed, as zeros
+-- what a failed sync may make of a side: what a crash might have left (`front`), and after it, in place of what is lost, bytes
+-- without a line feed (`hole`), such as zeros, or none
 pub record Loses (life : Life) (now : List ℕ) : Type 0 where
   pub front : List ℕ
   pub may : MayLeave life.start life.steps front
@@ -47,13 +48,13 @@ pub data Event : Type 0 where
   Ran : (run : Run) → Event
   -- a run appended rows, and its last call was a sync that failed: what a read returns then, and what the disk has
   Failed : (run : Run) → (read disk : List ℕ) → Event
-  -- what a read returns was copied to a new file and synced there, and that file took the old one's place. Where its name is on the disk,
-  -- it is `named`; else a crash may bring the old file back
+  -- what a read returns was copied to a new file and synced there, and that file took the old one's place. `named` says whether
+  -- the new file's name is on the disk; where it isn't, a crash may bring the old file back
   Copied : (named : Bool) → Event
   -- the machine crashed, which left this
   Crashed : (left : List ℕ) → Event
 
--- both sides of a file after these events, which had the sides `sides` before them
+-- both sides, after these events, of a file that had the sides `sides` before them
 abbrev pub sides_after : Sides → List Event → Sides
 sides_after sides [] = sides
 sides_after sides (Ran run ∷ events) = sides_after (done_by run.steps sides) events
@@ -63,18 +64,23 @@ sides_after sides (Copied false ∷ events) = sides_after (record { read = settl
 sides_after sides (Crashed left ∷ events) = sides_after (same_sides (settled left)) events
 
 -- these events can happen to a file with these sides; `head` is what a new file gets first. `doubted` is whether the file is in
--- doubt: a sync of it failed, and no copy has taken its place since. A run goes on only where `goes` allows it for a file that is
--- in doubt (true) or isn't (false). A failed sync puts the file in doubt; a copy whose name is on the disk, and a crash, end the
--- doubt
+-- doubt, so that its sides may differ. A run is one over what a read returns (`IsRun`), and goes on only where `goes` allows it
+-- for a file that is in doubt (true) or isn't (false). A failed sync makes of each side, after the run's steps, what `Loses`
+-- allows, and a crash leaves what `MayLeave` allows of the disk's side. A failed sync puts the file in doubt, and so does a
+-- copy whose name isn't on the disk; a copy whose name is on the disk, and a crash, end the doubt
 abbrev pub Occur : (goes : Bool → Type 0) (head : List ℕ) → Sides → (doubted : Bool) → List Event → Type 0
 Occur goes head sides doubted [] = Unit {0}
-Occur goes head sides doubted (Ran run ∷ events) = goes doubted × IsRun head (content sides.read) run × Occur goes head (done_by run.steps sides) doubted events
+Occur goes head sides doubted (Ran run ∷ events) =
+    goes doubted × IsRun head (content sides.read) run × Occur goes head (done_by run.steps sides) doubted events
 Occur goes head sides doubted (Failed run read disk ∷ events) =
-    goes doubted × IsRun head (content sides.read) run × Loses (later_by run.steps sides.read) read × Loses (later_by run.steps sides.disk) disk
+    goes doubted × IsRun head (content sides.read) run
+    × Loses (later_by run.steps sides.read) read × Loses (later_by run.steps sides.disk) disk
     × Occur goes head (record { read = settled read; disk = settled disk }) true events
 Occur goes head sides doubted (Copied true ∷ events) = Occur goes head (same_sides (settled (content sides.read))) false events
-Occur goes head sides doubted (Copied false ∷ events) = Occur goes head (record { read = settled (content sides.read); disk = sides.disk }) true events
-Occur goes head sides doubted (Crashed left ∷ events) = MayLeave sides.disk.start sides.disk.steps left × Occur goes head (same_sides (settled left)) false events
+Occur goes head sides doubted (Copied false ∷ events) =
+    Occur goes head (record { read = settled (content sides.read); disk = sides.disk }) true events
+Occur goes head sides doubted (Crashed left ∷ events) =
+    MayLeave sides.disk.start sides.disk.steps left × Occur goes head (same_sides (settled left)) false events
 
 -- the runs among these events, in order
 abbrev pub runs_of : List Event → List Run
@@ -88,8 +94,9 @@ runs_of (Crashed left ∷ events) = runs_of events
 abbrev pub IsFound : Sides → (left : List ℕ) → Type 0
 IsFound sides left = (left ≡ content sides.read) ⊎ MayLeave sides.disk.start sides.disk.steps left
 
--- after any events among which runs go on only where `goes` allows it: whatever is then found of the file, the next opening
--- makes of it the table that was there before the events, and after it the rows of the runs
+-- a file is not in doubt at first, and all of it is on the disk. After any events among which runs go on only where `goes` allows
+-- it: whatever is then found of the file, the next opening makes of it the table that was there before the events, and after that
+-- table the first rows of each run, at least the kept ones
 abbrev pub TablesLastWhere : (goes : Bool → Type 0) → Type 0
 TablesLastWhere goes = (head held : List ℕ) → IsHead head → (events : List Event) → Occur goes head (same_sides (settled held)) false events
     → (left : List ℕ) → IsFound (sides_after (same_sides (settled held)) events) left → HasRows head (table head held) (runs_of events) left

@@ -8,12 +8,13 @@ pub data Step : Type 0 where
   Cut : (size : ℕ) → Step
   Sync : Step
 
--- what a file held when the machine started, all of it on the disk, and the calls since then
+-- what a file held at some moment, such as the machine's start, all of it taken to be on the disk then; and the calls since that
+-- moment
 pub record Life : Type 0 where
   pub start : List ℕ
   pub steps : List Step
 
--- the life of a file that holds this, all of it on the disk
+-- the life of a file that holds this, all of it taken to be on the disk
 abbrev pub settled : List ℕ → Life
 settled held = record { start = held; steps = [] }
 
@@ -28,8 +29,8 @@ abbrev pub held_after : (held : List ℕ) → List Step → List ℕ
 held_after held [] = held
 held_after held (step ∷ steps) = held_after (stepped held step) steps
 
--- what a crash in the course of a step finds: what the file held with a front of what is appended; at a cut, a front of what the file held,
--- of at least `size` bytes; at a sync, what the file held
+-- what a crash in the course of a step finds: what the file held with a front of what is appended; at a cut, the first k bytes of
+-- what the file held, where k is at least `size`; at a sync, what the file held
 abbrev pub InPart : (held : List ℕ) → Step → (left : List ℕ) → Type 0
 InPart held (Append bytes) left = (k : ℕ) × (left ≡ held ++ take k bytes)
 InPart held (Cut size) left = (k : ℕ) × (size ≤ k) × (left ≡ take k held)
@@ -75,7 +76,8 @@ abbrev pub Makes : {X E : Type 0} → (old new : Option Life) → Result X E →
 Makes old new (Ok x) step = Adds old new (step x ∷ [])
 Makes old new (Err _) step = new ≡ old
 
--- the n bytes at the front of buf are those after the first `at` bytes of the file; n is 0 only at its end
+-- the n bytes at the front of `buf` are the next ones after the first `at` bytes of the file; n is 0 only where the file has no
+-- more than `at` bytes
 pub record ReadsAt (life : Life) (at n : ℕ) (buf : List ℕ) : Type 0 where
   pub bytes : take n buf ≡ take n (drop at (content life))
   pub within : n ≡ 0 → length (content life) ≤ at

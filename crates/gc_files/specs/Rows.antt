@@ -17,7 +17,7 @@ whole (b ∷ bs) = if has_feed (b ∷ bs) then b ∷ whole bs else []
 abbrev pub line : List ℕ → List ℕ
 line row = row ++ 10 ∷ []
 
--- whether a file that holds `held` begins with the sign, or holds a front of the sign alone
+-- whether a file that holds `held` begins with the sign, or holds a front of the sign and nothing else
 abbrev pub fits : (sign held : List ℕ) → Bool
 fits [] held = true
 fits (a ∷ sign) [] = true
@@ -36,7 +36,8 @@ start_of head held = if is_empty (whole held) then head else []
 abbrev pub table : (head held : List ℕ) → List ℕ
 table head held = whole held ++ start_of head held
 
--- the steps by which an opening mends a file: where bytes follow the last line feed, a cut that takes them off, and a sync of it; else none
+-- the steps by which an opening mends a file: where bytes follow its whole rows, a cut that takes them off, and a sync of it;
+-- else none
 abbrev pub mended : List ℕ → List Step
 mended held = if length (whole held) == length held then [] else Cut (length (whole held)) ∷ Sync ∷ []
 
@@ -65,29 +66,33 @@ pub record MendedAndPut (held : List ℕ) (steps : List Step) (bytes : List ℕ)
   pub split : steps ≡ mended held ++ later
   pub puts : Puts later bytes
 
--- the steps mended a file that held `held`, in part or whole, and did nothing else
+-- the steps are the first of those that mend a file that held `held`, some, all or none of them, and nothing else
 pub record Mending (held : List ℕ) (steps : List Step) : Type 0 where
   pub count : ℕ
   pub is : steps ≡ take count (mended held)
 
--- these bytes are a front of all of them
+-- the bytes `front` are a front of `all`
 pub record IsFront (front all : List ℕ) : Type 0 where
   pub rest : List ℕ
   pub split : all ≡ front ++ rest
 
--- what a run did, as far as it came, to a file that held `held`: it mended the file, in part or whole, and did nothing else; or
--- it mended the file whole, and then appended a front of `all`
+-- what a run did, as far as it came, to a file that held `held`: it mended the file, whole, in part or not at all, and did
+-- nothing else; or it mended the file whole, and then appended a front of `all`
 abbrev pub ComesTo : (held all : List ℕ) → List Step → Type 0
 ComesTo held all steps = Mending held steps ⊎ ((bytes : List ℕ) × MendedAndPut held steps bytes × IsFront bytes all)
 
 -- an opening mended the file, and wrote the head where no whole row was there
 abbrev pub Opens : (head : List ℕ) (old new : Option Life) → Type 0
-Opens head old new = (life : Life) → old ≡ Some life → (steps : List Step) × (new ≡ Some (later_by steps life)) × MendedAndPut (content life) steps (start_of head (content life))
+Opens head old new =
+    (life : Life) → old ≡ Some life
+    → (steps : List Step) × (new ≡ Some (later_by steps life)) × MendedAndPut (content life) steps (start_of head (content life))
 
--- an opening did a front of what an opening does, as far as it came: it mended the file, in part or whole, and did nothing else;
--- or it mended the file whole, and then wrote a front of the head, where no whole row was there
+-- an opening did a front of what an opening does, as far as it came: it mended the file, whole, in part or not at all, and did
+-- nothing else; or it mended the file whole, and then wrote a front of the head, where no whole row was there
 abbrev pub OpensInPart : (head : List ℕ) (old new : Option Life) → Type 0
-OpensInPart head old new = (life : Life) → old ≡ Some life → (steps : List Step) × (new ≡ Some (later_by steps life)) × ComesTo (content life) (start_of head (content life)) steps
+OpensInPart head old new =
+    (life : Life) → old ≡ Some life
+    → (steps : List Step) × (new ≡ Some (later_by steps life)) × ComesTo (content life) (start_of head (content life)) steps
 
 -- these bytes were appended, in some pieces, and nothing else was done but syncs
 abbrev pub PutsAll : (old new : Option Life) (bytes : List ℕ) → Type 0
@@ -107,7 +112,7 @@ IsEndOfRows life end = (known : Life) → life ≡ Some known → end ≡ length
 abbrev pub IsTorn : Option Life → (torn : ℕ) → Type 0
 IsTorn life torn = (known : Life) → life ≡ Some known → length (content known) ≡ length (whole (content known)) + torn
 
--- the file begins with the sign or holds a front of it (true), or neither (false)
+-- the file begins with the sign, or holds a front of it and nothing else (true), or neither (false)
 abbrev pub Fits : (sign : List ℕ) → Option Life → (is : Bool) → Type 0
 Fits sign life is = (known : Life) → life ≡ Some known → fits sign (content known) ≡ is
 
@@ -117,11 +122,11 @@ Fits sign life is = (known : Life) → life ≡ Some known → fits sign (conten
 abbrev pub IsMended : (old new : Option Life) → Type 0
 IsMended old new = (known : Life) → old ≡ Some known → Adds old new (mended (content known))
 
--- the file was mended, in part or whole
+-- the file was mended, whole, in part or not at all
 abbrev pub IsMendedInPart : (old new : Option Life) → Type 0
 IsMendedInPart old new = (known : Life) → old ≡ Some known → (count : ℕ) × Adds old new (take count (mended (content known)))
 
--- the file was not touched, if it neither begins with the sign nor holds a front of it
+-- the file was not touched, if it neither begins with the sign nor is a front of it
 abbrev pub LeavesForeign : (sign : List ℕ) (old new : Option Life) → Type 0
 LeavesForeign sign old new = (known : Life) → old ≡ Some known → fits sign (content known) ≡ false → new ≡ old
 

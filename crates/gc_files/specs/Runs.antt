@@ -24,7 +24,7 @@ abbrev pub lines : List (List ℕ) → List ℕ
 lines [] = []
 lines (row ∷ rows) = line row ++ lines rows
 
--- no row has a line feed
+-- each of these texts is a row: none has a line feed
 abbrev pub AreRows : List (List ℕ) → Type 0
 AreRows rows = AllByRecursion (λ row. has_feed row ≡ false) rows
 
@@ -37,8 +37,9 @@ IsHead head = (head ≡ []) ⊎ ((row : List ℕ) × (has_feed row ≡ false) ×
 abbrev pub WereKept : (head held : List ℕ) (rows : List (List ℕ)) (kept : ℕ) → List Step → Type 0
 WereKept head held rows kept steps = (kept ≡ 0) ⊎ IsFront (start_of head held ++ lines (take kept rows)) (synced steps)
 
--- what a run can be over a file that held `held`: it mended the file, and then wrote the head where no whole row was there, and its rows,
--- as far as it came; and those of its rows that count as kept were kept
+-- what a run can be over a file that held `held`: it mended the file, and then wrote the head where no whole row was there, and
+-- its rows, none of which has a line feed in it, as far as it came; and as many of its first rows as it counts as kept were
+-- kept
 pub record IsRun (head held : List ℕ) (run : Run) : Type 0 where
   pub rows : AreRows run.rows
   pub steps : ComesTo held (start_of head held ++ lines run.rows) run.steps
@@ -80,13 +81,13 @@ AreRowCounts [] (n ∷ counts) = ⊥
 AreRowCounts (run ∷ runs) [] = ⊥
 AreRowCounts (run ∷ runs) (n ∷ counts) = (run.kept ≤ n) × (n ≤ length run.rows) × AreRowCounts runs counts
 
--- a file's table is what was there before, and after it, for each run in order, its first rows: at least those that were
--- kept, each once, none in part
+-- the table of a file that holds `held` is `before`, and after that, for each run in order, the run's first rows: at least
+-- those that were kept, each once, none in part
 abbrev pub HasRows : (head before : List ℕ) → List Run → (held : List ℕ) → Type 0
 HasRows head before runs held = (counts : List ℕ) × AreRowCounts runs counts × (table head held ≡ before ++ rows_of runs counts)
 
--- Over any runs and crashes the table stays: whatever a crash at any moment leaves, and what a read returns, the next opening
--- makes of it the table that was there before, and the rows of the runs.
+-- Over any runs and crashes the table stays: whatever a crash after them leaves or a read returns, the next opening makes of it
+-- the table that was there before the runs, and after that table the first rows of each run, at least the kept ones.
 abbrev pub TablesLast : Type 0
 TablesLast = (head held : List ℕ) → IsHead head → (runs : List Run) → Happen head (settled held) runs
     → (left : List ℕ) → MayLeave (life_after (settled held) runs).start (life_after (settled held) runs).steps left
@@ -97,9 +98,10 @@ TablesLast = (head held : List ℕ) → IsHead head → (runs : List Run) → Ha
 abbrev pub WereWritten : (head held : List ℕ) (rows : List (List ℕ)) (count : ℕ) → List Step → Type 0
 WereWritten head held rows count steps =
     (count ≡ 0)
-    ⊎ ((bytes : List ℕ) × MendedAndPut held steps bytes × IsFront bytes (start_of head held ++ lines rows) × IsFront (start_of head held ++ lines (take count rows)) bytes)
+    ⊎ ((bytes : List ℕ) × MendedAndPut held steps bytes × IsFront bytes (start_of head held ++ lines rows)
+    × IsFront (start_of head held ++ lines (take count rows)) bytes)
 
--- a run that ended by itself or by a kill, with the machine going on; its rows count as kept where they went out whole
+-- a run that ended by itself or by a kill, with the machine going on; only rows that went out whole count as kept
 pub record IsKilled (head held : List ℕ) (run : Run) : Type 0 where
   pub rows : AreRows run.rows
   pub steps : ComesTo held (start_of head held ++ lines run.rows) run.steps
@@ -112,18 +114,20 @@ abbrev pub AreKilled : (head : List ℕ) → Life → List Run → Type 0
 AreKilled head life [] = Unit {0}
 AreKilled head life (run ∷ runs) = IsKilled head (content life) run × AreKilled head (later_by run.steps life) runs
 
--- Over any runs and kills, while the machine goes on, no row is lost that went out whole, synced or not: they are in the
--- table after what was there before.
+-- Over any runs and kills, while the machine goes on, no row that went out whole is lost, synced or not: the table is what was
+-- there before the runs, and after that the first rows of each run, at least those that count as kept, for which it is enough
+-- that they went out whole (`IsKilled`).
 abbrev pub KillsLoseNothing : Type 0
 KillsLoseNothing = (head : List ℕ) → IsHead head → (life : Life) (runs : List Run) → AreKilled head life runs
     → HasRows head (table head (content life)) runs (content (life_after life runs))
 
--- What the calls do to a file is a run. `opened`: an opening, and after it writes and syncs of rows as far as they came.
--- `failed`: an opening that failed. `kept`: a sync after an opening and writes keeps all that was appended.
+-- What the calls do to a file is a run. `opened`: an opening, and after it writes and syncs of rows as far as they came; the
+-- first `kept` of the rows, if these were kept (`WereKept`), count as kept. `failed`: an opening that failed. `kept`: a sync
+-- after an opening and writes keeps all that was appended.
 pub record CallsAreRuns : Type 0 where
   pub opened : (head held : List ℕ) (opening later : List Step) (front : List ℕ) (rows : List (List ℕ)) (kept : ℕ) (left : Option (List ℕ))
-      → MendedAndPut held opening (start_of head held) → Puts later front → IsFront front (lines rows) → AreRows rows → kept ≤ length rows
-      → WereKept head held rows kept (opening ++ later)
+      (ran : MendedAndPut held opening (start_of head held)) (puts : Puts later front) (is_front : IsFront front (lines rows))
+      (are : AreRows rows) (few : kept ≤ length rows) (were : WereKept head held rows kept (opening ++ later))
       → IsRun head held (record { rows = rows; steps = opening ++ later; kept = kept; left = left })
   pub failed : (head held : List ℕ) (steps : List Step) (left : Option (List ℕ)) → ComesTo held (start_of head held) steps
       → IsRun head held (record { rows = []; steps = steps; kept = 0; left = left })

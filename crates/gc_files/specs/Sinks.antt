@@ -11,7 +11,7 @@ abbrev pub known_content : Option Life → Option (List ℕ)
 known_content None = None
 known_content (Some life) = Some (content life)
 
--- the file's life is as it was, or has one sync more at its end
+-- the file's life, where it was known (`old`), is as it was, or has one sync more at its end
 abbrev pub MayAddSync : (old new : Option Life) → Type 0
 MayAddSync old new = (new ≡ old) ⊎ Adds old new (Sync ∷ [])
 
@@ -31,7 +31,7 @@ taken_in sink = appended (steps_in sink)
 abbrev pub has_failed : {F : Type 0} {D : Ghosts F} → RowsFile F D → Bool
 has_failed sink = sink.broken
 
--- whether the sink was opened so that a sync of it syncs the file
+-- whether the sink was opened with `sync`; without it no sync of the sink syncs the file
 abbrev pub asks_sync : {F : Type 0} {D : Ghosts F} → RowsFile F D → Bool
 asks_sync sink = sink.sync
 
@@ -39,7 +39,7 @@ asks_sync sink = sink.sync
 abbrev pub head_in : {F : Type 0} {D : Ghosts F} → RowsFile F D → List ℕ
 head_in sink = sink.head.now
 
--- the sign that the sink was opened with: what each such file begins with
+-- the sign that the sink was opened with: what each file of its rows begins with
 abbrev pub sign_in : {F : Type 0} {D : Ghosts F} → RowsFile F D → List ℕ
 sign_in sink = sink.sign.now
 
@@ -49,11 +49,11 @@ torn_in sink = sink.torn
 
 -- the sink was opened as it was asked to: with this head and this sign, and to sync or not
 pub record IsOpenedAs {F : Type 0} {D : Ghosts F} (head sign : List ℕ) (sync : Bool) (sink : RowsFile F D) : Type 0 where
-  pub begins : head_in sink ≡ head
-  pub known : sign_in sink ≡ sign
-  pub kept : asks_sync sink ≡ sync
+  pub has_head : head_in sink ≡ head
+  pub has_sign : sign_in sink ≡ sign
+  pub asks : asks_sync sink ≡ sync
 
--- whether what the sink took is on the disk, or needn't be
+-- whether all that the sink's file holds is known to be on the disk, or needn't be there
 abbrev pub is_durable : {F : Type 0} {D : Ghosts F} → RowsFile F D → Bool
 is_durable sink = if sink.sync then not sink.unkept else true
 

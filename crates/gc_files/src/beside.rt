@@ -1,14 +1,13 @@
 //! What is beside a file of rows: the mark `FILE.open`, from before the first row that is to be synced until a good end, and
-//! for a moment the copy `FILE.copy`. A start that finds the mark copies the file, because after a failed sync no later sync
-//! of it counts.
+//! while an opening cuts or copies the file; and for a moment the copy `FILE.copy`. A start that finds the mark copies the
+//! file, because after a failed sync no later sync of it counts.
 
-ghost use Rattle.std.specs.Prelude.{◌≡◌, [], true, false, Some, IfOk, OnOk, IsErrOf};
-ghost use Rattle.gc_files.specs.Rows.{Fits};
+ghost use Rattle.std.specs.Prelude.{◌≡◌, [], false, IfOk};
 ghost use Rattle.gc_files.specs.Sinks.{has_failed, is_in_doubt, steps_in, IsOpenedAs};
 
 use crate::appending::Appending;
 use crate::copying::copy_lines;
-use crate::opening::{Refused, end_of_rows, has_sign, open_rows};
+use crate::opening::{look_at, open_rows};
 use crate::rows_file::RowsFile;
 use crate::system::{SystemFile, Unfit, open_file};
 use std::alloc::Global;
@@ -74,7 +73,8 @@ impl Beside {
         let _ = fs::remove_file(rt, self.mark.as_str());
     }
 
-    // Returns the file that was opened, and puts it in doubt where the mark is there. `Failed`: the system doesn't say whether it is.
+    // Returns the file that was opened, and puts it in doubt where the mark is there. `Failed`: the system doesn't say
+    // whether the mark is there.
     fn doubt_if_marked<R: Files<File = File>>(
         &self,
         rt: &R,
@@ -86,8 +86,9 @@ impl Beside {
         Ok(file)
     }
 
-    // Where the file is in doubt, a copy of it takes its place: returns the copy, whose name may not be on the disk yet, and how
-    // many lines were copied. Any other file is returned as it is, with 0 lines. Where that fails, the file was not touched.
+    // Where the file is in doubt, a copy of it takes its place: returns the copy, whose name may not be on the disk yet, and
+    // how many lines were copied. Any other file is returned as it is, with 0 lines. `Err`, as `create_for_copy` and
+    // `replace` have it: the file was not touched, and the copy, or a part of it, may be left beside it.
     fn replace_if_doubted<R: Files<File = File>>(
         &self,
         rt: &R,
@@ -111,8 +112,9 @@ impl Beside {
     }
 
     // Copies a file into a fresh one, which then takes its place. It returns the fresh one, and how many lines were copied.
-    // Both are locked, so that no other program gets in between. `Held`: another program holds the fresh one. `Failed`: a call failed, or
-    // the path leads to another file now. The old file was not touched then.
+    // Both are locked, so that no other program gets in between. `Held`: another program holds the fresh one. `Failed`: the
+    // fresh one can't be locked or renamed, the copying failed, the path leads to another file now or to none, or the system
+    // doesn't say where it leads. With either error the old file was not touched.
     fn replace<R: Files<File = File>>(
         &self,
         rt: &R,
@@ -160,27 +162,6 @@ fn sync_link<R: Files<File = File>>(rt: &R, path: &str) -> Result<(), Unfit> {
     }
 }
 
-// Checks that a file is one of rows, and returns whether its last row is torn: bytes follow the last line feed. `Foreign`: the
-// file neither begins with the sign nor is a front of it. `Failed`: a call of the file failed.
-fn check_for_torn_row<F: Appending>(file: &F, sign: &[u8]) -> Result<bool, Refused>
-    ensures taken { OnOk result (Fits sign.now (F.life file.now) true) }
-    ensures why { IsErrOf result Refused.Foreign → Fits sign.now (F.life file.now) false }
-{
-    let Ok(len) = file.len() else {
-        return Err(Refused::Failed);
-    };
-    let Ok(is_one) = has_sign(file, len, sign) else {
-        return Err(Refused::Failed);
-    };
-    if !is_one {
-        return Err(Refused::Foreign);
-    }
-    match end_of_rows(file, len) {
-        Ok(end) => Ok(end < len),
-        Err(_) => Err(Refused::Failed),
-    }
-}
-
 // How many of a file's lines are rows: all but the head's, where the head isn't empty.
 fn row_count(lines: u64, head: &[u8]) -> u64 {
     match head {
@@ -192,15 +173,17 @@ fn row_count(lines: u64, head: &[u8]) -> u64 {
 /// Opens a file of rows by its path, as [`open_rows`] does, and locks it against every other opening of it, by a program of
 /// this kind, until it is dropped. Where the path is free, it makes the file.
 ///
-/// With `sync` the file's name is on the disk before anything is written into the file, also where the file was there
+/// With `sync` the file's name is on the disk before anything new is written into the file, also where the file was there
 /// already, because whoever made it may not have synced its name. A mark beside the file, `FILE.open`, is made and is on the
-/// disk by then, too; [`end_at`] removes it. Without `sync` the mark is there only while this call mends or copies the file.
+/// disk by then, too; [`end_at`] removes it. Without `sync` a mark is made only where this call cuts off a torn row or copies
+/// the file, and is removed at the end of the call; it stays where the system refuses to remove it.
 ///
-/// Where a mark is found, an earlier run was ended by a kill or a crash, or one of its syncs failed. Then what the file holds is
-/// copied to a new one, which is synced and takes its place. The second result is how many rows were copied, 0 where no copy was
-/// made. A copy takes as much room as the file has.
+/// Where a mark is found, an earlier run may have been ended by a kill or a crash, or one of its syncs may have failed. Then what
+/// the file holds is copied to a new one, which is synced and takes its place. The second result is how many rows were copied, 0
+/// where no copy was made. A copy takes as much room as the file has.
 ///
-/// Why it fails, and what stands then, [`Unfit`] says. A mark that was made stays.
+/// Why it fails, and what stands then, [`Unfit`] says. With an error a mark that was made stays, and a copy, `FILE.copy`, or
+/// a part of one may be left.
 pub fn open_at<R: Files<File = File>>(
     rt: &R,
     alloc: Global,
@@ -219,13 +202,14 @@ pub fn open_at<R: Files<File = File>>(
     if !file.is_at(rt, path) {
         return Err(Unfit::Held);
     }
-    let is_torn = check_for_torn_row(&file, sign)?;
+    let (len, end) = look_at(&file, sign)?;
     let beside = Beside::of(rt, alloc, path)?;
     let file = beside.doubt_if_marked(rt, file)?;
-    // Where a row is torn, the opening cuts it off and syncs that: so this counts as a sync to come.
-    let is_marked = sync || is_torn || file.is_doubted();
+    // Where the last row is torn, the opening cuts it off and syncs that: so this counts as a sync to come.
+    let is_torn = end < len;
+    let needs_mark = sync || is_torn || file.is_doubted();
     let (file, lines) = beside.replace_if_doubted(rt, file)?;
-    if is_marked {
+    if needs_mark {
         sync_link(rt, path)?;
         beside.make_mark(rt)?;
     }
@@ -233,15 +217,17 @@ pub fn open_at<R: Files<File = File>>(
         Ok(rows) => rows,
         Err((why, _)) => return Err(why.into()),
     };
-    if is_marked && !sync {
+    if needs_mark && !sync {
         beside.remove_mark(rt);
     }
     Ok((rows, row_count(lines, head)))
 }
 
 /// Ends the appending to a file that [`open_at`] opened at this path. A file opened without `sync` is only closed. One opened
-/// with `sync` is synced once more if some of it may not be on the disk. Where all that it holds is on the disk then, the mark
-/// beside it is removed. Where the path now leads to another file, the mark stays, because it may be another program's.
+/// with `sync` is synced first if some of what it holds may not be on the disk, unless the file is in doubt. Where all that
+/// it holds is on the disk then, the mark beside it is removed. Where the path now leads to another file or to none, or the
+/// system doesn't say where it leads, the mark stays, because it may be another program's. The mark stays, too, where the
+/// path can't be followed, where the system refuses to remove the mark, and where memory ran out.
 pub fn end_at<R: Files<File = File>>(
     rt: &R,
     alloc: Global,

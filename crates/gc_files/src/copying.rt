@@ -33,8 +33,9 @@ fn feeds_in(block: &[u8]) -> u64
     count
 }
 
-/// Appends all that `old` holds to `fresh`, syncs `fresh`, and returns how many lines were copied, each ended by a line feed. It
-/// fails where a call of a file failed, or where `fresh` is in doubt; `fresh` may hold a front of it then. `old` is as it was.
+/// Appends all that `old` holds to `fresh`, syncs `fresh`, and returns how many lines were copied, each ended by a line feed.
+/// It fails where a call of a file failed, where a read gave nothing although `old` was longer, or where `fresh` is in doubt;
+/// a front of what `old` holds, or all of it, may have been appended to `fresh` then. `old` is as it was.
 pub fn copy_lines<F: Appending, G: Appending>(old: &F, fresh: &mut G) -> Result<u64, PortFailed>
     ensures copied { OnOk result (CopiesAll (F.life old.now) (G.life fresh.old) (G.life fresh.new)) }
     ensures kept { OnOk result (IsKeptFile (G.life fresh.new)) }

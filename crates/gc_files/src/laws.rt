@@ -4,8 +4,9 @@ ghost use Rattle.gc_files.specs.Failing.{TablesOutlastFailures, CopiesAreNeeded}
 ghost use Rattle.gc_files.specs.Runs.{TablesLast, KillsLoseNothing, CallsAreRuns};
 
 /// The table lasts over any runs. Each run opens the file, appends rows, and ends by itself, by a kill or by a crash of the
-/// machine. After the runs the table holds its header, the rows that it had before, and then the first rows of each run, in
-/// order: at least those before a sync that was reported to the run as done, each once, none in part.
+/// machine. Whatever a read returns after the runs, or a crash leaves, the next opening makes a table of it: the header, if
+/// the table has one, the rows that it had before the runs, and then the first rows of each run, in order: at least those
+/// before a sync that was reported to the run as done, each once, none in part.
 pub fn tables_last()
     ensures { TablesLast }
 {}
@@ -17,19 +18,20 @@ pub fn kills_lose_nothing()
 {}
 
 /// What the calls of this crate do to a file is a run as `tables_last` has it: an opening with the writes and syncs after it,
-/// or an opening that failed. A sync makes all that was appended before it last.
+/// or an opening that failed. One more sync, after an opening and its writes, keeps all that they appended.
 pub fn calls_are_runs()
     ensures { CallsAreRuns }
 {}
 
-/// The table also lasts over syncs that fail, after which the system may have dropped bytes that it still returns and counts as
-/// written. The premise is that no run goes on in such a file before a synced copy of it has taken its place.
+/// The table also lasts over syncs that fail, after which the system may have dropped bytes that it still returns and counts
+/// as written. The premise is that no run goes on in such a file before the machine crashed, or a synced copy has taken the
+/// file's place, with its name on the disk.
 pub fn tables_outlast_failures()
     ensures { TablesOutlastFailures }
 {}
 
-/// If runs go on in a file of which a sync failed, without a copy, the table doesn't last: a row can be lost even though a
-/// later sync, made after the row was appended, succeeded.
+/// If runs may go on in a file of which a sync failed, without a copy, a table doesn't always last: a row can be lost even
+/// though a later sync, made after the row was appended, succeeded.
 pub fn copies_are_needed()
     ensures { CopiesAreNeeded }
 {}

@@ -6,11 +6,12 @@
 //! - [`open_rows`] touches only a file that begins with the sign, or is a front of it. It cuts off a torn last row, and counts
 //!   its bytes. It writes the head where there is no whole row, and nowhere else. The sink says with which head and sign it was
 //!   opened, also where the file is one of the system.
-//! - What `write` acknowledged is in the file, in order. A sink over a file of the system says so, too ([`RowsFile::past`]). After
-//!   a sync of the sink a crash leaves it, where the file was opened with `sync`.
-//! - Over any runs and crashes ([`laws::tables_last`]) the next opening makes of the file the table that was there before and,
-//!   for each run in order, the first rows of its own: at least those that were kept, each once, none in part. Without
-//!   `sync` a crash of the machine may take the last rows of a run, and those after them, but never one in between.
+//! - What `write` acknowledged is in the file, in order. A sink over a file of the system says so, too ([`RowsFile::past`]).
+//!   Where the file was opened with `sync`, a crash leaves all that was acknowledged before a good sync of the sink.
+//! - Over any runs and crashes ([`laws::tables_last`]) the next opening makes of the file the table that was there before
+//!   and, for each run in order, the first rows of its own: at least those that were kept, each once, none in part. Without
+//!   `sync` a crash of the machine may take the last rows of a run, and all rows of the runs after it, but never one in
+//!   between.
 //! - Where only programs end, by themselves or by a kill, each row that went out whole is there, synced or not
 //!   ([`laws::kills_lose_nothing`]).
 //! - An opening, and what is written and synced after it, is such a run ([`laws::calls_are_runs`]).

@@ -20,8 +20,9 @@ pub enum Call {
     Sync,
 }
 
-/// A file in memory: what it held at first, each call since, and what it holds. It takes `room` more bytes, and then appends fail,
-/// as on a full disk. Its syncs can be made to fail.
+/// A file in memory: what it held at first, each call since, and what it holds. It takes `room` more bytes, and then appends
+/// fail, as on a full disk. Where memory is refused, a call that would change or sync it fails. Its syncs can be made to
+/// fail.
 #[derive(Drop)]
 pub struct MemoryFile {
     alloc: Global,
@@ -35,7 +36,7 @@ pub struct MemoryFile {
     room: usize,
     // Whether its syncs fail.
     fails: bool,
-    // Whether a sync of it has failed.
+    // Whether a sync of it has failed, for want of memory too.
     doubted: bool,
     // The calls made `bytes` out of `start`.
     ghost same: { bytes.items ≡ content (life_by start.items calls.items) },
@@ -119,7 +120,7 @@ impl Appending for MemoryFile {
         note(&mut self.calls, &mut self.bytes, Call::Cut(len), next)
     }
 
-    // Appends as many bytes as there is room for. It fails where there is no room, or memory was refused.
+    // Appends as many of these bytes as there is room for. It fails where there is no room, or memory was refused.
     fn append(&mut self, bytes: &[u8]) -> Result<usize, PortFailed> {
         let n = bytes.len().min(self.room);
         if n == 0 {

@@ -20,8 +20,9 @@ pub(crate) const BLOCK: usize = 4096;
 pub enum Refused {
     /// It is no file of such rows: it neither begins with the sign nor is a front of it. It was not touched.
     Foreign,
-    /// A call of the file failed, or the file is in doubt. The whole rows that it held are still there. What followed them
-    /// may be cut off. Where it held no whole row, a front of the head may be written. The next opening repairs both.
+    /// A call of the file failed, a read gave nothing though bytes had to be there, or the file is in doubt. The whole rows
+    /// that it held are still there. What followed them may be cut off. Where it held no whole row, a front of the head may
+    /// be written. The next opening that succeeds does the rest.
     Failed,
 }
 
@@ -63,8 +64,8 @@ pub(crate) fn read_all<F: Appending>(file: &F, at: u64, buf: &mut [u8]) -> Resul
     Ok(())
 }
 
-// Whether a file of `len` bytes begins with the sign, or is a front of it. It fails where a read of the file does.
-pub(crate) fn has_sign<F: Appending>(file: &F, len: u64, sign: &[u8]) -> Result<bool, PortFailed>
+// Whether a file of `len` bytes begins with the sign, or is a front of it. It fails where a read failed or gave nothing.
+fn has_sign<F: Appending>(file: &F, len: u64, sign: &[u8]) -> Result<bool, PortFailed>
     requires { IsLengthOf (F.life file.now) len }
     ensures { IfOk result (λ b. (known : Life) → F.life file.now ≡ Some known → b ≡ fits sign.now (content known)) }
 {
@@ -99,8 +100,8 @@ fn whole_len(block: &[u8]) -> usize
 }
 
 // Where the last whole row of a file of `len` bytes ends: after its last line feed, or at 0 without one. The blocks are read
-// from the end. It fails where a read of the file does.
-pub(crate) fn end_of_rows<F: Appending>(file: &F, len: u64) -> Result<u64, PortFailed>
+// from the end. It fails where a read failed or gave nothing.
+fn end_of_rows<F: Appending>(file: &F, len: u64) -> Result<u64, PortFailed>
     requires { IsLengthOf (F.life file.now) len }
     ensures within { IfOk result (λ end. end ≤ len) }
     ensures end { IfOk result (λ end. IsEndOfRows (F.life file.now) end) }
@@ -124,8 +125,8 @@ pub(crate) fn end_of_rows<F: Appending>(file: &F, len: u64) -> Result<u64, PortF
     Ok(0)
 }
 
-// Cuts a file of `len` bytes to its first `end` bytes, and syncs that cut before anything is appended. Where `end` is `len`, it
-// does nothing. Where it fails, the file may be cut already.
+// Cuts a file of `len` bytes to its first `end` bytes, and syncs that cut before anything is appended. Where `end` is `len`,
+// it does nothing. It fails where the cut or the sync failed; the file may be cut then.
 fn repair<F: Appending>(file: &mut F, len: u64, end: u64) -> Result<(), PortFailed>
     requires len { IsLengthOf (F.life file.old) len }
     requires end { IsEndOfRows (F.life file.old) end }
@@ -155,8 +156,8 @@ pub(crate) fn append_all<F: Appending>(file: &mut F, bytes: &[u8]) -> Result<(),
     Ok(())
 }
 
-// Cuts off what follows the last whole row, and writes the head where there is no whole row. Where it fails, a part of that may be
-// done.
+// Cuts a file of `len` bytes off at `end`, where its last whole row ends, and writes the head where it has no whole row.
+// Where that fails, a part of it may be done.
 fn mend<F: Appending>(file: &mut F, len: u64, end: u64, head: &[u8]) -> Result<(), PortFailed>
     requires len { IsLengthOf (F.life file.old) len }
     requires end { IsEndOfRows (F.life file.old) end }
@@ -177,17 +178,14 @@ fn mend<F: Appending>(file: &mut F, len: u64, end: u64, head: &[u8]) -> Result<(
     }
 }
 
-// Checks that a file has the sign or is a front of it, cuts off what follows the last whole row, and writes the head where there
-// is no whole row. It returns how many bytes were cut off. `Foreign`: the file has neither, and was not touched. `Failed`: a call of the
-// file failed, and a part of the mending may be done.
-fn check_and_mend<F: Appending>(file: &mut F, head: &[u8], sign: &[u8]) -> Result<u64, Refused>
-    ensures opened { OnOk result (Opens head.now (F.life file.old) (F.life file.new)) }
-    ensures torn { IfOk result (λ torn. IsTorn (F.life file.old) torn) }
-    ensures taken { OnOk result (Fits sign.now (F.life file.old) true) }
-    ensures foreign { IsErrOf result Refused.Foreign → F.life file.new ≡ F.life file.old }
-    ensures why { IsErrOf result Refused.Foreign → Fits sign.now (F.life file.old) false }
-    ensures failed { OnErr result (OpensInPart head.now (F.life file.old) (F.life file.new)) }
-    ensures untouched { OnErr result (LeavesForeign sign.now (F.life file.old) (F.life file.new)) }
+// Looks at a file of rows, and returns how many bytes it holds, and how many of them its whole rows have. `Foreign`: the file
+// neither begins with the sign nor is a front of it. `Failed`: a call of the file failed, or a read gave nothing.
+pub(crate) fn look_at<F: Appending>(file: &F, sign: &[u8]) -> Result<(u64, u64), Refused>
+    ensures taken { OnOk result (Fits sign.now (F.life file.now) true) }
+    ensures len { IfOk result (λ found. IsLengthOf (F.life file.now) found.0) }
+    ensures end { IfOk result (λ found. IsEndOfRows (F.life file.now) found.1) }
+    ensures within { IfOk result (λ found. found.1 ≤ found.0) }
+    ensures why { IsErrOf result Refused.Foreign → Fits sign.now (F.life file.now) false }
 {
     let Ok(len) = file.len() else {
         return Err(Refused::Failed);
@@ -198,29 +196,50 @@ fn check_and_mend<F: Appending>(file: &mut F, head: &[u8], sign: &[u8]) -> Resul
     if !is_one {
         return Err(Refused::Foreign);
     }
-    let Ok(end) = end_of_rows(file, len) else {
-        return Err(Refused::Failed);
-    };
-    match mend(file, len, end, head) {
-        Ok(()) => Ok(len - end),
+    match end_of_rows(file, len) {
+        Ok(end) => Ok((len, end)),
         Err(_) => Err(Refused::Failed),
     }
 }
 
+// Checks that a file begins with the sign or is a front of it, cuts off what follows the last whole row, and writes the head
+// where there is no whole row. It returns how many bytes were cut off. `Foreign`: the file neither begins with the sign nor
+// is a front of it, and was not touched. `Failed`: a call of the file failed, or a read gave nothing, and a part of the
+// mending may be done.
+fn check_and_mend<F: Appending>(file: &mut F, head: &[u8], sign: &[u8]) -> Result<u64, Refused>
+    ensures opened { OnOk result (Opens head.now (F.life file.old) (F.life file.new)) }
+    ensures torn { IfOk result (λ torn. IsTorn (F.life file.old) torn) }
+    ensures taken { OnOk result (Fits sign.now (F.life file.old) true) }
+    ensures foreign { IsErrOf result Refused.Foreign → F.life file.new ≡ F.life file.old }
+    ensures why { IsErrOf result Refused.Foreign → Fits sign.now (F.life file.old) false }
+    ensures failed { OnErr result (OpensInPart head.now (F.life file.old) (F.life file.new)) }
+    ensures untouched { OnErr result (LeavesForeign sign.now (F.life file.old) (F.life file.new)) }
+{
+    match look_at(file, sign) {
+        Ok((len, end)) => match mend(file, len, end, head) {
+            Ok(()) => Ok(len - end),
+            Err(_) => Err(Refused::Failed),
+        },
+        Err(why) => Err(why),
+    }
+}
+
 /// Opens a file of rows: one that begins with `sign`, or that is a front of it, as an empty one is. It cuts off what follows
-/// the last line feed, and writes `head` into a file that is empty then. With an error it returns the file, too.
+/// the last whole row, and writes `head` into a file that is empty then. With an error it returns the file, too.
 ///
 /// For a table, `head` and `sign` are its header. For rows without a header, `head` is empty, and `sign` is what each row
-/// begins with. With `sync` what is appended is on the disk after each sync of the sink.
+/// begins with. With `sync` what was appended is on the disk after each sync of the sink that succeeds.
 ///
-/// A file that is in doubt is refused, and not touched: [`copy_lines`](crate::copy_lines) makes one of it that isn't.
+/// A file that is in doubt is refused with `Failed`, and not touched. [`copy_lines`](crate::copy_lines) makes a copy of it
+/// that isn't in doubt.
 pub fn open_rows<F: Appending>(
     mut file: F,
     head: &'static [u8],
     sign: &'static [u8],
     sync: bool,
 ) -> Result<RowsFile<F>, (Refused, F)>
-    // A file that is opened has the sign or is a front of it; then it is mended, and has its head.
+    // A file that is opened began with the sign or was a front of it; what followed its last whole row was cut off, and the
+    // head was written where there was no whole row.
     ensures opened { IfOk result (λ rows. Opens head.now (F.life file) (life_in rows)) }
     ensures taken { OnOk result (Fits sign.now (F.life file) true) }
     ensures torn { IfOk result (λ rows. IsTorn (F.life file) (torn_in rows)) }
@@ -233,7 +252,8 @@ pub fn open_rows<F: Appending>(
     ensures foreign { IfErr result (λ why. why.0 ≡ Foreign → F.life why.1 ≡ F.life file) }
     ensures why { IfErr result (λ why. why.0 ≡ Foreign → Fits sign.now (F.life file) false) }
 
-    // Where a call of the file failed, the file may be mended in part. A file without the sign was not touched, whatever the error.
+    // With an error the file may be mended in part. One that neither begins with the sign nor is a front of it was not
+    // touched, whatever the error.
     ensures failed { IfErr result (λ why. OpensInPart head.now (F.life file) (F.life why.1)) }
     ensures untouched { IfErr result (λ why. LeavesForeign sign.now (F.life file) (F.life why.1)) }
 {

@@ -21,7 +21,7 @@ pub struct RowsFile<F: Appending> {
     head: &'static [u8],
     // What each file of its rows begins with.
     sign: &'static [u8],
-    // Whether a sync of the sink syncs the file.
+    // Whether the file was opened with `sync`. Without it no sync of the sink syncs the file.
     sync: bool,
     // How many bytes of a torn last row the opening cut off.
     torn: u64,
@@ -83,7 +83,7 @@ impl<F: Appending> RowsFile<F> {
         self.sign
     }
 
-    /// Whether the file was opened with `sync`, so that each sync of the sink syncs it.
+    /// Whether the file was opened with `sync`. Without it no sync of the sink syncs the file.
     pub fn asks_sync(&self) -> bool
         ensures { result ≡ asks_sync self.now }
     {
@@ -97,8 +97,8 @@ impl<F: Appending> RowsFile<F> {
         self.torn
     }
 
-    // Ends the sink: returns the file, and whether all that it holds is on the disk. Where some of it may not be, the file is
-    // synced first, also after a failed write, unless it is in doubt.
+    // Ends the sink: returns the file, and whether all that it holds is known to be on the disk. Where some of it may not be, the
+    // file is synced first, also after a failed write, unless it is in doubt.
     pub(crate) fn finish(self) -> (F, bool)
         ensures { IsTrue result.1 → IsKeptFile (F.life result.0) }
     {
@@ -184,8 +184,8 @@ impl<F: Appending> Durable for RowsFile<F> {
 
     ghost is_durable = { λ r. is_durable r };
 
-    /// Syncs what was appended, where the file was opened with `sync`: after `Ok` a crash leaves all that was taken. It does
-    /// nothing where nothing was appended since the last time, or where the file was opened without `sync`.
+    /// Syncs the file, where it was opened with `sync`: after `Ok` a crash leaves all that was taken. It does nothing where the
+    /// file was opened without `sync`, or where the sink has synced it before, and nothing was appended since.
     ///
     /// It fails where the sink has failed before, or where it would sync the file, and that fails or the file is in doubt. From then on
     /// the sink counts as failed.

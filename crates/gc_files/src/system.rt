@@ -11,19 +11,22 @@ use std::io::{self, ErrorKind, Write};
 use std::os::unix::fs::{FileExt, MetadataExt};
 use std::rt::Files;
 
-/// Why a path can't be used as a file of rows. In each case what was in the file stays.
+/// Why a path can't be used as a file of rows. In each case the whole rows of the file stay. Where the path was free, a file may
+/// have been left there: an empty one, or one that holds a front of the head.
 #[derive(Clone, Copy, Debug, PartialEq, Eq)]
 pub enum Unfit {
-    /// It can't be opened for reading and appending: it is a folder or another thing that is no regular file, the path isn't
-    /// there, or the system doesn't let this program use it. Nothing was touched. Where the path was free, an empty file may
-    /// have been left there.
+    /// It can't be opened for reading and appending: it is a folder or another thing that is no regular file, its folder
+    /// isn't there, or the system refuses to look at it or to open it, for whatever reason. Nothing was touched.
     Unopened,
-    /// Another program, or another opening of this one, holds it. Nothing was touched.
+    /// Another program, or another opening of this one, holds it or its copy; or, once it was locked, the path didn't lead to
+    /// it, or the system didn't say so: another program may just have put another file in its place. It was not touched.
     Held,
     /// It holds something else than such rows. It was not touched.
     Foreign,
-    /// A call of the system failed: the file could not be locked, read, cut, written or synced, or its mark, its copy or its folder
-    /// could not be used. Each whole row is still there.
+    /// The file could not be looked at, locked, read, cut, written or synced, or a read gave nothing though bytes had to be
+    /// there; its path could not be followed, or led elsewhere once a copy was made; its mark, its copy or its folder could
+    /// not be used; or memory ran out. What follows the last whole row may be cut off. Where there was no whole row, a front
+    /// of the head may be written. A copy may have taken the file's place.
     Failed,
 }
 
@@ -66,8 +69,9 @@ impl SystemFile {
         }
     }
 
-    // Makes a new file at a path, for a copy of this one: with this one's mode and, where the system allows it, its owner.
-    // `Failed`: the path isn't free, or a call of the system failed; an empty file may be left at the path then.
+    // Makes a new file at a path, for a copy of this one: with this one's mode and, where the system allows it, its owner and
+    // group. `Failed`: the path isn't free, the new file can't be made, or this one's mode can't be read or given to it; an
+    // empty file may be left at the path then.
     pub(crate) fn create_for_copy<R: Files<File = File>>(
         &self,
         rt: &R,
@@ -105,7 +109,7 @@ fn port_result<T>(answer: io::Result<T>) -> Result<T, PortFailed> {
     answer.map_err(|_| PortFailed)
 }
 
-// Each call is one of the system. An interruption is a failure, too.
+// Each call but `is_doubted` is one of the system. An interruption is a failure, too.
 impl Appending for SystemFile {
     ghost life = { λ _. None };
 
@@ -148,8 +152,8 @@ impl Appending for SystemFile {
     }
 }
 
-// Refuses a path that leads to anything but a regular file; a path that leads to nothing passes. It looks before the file is
-// opened, because opening a device can already act on it.
+// Refuses a path that leads to anything but a regular file, or of which the system doesn't say what it leads to; a path that
+// leads to nothing passes. It looks before the file is opened, because opening a device can already act on it.
 fn expect_file<R: Files<File = File>>(rt: &R, path: &str) -> Result<(), Unfit> {
     match fs::metadata(rt, path) {
         Ok(found) if found.is_file() => Ok(()),
@@ -159,7 +163,8 @@ fn expect_file<R: Files<File = File>>(rt: &R, path: &str) -> Result<(), Unfit> {
 }
 
 /// Opens a regular file by its path for reading and appending, and makes it where the path is free. What is in it stays.
-/// `Unopened`: the path leads to something else, or the file can't be opened. `Failed`: the system doesn't say what was opened.
+/// `Unopened`: the path leads to something else, the system doesn't say to what, or the file can't be opened or made.
+/// `Failed`: the file was opened, and the system doesn't say what it is.
 pub fn open_file<R: Files<File = File>>(rt: &R, path: &str) -> Result<SystemFile, Unfit> {
     expect_file(rt, path)?;
     let opened = OpenOptions::new()

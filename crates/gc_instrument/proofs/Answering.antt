@@ -1,5 +1,6 @@
 -- What the code wrote for a request is the reply that the definitions give to it (`AnswersRequest`, `IsReplied`, `handed`), and
--- it reads as the outcome of carrying out the call (`IsAnswered`).
+-- it reads as the outcome of carrying out the call (`IsAnswered`). Below, a state *fits* if `IsFittingState` holds of it, and a
+-- reply is *plain* if it has neither CR nor LF.
 use Rattle.std.proofs.Common.{◌≡◌, ◌≢◌, ◌⊎◌, inl, inr, ℕ, ◌<◌, arith, List, cond, ◌==◌, if◌then◌else◌, Some, None, Result, Ok, Err, refl, sym, ap, ◌∙◌, subst, Bool, [], true, false, Option}
 use Rattle.std.specs.Prelude.{unwrap_or}
 use Rattle.gc_lines.specs.Lines.{IsPlain}
@@ -28,13 +29,14 @@ use Rattle.gc_instrument.specs.State.{State, IsFittingState}
 use Rattle.gc_instrument.specs.Execution.{Executed, Executes, exec}
 use Rattle.gc_instrument.specs.Replying.{IsReplied, silent, answers, AnswersCall, repeats, executes, AnswersRequest, refuses, answers_call, AppendsCall, AppendsReply, IsAnswered, IsExchanged, Handed, handed, again_or_new, kept_line, with_kept, reading_of, refusal_line, executed_line, reply_id}
 
--- the reply line written of the code and the answer that a call gave is `executed_line` of the call
+-- the reply line written of the code and the answer that a call gave, with the precision after it, is
+-- `executed_line` of the call's outcome
 pub executed_is : (before after : State) (call : Call) (number code places : ℕ) (answer : Answer) → Executes before call after code answer
     → places ≡ after.precision → reply_line number code answer places ≡ executed_line number (exec before call)
 executed_is before after call number code places answer done precision =
     ap (λ n. reply_line number code answer n) precision ∙ sym (ap (λ (x : Executed). executed_line number x) done)
 
--- a request that names no call gets the refusal's line, and changes nothing
+-- a request that names no call gets the refusal's line, with the id of its reply, and changes nothing
 pub refused_reply : (state : State) (q : RequestFields) (fault : CallFault) (number : ℕ) (line : List ℕ)
     → IsRefusal q.rpc q.params fault → number ≡ reply_id q → line ≡ refusal_line number fault → AnswersRequest state q state line
 refused_reply state q fault number line is same made = refuses fault is refl (made ∙ ap (λ n. refusal_line n fault) same)
@@ -44,7 +46,8 @@ pub request_replied : (before after : State) (line bytes : List ℕ) (q : Reques
     → AnswersRequest before q after text → IsReplied before line after (Some text)
 request_replied before after line bytes q text same is made = answers q (subst (λ (x : List ℕ). IsRequest x q) same is) text made refl
 
--- a line that doesn't read as a request gets no reply. The premise about `view` is the contract of the reading that failed
+-- a line that doesn't read as a request gets no reply, and changes nothing. The premise about `view` is the contract of the
+-- reading that failed
 pub silence_replied : (state : State) (line bytes : List ℕ) (fault : LineFault) (view : Request → RequestFields) → bytes ≡ line
     → ((q : RequestFields) → IsRequest bytes q → Gives view (Err fault) (Ok q)) → IsReplied state line state None
 silence_replied state line bytes fault view same only =
@@ -58,7 +61,7 @@ at_zero n a b h = ap (λ (m : ℕ). if m == 0 then a else b) h
 past_zero : (n : ℕ) (a b : Reading) → n ≢ 0 → (if n == 0 then a else b) ≡ b
 past_zero n a b h = ap (λ (t : Bool). cond t a b) (ne_eqb n 0 h)
 
--- where the reply line of a call's outcome reads back as the outcome's reading, `IsAnswered` holds of it
+-- where the reply line of a call's outcome reads back as the outcome's reading, `IsAnswered` holds of that line
 reads_as : (before : State) (number : ℕ) (call : Call) (x : Executed) (reading : Reading) → exec before call ≡ x → reading_of x ≡ reading
     → ReadsBackAnswer call number x.rc x.answer x.state.precision reading → IsAnswered before number call (executed_line number x)
 reads_as before number call x reading e same back = record {
@@ -68,7 +71,8 @@ reads_as before number call x reading e same back = record {
   reading = subst (λ (r : Reading). IsReading call (reply_of number x.rc x.answer x.state.precision) r) (sym (ap reading_of e ∙ same)) back.is_reading;
 }
 
--- where the reply line of a call's outcome reads back as the answer, if the code is 0, and else as the refusal, `IsAnswered` holds of it
+-- where the reply line of a call's outcome reads back as the answer with its doubles rounded, if the code is 0, and else as the
+-- refusal, `IsAnswered` holds of that line
 pub reads_executed : (before : State) (number : ℕ) (call : Call) (x : Executed) → exec before call ≡ x
     → (x.rc ≡ 0 → ReadsBackAnswer call number x.rc x.answer x.state.precision (Value (rounded_answer x.state.precision x.answer)))
     → (x.rc ≢ 0 → ReadsBackAnswer call number x.rc x.answer x.state.precision (Refused x.rc)) → IsAnswered before number call (executed_line number x)
@@ -77,11 +81,12 @@ reads_executed before number call x e done refused = elim (cases_eq x.rc 0) [
   | inr h ↦ reads_as before number call x (Refused x.rc) e (past_zero x.rc _ _ h) (refused h)
 ]
 
--- where the line written of the code and the answer that a call gave, with the precision after it, reads back as that answer,
--- or as the refusal where the code isn't 0, `IsAnswered` holds of it
-pub made_answered : (before after : State) (call : Call) (number code places : ℕ) (answer : Answer) → Executes before call after code answer → places ≡ after.precision
-    → (code ≡ 0 → IsAnswerOf call answer → ReadsBackAnswer call number code answer places (Value (rounded_answer places answer)))
-    → (code ≢ 0 → ReadsBackAnswer call number code answer places (Refused code))
+-- where the line written of the code and the answer that a call gave, with the precision after it, reads back as that answer with
+-- its doubles rounded, or as the refusal where the code isn't 0, `IsAnswered` holds of that line
+pub made_answered : (before after : State) (call : Call) (number code places : ℕ) (answer : Answer)
+    → (done : Executes before call after code answer) → (precision : places ≡ after.precision)
+    → (back : code ≡ 0 → IsAnswerOf call answer → ReadsBackAnswer call number code answer places (Value (rounded_answer places answer)))
+    → (refused : code ≢ 0 → ReadsBackAnswer call number code answer places (Refused code))
     → IsAnswered before number call (reply_line number code answer places)
 made_answered before after call number code places answer done precision back refused =
     let x : Executed = record { state = after; rc = code; answer = answer } in
@@ -91,18 +96,21 @@ made_answered before after call number code places answer done precision back re
     let whole : reply_line number code answer places ≡ executed_line number x = ap (λ (p : ℕ). reply_line number code answer p) precision in
     subst (λ (l : List ℕ). IsAnswered before number call l) (sym whole) (reads_executed before number call x done value refusal)
 
--- a call's request line reads as the call's request, and as no other
-pub read_of : (line : List ℕ) (q : RequestFields) (id : ℕ) (call : Call) → id < 8 → IsFitting call → line ≡ request_line (Some id) call → IsRequest line q → q ≡ request_of (Some id) call
+-- the request line of a call with values in range and an id below 8 reads as no request but the call's
+pub read_of : (line : List ℕ) (q : RequestFields) (id : ℕ) (call : Call) → id < 8 → IsFitting call → line ≡ request_line (Some id) call
+    → IsRequest line q → q ≡ request_of (Some id) call
 read_of line q id call small fits e is =
     one_request line q (request_of (Some id) call) is
     (subst (λ (x : List ℕ). IsRequest x (request_of (Some id) call)) (sym e) (request_found (request_line (Some id) call) (request_of (Some id) call) (call_again (Some id) call small fits).line))
 
--- for a request with the stored id, `handed` gives the stored line and changes nothing
-pub handed_again : (s : State) (id : ℕ) (call : Call) (line : List ℕ) → kept_line s.kept (Some id) ≡ Some line → handed s id call ≡ record { state = s; reply = line; executed = false }
+-- for a request with the stored id, `handed` gives the stored line, leaves the state as it is, and counts no execution
+pub handed_again : (s : State) (id : ℕ) (call : Call) (line : List ℕ) → kept_line s.kept (Some id) ≡ Some line
+    → handed s id call ≡ record { state = s; reply = line; executed = false }
 unfolding handed
 handed_again s id call line e = ap (again_or_new s id call) e
 
--- for a request with another id, `handed` gives the reply line of carrying out its call
+-- where no line is stored for the id, `handed` is `again_or_new` without a stored line: the call is carried out, and its reply
+-- stored
 pub handed_new : (s : State) (id : ℕ) (call : Call) → kept_line s.kept (Some id) ≡ None → handed s id call ≡ again_or_new s id call None
 unfolding handed
 handed_new s id call e = ap (again_or_new s id call) e
@@ -119,9 +127,12 @@ handed_does before after id call text (executes e state line) =
       line ∙ sym (ap (λ (x : Handed State). x.reply) h),
     )
 
--- what an instrument does with the request that names this call, with this id, is as `IsExchanged` has it
-pub exchanged : (before after : State) (q : RequestFields) (id : ℕ) (call : Call) (text : List ℕ) → q.id ≡ Some id → IsCall q.rpc q.params call
-    → AnswersRequest before q after text → IsPlain text → (kept_line before.kept q.id ≡ None → IsAnswered before (reply_id q) call text) → IsExchanged before id call after (Some text)
+-- where a request names this call, and has this id, an instrument did with the request what `AnswersRequest` says, and the reply
+-- is plain and, if no line was stored for the id, reads as the outcome, `IsExchanged` holds of the call
+pub exchanged : (before after : State) (q : RequestFields) (id : ℕ) (call : Call) (text : List ℕ)
+    → (same : q.id ≡ Some id) → (is : IsCall q.rpc q.params call) → (made : AnswersRequest before q after text) → (plain : IsPlain text)
+    → (answered : kept_line before.kept q.id ≡ None → IsAnswered before (reply_id q) call text)
+    → IsExchanged before id call after (Some text)
 exchanged before after q id call text same is (refuses fault refusal state line) plain answered = absurd (no_refusal q.rpc q.params call fault is refusal)
 exchanged before after q id call text same is (answers_call made is_made does) plain answered =
     let one : made ≡ call = one_call q.rpc q.params made call is_made is in
@@ -137,8 +148,9 @@ exchanged before after q id call text same is (answers_call made is_made does) p
           (subst (λ (n : ℕ). IsAnswered before n call text) (ap (λ (o : Option ℕ). unwrap_or o 0) same) (answered (ap (kept_line before.kept) same ∙ new)));
     }
 
--- in a state that fits, `IsAnswered` holds of the reply line of a call's outcome
-pub executed_answered : (s : State) (id : ℕ) (call : Call) → IsFittingState s → id < 8 → IsFitting call → IsAnswered s id call (executed_line id (exec s call))
+-- in a state that fits, `IsAnswered` holds of the reply line of the outcome of a call with values in range and an id below 8
+pub executed_answered : (s : State) (id : ℕ) (call : Call) → IsFittingState s → id < 8 → IsFitting call
+    → IsAnswered s id call (executed_line id (exec s call))
 executed_answered s id call good small fits =
     let x = exec s call in
     let outcome = exec_outcome s call in
@@ -148,29 +160,35 @@ executed_answered s id call good small fits =
     (λ h. subst (λ (a : Answer). ReadsBackAnswer call id x.rc a x.state.precision (Refused x.rc)) (sym (outcome.refuses h))
     (refusal_again call id x.rc x.state.precision small (omega (arith, h)) outcome.code))
 
--- in a state that fits, `IsAnswered` holds of the reply to a request whose id isn't the stored one
-pub handed_answered : (s : State) (id : ℕ) (call : Call) → IsFittingState s → id < 8 → IsFitting call → kept_line s.kept (Some id) ≡ None → IsAnswered s id call (handed s id call).reply
+-- in a state that fits, `IsAnswered` holds of the reply to a call with values in range and an id below 8 that isn't the stored
+-- one
+pub handed_answered : (s : State) (id : ℕ) (call : Call) → IsFittingState s → id < 8 → IsFitting call → kept_line s.kept (Some id) ≡ None
+    → IsAnswered s id call (handed s id call).reply
 handed_answered s id call good small fits new =
     subst (λ (h : Handed State). IsAnswered s id call h.reply) (sym (handed_new s id call new)) (executed_answered s id call good small fits)
 
--- the line of a call's request reads as that request
+-- the request line of a call with values in range and an id below 8 reads as the call's request
 own_request : (id : ℕ) (call : Call) → id < 8 → IsFitting call → IsRequest (request_line (Some id) call) (request_of (Some id) call)
 own_request id call small fits = request_found (request_line (Some id) call) (request_of (Some id) call) (call_again (Some id) call small fits).line
 
--- where a line is the request line of this call, and an instrument did with its request what `AnswersRequest` says, and its reply is plain
--- and reads as the outcome, `IsExchanged` holds of the call
-pub line_exchanged : (before after : State) (line bytes : List ℕ) (q : RequestFields) (id : ℕ) (call : Call) (text : List ℕ) → bytes ≡ line
-    → IsRequest bytes q → id < 8 → IsFitting call → line ≡ request_line (Some id) call
-    → AnswersRequest before q after text → ((d : Call) → IsCall q.rpc q.params d → IsPlain text)
-    → ((d : Call) → IsCall q.rpc q.params d → kept_line before.kept q.id ≡ None → IsAnswered before (reply_id q) d text) → IsExchanged before id call after (Some text)
+-- where a line is the request line of this call, with an id below 8 and values in range, an instrument did with the request what
+-- `AnswersRequest` says, and the reply is plain and, if no line was stored for the id, reads as the outcome, `IsExchanged` holds
+-- of the call
+pub line_exchanged : (before after : State) (line bytes : List ℕ) (q : RequestFields) (id : ℕ) (call : Call) (text : List ℕ)
+    → (same : bytes ≡ line) → (is : IsRequest bytes q) → (small : id < 8) → (fits : IsFitting call) → (own : line ≡ request_line (Some id) call)
+    → (made : AnswersRequest before q after text) → (plain : (d : Call) → IsCall q.rpc q.params d → IsPlain text)
+    → (answered : (d : Call) → IsCall q.rpc q.params d → kept_line before.kept q.id ≡ None → IsAnswered before (reply_id q) d text)
+    → IsExchanged before id call after (Some text)
 line_exchanged before after line bytes q id call text same is small fits own made plain answered =
     let q_is : q ≡ request_of (Some id) call = read_of bytes q id call small fits (same ∙ own) is in
     let call_is : IsCall q.rpc q.params call = subst (λ (p : RequestFields). IsCall p.rpc p.params call) (sym q_is) (call_again (Some id) call small fits).is_call in
     exchanged before after q id call text (ap (λ (p : RequestFields). p.id) q_is) call_is made (plain call call_is) (answered call call_is)
 
--- a line that doesn't read as a request isn't a call's request line: the premises contradict each other, so `IsExchanged` follows
-pub silence_exchanged : (state : State) (line bytes : List ℕ) (fault : LineFault) (view : Request → RequestFields) (id : ℕ) (call : Call) → bytes ≡ line
-    → ((q : RequestFields) → IsRequest bytes q → Gives view (Err fault) (Ok q)) → id < 8 → IsFitting call → line ≡ request_line (Some id) call → IsExchanged state id call state None
+-- a line that doesn't read as a request isn't a call's request line: the premises contradict each other, so `IsExchanged`
+-- follows. The premise about `view` is the contract of the reading that failed
+pub silence_exchanged : (state : State) (line bytes : List ℕ) (fault : LineFault) (view : Request → RequestFields) (id : ℕ) (call : Call)
+    → (same : bytes ≡ line) → (only : (q : RequestFields) → IsRequest bytes q → Gives view (Err fault) (Ok q)) → (small : id < 8)
+    → (fits : IsFitting call) → (own : line ≡ request_line (Some id) call) → IsExchanged state id call state None
 silence_exchanged state line bytes fault view id call same only small fits own =
     let q = request_of (Some id) call in
     let wrong : ◌≡◌ {A = Result RequestFields LineFault} (Ok q) (Err fault) = only q (subst (λ (x : List ℕ). IsRequest x q) (sym (same ∙ own)) (own_request id call small fits)) in
@@ -178,31 +196,34 @@ silence_exchanged state line bytes fault view id call same only small fits own =
     absurd never
 
 -- an optional line is some line, or none
-pub kept_or_not : (o : Option (List ℕ)) → ((line : List ℕ) × (o ≡ Some line)) ⊎ (o ≡ None)
-kept_or_not (Some line) = inl (line, refl)
-kept_or_not None = inr refl
+pub some_line_or_none : (o : Option (List ℕ)) → ((line : List ℕ) × (o ≡ Some line)) ⊎ (o ≡ None)
+some_line_or_none (Some line) = inl (line, refl)
+some_line_or_none None = inr refl
 
 -- what `handed` gives is what an instrument does with the call (`AnswersCall`)
 pub handed_answers : (s : State) (id : ℕ) (call : Call) → AnswersCall s (Some id) call (handed s id call).state (handed s id call).reply
-handed_answers s id call = elim (kept_or_not (kept_line s.kept (Some id))) [
+handed_answers s id call = elim (some_line_or_none (kept_line s.kept (Some id))) [
   | inl h ↦ subst (λ (x : Handed State). AnswersCall s (Some id) call x.state x.reply) (sym (handed_again s id call h.0 h.1)) (repeats h.1 refl)
   | inr e ↦ subst (λ (x : Handed State). AnswersCall s (Some id) call x.state x.reply) (sym (handed_new s id call e)) (executes e refl refl)
 ]
 
--- what `handed` gives is what an instrument does with the call's request line (`IsReplied`)
-pub handed_replied : (s : State) (id : ℕ) (call : Call) → id < 8 → IsFitting call → IsReplied s (request_line (Some id) call) (handed s id call).state (Some (handed s id call).reply)
+-- what `handed` gives for a call with values in range and an id below 8 is what an instrument does with its request line
+-- (`IsReplied`)
+pub handed_replied : (s : State) (id : ℕ) (call : Call) → id < 8 → IsFitting call
+    → IsReplied s (request_line (Some id) call) (handed s id call).state (Some (handed s id call).reply)
 handed_replied s id call small fits =
     answers (request_of (Some id) call) (own_request id call small fits) (handed s id call).reply (answers_call call (call_again (Some id) call small fits).is_call (handed_answers s id call)) refl
 
--- where a reply was appended to the empty text, the text is then that reply
+-- where `new` is the empty text with a reply to a line (`IsReplied`) appended, `new` is this reply
 pub replied_alone : (s t : State) (line new : List ℕ) → AppendsAnswer (IsReplied s line t) [] new true → IsReplied s line t (Some new)
 replied_alone s t line new h = subst (λ (text : List ℕ). IsReplied s line t (Some text)) (sym h.2) h.1
 
--- where a reply to a call, as `IsExchanged` has it, was appended to the empty text, the text is then that reply
-pub exchanged_alone : (s t : State) (id : ℕ) (call : Call) (new : List ℕ) → AppendsAnswer (IsExchanged s id call t) [] new true → IsExchanged s id call t (Some new)
+-- where `new` is the empty text with a reply to a call (`IsExchanged`) appended, `new` is this reply
+pub exchanged_alone : (s t : State) (id : ℕ) (call : Call) (new : List ℕ) → AppendsAnswer (IsExchanged s id call t) [] new true
+    → IsExchanged s id call t (Some new)
 exchanged_alone s t id call new h = subst (λ (text : List ℕ). IsExchanged s id call t (Some text)) (sym h.2) h.1
 
--- the reply to a call that a request names is the reply to the request
+-- where the reply to a call that a request names was appended (`AppendsCall`), the reply to the request was (`AppendsReply`)
 pub request_call : (before after : State) (q : RequestFields) (call : Call) (old new : List ℕ) → IsCall q.rpc q.params call
     → AppendsCall before q.id call after old new → AppendsReply before q after old new
 request_call before after q call old new is h = record {

@@ -1,5 +1,5 @@
--- The outcome of every call is sound (`IsSoundOutcome`): the serial number, the name and the scene stay, the values are in range, and a
--- code other than 0 has no answer. Below, a state *fits* if `IsFittingState` holds of it.
+-- The outcome of every call is sound (`IsSoundOutcome`): the serial number, the name and the scene stay, the values are in range,
+-- and a code other than 0 has no answer. Below, a state *fits* if `IsFittingState` holds of it.
 use Rattle.std.proofs.Common.{◌≡◌, ℕ, ℤ, pos, negsuc, ◌<◌, ◌≤◌, ◌&&◌, ◌||◌, Bool, true, false, cond, Option, Some, None, refl, subst, arith}
 use Rattle.std.proofs.lemmas.Bool.{and_parts, leb-true}
 use Rattle.std.specs.Prelude.{int_lt, int_le, nat_le, unsigned_abs}
@@ -26,7 +26,8 @@ use Rattle.gc_instrument.specs.declared.face.Face.TheVariants.{Normal, Turned}
 use Rattle.gc_instrument.specs.declared.target.Target.{Target}
 use Rattle.gc_instrument.proofs.Keeping.{commanded_by_tests}
 
--- an outcome with code 0 is sound if serial number, name and scene stay, the values fit, and the answer is one of the call
+-- an outcome with code 0 is sound if serial number, name and scene stay, the state after it, t, fits where s does, and the answer
+-- is one of the call, and has its values in range where s fits and the call's values are in range
 done_outcome : (s t : State) (call : Call) (a : Answer) → opening_of t ≡ opening_of s → (IsFittingState s → IsFittingState t) → IsAnswerOf call a
     → (IsFittingState s → IsFitting call → IsFittingAnswer a) → IsSoundOutcome s call (done t a)
 done_outcome s t call a same fits of_call answer_fits = record {
@@ -38,8 +39,10 @@ done_outcome s t call a same fits of_call answer_fits = record {
   answer_fits = answer_fits;
 }
 
--- an outcome with another code and no answer is sound if serial number, name and scene stay, and the values fit
-refused_outcome : (s t : State) (call : Call) (code : ℕ) → opening_of t ≡ opening_of s → (IsFittingState s → IsFittingState t) → 0 < code → code < 65536 → IsSoundOutcome s call (refused t code)
+-- an outcome with a code from 1 to 65535, and no answer, is sound if serial number, name and scene stay, and the state after it,
+-- t, fits where s does
+refused_outcome : (s t : State) (call : Call) (code : ℕ) → opening_of t ≡ opening_of s → (IsFittingState s → IsFittingState t) → 0 < code
+    → code < 65536 → IsSoundOutcome s call (refused t code)
 refused_outcome s t call code same fits some small = record {
   same = same;
   fits = fits;
@@ -49,12 +52,15 @@ refused_outcome s t call code same fits some small = record {
   answer_fits = λ _ _. tt;
 }
 
--- the outcome of a call that only answers is sound if the answer is one of the call, and its values fit
-answered_outcome : (s : State) (call : Call) (a : Answer) → IsAnswerOf call a → (IsFittingState s → IsFitting call → IsFittingAnswer a) → IsSoundOutcome s call (done s a)
+-- the outcome of a call that only answers is sound if the answer is one of the call, and has its values in range where s fits and
+-- the call's values are in range
+answered_outcome : (s : State) (call : Call) (a : Answer) → IsAnswerOf call a → (IsFittingState s → IsFitting call → IsFittingAnswer a)
+    → IsSoundOutcome s call (done s a)
 answered_outcome s call a of_call answer_fits = done_outcome s s call a refl (λ f. f) of_call answer_fits
 
 -- a state with the same precision, serial number, name, date, prism type and stored reply fits where the other does
-fits_likewise : (s t : State) → s.precision ≡ t.precision → s.serial ≡ t.serial → s.name ≡ t.name → s.date ≡ t.date → s.prism ≡ t.prism → s.kept ≡ t.kept → IsFittingState s → IsFittingState t
+fits_likewise : (s t : State) → s.precision ≡ t.precision → s.serial ≡ t.serial → s.name ≡ t.name → s.date ≡ t.date → s.prism ≡ t.prism
+    → s.kept ≡ t.kept → IsFittingState s → IsFittingState t
 fits_likewise s t p n l d r k f = record {
   precision = subst (λ (x : ℕ). x ≤ 15) p f.precision;
   serial = subst FitsLong n f.serial;
@@ -64,16 +70,21 @@ fits_likewise s t p n l d r k f = record {
   kept = subst IsFittingKept k f.kept;
 }
 
--- the outcome of a call that leads from the state s to t if that is allowed (b is true), and else is refused in s, is sound: if t has the
--- serial number, name and scene of s; if t, where it is allowed, fits whenever s does; and if the call is answered without values
-set_outcome : (b : Bool) (s t : State) (call : Call) → opening_of t ≡ opening_of s → (b ≡ true → IsFittingState s → IsFittingState t) → IsAnswerOf call Nothing → IsSoundOutcome s call (set_if b s t)
+-- the outcome of a call that leads from the state s to t if that is allowed (b is true), and else is refused in s, is sound: if t
+-- has the serial number, name and scene of s; if t, where it is allowed, fits whenever s does; and if the call is answered
+-- without values
+set_outcome : (b : Bool) (s t : State) (call : Call) → opening_of t ≡ opening_of s → (b ≡ true → IsFittingState s → IsFittingState t)
+    → IsAnswerOf call Nothing → IsSoundOutcome s call (set_if b s t)
 set_outcome true s t call same fits of_call = done_outcome s t call Nothing same (fits refl) of_call (λ _ _. tt)
 set_outcome false s t call same fits of_call = refused_outcome s s call 2 refl (λ f. f) (omega arith) (omega arith)
 
--- the outcome of a call that answers with the distance d, or is refused if there is none, is sound if serial number, name and scene stay,
--- and the values fit
-with_outcome : (s t : State) (call : Call) (answer_with : Decimal → Answer) (d : Option Decimal) → opening_of t ≡ opening_of s → (IsFittingState s → IsFittingState t)
-    → ((x : Decimal) → IsAnswerOf call (answer_with x)) → ((x : Decimal) → IsFitting call → IsFittingAnswer (answer_with x)) → IsSoundOutcome s call (distance_outcome t answer_with d)
+-- the outcome of a call that answers with the distance d, or is refused if there is none, is sound if serial number, name and
+-- scene stay, the state after it, t, fits where s does, and the answer with any distance is one of the call, and has its values
+-- in range where the call's are
+with_outcome : (s t : State) (call : Call) (answer_with : Decimal → Answer) (d : Option Decimal) → opening_of t ≡ opening_of s
+    → (IsFittingState s → IsFittingState t)
+    → ((x : Decimal) → IsAnswerOf call (answer_with x)) → ((x : Decimal) → IsFitting call → IsFittingAnswer (answer_with x))
+    → IsSoundOutcome s call (distance_outcome t answer_with d)
 with_outcome s t call answer_with (Some d) same fits of_call answer_fits = done_outcome s t call (answer_with d) same fits (of_call d) (λ _ c. answer_fits d c)
 with_outcome s t call answer_with None same fits of_call answer_fits = refused_outcome s t call 1285 same fits (omega arith) (omega arith)
 

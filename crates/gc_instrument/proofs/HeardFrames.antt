@@ -23,11 +23,12 @@ use Rattle.gc_instrument.specs.Hearing.{Hears, replies_text}
 use Rattle.gc_instrument.specs.Serving.{AnswersFrame, ServesAll, ServesPart, Serves}
 
 -- appending a line's reply, and CR LF after it, is how an instrument answers the frame of that line
-pub answered_line : (before after : State) (line old between new : List ℕ) → AppendsAnswer (IsReplied before line after) old between true → new ≡ between ++ 13 ∷ 10 ∷ []
+pub answered_line : (before after : State) (line old between new : List ℕ) → AppendsAnswer (IsReplied before line after) old between true
+    → new ≡ between ++ 13 ∷ 10 ∷ []
     → AppendsAnswer (AnswersFrame before (Line (record { items = line })) after) old new true
 answered_line before after line old between new h e = (with_end h.0, (Some h.0, h.1, refl), e ∙ ap (λ (xs : List ℕ). xs ++ 13 ∷ 10 ∷ []) h.2 ∙ append_assoc old h.0 (13 ∷ 10 ∷ []))
 
--- a line without a reply is answered by nothing
+-- where a line has no reply, appending nothing is how an instrument answers the frame of that line
 pub unanswered_line : (before after : State) (line old new : List ℕ) → AppendsAnswer (IsReplied before line after) old new false
     → AppendsAnswer (AnswersFrame before (Line (record { items = line })) after) old new false
 unanswered_line before after line old new h = ((None, h.0, refl), h.1)
@@ -37,7 +38,8 @@ abbrev pub lines_of : List Frame → List (List ℕ)
 lines_of seen = filter_map line_in seen
 
 -- mapping f over an optional element, and over the list after it, is mapping f over the two in a row
-option_to_list_map : {X Y : Type 0} (f : X → Y) (o : Option X) (xs : List X) → option_to_list (option_map f o) ++ map f xs ≡ map f (option_to_list o ++ xs)
+option_to_list_map : {X Y : Type 0} (f : X → Y) (o : Option X) (xs : List X)
+    → option_to_list (option_map f o) ++ map f xs ≡ map f (option_to_list o ++ xs)
 option_to_list_map f None xs = refl
 option_to_list_map f (Some x) xs = refl
 
@@ -49,7 +51,8 @@ record Heard (s t : State) (seen : List Frame) (texts : List (List ℕ)) : Type 
 
 -- where a line takes the instrument from s to u, and `Heard` holds of frames from u to t, it holds of the line and those frames
 -- from s to t, with the line's reply, if there is one, in front
-heard_line : (s u t : State) (line : List ℕ) (reply text : Option (List ℕ)) (later : List Frame) (rest texts : List (List ℕ)) → IsReplied s line u reply → text ≡ option_map with_end reply
+heard_line : (s u t : State) (line : List ℕ) (reply text : Option (List ℕ)) (later : List Frame) (rest texts : List (List ℕ))
+    → IsReplied s line u reply → text ≡ option_map with_end reply
     → Heard u t later rest → texts ≡ option_to_list text ++ rest → Heard s t (Line (record { items = line }) ∷ later) texts
 heard_line s u t line reply text later rest texts replied text_is h are = record {
   replies = option_to_list reply ++ h.replies;
@@ -58,8 +61,8 @@ heard_line s u t line reply text later rest texts replied text_is h are = record
       ∙ ap (λ (ts : List (List ℕ)). option_to_list (option_map with_end reply) ++ ts) h.texts_are ∙ option_to_list_map with_end reply h.replies;
 }
 
--- for a frame that is no line, which leaves the state as it is and has no text: where `Heard` holds of the frames after it
--- from the state u after it, it holds of them from the state s before it
+-- where a frame that is no line takes the instrument from s to u, which is s, and has no text, and `Heard` holds of the frames
+-- `seen` after it from u to t, `Heard` holds of these frames from s to t, with the same texts
 heard_silence : (s u t : State) (text : Option (List ℕ)) (seen : List Frame) (rest texts : List (List ℕ)) → u ≡ s → text ≡ None → Heard u t seen rest
     → texts ≡ option_to_list text ++ rest → Heard s t seen texts
 heard_silence s u t text seen rest texts same none h are = record {
@@ -69,14 +72,16 @@ heard_silence s u t text seen rest texts same none h are = record {
 }
 
 -- where `Heard` holds of frames, it holds of other frames that have the same lines
-heard_same_lines : (s t : State) (seen more : List Frame) (texts : List (List ℕ)) → lines_of more ≡ lines_of seen → Heard s t seen texts → Heard s t more texts
+heard_same_lines : (s t : State) (seen more : List Frame) (texts : List (List ℕ)) → lines_of more ≡ lines_of seen → Heard s t seen texts
+    → Heard s t more texts
 heard_same_lines s t seen more texts same h = record {
   replies = h.replies;
   hears = subst (λ (heard : List (List ℕ)). Hears s heard t h.replies) (sym same) h.hears;
   texts_are = h.texts_are;
 }
 
--- frames that an instrument answered in order are lines that it heard, and the texts are their replies
+-- where an instrument answered frames in order, with these texts, it heard the lines among them, and the texts are its replies
+-- (`Heard`)
 heard_frames : (s t : State) (seen : List Frame) (texts : List (List ℕ)) → AnswersInOrder State AnswersFrame s seen t texts → Heard s t seen texts
 heard_frames s t [] texts h = record { replies = []; hears = (h.0, refl); texts_are = h.1 }
 heard_frames s t (Line line ∷ later) texts h = heard_line s h.0 t line.items h.3.0 h.1 later h.2 texts h.3.1 h.3.2 (heard_frames h.0 t later h.2 h.4) h.5
@@ -84,8 +89,9 @@ heard_frames s t (Cleared ∷ later) texts h = heard_same_lines s t later (Clear
 heard_frames s t (Overlong ∷ later) texts h = heard_same_lines s t later (Overlong ∷ later) texts refl (heard_silence s h.0 t h.1 later h.2 texts h.3.0 h.3.1 (heard_frames h.0 t later h.2 h.4) h.5)
 heard_frames s t (More ∷ later) texts h = heard_same_lines s t later (More ∷ later) texts refl (heard_silence s h.0 t h.1 later h.2 texts h.3.0 h.3.1 (heard_frames h.0 t later h.2 h.4) h.5)
 
--- frames that were all answered are lines that were all served
-all_serves : (s t : State) (seen : List Frame) (a b : Option (List ℕ)) (i j : ℕ) → AnswersAll AnswersFrame s t seen a b i j → ServesAll s t (lines_of seen) a b i j
+-- where frames were all answered, the lines among them were all served
+all_serves : (s t : State) (seen : List Frame) (a b : Option (List ℕ)) (i j : ℕ) → AnswersAll AnswersFrame s t seen a b i j
+    → ServesAll s t (lines_of seen) a b i j
 all_serves s t seen a b i j all =
     let h = heard_frames s t seen all.texts all.answers in
     record {
@@ -103,21 +109,23 @@ record RepliedLine (s t : State) (frame : Frame) (text : List ℕ) : Type 0 wher
   replied : IsReplied s line t (Some reply)
   text_is : text ≡ with_end reply
 
--- a line whose text is sent has a reply, and the text is that with its CR LF
+-- a line whose text is sent has a reply, and the text is that reply with its CR LF (`RepliedLine`)
 replied_line : (s t : State) (line : List ℕ) (reply : Option (List ℕ)) (text : List ℕ) → IsReplied s line t reply
     → ◌≡◌ {A = Option (List ℕ)} (Some text) (option_map with_end reply) → RepliedLine s t (Line (record { items = line })) text
 replied_line s t line None text replied is = let wrong : ⊥ = cc in absurd wrong
 replied_line s t line (Some reply) text replied is = record { line = line; reply = reply; is_line = λ later. refl; replied = replied; text_is = cc }
 
--- a frame whose text is sent is a line with a reply
+-- a frame whose text is sent is a line with a reply, and the text is that reply with its CR LF (`RepliedLine`)
 replied_frame : (s t : State) (frame : Frame) (text : List ℕ) → AnswersFrame s frame t (Some text) → RepliedLine s t frame text
 replied_frame s t (Line line) text h = replied_line s t line.items h.0 text h.1 h.2
 replied_frame s t Cleared text h = absurd (none-some text (sym h.1))
 replied_frame s t Overlong text h = absurd (none-some text (sym h.1))
 replied_frame s t More text h = absurd (none-some text (sym h.1))
 
--- frames that were answered up to a part of a text are lines that were served up to a part of a reply
-part_serves : (s t : State) (seen : List Frame) (a b : Option (List ℕ)) (i j bytes : ℕ) → AnswersPart AnswersFrame s t seen a b i j bytes → ServesPart s t (lines_of seen) a b i j bytes
+-- where frames were answered up to a part of a text, the lines among them were served up to the same part of a reply with its CR
+-- LF
+part_serves : (s t : State) (seen : List Frame) (a b : Option (List ℕ)) (i j bytes : ℕ) → AnswersPart AnswersFrame s t seen a b i j bytes
+    → ServesPart s t (lines_of seen) a b i j bytes
 part_serves s t seen a b i j bytes part =
     let h = heard_frames s part.state part.earlier part.texts part.answers in
     let d = replied_frame part.state t part.frame part.text part.gives in
@@ -138,7 +146,8 @@ part_serves s t seen a b i j bytes part =
     }
 
 -- answering the frames with some result is serving their lines with that result
-pub serves_frames : (s t : State) (seen : List Frame) (a b : Option (List ℕ)) (r : Result Served ServeFault) → AnswersFrames AnswersFrame s t seen a b r → Serves s t (lines_of seen) a b r
+pub serves_frames : (s t : State) (seen : List Frame) (a b : Option (List ℕ)) (r : Result Served ServeFault)
+    → AnswersFrames AnswersFrame s t seen a b r → Serves s t (lines_of seen) a b r
 serves_frames s t seen a b (Ok served) h = all_serves s t seen a b 0 served.replies h
 serves_frames s t seen a b (Err (Read n)) h = all_serves s t seen a b 0 n h
 serves_frames s t seen a b (Err (Write n bytes)) h = part_serves s t seen a b 0 n bytes h

@@ -1,11 +1,9 @@
 -- Two lists of lines, handed to an instrument one after the other: the state after them, and what is written.
-use Rattle.std.proofs.Common.{◌≡◌, ℕ, List, [], ◌∷◌, ◌++◌, Option, refl, sym, ap, ◌∙◌, subst, append_assoc}
+use Rattle.std.proofs.Common.{◌≡◌, ℕ, List, [], ◌∷◌, ◌++◌, ap, ◌∙◌, subst, append_assoc}
 use Rattle.std.specs.Option.{option_to_list}
-use Rattle.std.proofs.lemmas.List.{append-nil}
 use Rattle.std.proofs.lemmas.Grind.{flat_map-append}
 use Rattle.gc_lines.specs.Lines.{with_end}
 use Rattle.gc_instrument.specs.State.{State}
-use Rattle.gc_instrument.specs.Replying.{IsReplied}
 use Rattle.gc_instrument.specs.Hearing.{Hears, replies_text}
 
 -- hearing lines, and then others from the state after them, is hearing all of them
@@ -21,10 +19,6 @@ hears_then s t u (x ∷ xs) ys ps qs first next = (
   ap (λ (zs : List (List ℕ)). zs ++ qs) first.5 ∙ append_assoc (option_to_list first.1) first.2 qs,
 )
 
--- where `IsReplied` holds of a line, `Hears` holds of that line alone, with its reply, if there is one
-pub hears_one : (s t : State) (line : List ℕ) (reply : Option (List ℕ)) → IsReplied s line t reply → Hears s (line ∷ []) t (option_to_list reply)
-hears_one s t line reply h = (t, reply, [], h, (refl, refl), sym (append-nil (option_to_list reply)))
-
--- replies are written one after the other
+-- what is written of the replies `xs ++ ys` is what is written of xs, and then what is written of ys
 pub replies_text-append : (xs ys : List (List ℕ)) → replies_text (xs ++ ys) ≡ replies_text xs ++ replies_text ys
 replies_text-append xs ys = flat_map-append with_end xs ys

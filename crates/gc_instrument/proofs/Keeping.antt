@@ -14,13 +14,13 @@ use Rattle.gc_catalogue.specs.declared.call.Call.{Call}
 use Rattle.gc_catalogue.specs.declared.call.Call.TheVariants.{NullProc}
 use Rattle.gc_instrument.specs.Execution.{Executed, exec, done, refused, set_if, distance_outcome, commanded, searched, adjusted, measured, unmeasured}
 use Rattle.gc_instrument.specs.Laws.{ExecutesApart}
-use Rattle.gc_instrument.specs.Replying.{AppendsCall, AppendsExecuted, repeats, executes, IsAnswered, executed_line, kept_after, kept_line, with_kept, executed_with}
+use Rattle.gc_instrument.specs.Replying.{AppendsCall, AppendsExecuted, executes, IsAnswered, executed_line, kept_after, kept_line, with_kept, executed_with}
 use Rattle.gc_instrument.specs.Seen.{IsPlainKept}
 use Rattle.gc_instrument.specs.State.{State, KeptReply, IsFittingState, IsFittingKept, kept_in}
 use Rattle.gc_instrument.specs.Targets.{first_within}
 use Rattle.gc_instrument.specs.declared.target.Target.{Target}
 
--- the reply that `kept_in` makes of an id and a line has that id
+-- the stored reply that `kept_in` makes of an id and a line has that id; without an id it makes none
 pub id_kept : (id : Option ℕ) (line : List ℕ) → id ≡ option_map (λ (k : KeptReply). k.id) (kept_in id line)
 id_kept None line = refl
 id_kept (Some id) line = refl
@@ -31,7 +31,7 @@ none_asked None id e = refl
 none_asked (Some k) None e = refl
 none_asked (Some k) (Some n) e = let never : ⊥ = cc in absurd never
 
--- where nothing is stored, no stored line is found
+-- where `kept_in` stores nothing, as there is no id, no stored line is found, whatever id is asked for
 pub none_kept : (id asked : Option ℕ) (line : List ℕ) → id ≡ None → None ≡ kept_line (kept_in id line) asked
 none_kept None asked line e = refl
 none_kept (Some n) asked line e = let never : ⊥ = cc in absurd never
@@ -41,17 +41,20 @@ cond_same : (b : Bool) (o p : Option (List ℕ)) (c : Bool) → b ≡ c → cond
 cond_same b o p c e = ap (λ x. cond x o p) (sym e)
 
 -- where the id asked for is the stored one, the stored line is found
-pub same_kept : (id asked : Option ℕ) (k n : ℕ) (line : List ℕ) → id ≡ Some k → asked ≡ Some n → eqb k n ≡ true → Some line ≡ kept_line (kept_in id line) asked
+pub same_kept : (id asked : Option ℕ) (k n : ℕ) (line : List ℕ) → id ≡ Some k → asked ≡ Some n → eqb k n ≡ true
+    → Some line ≡ kept_line (kept_in id line) asked
 same_kept id asked k n line e f same =
     subst (λ o. Some line ≡ kept_line (kept_in o line) asked) (sym e) (subst (λ o. Some line ≡ kept_line (Some (record { id = k; line = line })) o) (sym f)
     (cond_same (eqb k n) (Some line) None true same))
 
 -- where the id asked for isn't the stored one, no stored line is found
-pub other_kept : (id asked : Option ℕ) (k n : ℕ) (line : List ℕ) → id ≡ Some k → asked ≡ Some n → eqb k n ≡ false → None ≡ kept_line (kept_in id line) asked
+pub other_kept : (id asked : Option ℕ) (k n : ℕ) (line : List ℕ) → id ≡ Some k → asked ≡ Some n → eqb k n ≡ false
+    → None ≡ kept_line (kept_in id line) asked
 other_kept id asked k n line e f other =
     subst (λ o. None ≡ kept_line (kept_in o line) asked) (sym e) (subst (λ o. None ≡ kept_line (Some (record { id = k; line = line })) o) (sym f) (cond_same (eqb k n) (Some line) None false other))
 
--- The outcome of a call doesn't depend on the stored reply. Each equation has that outcome on its left, by which the search finds it.
+-- The outcome of a call doesn't depend on the stored reply. On the left of each equation is the outcome in the state `s` itself,
+-- by which the search finds the equation.
 
 -- setting a value doesn't depend on the stored reply
 set_apart : (b : Bool) (s t : State) (kept : Option KeptReply) → executed_with kept (set_if b s t) ≡ set_if b (with_kept kept s) (with_kept kept t)
@@ -69,7 +72,8 @@ abbrev pub commanded_by_tests : State → (a b c : Bool) → Executed
 commanded_by_tests t a b c = cond a (done t Nothing) (cond b (done (measured t) Nothing) (cond c (done (unmeasured t) Nothing) (refused t 2)))
 
 -- carrying out a measuring command doesn't depend on the stored reply
-commanded_apart : (s : State) (kept : Option KeptReply) (command : ℤ) → executed_with kept (commanded s command) ≡ commanded (with_kept kept s) command
+commanded_apart : (s : State) (kept : Option KeptReply) (command : ℤ)
+    → executed_with kept (commanded s command) ≡ commanded (with_kept kept s) command
 commanded_apart s kept command = by_tests (int_eq command (pos 0)) (int_eq command (pos 1)) (int_eq command (pos 3)) where
   -- whichever outcome the three tests of the command choose, it doesn't depend on the stored reply
   by_tests : (a b c : Bool) → executed_with kept (commanded_by_tests s a b c) ≡ commanded_by_tests (with_kept kept s) a b c
@@ -84,7 +88,8 @@ adjusted_apart s kept None = refl
 adjusted_apart s kept (Some t) = refl
 
 -- a search within areas doesn't depend on the stored reply
-searched_apart : (s : State) (kept : Option KeptReply) (area_hz area_v : Decimal) → executed_with kept (searched s area_hz area_v) ≡ searched (with_kept kept s) area_hz area_v
+searched_apart : (s : State) (kept : Option KeptReply) (area_hz area_v : Decimal)
+    → executed_with kept (searched s area_hz area_v) ≡ searched (with_kept kept s) area_hz area_v
 searched_apart s kept area_hz area_v = by_test (int_lt area_hz.digits (pos 0) || int_lt area_v.digits (pos 0)) where
   -- whether an area is below zero (true) or none is, the outcome doesn't depend on the stored reply
   by_test : (b : Bool) → executed_with kept (cond b (refused s 2) (adjusted s (first_within s.pointing area_hz area_v s.scene))) ≡ cond b
@@ -120,18 +125,21 @@ appended_bytes_at old new text start is first =
     ap (take (length new - start)) whole ∙ ap (λ n. take n text) enough ∙ take_all (length text) text (omega arith)
 
 -- the bytes from the old length on, of a list that equals the new one, are what was appended
-pub appended_bytes : (old new all text : List ℕ) (start : ℕ) → all ≡ new → new ≡ old ++ text → start ≡ length old → take (length all - start) (drop start all) ≡ text
+pub appended_bytes : (old new all text : List ℕ) (start : ℕ) → all ≡ new → new ≡ old ++ text → start ≡ length old
+    → take (length all - start) (drop start all) ≡ text
 appended_bytes old new all text start same is first = ap (λ xs. take (length xs - start) (drop start xs)) same ∙ appended_bytes_at old new text start is first
 
 -- a state that fits (`IsFittingState`) does so with another stored reply, if that fits, too
 pub fits_kept : (s : State) (kept : Option KeptReply) → IsFittingState s → IsFittingKept kept → IsFittingState (with_kept kept s)
 fits_kept s kept h k = record { precision = h.precision; serial = h.serial; name = h.name; date = h.date; prism = h.prism; kept = k }
 
--- where a state fits, and its stored line has neither CR nor LF, both are still so once the reply to a request is stored, if the request
--- has an id
-pub sound_keeping : (s : State) (id : Option ℕ) (kept : Option KeptReply) (number : ℕ) (line : List ℕ) (fields : ReplyFields) → IsFittingState s
-    → IsPlainKept s.kept → kept ≡ kept_after s.kept id line → number ≡ unwrap_or id 0
-    → IsReply line fields → fields.id ≡ Some number → IsPlain line → IsFittingState (with_kept kept s) × IsPlainKept kept
+-- where a state fits, and its stored line, if there is one, has neither CR nor LF, the state still fits once the reply `line` to
+-- a request is stored, as `kept_after` has it, and the line that is then stored still has neither CR nor LF: `line` reads as a
+-- reply with the request's id, or 0 without one, and has neither CR nor LF
+pub sound_keeping : (s : State) (id : Option ℕ) (kept : Option KeptReply) (number : ℕ) (line : List ℕ) (fields : ReplyFields)
+    → (fits : IsFittingState s) → (plain : IsPlainKept s.kept) → (is : kept ≡ kept_after s.kept id line) → (same : number ≡ unwrap_or id 0)
+    → (reply : IsReply line fields) → (own : fields.id ≡ Some number) → (one : IsPlain line)
+    → IsFittingState (with_kept kept s) × IsPlainKept kept
 sound_keeping s None kept number line fields h plain is same reply own one =
     (fits_kept s kept h (subst IsFittingKept (sym is) h.kept), subst IsPlainKept (sym is) plain)
 sound_keeping s (Some n) kept number line fields h plain is same reply own one = (
@@ -139,9 +147,12 @@ sound_keeping s (Some n) kept number line fields h plain is same reply own one =
   subst IsPlainKept (sym is) one,
 )
 
--- carrying out a call whose id isn't the stored one, and storing the reply, is what `AppendsCall` says of that call
-pub kept_anew : (before after : State) (id : Option ℕ) (number : ℕ) (call : Call) (old new line : List ℕ) (kept : Option KeptReply) → number ≡ unwrap_or id 0 → kept_line before.kept id ≡ None
-    → (h : AppendsExecuted before number call after old new) → line ≡ h.text → kept ≡ kept_after after.kept id line → AppendsCall before id call (with_kept kept after) old new
+-- carrying out a call for whose id no line is stored, and storing the reply if there is an id (`kept_after`), is what
+-- `AppendsCall` says of that call
+pub kept_anew : (before after : State) (id : Option ℕ) (number : ℕ) (call : Call) (old new line : List ℕ) (kept : Option KeptReply)
+    → (same : number ≡ unwrap_or id 0) → (none : kept_line before.kept id ≡ None) → (h : AppendsExecuted before number call after old new)
+    → (line_is : line ≡ h.text) → (kept_is : kept ≡ kept_after after.kept id line)
+    → AppendsCall before id call (with_kept kept after) old new
 kept_anew before after id number call old new line kept same none h line_is kept_is =
     let state : after ≡ (exec before call).state = h.state in
     let stays : after.kept ≡ before.kept = ap (λ (s : State). s.kept) state ∙ kept_stays before call in

@@ -2,7 +2,7 @@
 use Rattle.std.proofs.Common.{◌≡◌, inl, inr, ℕ, List, [], ◌∷◌, ◌++◌, Option, None, refl, sym, ap, ◌∙◌, subst}
 use Rattle.std.specs.Option.{option_to_list}
 use Rattle.gc_lines.specs.Frames.{lines, rest_of}
-use Rattle.gc_lines.specs.Requests.{RequestFields, IsRequest}
+use Rattle.gc_lines.specs.Requests.{IsNoRequest}
 use Rattle.gc_lines.proofs.Cutting.{rest-append}
 use Rattle.gc_instrument.specs.State.{State}
 use Rattle.gc_instrument.specs.Replying.{IsReplied, silent, answers}
@@ -16,7 +16,8 @@ put_in s t [] later ps none h = h
 put_in s t (line ∷ foreign) later ps none h = (s, None, ps, silent none.0 refl refl, put_in s t foreign later ps none.1 h, refl)
 
 -- a line that is no request gets no reply, and changes nothing
-no_request_no_reply : (s u : State) (line : List ℕ) (reply : Option (List ℕ)) → ((q : RequestFields) → ¬ IsRequest line q) → IsReplied s line u reply → (u ≡ s) × (reply ≡ None)
+no_request_no_reply : (s u : State) (line : List ℕ) (reply : Option (List ℕ)) → IsNoRequest line → IsReplied s line u reply
+    → (u ≡ s) × (reply ≡ None)
 no_request_no_reply s u line reply none (silent never same quiet) = (same, quiet)
 no_request_no_reply s u line reply none (answers q is text does told) = absurd (none q is)
 
@@ -29,8 +30,10 @@ take_out s t (line ∷ foreign) later ps none h =
     let all : ps ≡ h.2 = h.5 ∙ ap (λ (reply : Option (List ℕ)). option_to_list reply ++ h.2) same.1 in
     subst (λ (qs : List (List ℕ)). Hears s later t qs) (sym all) (subst (λ (u : State). Hears u later t h.2) same.0 rest)
 
--- where ys have the replies of xs and lead where xs lead, from any state, they still do with the lines `first` before both
-lines_before : (s t : State) (first xs ys ps : List (List ℕ)) → ((u : State) (qs : List (List ℕ)) → Hears u xs t qs → Hears u ys t qs) → Hears s (first ++ xs) t ps → Hears s (first ++ ys) t ps
+-- let ys lead to t, with the replies of xs, from each state from which xs lead to t: where `first ++ xs` leads from s to t, so
+-- does `first ++ ys`, with the same replies
+lines_before : (s t : State) (first xs ys ps : List (List ℕ)) → ((u : State) (qs : List (List ℕ)) → Hears u xs t qs → Hears u ys t qs)
+    → Hears s (first ++ xs) t ps → Hears s (first ++ ys) t ps
 lines_before s t [] xs ys ps change h = change s ps h
 lines_before s t (line ∷ first) xs ys ps change h = (h.0, h.1, h.2, h.3, lines_before h.0 t first xs ys h.2 change h.4, h.5)
 
@@ -40,10 +43,12 @@ whole_rest stream (inl e) = ap rest_of e
 whole_rest stream (inr ends) = ap rest_of ends.1 ∙ rest-append [] ends.0 (10 ∷ [])
 
 -- where the lines of y have the replies of those of x and lead to the same state, y has the output of x
-same_output : (s t : State) (x y bytes : List ℕ) → ((ps : List (List ℕ)) → Hears s (lines x) t ps → Hears s (lines y) t ps) → IsOutput s x t bytes → IsOutput s y t bytes
+same_output : (s t : State) (x y bytes : List ℕ) → ((ps : List (List ℕ)) → Hears s (lines x) t ps → Hears s (lines y) t ps)
+    → IsOutput s x t bytes → IsOutput s y t bytes
 same_output s t x y bytes change h = record { replies = h.replies; hears = change h.replies h.hears; bytes_are = h.bytes_are }
 
--- lines that are no requests change nothing, wherever they are
+-- a stream without a request, put between a front and a back, changes neither what is written nor the state at the end, where the
+-- front and that stream are each empty or end in a line feed
 pub foreign_lines_are_silent : ForeignLinesAreSilent
 foreign_lines_are_silent s t front foreign back bytes front_whole foreign_whole none =
     let longer : lines (front ++ (foreign ++ back)) ≡ lines front ++ (lines foreign ++ lines back) =

@@ -1,4 +1,5 @@
--- From one state, a line leads to one state and one reply, and lines and streams lead to one state and one output.
+-- From one state, a line leads to one state, and to one reply or to none, and lines lead to one state and one list of replies;
+-- and what is written for two streams, one after the other.
 use Rattle.std.proofs.Common.{◌≡◌, ℕ, List, [], ◌∷◌, ◌++◌, Option, Some, None, sym, ap, ◌∙◌, subst}
 use Rattle.std.specs.Option.{option_to_list}
 use Rattle.gc_lines.specs.Frames.{lines, rest_of}
@@ -9,12 +10,13 @@ use Rattle.gc_catalogue.specs.declared.call.Call.{Call}
 use Rattle.gc_catalogue.proofs.CallLaws.{one_call, one_refusal, no_refusal}
 use Rattle.gc_instrument.specs.Execution.{exec}
 use Rattle.gc_instrument.specs.Hearing.{Hears, IsOutput, replies_text}
-use Rattle.gc_instrument.specs.Replying.{IsReplied, silent, answers, AnswersCall, repeats, executes, AnswersRequest, refuses, answers_call, kept_after, with_kept, refusal_line, reply_id}
+use Rattle.gc_instrument.specs.Laws.{OneReply}
+use Rattle.gc_instrument.specs.Replying.{silent, answers, AnswersCall, repeats, executes, AnswersRequest, refuses, answers_call, kept_after, with_kept, refusal_line, reply_id}
 use Rattle.gc_instrument.specs.State.{State}
 use Rattle.gc_instrument.proofs.Hearing.{hears_then, replies_text-append}
 use Rattle.gc_instrument.proofs.HeardFrames.{lines-next}
 
--- from one state a call leads to one state and one reply
+-- a state, an id or none, and a call determine the state after the call, and the reply
 one_done : (s t u : State) (id : Option ℕ) (call : Call) (x y : List ℕ) → AnswersCall s id call t x → AnswersCall s id call u y → (t ≡ u) × (x ≡ y)
 one_done s t u id call x y (repeats e same) (repeats f again) = (same ∙ sym again, (let g : ◌≡◌ {A = Option (List ℕ)} (Some x) (Some y) = sym e ∙ f in cc))
 one_done s t u id call x y (repeats e same) (executes f again told) = let wrong : ◌≡◌ {A = Option (List ℕ)} (Some x) None = sym e ∙ f in let never : ⊥ = cc in absurd never
@@ -23,7 +25,7 @@ one_done s t u id call x y (executes e same made) (executes f again told) =
     let one : x ≡ y = made ∙ sym told in
     (same ∙ ap (λ (line : List ℕ). with_kept (kept_after s.kept id line) (exec s call).state) one ∙ sym again, one)
 
--- from one state a request leads to one state and one reply
+-- a state and a request determine the state after the request, and the reply
 one_answer : (s t u : State) (q : RequestFields) (x y : List ℕ) → AnswersRequest s q t x → AnswersRequest s q u y → (t ≡ u) × (x ≡ y)
 one_answer s t u q x y (refuses e is same made) (refuses f other again told) =
     (same ∙ sym again, made ∙ ap (λ (g : CallFault). refusal_line (reply_id q) g) (one_refusal q.rpc q.params e f is other) ∙ sym told)
@@ -32,8 +34,8 @@ one_answer s t u q x y (answers_call c is does) (refuses e other again told) = a
 one_answer s t u q x y (answers_call c is does) (answers_call d other makes) =
     one_done s t u q.id d x y (subst (λ (e : Call). AnswersCall s q.id e t x) (one_call q.rpc q.params c d is other) does) makes
 
--- from one state a line leads to one state, and to one reply or to none
-pub one_reply : (s t u : State) (line : List ℕ) (p q : Option (List ℕ)) → IsReplied s line t p → IsReplied s line u q → (t ≡ u) × (p ≡ q)
+-- a state and a line determine the state after the line, and the reply or that there is none
+pub one_reply : OneReply
 one_reply s t u line p q (silent none same quiet) (silent never again mute) = (same ∙ sym again, quiet ∙ sym mute)
 one_reply s t u line p q (silent none same quiet) (answers r is text does told) = absurd (none r is)
 one_reply s t u line p q (answers r is text does told) (silent none same quiet) = absurd (none r is)
@@ -41,7 +43,7 @@ one_reply s t u line p q (answers a is x does told) (answers b other y makes sai
     let same = one_answer s t u a x y does (subst (λ (r : RequestFields). AnswersRequest s r u y) (one_request line b a other is) makes) in
     (same.0, told ∙ ap (λ (text : List ℕ). Some text) same.1 ∙ sym said)
 
--- lines have one list of replies, and lead to one state
+-- a state and lines determine the state after them, and their replies
 pub one_hearing : (s t u : State) (heard : List (List ℕ)) (ps qs : List (List ℕ)) → Hears s heard t ps → Hears s heard u qs → (t ≡ u) × (ps ≡ qs)
 one_hearing s t u [] ps qs h k = (h.0 ∙ sym k.0, h.1 ∙ sym k.1)
 one_hearing s t u (line ∷ later) ps qs h k =
@@ -53,7 +55,8 @@ one_hearing s t u (line ∷ later) ps qs h k =
 
 -- the output of two streams, one after the other, of which the first is empty or ends in a line feed, is that of the first
 -- and then that of the second
-pub output_then : (s t u : State) (first next xs ys : List ℕ) → rest_of first ≡ [] → IsOutput s first t xs → IsOutput t next u ys → IsOutput s (first ++ next) u (xs ++ ys)
+pub output_then : (s t u : State) (first next xs ys : List ℕ) → rest_of first ≡ [] → IsOutput s first t xs → IsOutput t next u ys
+    → IsOutput s (first ++ next) u (xs ++ ys)
 output_then s t u first next xs ys none h k =
     let parted = lines-next first next none in
     record {

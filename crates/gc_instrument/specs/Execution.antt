@@ -25,7 +25,7 @@ abbrev pub done : State → Answer → Executed
 done s a = record { state = s; rc = 0; answer = a }
 
 -- the outcome of a call that was refused: this code, with this state and no answer
-abbrev pub refused : State → ℕ → Executed
+abbrev pub refused : State → (code : ℕ) → Executed
 refused s code = record { state = s; rc = code; answer = answer.Nothing }
 
 -- the outcome of a call that sets values: the new state if these are allowed (true), else the old state and code 2, the manual's "invalid
@@ -53,7 +53,7 @@ is_date d =
     int_le (pos 1) d.year && int_le d.year (pos 9999) && nat_le 1 d.month && nat_le d.month 12 && nat_le 1 d.day && nat_le d.day 31
     && nat_le d.hour 23 && nat_le d.minute 59 && nat_le d.second 59
 
--- the state after a measurement: the distance is that of the first target exactly where the telescope points, or none if there is no target
+-- the state after a measurement: the distance is that of the first target exactly where the telescope points, or none if none is there
 abbrev pub measured : State → State
 measured s = record s { distance = option_map (λ t. t.distance) (first_at s.pointing s.scene) }
 
@@ -62,7 +62,7 @@ abbrev pub unmeasured : State → State
 unmeasured s = record s { distance = None }
 
 -- the state in which the telescope points in the direction of hz and v, without a distance
-abbrev pub pointed : State → Decimal → Decimal → State
+abbrev pub pointed : State → (hz v : Decimal) → State
 pointed s hz v = record s { pointing = record { hz = hz; v = v }; distance = None }
 
 -- the state in which the telescope is turned over, without a distance
@@ -70,20 +70,21 @@ abbrev pub turned_over : State → State
 turned_over s = record s { face = turned s.face; distance = None }
 
 -- the outcome of TMC_DoMeasure with this command: 0 does nothing, 1 measures, 3 clears the distance, and any other is refused with code 2
-abbrev pub commanded : State → ℤ → Executed
+abbrev pub commanded : State → (command : ℤ) → Executed
 commanded s command =
     if int_eq command (pos 0) then done s answer.Nothing
     else (if int_eq command (pos 1) then done (measured s) answer.Nothing
     else (if int_eq command (pos 3) then done (unmeasured s) answer.Nothing else refused s 2))
 
--- the outcome of a search for a target: code 0, pointing at the target that was found, or code 8710 if none was
+-- the outcome of a search for a target: code 0, pointing at the target that was found, without a distance; or code 8710, with the state as
+-- it is, if none was found
 abbrev pub adjusted : State → Option Target → Executed
 adjusted s (Some t) = done (pointed s t.hz t.v) answer.Nothing
 adjusted s None = refused s 8710
 
 -- the outcome of a search within the areas: code 2 if one of the areas is below zero, else that of `adjusted` with the first target within
 -- them
-abbrev pub searched : State → Decimal → Decimal → Executed
+abbrev pub searched : State → (area_hz area_v : Decimal) → Executed
 searched s area_hz area_v =
     if int_lt area_hz.digits (pos 0) || int_lt area_v.digits (pos 0) then refused s 2
     else adjusted s (first_within s.pointing area_hz area_v s.scene)
@@ -118,9 +119,9 @@ exec s (call.ChangeFace pos_mode atr_mode dummy) = done (turned_over s) answer.N
 exec s (call.FineAdjust area_hz area_v dummy) = searched s area_hz area_v
 
 -- the outcome `x` has the state `after`, this return code and this answer
-abbrev pub Gives : Executed → State → ℕ → Answer → Type 0
+abbrev pub Gives : Executed → (after : State) → (code : ℕ) → Answer → Type 0
 Gives x after code answered = x ≡ record { state = after; rc = code; answer = answered }
 
 -- carrying out the call `asked` leads from the state `before` to `after`, with this return code and answer
-abbrev pub Executes : State → Call → State → ℕ → Answer → Type 0
+abbrev pub Executes : (before : State) → Call → (after : State) → (code : ℕ) → Answer → Type 0
 Executes before asked after code answered = Gives (exec before asked) after code answered

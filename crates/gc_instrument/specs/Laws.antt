@@ -2,7 +2,7 @@
 use Rattle.std.specs.Prelude.{◌≡◌, ◌↔◌, ◌⊎◌, ℕ, ◌<◌, List, [], ◌∷◌, ◌++◌, Option, Some, None}
 use Rattle.std.specs.List.{AllByRecursion}
 use Rattle.gc_lines.specs.Frames.{lines, rest_of}
-use Rattle.gc_lines.specs.Requests.{RequestFields, IsRequest}
+use Rattle.gc_lines.specs.Requests.{IsNoRequest}
 use Rattle.gc_catalogue.specs.Calls.{IsFitting}
 use Rattle.gc_catalogue.specs.Texts.{request_line}
 use Rattle.gc_catalogue.specs.declared.call.Call.{Call}
@@ -29,11 +29,14 @@ pub record Restarts : Type 0 where
 abbrev pub OneReply : Type 0
 OneReply = (s t u : State) (line : List ℕ) (p q : Option (List ℕ)) → IsReplied s line t p → IsReplied s line u q → (t ≡ u) × (p ≡ q)
 
--- the request line of a call whose values are in range, with an id below 8, gets the reply that `handed` gives (`replied`); if the id isn't
--- the stored one, and the values of the state are in range, that reply reads as the outcome of the call (`answered`)
+-- the request line of a call whose values are in range, with an id below 8, gets the reply that `handed` gives, and leads to the state that
+-- it gives (`replied`); if the id isn't the stored one, and the values of the state are in range, that reply reads as the outcome of the
+-- call (`answered`)
 pub record ExchangesCalls : Type 0 where
-  pub replied : (s : State) (id : ℕ) (call : Call) → id < 8 → IsFitting call → IsReplied s (request_line (Some id) call) (handed s id call).state (Some (handed s id call).reply)
-  pub answered : (s : State) (id : ℕ) (call : Call) → IsFittingState s → id < 8 → IsFitting call → kept_line s.kept (Some id) ≡ None → IsAnswered s id call (handed s id call).reply
+  pub replied : (s : State) (id : ℕ) (call : Call) → id < 8 → IsFitting call
+      → IsReplied s (request_line (Some id) call) (handed s id call).state (Some (handed s id call).reply)
+  pub answered : (s : State) (id : ℕ) (call : Call) → IsFittingState s → id < 8 → IsFitting call → kept_line s.kept (Some id) ≡ None
+      → IsAnswered s id call (handed s id call).reply
 
 -- lines are answered one after the other, each from the state that the lines before it led to
 pub record AnswersInTurn : Type 0 where
@@ -42,22 +45,23 @@ pub record AnswersInTurn : Type 0 where
   -- two lists of lines, one after the other, get the replies to the first and then those to the second
   pub next : (s t u : State) (xs ys : List (List ℕ)) (ps qs : List (List ℕ)) → Hears s xs t ps → Hears t ys u qs → Hears s (xs ++ ys) u (ps ++ qs)
   -- so do two streams of bytes, if the first is empty or ends in a line feed
-  pub whole : (s t u : State) (first next : List ℕ) (xs ys : List ℕ) → rest_of first ≡ [] → IsOutput s first t xs → IsOutput t next u ys → IsOutput s (first ++ next) u (xs ++ ys)
+  pub whole : (s t u : State) (first next : List ℕ) (xs ys : List ℕ) → rest_of first ≡ [] → IsOutput s first t xs → IsOutput t next u ys
+      → IsOutput s (first ++ next) u (xs ++ ys)
 
 -- a stream is empty or ends in a line feed
 abbrev pub IsWhole : List ℕ → Type 0
 IsWhole stream = (stream ≡ []) ⊎ ((front : List ℕ) × (stream ≡ front ++ 10 ∷ []))
 
--- none of these lines reads as a request
+-- none of these lines is a request
 abbrev pub AreForeign : List (List ℕ) → Type 0
-AreForeign heard = AllByRecursion (λ line. (q : RequestFields) → ¬ IsRequest line q) heard
+AreForeign heard = AllByRecursion IsNoRequest heard
 
--- no line of a stream reads as a request
+-- no line of a stream is a request
 abbrev pub HasNoRequest : List ℕ → Type 0
 HasNoRequest stream = AreForeign (lines stream)
 
--- complete lines that are no requests, inserted after complete lines of a stream, change nothing: what is written for the stream, and the
--- state after it, are the same without them
+-- a whole stream (`IsWhole`) without a request (`HasNoRequest`), inserted into another stream after a whole front part of it, changes
+-- nothing: what is written, and the state after it, are the same without the inserted one
 abbrev pub ForeignLinesAreSilent : Type 0
 ForeignLinesAreSilent = (s t : State) (front foreign back bytes : List ℕ) → IsWhole front → IsWhole foreign → HasNoRequest foreign
     → IsOutput s (front ++ (foreign ++ back)) t bytes ↔ IsOutput s (front ++ back) t bytes

@@ -1,4 +1,4 @@
--- The constant values that the instrument answers: this project's own.
+-- The temperature that the instrument answers: this project's own.
 use Rattle.std.specs.Prelude.{pos, refl}
 use Rattle.gc_values.specs.Decimals.{decimal}
 use Rattle.gc_values.specs.declared.decimal.Decimal.{Decimal}

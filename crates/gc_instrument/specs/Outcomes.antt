@@ -7,13 +7,13 @@ use Rattle.gc_catalogue.specs.declared.call.Call.{Call}
 use Rattle.gc_instrument.specs.Execution.{Executed}
 use Rattle.gc_instrument.specs.State.{State, IsFittingState, opening_of}
 
--- what holds of the outcome `x` of every call in every state `s`
+-- what holds of the outcome `x` of the call in the state `s`, whatever call and state these are
 pub record IsSoundOutcome (s : State) (call : Call) (x : Executed) : Type 0 where
   -- the serial number, the name and the scene stay
   pub same : opening_of x.state ≡ opening_of s
   -- the state's values are still in range
   pub fits : IsFittingState s → IsFittingState x.state
-  -- the return code has 16 bits
+  -- the return code is at most 65535
   pub code : x.rc < 65536
   -- the code 0 has an answer of the call, and any other code has none
   pub answers : x.rc ≡ 0 → IsAnswerOf call x.answer

@@ -1,10 +1,10 @@
--- The reply to a line: what the instrument does with each line that it gets. The communication codes are the manual's, the rest is this
--- project's own.
+-- The reply to a line: what the instrument does with each line that it gets. The communication codes are the manual's, the rest
+-- is this project's own. A parameter `number` is an id.
 use Rattle.std.specs.Prelude.{◌≡◌, ◌<◌, ℕ, List, [], ◌++◌, Bool, true, false, Option, Some, None, if◌then◌else◌, ◌==◌, nat_eq, unwrap_or}
 use Rattle.gc_lines.specs.Answering.{AppendsAnswer}
 use Rattle.gc_lines.specs.Lines.{IsPlain}
 use Rattle.gc_lines.specs.Replies.{ReplyFields, IsReply, reply_text}
-use Rattle.gc_lines.specs.Requests.{RequestFields, IsRequest}
+use Rattle.gc_lines.specs.Requests.{RequestFields, IsNoRequest, IsRequest}
 use Rattle.gc_catalogue.specs.Answers.{rounded_answer}
 use Rattle.gc_catalogue.specs.Calls.{IsCall, IsFitting, IsRefusal}
 use Rattle.gc_catalogue.specs.Readings.{IsReading}
@@ -21,34 +21,43 @@ use Rattle.gc_instrument.specs.Execution.{Executed, exec}
 abbrev pub reply_id : RequestFields → ℕ
 reply_id q = unwrap_or q.id 0
 
--- the communication code of a request that names no call: 3081 for a procedure that isn't in the catalogue, 3080 for parameters that can't
--- be read
+-- the communication code of a request that names no call: 3081 for a procedure that isn't in the table, 3080 for parameters that can't be
+-- read
 abbrev pub com_code : CallFault → ℕ
 com_code Unknown = 3081
 com_code (Parameters _) = 3080
 
 -- the reply line, with this id, to a request that names no call
-abbrev pub refusal_line : ℕ → CallFault → List ℕ
+abbrev pub refusal_line : (number : ℕ) → CallFault → List ℕ
 refusal_line number fault = reply_text (record { rc_com = com_code fault; id = Some number; rc = 0; params = [] })
 
 -- the reply line, with this id, to a call with this outcome: doubles are rounded to the precision after the call
-abbrev pub executed_line : ℕ → Executed → List ℕ
+abbrev pub executed_line : (number : ℕ) → Executed → List ℕ
 executed_line number x = reply_line number x.rc x.answer x.state.precision
 
 -- the stored line, if the request carries the stored id; else none
-abbrev pub kept_line : Option KeptReply → Option ℕ → Option (List ℕ)
+abbrev pub kept_line : (kept : Option KeptReply) → (id : Option ℕ) → Option (List ℕ)
 kept_line None id = None
 kept_line (Some k) None = None
 kept_line (Some k) (Some id) = if nat_eq k.id id then Some k.line else None
 
--- the stored reply after an execution: the id and the reply line of the request if it carried an id, else the one stored before
-abbrev pub kept_after : Option KeptReply → Option ℕ → List ℕ → Option KeptReply
+-- the stored reply after an execution: the id and the reply line of the request if the request carried an id, and else what was
+-- stored before (`kept`), a reply or none
+abbrev pub kept_after : (kept : Option KeptReply) → (id : Option ℕ) → (line : List ℕ) → Option KeptReply
 kept_after kept None line = kept
 kept_after kept (Some id) line = Some (record { id = id; line = line })
 
 -- the state, but with this stored reply, or none
 abbrev pub with_kept : Option KeptReply → State → State
 with_kept kept s = record s { kept = kept }
+
+-- the state, but with no stored reply
+abbrev pub without_kept : State → State
+without_kept s = with_kept None s
+
+-- the stored reply of a state, if there is one
+abbrev pub kept_of : State → Option KeptReply
+kept_of s = s.kept
 
 -- the outcome of a call, but with this stored reply in its state
 abbrev pub executed_with : Option KeptReply → Executed → Executed
@@ -65,18 +74,20 @@ pub data AnswersCall (before : State) (id : Option ℕ) (call : Call) (after : S
 -- what the instrument does with a request, and its reply
 pub data AnswersRequest (before : State) (q : RequestFields) (after : State) (reply : List ℕ) : Type 0 where
   -- the request names no call: nothing changes
-  refuses : (fault : CallFault) → IsRefusal q.rpc q.params fault → after ≡ before → reply ≡ refusal_line (reply_id q) fault → AnswersRequest before q after reply
+  refuses : (fault : CallFault) → IsRefusal q.rpc q.params fault → after ≡ before → reply ≡ refusal_line (reply_id q) fault
+      → AnswersRequest before q after reply
   -- the request names a call
   answers_call : (call : Call) → IsCall q.rpc q.params call → AnswersCall before q.id call after reply → AnswersRequest before q after reply
 
 -- what the instrument does with a line, and its reply, if there is one
 pub data IsReplied (before : State) (line : List ℕ) (after : State) (reply : Option (List ℕ)) : Type 0 where
   -- the line is no request: nothing changes
-  silent : ((q : RequestFields) → ¬ IsRequest line q) → after ≡ before → reply ≡ None → IsReplied before line after reply
+  silent : IsNoRequest line → after ≡ before → reply ≡ None → IsReplied before line after reply
   -- the line is a request
-  answers : (q : RequestFields) → IsRequest line q → (text : List ℕ) → AnswersRequest before q after text → reply ≡ Some text → IsReplied before line after reply
+  answers : (q : RequestFields) → IsRequest line q → (text : List ℕ) → AnswersRequest before q after text → reply ≡ Some text
+      → IsReplied before line after reply
 
--- what an instrument does with the request line of a call: the state after it, the reply, and whether the call was carried out
+-- what an instrument does with a request: the state after it, the reply, and whether the request counts as executed
 pub record Handed (State : Type 0) : Type 0 where
   pub state : State
   pub reply : List ℕ
@@ -84,14 +95,18 @@ pub record Handed (State : Type 0) : Type 0 where
 
 -- what an instrument does with a call's request line: it sends the line that is stored for the id again, and carries out nothing; or, if
 -- there is no such line, it carries out the call and stores the reply
-abbrev pub again_or_new : State → ℕ → Call → Option (List ℕ) → Handed State
+abbrev pub again_or_new : State → (number : ℕ) → Call → (stored : Option (List ℕ)) → Handed State
 again_or_new s number call (Some line) = record { state = s; reply = line; executed = false }
 again_or_new s number call None =
     let line = executed_line number (exec s call) in
-    record { state = with_kept (Some (record { id = number; line = line })) (exec s call).state; reply = line; executed = true }
+    record {
+      state = with_kept (Some (record { id = number; line = line })) (exec s call).state;
+      reply = line;
+      executed = true;
+    }
 
 -- what an instrument in this state does with the request line of this call with this id
-unfoldable pub handed : State → ℕ → Call → Handed State
+unfoldable pub handed : State → (number : ℕ) → Call → Handed State
 handed s number call = again_or_new s number call (kept_line s.kept (Some number))
 
 -- the reading of a reply to a call with this outcome: the answer with its doubles rounded to the precision, or the refusal
@@ -105,16 +120,16 @@ pub record IsAnswered (before : State) (number : ℕ) (call : Call) (line : List
   pub same_id : fields.id ≡ Some number
   pub reading : IsReading call fields (reading_of (exec before call))
 
--- the request line of a call led to the state and the reply of `handed`; the reply is one line, and if the request's id isn't the stored
--- one, it reads as the outcome of carrying out the call
+-- the request line of a call led to the state and the reply of `handed`; the reply has neither CR nor LF, and if the request's id isn't the
+-- stored one, the reply reads as the outcome of carrying out the call
 pub record IsExchanged (before : State) (number : ℕ) (call : Call) (after : State) (reply : Option (List ℕ)) : Type 0 where
   pub state : after ≡ (handed before number call).state
   pub line : reply ≡ Some (handed before number call).reply
   pub plain : IsPlain (handed before number call).reply
   pub answered : kept_line before.kept (Some number) ≡ None → IsAnswered before number call (handed before number call).reply
 
--- the call was carried out, and its reply, with this id and without CR or LF, was appended to `old`; the reply reads as the outcome of
--- carrying out the call
+-- the call was carried out, and its reply, with this id and without CR or LF, was appended to `old`; the reply reads as the
+-- outcome of carrying out the call. The state `after` is that of the outcome, with the stored reply as it was
 pub record AppendsExecuted (before : State) (number : ℕ) (call : Call) (after : State) (old new : List ℕ) : Type 0 where
   pub text : List ℕ
   pub appended : new ≡ old ++ text
@@ -123,8 +138,8 @@ pub record AppendsExecuted (before : State) (number : ℕ) (call : Call) (after 
   pub line : text ≡ executed_line number (exec before call)
   pub says : IsAnswered before number call text
 
--- the reply to a call, without CR or LF, was appended to `old`; if the call's id isn't the stored one, the reply reads as the outcome of
--- carrying out the call
+-- the reply to a call, without CR or LF, was appended to `old`; unless the request carries the stored id, the reply reads as the outcome
+-- of carrying out the call
 pub record AppendsCall (before : State) (id : Option ℕ) (call : Call) (after : State) (old new : List ℕ) : Type 0 where
   pub text : List ℕ
   pub appended : new ≡ old ++ text
@@ -132,8 +147,8 @@ pub record AppendsCall (before : State) (id : Option ℕ) (call : Call) (after :
   pub answers : AnswersCall before id call after text
   pub says : kept_line before.kept id ≡ None → IsAnswered before (unwrap_or id 0) call text
 
--- the reply to a request was appended to `old`; if the request names a call, the reply has neither CR nor LF, and, if its id isn't the
--- stored one, reads as the outcome of carrying out the call
+-- the reply to a request was appended to `old`; if the request names a call, the reply has neither CR nor LF, and, unless the request
+-- carries the stored id, reads as the outcome of carrying out the call
 pub record AppendsReply (before : State) (q : RequestFields) (after : State) (old new : List ℕ) : Type 0 where
   pub text : List ℕ
   pub appended : new ≡ old ++ text
@@ -141,8 +156,9 @@ pub record AppendsReply (before : State) (q : RequestFields) (after : State) (ol
   pub plain : (call : Call) → IsCall q.rpc q.params call → IsPlain text
   pub says : (call : Call) → IsCall q.rpc q.params call → kept_line before.kept q.id ≡ None → IsAnswered before (reply_id q) call text
 
--- if the line is the request line of a call with an id, the reply was appended to `old`, and the states before and after are those of
--- `IsExchanged`; `has_reply` is whether there is a reply
-abbrev pub AppendsExchange : State → (line : List ℕ) → State → (old new : List ℕ) → (has_reply : Bool) → Type 0
+-- for each id below 8 and each call with values in range: if the line is the call's request line with that id, `IsExchanged` holds of the
+-- call, the states before and after, and the reply, which was appended to `old`; `has_reply`, which says whether there is a reply, is true
+-- then
+abbrev pub AppendsExchange : (before : State) → (line : List ℕ) → (after : State) → (old new : List ℕ) → (has_reply : Bool) → Type 0
 AppendsExchange before line after old new has_reply = (id : ℕ) (call : Call) → id < 8 → IsFitting call
     → line ≡ request_line (Some id) call → AppendsAnswer (IsExchanged before id call after) old new has_reply

@@ -14,13 +14,13 @@ use Rattle.gc_instrument.specs.declared.face.Face.TheVariants.{Normal}
 use Rattle.gc_instrument.specs.declared.pointing.Pointing.{Pointing}
 use Rattle.gc_instrument.specs.declared.target.Target.{Target}
 
--- the stored reply: the id of a request that was executed, and the line of its reply
+-- a stored reply: the id of the request that it answered, and its line
 pub record KeptReply : Type 0 where
   pub id : ℕ
   pub line : List ℕ
 
 -- the stored reply with this id and this line; none without an id
-abbrev pub kept_in : Option ℕ → List ℕ → Option KeptReply
+abbrev pub kept_in : (id : Option ℕ) → (line : List ℕ) → Option KeptReply
 kept_in None line = None
 kept_in (Some id) line = Some (record { id = id; line = line })
 
@@ -37,12 +37,13 @@ pub record State : Type 0 where
   pub height : Decimal
   pub face : Face
   pub pointing : Pointing
-  -- the slope distance that was measured last, unless it was cleared
+  -- the slope distance of the last measurement; none before the first measurement, if the last one met no target, or once the
+  -- distance was cleared
   pub distance : Option Decimal
   pub date : DateTime
   -- the type of the prism
   pub prism : ℤ
-  -- the stored reply: that of the last request that carried an id and was executed
+  -- the stored reply: that of the last request that carried an id and was executed since the last restart; none if there was none
   pub kept : Option KeptReply
 
 -- the stored line is a reply with the stored id
@@ -78,8 +79,8 @@ first_pointing = record { hz = zero; v = zero }
 abbrev pub first_date : DateTime
 first_date = record { year = pos 1996; month = 7; day = 25; hour = 16; minute = 19; second = 47 }
 
--- the state at the start, of an instrument with this serial number, name and scene (this project's own)
-abbrev pub opening : ℤ → List ℕ → List Target → State
+-- the state at the start, of an instrument with this serial number, this name and these targets as its scene (this project's own)
+abbrev pub opening : (number : ℤ) → (letters : List ℕ) → (targets : List Target) → State
 opening number letters targets = record {
   serial = number;
   name = letters;

@@ -14,7 +14,7 @@ abbrev pub is_at : Pointing → Target → Bool
 is_at p t = decimal_eq t.hz p.hz && decimal_eq t.v p.v
 
 -- whether both angles of the target differ from the telescope's by at most these areas
-abbrev pub is_within_areas : Pointing → Decimal → Decimal → Target → Bool
+abbrev pub is_within_areas : Pointing → (area_hz area_v : Decimal) → Target → Bool
 is_within_areas p area_hz area_v t = is_within t.hz p.hz area_hz && is_within t.v p.v area_v
 
 -- the first target that lies exactly where the telescope points, if there is one
@@ -22,5 +22,5 @@ abbrev pub first_at : Pointing → List Target → Option Target
 first_at p scene = find (is_at p) scene
 
 -- the first target whose angles differ from the telescope's by at most these areas, if there is one
-abbrev pub first_within : Pointing → Decimal → Decimal → List Target → Option Target
+abbrev pub first_within : Pointing → (area_hz area_v : Decimal) → List Target → Option Target
 first_within p area_hz area_v scene = find (is_within_areas p area_hz area_v) scene

@@ -11,6 +11,7 @@ mod settings;
 use crate::face::Face;
 use crate::pointing::Pointing;
 use crate::simulator;
+use crate::simulator::simulator_name;
 use crate::target::Target;
 use arrayvec::ArrayVec;
 use gc_catalogue::{DateTime, Station};
@@ -50,8 +51,8 @@ impl fmt::Display for SceneFull {
 impl Error for SceneFull {}
 
 /// A simulated total station: its serial number, its name, a scene of at most 32 targets, what calls
-/// have set, and the id and the reply of the last request that carried an id and was executed. It
-/// holds no allocated memory.
+/// have set, and the id and the reply of the last request that carried an id and was executed since
+/// the instrument was made or restarted, if there was one. It holds no allocated memory.
 #[derive(Debug, Drop)]
 pub struct Instrument {
     serial: i32,
@@ -77,9 +78,9 @@ impl Instrument {
     ghost use Rattle.std.specs.Option.{option_map};
     ghost use Rattle.gc_instrument.specs.Targets.{nowhere};
 
-    /// An instrument with this serial number, name and scene, in the opening state: precision 15, the station, the reflector's height and
-    /// the pointing 0.0, the normal face, no distance, the date 1996-07-25 16:19:47, and prism type 0 (this project's own). It has no
-    /// stored reply. A scene of more than 32 targets is refused.
+    /// Makes an instrument with this serial number, name and scene, in the opening state, which is this project's own: precision 15, the
+    /// station, the reflector's height and the pointing 0.0, the normal face, no distance, the date 1996-07-25 16:19:47, prism type 0, and
+    /// no stored reply. A scene of more than 32 targets is refused.
     pub fn new(serial: i32, name: Text, scene: &[Target]) -> Result<Instrument, SceneFull>
         ensures opening { IfOk result (λ i. i ≡ opening serial name scene.now) }
         ensures fits { IfOk result (λ i. IsFittingState i) }
@@ -110,13 +111,13 @@ impl Instrument {
         self.kept.forget();
     }
 
-    /// The simulator: serial number 123456, name `GEOCOM SIM`, and three targets.
+    /// Makes the simulator, in the opening state of `new`: serial number 123456, name `GEOCOM SIM`, and three targets.
     pub fn simulator() -> Instrument
         ensures state { result ≡ simulator_opening }
         ensures fits { IsFittingState result }
     {
         // The scene has three targets, so it is never refused.
-        match Instrument::new(simulator::SERIAL, simulator::name(), &simulator::scene()) {
+        match Instrument::new(simulator::SERIAL, simulator_name(), &simulator::scene()) {
             Ok(instrument) => instrument,
             Err(_) => unreachable!(),
         }
@@ -166,8 +167,8 @@ impl Instrument {
         self.settings.distance
     }
 
-    /// The id of the last request that carried one and was executed since the instrument was made or restarted. A request that names a
-    /// call and carries this id is answered by the stored reply. `None`: there was no such request.
+    /// The id of the last request that carried one and was executed since the instrument was made or restarted. A request that
+    /// names any call and carries this id gets the stored reply. `None`: no request with an id was executed since then.
     pub fn kept_id(&self) -> Option<u8>
         ensures { result ≡ option_map (λ k. k.id) self.now.kept }
     {

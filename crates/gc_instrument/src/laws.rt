@@ -24,8 +24,9 @@ pub fn one_reply()
     ensures { OneReply }
 {}
 
-/// A call's request line, with an id below 8, gets the reply that the definition `handed` computes. If the line's id isn't that of the
-/// stored reply, the reply reads as the outcome of executing the call.
+/// The request line of a call with values in their ranges, and with an id below 8, gets the reply that the definition `handed`
+/// computes. If the line's id isn't that of the stored reply, and the values of the state lie in their ranges, the reply reads as
+/// the outcome of executing the call.
 pub fn exchanges_calls()
     ensures { ExchangesCalls }
 {}

@@ -18,4 +18,5 @@ pub use instrument::{Instrument, SceneFull};
 pub use measurement::{first_at, first_within};
 pub use pointing::Pointing;
 pub use serving::serve;
+pub use simulator::simulator_name;
 pub use target::Target;

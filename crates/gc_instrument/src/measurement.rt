@@ -14,7 +14,7 @@ fn is_at(pointing: &Pointing, target: &Target) -> bool
     target.hz == pointing.hz && target.v == pointing.v
 }
 
-// Whether both angles of the target differ from the telescope's by at most these areas, in radians.
+// Whether both angles of the target differ from the telescope's by at most these areas, in radians. Full turns aren't taken off.
 fn is_within_areas(
     pointing: &Pointing,
     area_hz: &Decimal,
@@ -33,7 +33,8 @@ pub fn first_at<'a>(pointing: &Pointing, scene: &'a [Target]) -> Option<&'a Targ
     scene.iter().find(|target| is_at(pointing, target))
 }
 
-/// The first target of a scene whose angles differ from the telescope's by at most these areas, in radians. `None`: there is none.
+/// The first target of a scene whose angles differ from the telescope's by at most these areas, in radians. Full turns aren't taken
+/// off the differences. `None`: no target lies so near.
 pub fn first_within<'a>(
     pointing: &Pointing,
     area_hz: &Decimal,

@@ -30,13 +30,14 @@ impl Answers for Instrument {
 /// Serves the requests of a source with an instrument until its end, in at most `max_reads` reads
 /// of at most 256 bytes, and writes the replies into a sink, each with its CR LF.
 ///
-/// Bytes at the end of the input without a line feed after them are discarded. At the return the instrument has got all lines
-/// that were read, or, after a failed write, those up to the line whose reply was being written. Serving allocates no memory.
+/// Bytes that were read with no line feed after them are discarded, however serving ends. At the return the instrument has got all
+/// lines that were read, or, after a failed write, those up to the line whose reply was being written; then later lines of the same
+/// read are discarded, too. Serving allocates no memory.
 ///
 /// It returns [`Served`] exactly where the last read was the end. Over ports that hadn't failed
 /// before, it fails with `Read` (42) exactly where the source failed, with `Write` (43) exactly
-/// where the sink did, and with `TooManyReads` (44) exactly where all reads were answered, none was
-/// the end, and no port failed.
+/// where the sink did, and with `TooManyReads` (44) exactly where all `max_reads` reads were
+/// answered, none was the end, and no port failed: so also where `max_reads` is 0.
 pub fn serve<S: Source, K: Sink>(
     instrument: &mut Instrument,
     source: &mut S,

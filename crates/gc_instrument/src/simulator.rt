@@ -10,7 +10,7 @@ use gc_values::{Decimal, Text};
 pub const SERIAL: i32 = 123456;
 
 /// The simulator's name, `GEOCOM SIM`.
-pub fn name() -> Text
+pub fn simulator_name() -> Text
     ensures { result ≡ codes "GEOCOM SIM" }
 {
     // Every byte of this name is allowed, and they are few enough.

@@ -1,4 +1,4 @@
-//! Rows of a client: what happens to the client, and what it gives. A case is played twice, over each kind of window.
+//! Rows of a client: what happens to the client, and what it gives. A case is played twice, once over each kind of window.
 
 ghost use Rattle.std.specs.Prelude.{◌≤◌};
 ghost use Rattle.gc_client.specs.declared.window.TheConstants.{WINDOW};
@@ -59,8 +59,8 @@ impl<W: Window<Asked = Call>> Rows for Clients<W> {
 }
 
 impl<W: Window<Asked = Call>> Clients<W> {
-    // Does with the client what the row's word says, and reports what that gives: `call` or `hear` with a line, `send` with a target and
-    // a deadline, `expire` with a moment, `restart` or `deadline`.
+    // Does with the client what the row's word says, and reports what that gives: `call` or `hear` with a line, `send` with a
+    // target and a deadline, `expire` with a moment (0 if it is no number), `restart` or `deadline`; or that the word is unknown.
     fn play_word(&mut self, word: &str, what: &str, bytes: &[u8], came: &mut Told) {
         match word {
             "call" => self.take_call(bytes, came),
@@ -82,8 +82,8 @@ impl<W: Window<Asked = Call>> Clients<W> {
         }
     }
 
-    // Sends the call to the target of the first word, to be answered before the moment of the second one. Reports the line, or that it was
-    // refused.
+    // Sends the call to the target of the first word, to be answered before the moment of the second one. Reports the line, or
+    // that the send was refused.
     fn send(&mut self, words: &str, came: &mut Told) {
         let (target, deadline) = target_and_deadline(words);
         let line = &mut self.line;
@@ -112,8 +112,8 @@ impl<W: Window<Asked = Call>> Clients<W> {
     }
 }
 
-/// The target that the first word says, and the deadline that the second one says, a moment. A word that is no number, or is above 32 bits
-/// for the target, stands for 0.
+/// A target and a deadline, which is a moment. The target is the first word, or 0 if that is no number of 32 bits; the deadline is what
+/// follows the first space, or 0 if that is no number of 64 bits.
 pub fn target_and_deadline(words: &str) -> (u32, u64) {
     let (target, deadline) = cut_word(words);
     let target = u32::try_from(number_or(target, 0)).unwrap_or(0);

@@ -23,8 +23,9 @@ impl Files {
         Files { rows: None }
     }
 
-    // Opens a new file that holds the bytes of the other words and has room for as many more as the first word says (`file_of`), and
-    // reports what opening it gave. `is_synced`: what is written is on the disk after each sync.
+    // Opens a new file that holds the bytes of the other words and has room for as many more as the first word says (`file_of`),
+    // and reports what opening it gave. `is_synced`: a sync of the rows syncs the file; otherwise it leaves the file alone. If
+    // memory runs out for the file, `came` notes that it lacks a part.
     fn open(&mut self, alloc: Global, is_synced: bool, words: &str, came: &mut Told) {
         match file_of(alloc, words) {
             Ok(file) => self.open_file(file, is_synced, came),
@@ -32,7 +33,7 @@ impl Files {
         }
     }
 
-    // Opens a file as `open` does with `is_synced`, but one whose syncs fail.
+    // Opens a file as `open` does if `is_synced` is true, but one whose syncs fail.
     fn open_failing(&mut self, alloc: Global, words: &str, came: &mut Told) {
         match file_of(alloc, words) {
             Ok(mut file) => {
@@ -43,7 +44,7 @@ impl Files {
         }
     }
 
-    // Opens this file, and reports what opening it gave. If that is refused, the file that was open before stays.
+    // Opens this file, and reports what opening it gave. If the opening is refused, the file that was open before stays.
     fn open_file(&mut self, file: MemoryFile, is_synced: bool, came: &mut Told) {
         match open_rows(file, HEAD, HEAD, is_synced) {
             Ok(rows) => {
@@ -54,7 +55,8 @@ impl Files {
         }
     }
 
-    // Copies the file that is open into a new one with room for 1000 bytes, and opens that one (`copy_into`).
+    // Copies the file that is open into a new one with room for 1000 bytes, and opens that one (`copy_into`). If memory runs out
+    // for the new one, `came` notes that it lacks a part.
     fn copy(&mut self, alloc: Global, came: &mut Told) {
         match MemoryFile::new(alloc, b"", 1000) {
             Some(fresh) => self.copy_into(fresh, came),
@@ -62,8 +64,8 @@ impl Files {
         }
     }
 
-    // Copies all that the open file holds into this one, and reports how many lines that were, that copying failed, or that no file is
-    // open. In each case it then opens this one, and reports what that gave.
+    // Copies all that the open file holds into this one, and reports how many lines that were, that copying failed, or that no
+    // file is open. Whichever it was, it then opens this one, and reports what that gave.
     fn copy_into(&mut self, mut fresh: MemoryFile, came: &mut Told) {
         match &self.rows {
             Some(rows) => tell_copy(copy_lines(rows.file(), &mut fresh), came),
@@ -125,7 +127,8 @@ fn tell_refused(why: Refused, file: &MemoryFile, came: &mut Told) {
     came.bytes(file.bytes());
 }
 
-// Syncs what was written (`keep`), writes the bytes (`write`), or reports what the file holds (`holds`), as the word says.
+// Syncs what was written (`keep`), writes the bytes (`write`), or reports what the file holds (`holds`), as the word says, or
+// that the word is unknown.
 fn play_on_rows(rows: &mut RowsFile<MemoryFile>, word: &str, bytes: &[u8], came: &mut Told) {
     match word {
         "keep" => sync_rows(rows, came),

@@ -34,8 +34,8 @@ impl Instruments {
         }
     }
 
-    // Makes an instrument with the scene, by the words for its serial number and its name, and reports that it was made, or the fault. If
-    // it can't be made, the one before stays.
+    // Makes an instrument with the scene, by the words for its serial number and its name, and reports that it was made, that the
+    // words are no number and name, or the fault. If it can't be made, the one before stays.
     fn make(&mut self, words: &str, came: &mut Told) {
         let (serial, name) = cut_word(words);
         let (Ok(serial), Ok(name)) = (read_long(serial.as_bytes()), Text::new(name.as_bytes()))

@@ -77,7 +77,8 @@ fn tell_header(words: &str, came: &mut Told) {
     }
 }
 
-// The header that `tell_header` reports. `None`: a word is no number of 16 bits, or the id is above 7.
+// The header that `tell_header` reports. `None`: there are neither one nor three words, a word is no number of 16 bits, or the id
+// is above 7.
 fn header_of(words: &str) -> Option<Line> {
     let (first, rest) = cut_word(words);
     let first = u16_of(first)?;
@@ -95,7 +96,7 @@ fn header_of(words: &str) -> Option<Line> {
     Some(line)
 }
 
-// Hands a piece to the assembler, and reports how many of its bytes the assembler used, and the frame that they gave.
+// Hands a piece to the assembler, and reports how many of its bytes the assembler used, and the frame that they gave, or `more`.
 fn hand_in_piece(assembler: &mut Assembler, piece: &[u8], came: &mut Told) {
     let mut cut = Line::new();
     let (used, lent) = assembler.next(piece, &mut cut);

@@ -43,7 +43,8 @@ impl Station {
     }
 
     /// Takes the bytes of one read, and the moment after it: times out the requests whose deadline has come, and reports in
-    /// `told` what the bytes settle. `Err`: memory ran out for `told`; the bytes after that line aren't taken.
+    /// `told` what the bytes settle. `Err`: memory ran out for `told`; the bytes after the line whose
+    /// report had no room aren't taken.
     fn hear(&mut self, bytes: &[u8], now: u64, told: &mut String) -> Result<(), AllocError> {
         self.client.expire(now);
         let mut left = bytes;
@@ -135,7 +136,8 @@ impl Stations {
         }
     }
 
-    // Hands the station what a read gave at the moment `now`: what is in `bytes` after that word. `Err`: memory ran out.
+    // Hands the station what a read gave at the moment `now` (0 if that is no number): what is in `bytes` after that word. `Err`:
+    // memory ran out.
     fn hear(&mut self, now: &str, bytes: &[u8], told: &mut String) -> Result<(), AllocError> {
         let read = bytes_behind(now, bytes);
         self.station.hear(read, number_or(now, 0), told)
@@ -157,7 +159,8 @@ impl Stations {
         }
     }
 
-    // Plays a row as `play_report` does, and reports in `came` what the station reported.
+    // Plays a row as `play_report` does, and reports in `came` what the station reported. If memory runs out, `came` lacks a
+    // part.
     fn tell_report(
         &mut self,
         alloc: Global,

@@ -9,7 +9,7 @@ use std::alloc::Global;
 use std::cell::Cell;
 use std::io::{self, ErrorKind, Read};
 
-// How often a reader was asked, and for how many bytes the last time.
+// How often a reader was asked, and for how many bytes the last time; 0 before the first.
 #[derive(Drop)]
 struct Asked {
     calls: Cell<u64>,
@@ -135,7 +135,7 @@ fn write_lines(room: &mut [u8; 16], came: &mut Told) {
     came.bytes(room.as_slice());
 }
 
-// Writes a line three times, and reports of each time that it went out whole, or how many bytes of it did.
+// Writes a line three times, and reports of each time that it went out whole, or how many bytes of it and its CR LF did.
 fn write_thrice<K: Sink>(sink: &mut K, line: &Line, came: &mut Told) {
     for _ in 0..3 {
         match write_line(sink, line) {

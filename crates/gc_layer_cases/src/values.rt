@@ -31,8 +31,8 @@ impl Rows for Values {
     }
 }
 
-// Reads an item of the kind that the word says, and reports its value or the fault; a word that `kind_of` knows has the value written
-// again (`read_as_named`).
+// Reads an item as the word says, and reports its value or the fault. If the word is the name of a kind (`kind_of`), the value
+// is reported by the text that is written of it (`read_as_named`).
 fn play_item(word: &str, item: &[u8], came: &mut Told) {
     match word {
         "byte" => tell_read(read_byte(item), came),

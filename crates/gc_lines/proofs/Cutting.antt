@@ -15,16 +15,18 @@ goes_on b = not (is_line_feed b)
 -- the pieces and the rest of xs after r, where n is the place of the first line feed of xs, or the length of xs without one
 record CutAt (r xs : List ℕ) (n : ℕ) : Type 0 where
   ends : length xs ≤ n → (pieces_behind r xs ≡ []) × (rest_behind r xs ≡ r ++ xs)
-  goes : n < length xs → (pieces_behind r xs ≡ (r ++ take n xs) ∷ pieces_behind [] (drop (n + 1) xs)) × (rest_behind r xs ≡ rest_behind [] (drop (n + 1) xs))
+  goes : n < length xs
+      → (pieces_behind r xs ≡ (r ++ take n xs) ∷ pieces_behind [] (drop (n + 1) xs)) × (rest_behind r xs ≡ rest_behind [] (drop (n + 1) xs))
 
--- a line feed in front ends the bytes before it
+-- where b is a line feed, `CutAt` is true of `b ∷ bs` after r, with 0 as the place of the first line feed
 cut_here : (r bs : List ℕ) (b : ℕ) → is_line_feed b ≡ true → CutAt r (b ∷ bs) 0
 cut_here r bs b e = record {
   ends = λ h. absurd (omega arith);
   goes = λ _. (rw e (rw (append-nil r) refl), rw e refl);
 }
 
--- a byte that is no line feed belongs to the bytes before it
+-- where b is no line feed, and `CutAt` is true of bs after r and b, with place n, it is true of `b ∷ bs` after r, with place 1 +
+-- n
 cut_later : (r bs : List ℕ) (b n : ℕ) → is_line_feed b ≡ false → CutAt (r ++ b ∷ []) bs n → CutAt r (b ∷ bs) (1 + n)
 cut_later r bs b n e c = record {
   ends = λ h. let k = c.ends (omega arith) in (rw e k.0, rw e (k.1 ∙ append_assoc r (b ∷ []) bs));
@@ -33,7 +35,7 @@ cut_later r bs b n e c = record {
       (rw (e, same, one-add n) (k.0 ∙ ap (λ p. p ∷ pieces_behind [] (drop (n + 1) bs)) (append_assoc r (b ∷ []) (take n bs))), rw (e, same) k.1);
 }
 
--- bytes are cut at their first line feed, as `CutAt` says
+-- `CutAt` is true of xs after r, where n is how many bytes of xs come before its first line feed: all, if it has none
 is_cut : (r xs : List ℕ) → CutAt r xs (prefix_len goes_on xs)
 is_cut r [] = record { ends = λ _. (refl, sym (append-nil r)); goes = λ h. absurd (omega arith) }
 is_cut r (b ∷ bs) = elim (is_line_feed b) as (λ v. is_line_feed b ≡ v → CutAt r (b ∷ bs) (cond (not v) (1 + prefix_len goes_on bs) 0)) [
@@ -41,7 +43,7 @@ is_cut r (b ∷ bs) = elim (is_line_feed b) as (λ v. is_line_feed b ≡ v → C
   | false ↦ λ e. cut_later r bs b (prefix_len goes_on bs) e (is_cut (r ++ b ∷ []) bs)
 ] refl
 
--- bytes without a line feed make no piece, and are the rest
+-- where `position` finds no line feed in xs, xs after r makes no piece, and `r ++ xs` is the rest
 pub cut_none : (r xs : List ℕ) → position is_line_feed xs ≡ None → (pieces_behind r xs ≡ []) × (rest_behind r xs ≡ r ++ xs)
 cut_none r xs e = (is_cut r xs).ends (elim (ltb (prefix_len goes_on xs) (length xs)) as
     (λ v. ltb (prefix_len goes_on xs) (length xs) ≡ v → cond v (Some (prefix_len goes_on xs)) None ≡ None → length xs ≤ prefix_len goes_on xs) [
@@ -49,7 +51,8 @@ cut_none r xs e = (is_cut r xs).ends (elim (ltb (prefix_len goes_on xs) (length 
       | false ↦ λ f _. ltb-false _ _ f
     ] refl e)
 
--- the first line feed ends a piece, and what follows it is cut again
+-- where the first line feed of xs is at place `at`, the first piece of xs after r is r and then the bytes of xs before that line
+-- feed, and the bytes of xs after it have the other pieces and the rest
 pub cut_some : (r xs : List ℕ) (at : ℕ) → position is_line_feed xs ≡ Some at →
     (pieces_behind r xs ≡ (r ++ take at xs) ∷ pieces_behind [] (drop (at + 1) xs)) × (rest_behind r xs ≡ rest_behind [] (drop (at + 1) xs))
 cut_some r xs at e = elim (ltb (prefix_len goes_on xs) (length xs)) as (λ v. ltb (prefix_len goes_on xs) (length xs) ≡ v → cond v (Some (prefix_len goes_on xs)) None ≡ Some at →
@@ -58,7 +61,7 @@ cut_some r xs at e = elim (ltb (prefix_len goes_on xs) (length xs)) as (λ v. lt
       | false ↦ λ _ f. (cc)
     ] refl e
 
--- the pieces of xs and ys in a row are those of xs, and then those of ys after the rest of xs
+-- after r, the pieces of `xs ++ ys` are those of xs, and then those of ys after the rest of xs
 pub pieces-append : (r xs ys : List ℕ) → pieces_behind r (xs ++ ys) ≡ pieces_behind r xs ++ pieces_behind (rest_behind r xs) ys
 pieces-append r [] ys = refl
 pieces-append r (x ∷ xs) ys = elim (is_line_feed x) as (λ v. cond v (r ∷ pieces_behind [] (xs ++ ys)) (pieces_behind (r ++ x ∷ []) (xs ++ ys))
@@ -67,7 +70,7 @@ pieces-append r (x ∷ xs) ys = elim (is_line_feed x) as (λ v. cond v (r ∷ pi
       | false ↦ pieces-append (r ++ x ∷ []) xs ys
     ]
 
--- the rest of xs and ys in a row is that of ys after the rest of xs
+-- after r, the rest of `xs ++ ys` is that of ys after the rest of xs
 pub rest-append : (r xs ys : List ℕ) → rest_behind r (xs ++ ys) ≡ rest_behind (rest_behind r xs) ys
 rest-append r [] ys = refl
 rest-append r (x ∷ xs) ys = elim (is_line_feed x) as (λ v. cond v (rest_behind [] (xs ++ ys)) (rest_behind (r ++ x ∷ []) (xs ++ ys))
@@ -76,7 +79,7 @@ rest-append r (x ∷ xs) ys = elim (is_line_feed x) as (λ v. cond v (rest_behin
       | false ↦ rest-append (r ++ x ∷ []) xs ys
     ]
 
--- the pieces, each with its line feed, and the rest are the whole stream
+-- the pieces of xs after r, each with a line feed after it, and then the rest are all of the bytes: `r ++ xs`
 pub cut_whole : (r xs : List ℕ) → flat_map (λ part. part ++ 10 ∷ []) (pieces_behind r xs) ++ rest_behind r xs ≡ r ++ xs
 cut_whole r [] = sym (append-nil r)
 cut_whole r (x ∷ xs) = elim (is_line_feed x) as (λ v. is_line_feed x ≡ v
@@ -90,15 +93,17 @@ cut_whole r (x ∷ xs) = elim (is_line_feed x) as (λ v. is_line_feed x ≡ v
 
 -- A stream has one such cutting.
 
--- a part without a line feed, and a line feed after it, make one piece
-pub cut_first : (r part xs : List ℕ) → HasNoLineFeed part → (pieces_behind r (part ++ 10 ∷ xs) ≡ (r ++ part) ∷ pieces_behind [] xs) × (rest_behind r (part ++ 10 ∷ xs) ≡ rest_behind [] xs)
+-- where `part` has no line feed, and a line feed and then xs follow it, the first piece after r is `r ++ part`, and xs has the
+-- other pieces and the rest
+pub cut_first : (r part xs : List ℕ) → HasNoLineFeed part
+    → (pieces_behind r (part ++ 10 ∷ xs) ≡ (r ++ part) ∷ pieces_behind [] xs) × (rest_behind r (part ++ 10 ∷ xs) ≡ rest_behind [] xs)
 cut_first r [] xs clean = (ap (λ p. p ∷ pieces_behind [] xs) (sym (append-nil r)), refl)
 cut_first r (b ∷ bs) xs clean =
     let no = cut_first (r ++ b ∷ []) bs xs clean.1 in
     let same : is_line_feed b ≡ false = ne_eqb b 10 clean.0 in
     (rw same (no.0 ∙ ap (λ p. p ∷ pieces_behind [] xs) (append_assoc r (b ∷ []) bs)), rw same no.1)
 
--- as `cut_none`, where no byte is 10
+-- where xs has no line feed, as `HasNoLineFeed` has it, xs after r makes no piece, and `r ++ xs` is the rest
 cut_last : (r xs : List ℕ) → HasNoLineFeed xs → (pieces_behind r xs ≡ []) × (rest_behind r xs ≡ r ++ xs)
 cut_last r [] clean = (refl, sym (append-nil r))
 cut_last r (b ∷ bs) clean =
@@ -106,9 +111,11 @@ cut_last r (b ∷ bs) clean =
     let same : is_line_feed b ≡ false = ne_eqb b 10 clean.0 in
     (rw same no.0, rw same (no.1 ∙ append_assoc r (b ∷ []) bs))
 
--- parts without line feeds, each followed by one, and a rest without one are cut into just these
+-- where no part has a line feed, and `rest` has none, the parts, each with a line feed after it, and then `rest` are cut into
+-- just these parts as the pieces, and `rest` as the rest
 cut_parts : (parts : List (List ℕ)) (rest : List ℕ) → AllByRecursion HasNoLineFeed parts → HasNoLineFeed rest
-    → (pieces_behind [] (flat_map (λ part. part ++ 10 ∷ []) parts ++ rest) ≡ parts) × (rest_behind [] (flat_map (λ part. part ++ 10 ∷ []) parts ++ rest) ≡ rest)
+    → (pieces_behind [] (flat_map (λ part. part ++ 10 ∷ []) parts ++ rest) ≡ parts)
+    × (rest_behind [] (flat_map (λ part. part ++ 10 ∷ []) parts ++ rest) ≡ rest)
 cut_parts [] rest each last = cut_last [] rest last
 cut_parts (part ∷ parts) rest each last =
     let more = cut_parts parts rest each.1 last in
@@ -117,7 +124,7 @@ cut_parts (part ∷ parts) rest each last =
     let same : flat_map (λ part. part ++ 10 ∷ []) (part ∷ parts) ++ rest ≡ part ++ 10 ∷ xs = append_assoc (part ++ 10 ∷ []) _ rest ∙ append_assoc part (10 ∷ []) xs in
     (ap (pieces_behind []) same ∙ here.0 ∙ ap (λ ps. part ∷ ps) more.0, ap (rest_behind []) same ∙ here.1 ∙ more.1)
 
--- no piece and no rest has a line feed in it
+-- where r has no line feed, no piece of xs after r has one, and neither has the rest
 cut_clean : (r xs : List ℕ) → HasNoLineFeed r → AllByRecursion HasNoLineFeed (pieces_behind r xs) × HasNoLineFeed (rest_behind r xs)
 cut_clean r [] clean = (tt, clean)
 cut_clean r (b ∷ bs) clean = elim (is_line_feed b) as (λ v. is_line_feed b ≡ v
@@ -131,25 +138,27 @@ cut_clean r (b ∷ bs) clean = elim (is_line_feed b) as (λ v. is_line_feed b �
       clean_more [] b clean e = ((λ same. let t = eq-eqb b 10 same in (cc)), tt)
       clean_more (x ∷ xs) b clean e = (clean.0, clean_more xs b clean.1 e)
 
--- a stream has one cutting: into its pieces and its rest
+-- where a stream is cut into parts and a rest, as `IsCut` has it, these are its pieces and its rest
 pub one_cut : (stream : List ℕ) (parts : List (List ℕ)) (rest : List ℕ) → IsCut stream parts rest → (parts ≡ pieces stream) × (rest ≡ rest_of stream)
 one_cut stream parts rest cut =
     let c = cut_parts parts rest cut.each cut.last in
     (sym c.0 ∙ ap (pieces_behind []) (sym cut.whole), sym c.1 ∙ ap (rest_behind []) (sym cut.whole))
 
--- the pieces and the rest of a stream are a cutting of it
+-- the pieces and the rest of a stream are a cutting of it, as `IsCut` has it
 pub is_cut_of : (stream : List ℕ) → IsCut stream (pieces stream) (rest_of stream)
 is_cut_of stream = let clean = cut_clean [] stream tt in record { whole = sym (cut_whole [] stream); each = clean.0; last = clean.1 }
 
--- bytes without a line feed before a stream belong to its first piece
-front_joins_piece : (r xs ys : List ℕ) → HasNoLineFeed xs → (pieces_behind r (xs ++ ys) ≡ pieces_behind (r ++ xs) ys) × (rest_behind r (xs ++ ys) ≡ rest_behind (r ++ xs) ys)
+-- where xs has no line feed, `xs ++ ys` after r has the pieces and the rest that ys has after `r ++ xs`
+front_joins_piece : (r xs ys : List ℕ) → HasNoLineFeed xs
+    → (pieces_behind r (xs ++ ys) ≡ pieces_behind (r ++ xs) ys) × (rest_behind r (xs ++ ys) ≡ rest_behind (r ++ xs) ys)
 front_joins_piece r [] ys clean = (ap (λ p. pieces_behind p ys) (sym (append-nil r)), ap (λ p. rest_behind p ys) (sym (append-nil r)))
 front_joins_piece r (b ∷ bs) ys clean =
     let more = front_joins_piece (r ++ b ∷ []) bs ys clean.1 in
     let same : is_line_feed b ≡ false = ne_eqb b 10 clean.0 in
     (rw same (more.0 ∙ ap (λ p. pieces_behind p ys) (append_assoc r (b ∷ []) bs)), rw same (more.1 ∙ ap (λ p. rest_behind p ys) (append_assoc r (b ∷ []) bs)))
 
--- the frames do not depend on where the stream is cut
+-- the frames of `xs ++ ys` are those of xs, and then those of the rest of xs with ys after it; and the rest of `xs ++ ys` is that
+-- of the rest of xs with ys after it
 pub however_cut : (xs ys : List ℕ) → (frames (xs ++ ys) ≡ frames xs ++ frames (rest_of xs ++ ys)) × (rest_of (xs ++ ys) ≡ rest_of (rest_of xs ++ ys))
 however_cut xs ys =
     let b = front_joins_piece [] (rest_of xs) ys (cut_clean [] xs tt).1 in (

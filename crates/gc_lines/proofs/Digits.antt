@@ -27,26 +27,26 @@ pub digit_range : (b : ℕ) → is_ascii_digit b ≡ true → (48 ≤ b) × (b �
 digit_range b e = grind (arith, nat_tests)
 
 -- an ASCII digit is worth less than ten
-digit_value_of : (b : ℕ) → is_ascii_digit b ≡ true → digit_value b < 10
-digit_value_of b e = let r = digit_range b e in omega (arith, digit_value_digit b r)
+digit_value_below_ten : (b : ℕ) → is_ascii_digit b ≡ true → digit_value b < 10
+digit_value_below_ten b e = let r = digit_range b e in omega (arith, digit_value_digit b r)
 
--- the longest prefix of digits has only digits
+-- the first bytes of bs, as many as `prefix_len` counts of digits, are digits
 prefix_digits : (bs : List ℕ) → AllDigits 10 (take (prefix_len is_ascii_digit bs) bs)
 prefix_digits [] = tt
 prefix_digits (b ∷ bs) = elim (is_ascii_digit b) as (λ v. is_ascii_digit b ≡ v → AllDigits 10 (take (cond v (1 + prefix_len is_ascii_digit bs) 0) (b ∷ bs))) [
-  | true ↦ λ e. rw (one-add (prefix_len is_ascii_digit bs)) (digit_value_of b e, prefix_digits bs)
+  | true ↦ λ e. rw (one-add (prefix_len is_ascii_digit bs)) (digit_value_below_ten b e, prefix_digits bs)
   | false ↦ λ e. tt
 ] refl
 
--- the length of the run is that of the longest prefix of digits
+-- `digits_len` and `prefix_len` count the same number of digits at the front
 pub run_is : (bs : List ℕ) → digits_len bs ≡ prefix_len is_ascii_digit bs
 run_is bs = length-prefix_len is_ascii_digit bs
 
--- the run at the front has only digits
+-- the first `digits_len bs` bytes of bs are digits
 pub run_digits : (bs : List ℕ) → AllDigits 10 (take (digits_len bs) bs)
 run_digits bs = subst (λ (n : ℕ). AllDigits 10 (take n bs)) (sym (run_is bs)) (prefix_digits bs)
 
--- no digit follows the longest prefix of digits
+-- what follows the digits at the front of bs that `prefix_len` counts doesn't begin with a digit
 prefix_stops : (bs : List ℕ) → NoDigitFirst (drop (prefix_len is_ascii_digit bs) bs)
 prefix_stops [] = tt
 prefix_stops (b ∷ bs) = elim (is_ascii_digit b) as (λ v. is_ascii_digit b ≡ v → NoDigitFirst (drop (cond v (1 + prefix_len is_ascii_digit bs) 0) (b ∷ bs))) [
@@ -54,11 +54,11 @@ prefix_stops (b ∷ bs) = elim (is_ascii_digit b) as (λ v. is_ascii_digit b ≡
   | false ↦ λ e. e
 ] refl
 
--- no digit follows the run
+-- what follows the first `digits_len bs` bytes of bs doesn't begin with a digit
 pub run_stops : (bs : List ℕ) → NoDigitFirst (drop (digits_len bs) bs)
 run_stops bs = subst (λ (n : ℕ). NoDigitFirst (drop n bs)) (sym (run_is bs)) (prefix_stops bs)
 
--- where no digit comes first, there is no run
+-- `prefix_len` counts no digit at the front of bytes that don't begin with a digit
 no_run : (rest : List ℕ) → NoDigitFirst rest → prefix_len is_ascii_digit rest ≡ 0
 no_run [] h = refl
 no_run (b ∷ bs) h = rw h refl
@@ -67,23 +67,24 @@ no_run (b ∷ bs) h = rw h refl
 is_digit : (c : ℕ) → digit_value c < 10 → is_ascii_digit c ≡ true
 is_digit c h = let r = digit_from_value c h in grind (arith, nat_tests)
 
--- digits that no digit follows are the longest prefix of digits
+-- where `text` is digits, and `rest` doesn't begin with a digit, the longest prefix of digits of `text ++ rest` is as long as
+-- `text`
 prefix_length : (text rest : List ℕ) → AllDigits 10 text → NoDigitFirst rest → prefix_len is_ascii_digit (text ++ rest) ≡ length text
 prefix_length [] rest a h = no_run rest h
 prefix_length (c ∷ cs) rest a h = rw (is_digit c a.0) (omega (arith, prefix_length cs rest a.1 h))
 
--- digits that no digit follows are the run
+-- where `text` is digits, and `rest` doesn't begin with a digit, the run of `text ++ rest` is as long as `text`
 pub run_length : (text rest : List ℕ) → AllDigits 10 text → NoDigitFirst rest → digits_len (text ++ rest) ≡ length text
 run_length text rest a h = run_is (text ++ rest) ∙ prefix_length text rest a h
 
--- a run of one digit is that digit, and no digit follows
+-- where the run of b and then bs has length 1, b is from 48 to 57, and bs doesn't begin with a digit
 pub run_of_one : (b : ℕ) (bs : List ℕ) → digits_len (b ∷ bs) ≡ 1 → (48 ≤ b) × (b ≤ 57) × NoDigitFirst bs
 run_of_one b bs e = elim (is_ascii_digit b) as (λ v. is_ascii_digit b ≡ v → cond v (1 + prefix_len is_ascii_digit bs) 0 ≡ 1 → (48 ≤ b) × (b ≤ 57) × NoDigitFirst bs) [
   | true ↦ λ t h. let r = digit_range b t in let none : prefix_len is_ascii_digit bs ≡ 0 = omega arith in (r.0, r.1, subst (λ (n : ℕ). NoDigitFirst (drop n bs)) none (prefix_stops bs))
   | false ↦ λ _ h. absurd (omega arith)
 ] refl (sym (run_is (b ∷ bs)) ∙ e)
 
--- one digit that no digit follows is the run
+-- where i is below ten, and `rest` doesn't begin with a digit, the run of the digit of i and then `rest` has length 1
 pub one_digit_runs : (i : ℕ) (rest : List ℕ) → i < 10 → NoDigitFirst rest → digits_len ((48 + i) ∷ rest) ≡ 1
 one_digit_runs i rest h stop = run_is ((48 + i) ∷ rest) ∙ rw (digit_of i h, no_run rest stop) refl where
   -- 48 plus a number below ten is an ASCII digit
@@ -92,27 +93,30 @@ one_digit_runs i rest h stop = run_is ((48 + i) ∷ rest) ∙ rw (digit_of i h, 
 
 -- writing a number's digits into five places, from the last one on
 
--- a number of one place is below ten
+-- a number from ten on isn't below 10^1, so that it doesn't fit into one place
 below_one_place : (left : ℕ) → left < 10 ^ (0 + 1) → 10 ≤ left → ⊥
 below_one_place left below more = omega arith
 
--- a number from ten on has a place before its last
+-- where `left` is below 10^(at + 1) and from ten on, `at` is above 0
 some_place : (at left : ℕ) → left < 10 ^ (at + 1) → 10 ≤ left → 0 < at
 some_place at left below more = elim (cases_lt 0 at) [
   | inl some ↦ some
   | inr none ↦ let zero : at ≡ 0 = omega arith in absurd (below_one_place left (subst (λ (n : ℕ). left < 10 ^ (n + 1)) zero below) more)
 ]
 
--- of five places those after `at` are written: the digits of `left`, which aren't written yet, and these are together those of n
+-- `digits` has five places, of which those after `at` are written: the digits of `left`, which aren't written yet, and then the
+-- written ones are the digits of n
 pub record AreWrittenAfter (digits : List ℕ) (at left n : ℕ) : Type 0 where
   pub room : at ≤ 4
   pub size : length digits ≡ 5
   pub text : decimal left ++ drop (at + 1) digits ≡ decimal n
 
--- A step of `push_digits`: once the last digit of `left` is written at place `at`, the digits of left / 10 are still to be written, and
--- together with those from that place on they are those of n.
+-- A step of `push_digits`, where `AreWrittenAfter` is true, and `left` fits into the places through `at`, is below 2^16, and is
+-- from ten on: once its last digit is written at place `at`, there is a place before `at`, there are still five places in all,
+-- left / 10 fits into the places before `at`, and the digits of left / 10 and then those from `at` on are those of n.
 pub digit_written : (digits : List ℕ) (at left n : ℕ) → AreWrittenAfter digits at left n → left < 10 ^ (at + 1) → left < 2 ^ 16 → 10 ≤ left
-    → (0 < at) × (length (slice_set digits at (48 + left % 10)) ≡ 5) × (left / 10 < 10 ^ (at - 1 + 1)) × (decimal (left / 10) ++ drop (at - 1 + 1) (slice_set digits at (48 + left % 10)) ≡ decimal n)
+    → (0 < at) × (length (slice_set digits at (48 + left % 10)) ≡ 5) × (left / 10 < 10 ^ (at - 1 + 1))
+    × (decimal (left / 10) ++ drop (at - 1 + 1) (slice_set digits at (48 + left % 10)) ≡ decimal n)
 digit_written digits at left n so below range more =
     let room : at ≤ 4 = so.room in
     let size : length digits ≡ 5 = so.size in
@@ -125,8 +129,8 @@ digit_written digits at left n so below range more =
           (sym (append_assoc (decimal (left / 10)) ((48 + left % 10) ∷ []) (drop (at + 1) digits)) ∙ ap (λ ds. ds ++ drop (at + 1) digits) (sym (decimal_step left more (omega arith))) ∙ so.text),
     )
 
--- the last step of `push_digits`: once the one digit that is left is written at place `at`, the digits of n are those from
--- there on
+-- the last step of `push_digits`, where `AreWrittenAfter` is true and `left` is below ten: once its one digit is written at place
+-- `at`, the digits from `at` on are those of n
 pub last_digit_written : (digits : List ℕ) (at left n : ℕ) → AreWrittenAfter digits at left n → left < 10
     → take (5 - at) (drop at (slice_set digits at (48 + left))) ≡ decimal n
 last_digit_written digits at left n so small =
@@ -137,31 +141,32 @@ last_digit_written digits at left n so small =
 
 -- reading a run digit by digit
 
--- digits and a further digit are digits
-pub run_more : (bytes : List ℕ) (i : ℕ) → i < length bytes → AllDigits 10 (take i bytes) → is_ascii_digit (get_or bytes i 0) ≡ true → AllDigits 10 (take (i + 1) bytes)
-run_more bytes i within all digit = digits_more 10 bytes i within all (digit_value_of (get_or bytes i 0) digit)
+-- where the first i bytes are digits, and so is the next one, the first i + 1 bytes are digits
+pub run_more : (bytes : List ℕ) (i : ℕ) → i < length bytes → AllDigits 10 (take i bytes) → is_ascii_digit (get_or bytes i 0) ≡ true
+    → AllDigits 10 (take (i + 1) bytes)
+run_more bytes i within all digit = digits_more 10 bytes i within all (digit_value_below_ten (get_or bytes i 0) digit)
 
--- a further digit makes the value ten times as large, and adds its own
+-- where the byte at place i is a digit, the value of the first i + 1 bytes is ten times that of the first i, plus that digit's
 pub value_next : (bytes : List ℕ) (i : ℕ) → i < length bytes → is_ascii_digit (get_or bytes i 0) ≡ true
     → digits_value 10 (take (i + 1) bytes) ≡ digits_value 10 (take i bytes) * 10 + (get_or bytes i 0 - 48)
 value_next bytes i within digit = let r = digit_range (get_or bytes i 0) digit in omega (arith, r, digits_value_more 10 bytes i within, digit_value_digit (get_or bytes i 0) r)
 
--- at most five digits are worth less than 100000
+-- where the first i bytes are digits, and i is at most 5, their value is below 100000
 pub value_small : (bytes : List ℕ) (i : ℕ) → AllDigits 10 (take i bytes) → i ≤ 5 → digits_value 10 (take i bytes) < 100000
 value_small bytes i all few = omega (arith, digits_value_short digits_are_numerals (take i bytes) 5 all (omega (arith, few, length-take i bytes)))
 
--- digits in front lengthen the run by their number
+-- where `text` is digits, the longest prefix of digits of `text ++ rest` is as long as `text` and that of `rest` together
 prefix_run : (text rest : List ℕ) → AllDigits 10 text → prefix_len is_ascii_digit (text ++ rest) ≡ length text + prefix_len is_ascii_digit rest
 prefix_run [] rest a = omega arith
 prefix_run (c ∷ cs) rest a = rw (is_digit c a.0) (omega (arith, prefix_run cs rest a.1))
 
--- the run is at least as long as the digits that were read
+-- where the first i bytes are digits, and there are at least i bytes, the run has at least i digits
 pub run_long : (bytes : List ℕ) (i : ℕ) → i ≤ length bytes → AllDigits 10 (take i bytes) → i ≤ digits_len bytes
 run_long bytes i within all =
     let cut : prefix_len is_ascii_digit (take i bytes ++ drop i bytes) ≡ prefix_len is_ascii_digit bytes = ap (λ xs. prefix_len is_ascii_digit xs) (take-append-drop i bytes) in
     omega (arith, run_is bytes, cut, prefix_run (take i bytes) (drop i bytes) all, length-take-le i bytes within)
 
--- there is no number where the run has more than five digits
+-- where the run has six digits or more, `number_at` gives the fault
 pub number_long : (fault : LineFault) (bytes : List ℕ) → 6 ≤ digits_len bytes → number_at fault bytes ≡ Err fault
 number_long fault bytes h = rw (lt-ltb 0 (digits_len bytes) (omega (arith, h)), le-ltb (digits_len bytes) 6 h) refl
 
@@ -171,19 +176,22 @@ pub record IsWholeRun (bytes : List ℕ) (len : ℕ) : Type 0 where
   pub digits : AllDigits 10 (take len bytes)
   pub stops : NoDigitFirst (drop len bytes)
 
--- the digits that were read, up to one that isn't a digit, are the run
+-- where the first `len` bytes are a whole run, as `IsWholeRun` has it, the run has `len` digits
 run_read : (bytes : List ℕ) (len : ℕ) → IsWholeRun bytes len → digits_len bytes ≡ len
 run_read bytes len run =
     ap digits_len (sym (take-append-drop len bytes)) ∙ run_length (take len bytes) (drop len bytes) run.digits run.stops ∙ length-take-le len bytes run.within
 
--- one to five digits of a value below 65536, which no digit follows, are read as that number
+-- where the first `len` bytes are a whole run of one to five digits, whose value is below 65536, `number_at` gives this value and
+-- what follows the run
 pub number_read : (fault : LineFault) (bytes : List ℕ) (len : ℕ) → IsWholeRun bytes len → 0 < len → len ≤ 5 → digits_value 10 (take len bytes) < 65536
     → number_at fault bytes ≡ Ok (digits_value 10 (take len bytes), drop len bytes)
 number_read fault bytes len run some few bound =
     rw (run_read bytes len run, lt-ltb 0 len some, lt-ltb len 6 (omega (arith, few)), lt-ltb (digits_value 10 (take len bytes)) 65536 bound) refl
 
--- no digit, or a value from 65536 on, is refused with the field's fault
-pub number_refused : (fault : LineFault) (bytes : List ℕ) (len : ℕ) → IsWholeRun bytes len → (len ≡ 0) ⊎ (65536 ≤ digits_value 10 (take len bytes)) → len ≤ 5
+-- where the first `len` bytes are a whole run of no digit, or of at most five whose value is from 65536 on, `number_at` gives the
+-- fault
+pub number_refused : (fault : LineFault) (bytes : List ℕ) (len : ℕ) → IsWholeRun bytes len
+    → (len ≡ 0) ⊎ (65536 ≤ digits_value 10 (take len bytes)) → len ≤ 5
     → number_at fault bytes ≡ Err fault
 number_refused fault bytes len run (inl none) few = rw (run_read bytes len run, none) refl
 number_refused fault bytes len run (inr wide) few = elim (cases_lt 0 len) [
@@ -191,10 +199,10 @@ number_refused fault bytes len run (inr wide) few = elim (cases_lt 0 len) [
   | inr none ↦ rw (run_read bytes len run, le-ltb 0 len none) refl
 ]
 
--- where the byte at a place is no digit, no digit comes first from there on
+-- where the byte at place `len`, which is below the length, is no digit, the bytes from there on don't begin with a digit
 pub stops_at : (bytes : List ℕ) (len : ℕ) → len < length bytes → is_ascii_digit (get_or bytes len 0) ≡ false → NoDigitFirst (drop len bytes)
 stops_at bytes len within other = subst NoDigitFirst (sym (drop_more bytes len 0 within)) other
 
--- at the end no digit comes first
+-- where `len` is the length or more, what is left from place `len` on is empty, and so doesn't begin with a digit
 pub stops_end : (bytes : List ℕ) (len : ℕ) → length bytes ≤ len → NoDigitFirst (drop len bytes)
 stops_end bytes len over = subst NoDigitFirst (sym (nil_from_length (drop len bytes) (omega (arith, length-drop len bytes)))) tt

@@ -6,9 +6,10 @@ use Rattle.gc_lines.specs.declared.served.Served.{Served}
 use Rattle.gc_lines.specs.declared.served.ServeFault.{ServeFault}
 use Rattle.gc_lines.specs.declared.served.ServeFault.TheVariants.{Read}
 
--- `HasEnded` follows from what the result says of the ports, as `EndsBecause` has it, and from a served source having no byte
--- left
-pub ended_exactly : (old new : Ports) (most : ℕ) (r : Result Served ServeFault) → OnOk r (IsAtEnd new.remaining) → EndsBecause old new most r → HasEnded old new most r
+-- `HasEnded` follows from what the result says of the ports, as `EndsBecause` has it, and from the source having no byte left
+-- where the result is `Ok`
+pub ended_exactly : (old new : Ports) (most : ℕ) (r : Result Served ServeFault) → OnOk r (IsAtEnd new.remaining)
+    → EndsBecause old new most r → HasEnded old new most r
 ended_exactly old new most (Err (Read n)) whole ends = record {
   whole = whole;
   ends = ends;

@@ -1,21 +1,17 @@
 -- Where the first byte is that passes a test.
-use Rattle.std.proofs.Common.{◌≡◌, ℕ, Bool, true, false, List, length, Option, Some, None, refl, arith}
+use Rattle.std.proofs.Common.{◌≡◌, ℕ, Bool, List, length, Option, Some, None, refl, arith}
 use Rattle.std.specs.List.{position, position_or_len}
 use Rattle.std.proofs.lemmas.List.Sums.{position_or_len_is}
-use Rattle.std.proofs.lemmas.Bool.{lt-ltb, le-ltb}
+use Rattle.std.proofs.lemmas.Bool.{false_from_ne_true, lt-ltb, le-ltb}
 use Rattle.memchr.specs.Find.{IsFirstByte}
 
--- a test that doesn't hold is false
-not_true : (b : Bool) → ¬ (b ≡ true) → b ≡ false
-not_true true = λ no. absurd (no refl)
-not_true false = λ _. refl
-
--- what `memchr` finds, the first place at which the test holds, is `position`
+-- where r is the first place at which the test holds, or none, as `IsFirstByte` has it of what `memchr` finds, r is what
+-- `position` gives
 pub first_position : (test : ℕ → Bool) (bytes : List ℕ) (r : Option ℕ) → IsFirstByte test bytes r → r ≡ position test bytes
 first_position test bytes None h =
     let at : position_or_len test bytes ≡ length bytes = position_or_len_is test bytes (length bytes) 0 (omega arith)
-    (λ k below. not_true _ (h k (omega arith) below)) (λ below. absurd (omega arith)) in
+    (λ k below. false_from_ne_true _ (h k (omega arith) below)) (λ below. absurd (omega arith)) in
     rw (at, le-ltb (length bytes) (length bytes) (omega arith)) refl
 first_position test bytes (Some k) h =
-    let at : position_or_len test bytes ≡ k = position_or_len_is test bytes k 0 (omega (arith, h.0.high)) (λ j below. not_true _ (h.0.before j (omega arith) below)) (λ below. h.1) in
+    let at : position_or_len test bytes ≡ k = position_or_len_is test bytes k 0 (omega (arith, h.0.high)) (λ j below. false_from_ne_true _ (h.0.before j (omega arith) below)) (λ below. h.1) in
     rw (at, lt-ltb k (length bytes) h.0.high) refl

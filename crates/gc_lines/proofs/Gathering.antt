@@ -5,14 +5,15 @@ use Rattle.std.specs.Io.KnownBytes.{Appends}
 use Rattle.std.proofs.lemmas.Bool.{ltb-true, ltb-false, lt-ltb}
 use Rattle.std.proofs.lemmas.List.{append-nil, length-map, map-append, take-append-le}
 use Rattle.std.proofs.Math.Seq.{take-append-add}
+use Rattle.std.proofs.KnownBytes.{Appends-nil}
 use Rattle.gc_lines.specs.Answering.{AnswerRule, AnswersInOrder, AnswersAll, AnswersPart, all_of}
 use Rattle.gc_lines.specs.Passing.{Gathering, GathersPart, whole_and_part, Progress}
 use Rattle.gc_lines.specs.Ports.{TakesFront}
 use Rattle.gc_lines.specs.declared.frame.Frame.{Frame}
 use Rattle.gc_lines.proofs.InOrder.{in_order_then, in_order_one, all_of-append, all_then, part_then, one_part}
-use Rattle.gc_lines.proofs.Known.{Appends-nil, Appends-is}
+use Rattle.gc_lines.proofs.Known.{Appends-is}
 
--- where all frames were answered and their texts went out, no text waits
+-- where all frames `seen` were answered and their texts went out, `Gathering` is true of `seen`, with no text that waits
 pub gathering_start : {State : Type 0} (rule : AnswerRule State) (from to : Progress State) (seen : List Frame)
     → AnswersAll rule from.state to.state seen from.taken to.taken from.whole to.whole → Gathering rule from to seen [] []
 gathering_start rule from to seen all = record {
@@ -27,12 +28,13 @@ gathering_start rule from to seen all = record {
   lengths_are = refl;
 }
 
--- where the list of lengths is empty, the list of texts is
+-- where the list of the texts' lengths is empty, the list of the texts is empty
 no_texts : (texts : List (List ℕ)) → [] ≡ map length texts → texts ≡ []
 no_texts [] e = refl
 no_texts (t ∷ ts) e = cc
 
--- where no text waits, all frames were answered and their texts went out
+-- where `Gathering` is true of the frames `seen`, and the list of the lengths is empty, so that no text waits, all of `seen` were
+-- answered and their texts went out
 pub gathering_end : {State : Type 0} (rule : AnswerRule State) (from to : Progress State) (seen : List Frame) (text lengths : List ℕ)
     → lengths ≡ [] → Gathering rule from to seen text lengths → AnswersAll rule from.state to.state seen from.taken to.taken from.whole to.whole
 gathering_end {State} rule from to seen text lengths none g =
@@ -46,8 +48,10 @@ gathering_end {State} rule from to seen text lengths none g =
     subst (λ (fs : List Frame). AnswersAll rule from.state to.state fs from.taken to.taken from.whole to.whole) (sym g.order)
     (all_then rule from.state g.state to.state g.done g.held from.taken to.taken to.taken from.whole to.whole to.whole g.all silent)
 
--- a frame without a text adds nothing to what waits
-pub gathering_silent : {State : Type 0} (rule : AnswerRule State) (from to : Progress State) (next : State) (seen : List Frame) (frame : Frame) (text lengths : List ℕ)
+-- where `Gathering` is true of the frames `seen`, and the rule answers the next frame without a text, it is true of `seen` and
+-- then that frame, with the same texts waiting, and with the state after that frame
+pub gathering_silent : {State : Type 0} (rule : AnswerRule State) (from to : Progress State) (next : State) (seen : List Frame)
+    (frame : Frame) (text lengths : List ℕ)
     → rule to.state frame next None → Gathering rule from to seen text lengths
     → Gathering rule from (record { state = next; taken = to.taken; whole = to.whole }) (seen ++ frame ∷ []) text lengths
 gathering_silent rule from to next seen frame text lengths gives g =
@@ -64,8 +68,10 @@ gathering_silent rule from to next seen frame text lengths gives g =
       lengths_are = g.lengths_are ∙ sym (ap (λ (ts : List (List ℕ)). map length ts) same);
     }
 
--- a frame with a text adds that text to what waits, and its length
-pub gathering_more : {State : Type 0} (rule : AnswerRule State) (from to : Progress State) (next : State) (seen : List Frame) (frame : Frame) (text lengths more text' lengths' : List ℕ)
+-- where `Gathering` is true of the frames `seen`, and the rule answers the next frame with the text `more`, it is true of `seen`
+-- and then that frame, with `more` after the texts that wait, its length after theirs, and the state after that frame
+pub gathering_more : {State : Type 0} (rule : AnswerRule State) (from to : Progress State) (next : State) (seen : List Frame)
+    (frame : Frame) (text lengths more text' lengths' : List ℕ)
     → rule to.state frame next (Some more) → Gathering rule from to seen text lengths → text' ≡ text ++ more → lengths' ≡ lengths ++ length more ∷ []
     → Gathering rule from (record { state = next; taken = to.taken; whole = to.whole }) (seen ++ frame ∷ []) text' lengths'
 gathering_more rule from to next seen frame text lengths more text' lengths' gives g longer counted = record {
@@ -80,8 +86,10 @@ gathering_more rule from to next seen frame text lengths more text' lengths' giv
   lengths_are = counted ∙ ap (λ (ns : List ℕ). ns ++ length more ∷ []) g.lengths_are ∙ sym (map-append length g.texts (more ∷ []));
 }
 
--- once all texts that waited went out, all frames were answered and their texts went out
-pub gathering_written : {State : Type 0} (rule : AnswerRule State) (from to : Progress State) (seen : List Frame) (text lengths : List ℕ) (after : Option (List ℕ)) (total : ℕ)
+-- where `Gathering` is true of the frames `seen`, and then the sink took all texts that waited, all of `seen` were answered and
+-- their texts went out; `total` counts the texts that had gone out before and those that waited
+pub gathering_written : {State : Type 0} (rule : AnswerRule State) (from to : Progress State) (seen : List Frame) (text lengths : List ℕ)
+    (after : Option (List ℕ)) (total : ℕ)
     → Gathering rule from to seen text lengths → Appends to.taken after text → total ≡ to.whole + length lengths
     → AnswersAll rule from.state to.state seen from.taken after from.whole total
 gathering_written rule from to seen text lengths after total g took counts =
@@ -94,96 +102,109 @@ gathering_written rule from to seen text lengths after total g took counts =
     subst (λ (fs : List Frame). AnswersAll rule from.state to.state fs from.taken after from.whole total) (sym g.order)
     (all_then rule from.state g.state to.state g.done g.held from.taken to.taken after from.whole to.whole total g.all out)
 
--- the first n bytes of the texts end within one of them: the frames up to that text, and what `whole_and_part` counts
+-- the first n bytes of the texts end within one of them: where the sink took just these, `AnswersPart` says which frames were
+-- answered, and `whole_and_part` gives its numbers
 record EndsWithin {State : Type 0} (rule : AnswerRule State) (from : State) (seen : List Frame) (texts : List (List ℕ)) (whole n : ℕ) : Type 0 where
-  earlier : List Frame
-  frame : Frame
-  later : List Frame
-  order : seen ≡ earlier ++ frame ∷ later
-  state : State
   reached : State
-  out : List (List ℕ)
-  answers : AnswersInOrder State rule from earlier state out
-  text : List ℕ
-  gives : rule state frame reached (Some text)
+  count : ℕ
   bytes : ℕ
-  counts : whole_and_part whole n (map length texts) ≡ (whole + length out, bytes)
-  not_all : bytes < length text
-  front : take n (all_of texts) ≡ all_of out ++ take bytes text
+  part : AnswersPart rule from reached seen (Some []) (Some (take n (all_of texts))) whole count bytes
+  counts : whole_and_part whole n (map length texts) ≡ (count, bytes)
 
--- `EndsWithin` is true where the n bytes end within the first text
-ends_in_first : {State : Type 0} (rule : AnswerRule State) (s u : State) (frame : Frame) (later : List Frame) (t : List ℕ) (rest : List (List ℕ)) (whole n : ℕ)
+-- `EndsWithin` is true where the rule answers the first frame with the first text, and the n bytes end within that text
+ends_in_first : {State : Type 0} (rule : AnswerRule State) (s u : State) (frame : Frame) (later : List Frame) (t : List ℕ)
+    (rest : List (List ℕ)) (whole n : ℕ)
     → rule s frame u (Some t) → nat_lt n (length t) ≡ true → EndsWithin rule s (frame ∷ later) (t ∷ rest) whole n
 ends_in_first rule s u frame later t rest whole n gives e =
     let less : n < length t = ltb-true n (length t) e in
     let within : n ≤ length t = omega arith in
     let same : whole ≡ whole + 0 = omega arith in
     record {
-      earlier = [];
-      frame = frame;
-      later = later;
-      order = refl;
-      state = s;
       reached = u;
-      out = [];
-      answers = (refl, refl);
-      text = t;
-      gives = gives;
+      count = whole;
       bytes = n;
-      counts = ap (λ (b : Bool). cond b (whole, n) (whole_and_part (whole + 1) (n - length t) (map length rest))) e ∙ ap (λ (w : ℕ). (w, n)) same;
-      not_all = less;
-      front = take-append-le n t (all_of rest) within;
+      part = record {
+        earlier = [];
+        frame = frame;
+        later = later;
+        order = refl;
+        state = s;
+        texts = [];
+        answers = (refl, refl);
+        text = t;
+        gives = gives;
+        counts = same;
+        not_all = less;
+        took = take-append-le n t (all_of rest) within;
+      };
+      counts = ap (λ (b : Bool). cond b (whole, n) (whole_and_part (whole + 1) (n - length t) (map length rest))) e;
     }
 
--- `EndsWithin` is true where the n bytes hold the first text whole, and the others end within a later one
-ends_in_later : {State : Type 0} (rule : AnswerRule State) (s u : State) (frame : Frame) (later : List Frame) (t : List ℕ) (rest : List (List ℕ)) (whole n : ℕ)
-    → rule s frame u (Some t) → nat_lt n (length t) ≡ false → EndsWithin rule u later rest (whole + 1) (n - length t) → EndsWithin rule s (frame ∷ later) (t ∷ rest) whole n
+-- `EndsWithin` is true where the rule answers the first frame with the first text, the n bytes hold that text whole, and
+-- `EndsWithin` is true of the later frames and texts, of the bytes after that text, and of one text more that was taken whole
+ends_in_later : {State : Type 0} (rule : AnswerRule State) (s u : State) (frame : Frame) (later : List Frame) (t : List ℕ)
+    (rest : List (List ℕ)) (whole n : ℕ)
+    → rule s frame u (Some t) → nat_lt n (length t) ≡ false → EndsWithin rule u later rest (whole + 1) (n - length t)
+    → EndsWithin rule s (frame ∷ later) (t ∷ rest) whole n
 ends_in_later rule s u frame later t rest whole n gives e k =
     let more : length t ≤ n = ltb-false n (length t) e in
     let sizes : n ≡ length t + (n - length t) = omega arith in
-    let counted : (whole + 1) + length k.out ≡ whole + length (t ∷ k.out) = omega arith in
+    let counted : (whole + 1) + length k.part.texts ≡ whole + length (t ∷ k.part.texts) = omega arith in
+    let front : take (n - length t) (all_of rest) ≡ all_of k.part.texts ++ take k.bytes k.part.text = k.part.took in
     record {
-      earlier = frame ∷ k.earlier;
-      frame = k.frame;
-      later = k.later;
-      order = ap (λ (fs : List Frame). frame ∷ fs) k.order;
-      state = k.state;
       reached = k.reached;
-      out = t ∷ k.out;
-      answers = (u, Some t, k.out, gives, k.answers, refl);
-      text = k.text;
-      gives = k.gives;
+      count = k.count;
       bytes = k.bytes;
-      counts = ap (λ (b : Bool). cond b (whole, n) (whole_and_part (whole + 1) (n - length t) (map length rest))) e ∙ k.counts ∙ ap (λ (w : ℕ). (w, k.bytes)) counted;
-      not_all = k.not_all;
-      front = ap (λ (m : ℕ). take m (t ++ all_of rest)) sizes ∙ take-append-add t (all_of rest) (n - length t) ∙ ap (λ (xs : List ℕ). t ++ xs) k.front
-          ∙ sym (append_assoc t (all_of k.out) (take k.bytes k.text));
+      part = record {
+        earlier = frame ∷ k.part.earlier;
+        frame = k.part.frame;
+        later = k.part.later;
+        order = ap (λ (fs : List Frame). frame ∷ fs) k.part.order;
+        state = k.part.state;
+        texts = t ∷ k.part.texts;
+        answers = (u, Some t, k.part.texts, gives, k.part.answers, refl);
+        text = k.part.text;
+        gives = k.part.gives;
+        counts = k.part.counts ∙ counted;
+        not_all = k.part.not_all;
+        took = ap (λ (m : ℕ). take m (t ++ all_of rest)) sizes ∙ take-append-add t (all_of rest) (n - length t) ∙ ap (λ (xs : List ℕ). t ++ xs) front
+            ∙ sym (append_assoc t (all_of k.part.texts) (take k.bytes k.part.text));
+      };
+      counts = ap (λ (b : Bool). cond b (whole, n) (whole_and_part (whole + 1) (n - length t) (map length rest))) e ∙ k.counts;
     }
 
--- `EndsWithin` stays true with a frame without a text in front
+-- where the rule answers a frame without a text, and `EndsWithin` is true of the later frames, `EndsWithin` is true of that frame
+-- and the later ones, with the same texts and bytes
 ends_past_silent : {State : Type 0} (rule : AnswerRule State) (s u : State) (frame : Frame) (later : List Frame) (texts : List (List ℕ)) (whole n : ℕ)
     → rule s frame u None → EndsWithin rule u later texts whole n → EndsWithin rule s (frame ∷ later) texts whole n
 ends_past_silent rule s u frame later texts whole n gives k = record {
-  earlier = frame ∷ k.earlier;
-  frame = k.frame;
-  later = k.later;
-  order = ap (λ (fs : List Frame). frame ∷ fs) k.order;
-  state = k.state;
   reached = k.reached;
-  out = k.out;
-  answers = (u, None, k.out, gives, k.answers, refl);
-  text = k.text;
-  gives = k.gives;
+  count = k.count;
   bytes = k.bytes;
+  part = record {
+    earlier = frame ∷ k.part.earlier;
+    frame = k.part.frame;
+    later = k.part.later;
+    order = ap (λ (fs : List Frame). frame ∷ fs) k.part.order;
+    state = k.part.state;
+    texts = k.part.texts;
+    answers = (u, None, k.part.texts, gives, k.part.answers, refl);
+    text = k.part.text;
+    gives = k.part.gives;
+    counts = k.part.counts;
+    not_all = k.part.not_all;
+    took = k.part.took;
+  };
   counts = k.counts;
-  not_all = k.not_all;
-  front = k.front;
 }
 
--- where `EndsWithin` is true of the later frames and of any number of bytes that ends within their texts, it is true with one more frame
--- in front, with a text or without, and of n bytes that end within the texts of all of them
-ends_at_text : {State : Type 0} (rule : AnswerRule State) (s u : State) (frame : Frame) (later : List Frame) (text : Option (List ℕ)) (rest : List (List ℕ)) (whole n : ℕ)
-    → rule s frame u text → n < length (all_of (option_to_list text ++ rest)) → ((w m : ℕ) → m < length (all_of rest) → EndsWithin rule u later rest w m)
+-- where the rule answers a frame, with a text or without, n is less than the bytes that this text and the later ones have
+-- together, and `EndsWithin` is true of the later frames and of each number of bytes that is less than those of the later texts,
+-- `EndsWithin` is true of the frame and the later ones, and of n
+ends_at_text : {State : Type 0} (rule : AnswerRule State) (s u : State) (frame : Frame) (later : List Frame) (text : Option (List ℕ))
+    (rest : List (List ℕ)) (whole n : ℕ)
+    → rule s frame u text → n < length (all_of (option_to_list text ++ rest))
+    → ((w m : ℕ) → m < length (all_of rest) → EndsWithin rule u later rest w m)
     → EndsWithin rule s (frame ∷ later) (option_to_list text ++ rest) whole n
 ends_at_text rule s u frame later None rest whole n gives less next = ends_past_silent rule s u frame later rest whole n gives (next whole n less)
 ends_at_text rule s u frame later (Some t) rest whole n gives less next = elim (nat_lt n (length t)) as (λ b. nat_lt n (length t) ≡ b → EndsWithin rule s (frame ∷ later) (t ∷ rest) whole n) [
@@ -193,7 +214,8 @@ ends_at_text rule s u frame later (Some t) rest whole n gives less next = elim (
       ends_in_later rule s u frame later t rest whole n gives e (next (whole + 1) (n - length t) left)
 ] refl
 
--- `EndsWithin` is true wherever n is less than the bytes that the texts have together
+-- where the frames were answered in order with these texts, `EndsWithin` is true of each n that is less than the bytes that the
+-- texts have together
 ends_within : {State : Type 0} (rule : AnswerRule State) (from to : State) (seen : List Frame) (texts : List (List ℕ)) (whole n : ℕ)
     → AnswersInOrder State rule from seen to texts → n < length (all_of texts) → EndsWithin rule from seen texts whole n
 ends_within rule from to [] texts whole n h less =
@@ -204,38 +226,45 @@ ends_within rule from to (frame ∷ later) texts whole n h less =
     subst (λ (ts : List (List ℕ)). EndsWithin rule from (frame ∷ later) ts whole n) (sym h.5)
     (ends_at_text rule from h.0 frame later h.1 h.2 whole n h.3 (subst (λ (ts : List (List ℕ)). n < length (all_of ts)) h.5 less) (λ w m fewer. ends_within rule h.0 to later h.2 w m h.4 fewer))
 
--- where a part of the texts that waited went out, frames were answered up to one whose text went out in part
-pub gathering_part : {State : Type 0} (rule : AnswerRule State) (from to : Progress State) (seen : List Frame) (text lengths : List ℕ) (after : Option (List ℕ)) (total bytes n : ℕ)
+-- where `Gathering` is true of the frames `seen`, the sink took only the first n bytes of the texts that wait, and `total` and
+-- `bytes` are as `whole_and_part` has them, `AnswersPart` is true: the frames were answered up to one whose text went out in
+-- part, with `total` texts whole and `bytes` bytes of that text
+pub gathering_part : {State : Type 0} (rule : AnswerRule State) (from to : Progress State) (seen : List Frame) (text lengths : List ℕ)
+    (after : Option (List ℕ)) (total bytes n : ℕ)
     → Gathering rule from to seen text lengths → TakesFront to.taken after n text → (total, bytes) ≡ whole_and_part to.whole n lengths
     → (reached : State) × AnswersPart rule from.state reached seen from.taken after from.whole total bytes
 gathering_part rule from to seen text lengths after total bytes n g took counts =
     let k = ends_within rule g.state to.state g.held g.texts to.whole n g.holds (subst (λ (xs : List ℕ). n < length xs) g.text_is took.0) in
-    let same : (total, bytes) ≡ (to.whole + length k.out, k.bytes) = counts ∙ ap (λ (ns : List ℕ). whole_and_part to.whole n ns) g.lengths_are ∙ k.counts in
+    let front : take n (all_of g.texts) ≡ all_of k.part.texts ++ take k.bytes k.part.text = k.part.took in
+    let same : (total, bytes) ≡ (k.count, k.bytes) = counts ∙ ap (λ (ns : List ℕ). whole_and_part to.whole n ns) g.lengths_are ∙ k.counts in
     let out : AnswersPart rule g.state k.reached g.held to.taken after to.whole total bytes = record {
-      earlier = k.earlier;
-      frame = k.frame;
-      later = k.later;
-      order = k.order;
-      state = k.state;
-      texts = k.out;
-      answers = k.answers;
-      text = k.text;
-      gives = k.gives;
-      counts = ap (λ (p : ℕ × ℕ). p.0) same;
-      not_all = rw (ap (λ (p : ℕ × ℕ). p.1) same) k.not_all;
-      took = Appends-is to.taken after _ _ (ap (λ (xs : List ℕ). take n xs) g.text_is ∙ k.front ∙ ap (λ (b : ℕ). all_of k.out ++ take b k.text) (sym (ap (λ (p : ℕ × ℕ). p.1) same))) took.1;
+      earlier = k.part.earlier;
+      frame = k.part.frame;
+      later = k.part.later;
+      order = k.part.order;
+      state = k.part.state;
+      texts = k.part.texts;
+      answers = k.part.answers;
+      text = k.part.text;
+      gives = k.part.gives;
+      counts = ap (λ (p : ℕ × ℕ). p.0) same ∙ k.part.counts;
+      not_all = rw (ap (λ (p : ℕ × ℕ). p.1) same) k.part.not_all;
+      took = Appends-is to.taken after _ _
+          (ap (λ (xs : List ℕ). take n xs) g.text_is ∙ front ∙ ap (λ (b : ℕ). all_of k.part.texts ++ take b k.part.text) (sym (ap (λ (p : ℕ × ℕ). p.1) same))) took.1;
     } in (
       k.reached,
       subst (λ (fs : List Frame). AnswersPart rule from.state k.reached fs from.taken after from.whole total bytes) (sym g.order)
           (part_then rule from.state g.state k.reached g.done g.held from.taken to.taken after from.whole to.whole total bytes g.all out),
     )
 
--- a frame's text joins those that wait, and then a part of them is sent: frames were answered up to one whose text went out
--- in part
+-- where no text waits unless texts are gathered, the rule answers one more frame with the text `more`, `Gathering` is true of the
+-- frames `seen` before it, the sink took only the first n bytes of the texts that waited and then `more`, and the count of whole
+-- texts and `bytes` are as `whole_and_part` has them, `GathersPart` is true of `seen` and then that frame
 pub answered_part : {State : Type 0} (rule : AnswerRule State) (from to last : Progress State) (seen : List Frame) (frame : Frame)
     (text lengths more text' lengths' : List ℕ) (bytes n : ℕ) (gathers : Bool)
-    → (gathers ≡ false → lengths ≡ []) → rule to.state frame last.state (Some more) → Gathering rule from to seen text lengths
-    → text' ≡ text ++ more → lengths' ≡ lengths ++ length more ∷ [] → TakesFront to.taken last.taken n text' → (last.whole, bytes) ≡ whole_and_part to.whole n lengths'
+    → (alone : gathers ≡ false → lengths ≡ []) → (gives : rule to.state frame last.state (Some more))
+    → (before : Gathering rule from to seen text lengths) → (longer : text' ≡ text ++ more) → (counted : lengths' ≡ lengths ++ length more ∷ [])
+    → (took : TakesFront to.taken last.taken n text') → (counts : (last.whole, bytes) ≡ whole_and_part to.whole n lengths')
     → GathersPart rule from last (seen ++ frame ∷ []) bytes gathers
 answered_part rule from to last seen frame text lengths more text' lengths' bytes n true alone gives g longer counted took counts =
     let it = gathering_part rule from (record { state = last.state; taken = to.taken; whole = to.whole }) (seen ++ frame ∷ []) text' lengths' last.taken last.whole bytes n
@@ -258,11 +287,13 @@ answered_part rule from to last seen frame text lengths more text' lengths' byte
       alone = λ _. refl;
     }
 
--- where a part of the texts that wait at the end of a piece is sent, frames were answered up to one whose text went out in
--- part
-pub rest_part : {State : Type 0} (rule : AnswerRule State) (from to : Progress State) (seen : List Frame) (text lengths : List ℕ) (after : Option (List ℕ)) (total bytes n : ℕ) (gathers : Bool)
+-- where no text waits unless texts are gathered, `Gathering` is true of the frames `seen`, the sink took only the first n bytes
+-- of the texts that wait, and `total` and `bytes` are as `whole_and_part` has them, `GathersPart` is true of `seen`
+pub rest_part : {State : Type 0} (rule : AnswerRule State) (from to : Progress State) (seen : List Frame) (text lengths : List ℕ)
+    (after : Option (List ℕ)) (total bytes n : ℕ) (gathers : Bool)
     → (gathers ≡ false → lengths ≡ []) → Gathering rule from to seen text lengths
-    → TakesFront to.taken after n text → (total, bytes) ≡ whole_and_part to.whole n lengths → GathersPart rule from (record { state = to.state; taken = after; whole = total }) seen bytes gathers
+    → TakesFront to.taken after n text → (total, bytes) ≡ whole_and_part to.whole n lengths
+    → GathersPart rule from (record { state = to.state; taken = after; whole = total }) seen bytes gathers
 rest_part rule from to seen text lengths after total bytes n true alone g took counts =
     let it = gathering_part rule from to seen text lengths after total bytes n g took counts in
     record { reached = it.0; part = it.1; alone = λ e. cc }

@@ -3,15 +3,16 @@
 -- out whole.
 use Rattle.std.proofs.Common.{◌≡◌, ℕ, ◌+◌, List, [], ◌∷◌, ◌++◌, take, Option, Some, refl, sym, ap, ◌∙◌, subst, arith, append_assoc, length-append}
 use Rattle.std.specs.Option.{option_to_list}
-use Rattle.std.specs.Io.KnownBytes.{Appends}
 use Rattle.std.proofs.lemmas.List.{append-nil}
 use Rattle.std.proofs.lemmas.Grind.{flat_map-append}
+use Rattle.std.proofs.KnownBytes.{Appends-trans, Appends-nil}
 use Rattle.gc_lines.specs.Answering.{AnswerRule, AnswersInOrder, AnswersAll, AnswersPart, all_of}
 use Rattle.gc_lines.specs.Ports.{TakesFront}
 use Rattle.gc_lines.specs.declared.frame.Frame.{Frame}
-use Rattle.gc_lines.proofs.Known.{Appends-append, Appends-nil, Appends-is}
+use Rattle.gc_lines.proofs.Known.{Appends-is}
 
--- answering frames, and then others from the state after them, is answering all of them
+-- where answering the frames xs takes the state from s to t with the texts ps, and answering ys takes it from t to u with the
+-- texts qs, answering `xs ++ ys` takes it from s to u with the texts `ps ++ qs`
 pub in_order_then : {State : Type 0} (rule : AnswerRule State) (s t u : State) (xs ys : List Frame) (ps qs : List (List ℕ))
     → AnswersInOrder State rule s xs t ps → AnswersInOrder State rule t ys u qs → AnswersInOrder State rule s (xs ++ ys) u (ps ++ qs)
 in_order_then {State} rule s t u [] ys ps qs first next =
@@ -25,27 +26,29 @@ in_order_then {State} rule s t u (x ∷ xs) ys ps qs first next = (
   ap (λ (zs : List (List ℕ)). zs ++ qs) first.5 ∙ append_assoc (option_to_list first.1) first.2 qs,
 )
 
--- answering one frame by the rule is answering, in order, the list of that frame
+-- where the rule answers one frame, the list of that frame alone is answered in order, with the frame's text, if there is one, as
+-- the only text
 pub in_order_one : {State : Type 0} (rule : AnswerRule State) (s t : State) (frame : Frame) (text : Option (List ℕ)) → rule s frame t text
     → AnswersInOrder State rule s (frame ∷ []) t (option_to_list text)
 in_order_one rule s t frame text h = (t, text, [], h, (refl, refl), sym (append-nil (option_to_list text)))
 
--- texts are written one after the other
+-- what is written of the texts `xs ++ ys` is what is written of xs, and then what is written of ys
 pub all_of-append : (xs ys : List (List ℕ)) → all_of (xs ++ ys) ≡ all_of xs ++ all_of ys
 all_of-append xs ys = flat_map-append (λ text. text) xs ys
 
--- where no frame came, all were answered
-pub all_none : {State : Type 0} (rule : AnswerRule State) (state : State) (known : Option (List ℕ)) (count : ℕ) → AnswersAll rule state state [] known known count count
+-- `AnswersAll` is true of no frames, where the state, what the sink took, and the count of texts are the same before and after
+pub all_none : {State : Type 0} (rule : AnswerRule State) (state : State) (known : Option (List ℕ)) (count : ℕ)
+    → AnswersAll rule state state [] known known count count
 all_none rule state known count = record { texts = []; answers = (refl, refl); counts = omega arith; took = Appends-nil known }
 
--- where all frames xs were answered, and then all frames ys, all frames `xs ++ ys` were
+-- where all frames xs were answered, and then all frames ys, all frames `xs ++ ys` were answered
 pub all_then : {State : Type 0} (rule : AnswerRule State) (s t u : State) (xs ys : List Frame) (a b c : Option (List ℕ)) (i j k : ℕ)
     → AnswersAll rule s t xs a b i j → AnswersAll rule t u ys b c j k → AnswersAll rule s u (xs ++ ys) a c i k
 all_then rule s t u xs ys a b c i j k first next = record {
   texts = first.texts ++ next.texts;
   answers = in_order_then rule s t u xs ys first.texts next.texts first.answers next.answers;
   counts = omega (arith, first.counts, next.counts, length-append first.texts next.texts);
-  took = Appends-is a c _ _ (sym (all_of-append first.texts next.texts)) (Appends-append a b c _ _ first.took next.took);
+  took = Appends-is a c _ _ (sym (all_of-append first.texts next.texts)) (Appends-trans a b c _ _ first.took next.took);
 }
 
 -- where all frames xs were answered, and then the frames ys up to one whose text went out in part, the frames `xs ++ ys` were
@@ -67,7 +70,7 @@ part_then rule s t u xs ys a b c i j k bytes first part =
       counts = omega (arith, first.counts, part.counts, length-append first.texts part.texts);
       not_all = part.not_all;
       took = Appends-is a c _ _ (sym (ap (λ zs. zs ++ end) (all_of-append first.texts part.texts) ∙ append_assoc (all_of first.texts) (all_of part.texts) end))
-          (Appends-append a b c _ _ first.took part.took);
+          (Appends-trans a b c _ _ first.took part.took);
     }
 
 -- where `AnswersPart` is true of the frames xs, it is true of `xs ++ ys`: frames after the one whose text was cut change nothing
@@ -88,17 +91,8 @@ part_before rule s u xs ys a c i k bytes part = record {
   took = part.took;
 }
 
--- one frame was answered, and its text went out whole
-pub one_whole : {State : Type 0} (rule : AnswerRule State) (s t : State) (frame : Frame) (text : List ℕ) (a b : Option (List ℕ)) (count : ℕ)
-    → rule s frame t (Some text) → Appends a b text → AnswersAll rule s t (frame ∷ []) a b count (count + 1)
-one_whole rule s t frame text a b count gives took = record {
-  texts = text ∷ [];
-  answers = in_order_one rule s t frame (Some text) gives;
-  counts = omega arith;
-  took = Appends-is a b _ _ (sym (append-nil text)) took;
-}
-
--- one frame was answered, and its text went out in part
+-- where the rule answers a frame with a text, of which the sink took only the first `bytes` bytes, `AnswersPart` is true of the
+-- list of that frame alone, and no text more went out whole
 pub one_part : {State : Type 0} (rule : AnswerRule State) (s t : State) (frame : Frame) (text : List ℕ) (a b : Option (List ℕ)) (count bytes : ℕ)
     → rule s frame t (Some text) → TakesFront a b bytes text → AnswersPart rule s t (frame ∷ []) a b count count bytes
 one_part rule s t frame text a b count bytes gives took = record {

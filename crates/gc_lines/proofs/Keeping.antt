@@ -8,7 +8,7 @@ use Rattle.gc_lines.specs.Assembler.{Kept, StandsFor}
 use Rattle.gc_lines.specs.Frames.{frame_of}
 use Rattle.gc_lines.specs.declared.frame.Frame.TheVariants.{Line}
 
--- the first `cap` bytes of a rest and further bytes are those of the rest, and as many of the further ones as there is room for
+-- the first `cap` bytes of `rest ++ bytes` are the first `cap` of `rest`, and then the first `cap - length rest` of `bytes`
 pub take-append : (cap : ℕ) (rest bytes : List ℕ) → take cap (rest ++ bytes) ≡ take cap rest ++ take (cap - length rest) bytes
 take-append cap rest bytes = elim (cases_lt (length rest) cap) [
   | inr h ↦ let none : cap - length rest ≡ 0 = omega arith in rw (none, take-append-le cap rest bytes h) (sym (append-nil (take cap rest)))
@@ -16,23 +16,25 @@ take-append cap rest bytes = elim (cases_lt (length rest) cap) [
       ap (λ n. take n (rest ++ bytes)) sum ∙ take-append-add rest bytes (cap - length rest) ∙ ap (λ xs. xs ++ take (cap - length rest) bytes) (sym (take_all cap rest (omega arith)))
 ]
 
--- the last byte of a rest and further bytes is the last of the further bytes
+-- the last byte of `rest ++ bytes` is the last of `bytes`, where `bytes` has at least one
 pub last-append : (rest bytes : List ℕ) → 0 < length bytes → get_or (rest ++ bytes) (length (rest ++ bytes) - 1) 0 ≡ get_or bytes (length bytes - 1) 0
 last-append rest bytes h =
     let sum : length (rest ++ bytes) - 1 ≡ length rest + (length bytes - 1) = omega (arith, length-append rest bytes) in
     ap (λ n. get_or (rest ++ bytes) n 0) sum ∙ get_or-append-add rest bytes (length bytes - 1) 0
 
--- as long as there is room, an assembler keeps all bytes of the rest
+-- where an assembler stands for `rest`, and its `front` has fewer than 513 bytes, `rest` has as many bytes as `front`
 pub all_kept : (old : Kept) (rest : List ℕ) → StandsFor old rest → length old.front < 513 → length rest ≡ length old.front
 all_kept old rest s room = omega (arith, ap length s.front, length-take 513 rest)
 
--- an assembler has as much room left of 513 bytes as the rest leaves of them
+-- where an assembler stands for `rest`, its `front` leaves as much room within 513 bytes as `rest` does: none, if `rest` has 513
+-- or more
 pub front_length : (old : Kept) (rest : List ℕ) → StandsFor old rest → 513 - length old.front ≡ 513 - length rest
 front_length old rest s = omega (arith, ap length s.front, length-take 513 rest)
 
--- where all further bytes fit, an assembler that keeps them stands for the rest with these bytes after it
-pub keeps_all : (old : Kept) (rest bytes front : List ℕ) (last : ℕ) → StandsFor old rest → 0 < length bytes → length bytes ≤ 513 - length old.front
-    → front ≡ old.front ++ bytes → last ≡ get_or bytes (length bytes - 1) 0
+-- where an assembler stands for `rest`, and further bytes, at least one, fit after its `front` within 513, the assembler with
+-- these bytes after its `front`, with their last one as `last`, and with `long` as it was, stands for `rest ++ bytes`
+pub keeps_all : (old : Kept) (rest bytes front : List ℕ) (last : ℕ) → (stands : StandsFor old rest) → (some : 0 < length bytes)
+    → (fits : length bytes ≤ 513 - length old.front) → (front_is : front ≡ old.front ++ bytes) → (last_is : last ≡ get_or bytes (length bytes - 1) 0)
     → StandsFor (record { front = front; last = last; long = old.long }) (rest ++ bytes)
 keeps_all old rest bytes front last s some fits f l =
     let short : length rest ≡ length old.front = all_kept old rest s (omega arith) in
@@ -43,8 +45,9 @@ keeps_all old rest bytes front last s some fits f l =
       long = s.long ∙ le-ltb 513 (length rest) (omega arith) ∙ sym (le-ltb 513 (length (rest ++ bytes)) (omega (arith, length-append rest bytes)));
     }
 
--- where only a part of further bytes fits, an assembler that keeps that part stands for the rest with all of these bytes
--- after it
+-- where an assembler stands for `rest`, and further bytes don't all fit after its `front` within 513, the assembler with as many
+-- of these bytes as fit after its `front`, with the last of all of them as `last`, and with `long` true, stands for
+-- `rest ++ bytes`
 pub keeps_part : (old : Kept) (rest bytes front : List ℕ) (last : ℕ) → StandsFor old rest → 513 - length old.front < length bytes
     → front ≡ old.front ++ take (513 - length old.front) bytes → last ≡ get_or bytes (length bytes - 1) 0
     → StandsFor (record { front = front; last = last; long = true }) (rest ++ bytes)
@@ -56,7 +59,8 @@ keeps_part old rest bytes front last s more f l =
       long = sym (lt-ltb 513 (length (rest ++ bytes)) (omega (arith, room, length-append rest bytes)));
     }
 
--- of a rest of at most 512 bytes and a CR, the frame is the line with these bytes
-pub line_frame : (rest : List ℕ) (line : ArrayVec ℕ) → 0 < length rest → get_or rest (length rest - 1) 0 ≡ 13 → length rest ≤ 513 → line.items ≡ take (length rest - 1) rest → Line line ≡ frame_of rest
+-- where `rest` is at most 512 bytes and then a CR, and `line` holds the bytes before the CR, the frame of `rest` is `line`
+pub line_frame : (rest : List ℕ) (line : ArrayVec ℕ) → 0 < length rest → get_or rest (length rest - 1) 0 ≡ 13 → length rest ≤ 513
+    → line.items ≡ take (length rest - 1) rest → Line line ≡ frame_of rest
 line_frame rest line some last fits items =
     rw (lt-ltb 0 (length rest) some, eq-eqb (get_or rest (length rest - 1) 0) 13 last, le-ltb 512 (length rest - 1) (omega arith)) (ap (λ xs. Line (record { items = xs })) items)

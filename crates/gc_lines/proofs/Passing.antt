@@ -13,12 +13,11 @@ use Rattle.gc_lines.proofs.Cutting.{cut_none, cut_some, pieces-append}
 use Rattle.gc_lines.proofs.Gathering.{gathering_start}
 use Rattle.gc_lines.proofs.InOrder.{all_none, part_before}
 
--- with one more piece, a stream's frames are those that it had, and then those that the piece completes after the stream's
--- rest
+-- the frames of `given ++ piece` are those of `given`, and then those that the piece completes after the rest of `given`
 pub frames-append : (given piece : List ℕ) → frames (given ++ piece) ≡ frames given ++ frames_behind (rest_behind [] given) piece
 frames-append given piece = ap (λ ps. map frame_of ps) (pieces-append [] given piece) ∙ map-append frame_of (pieces_behind [] given) (pieces_behind (rest_behind [] given) piece)
 
--- a frame that a line feed made is completed
+-- `completed` gives the frame of any bytes in a list of its own: that frame is never `More`
 frame_is_completed : (bytes : List ℕ) → completed (frame_of bytes) ≡ frame_of bytes ∷ []
 frame_is_completed bytes = by_tests (ends_in_return bytes) _ where
   -- whichever frame the two tests of `frame_of` choose, it is completed
@@ -28,16 +27,19 @@ frame_is_completed bytes = by_tests (ends_in_return bytes) _ where
   by_tests true false = refl
   by_tests false b = refl
 
--- an assembler that stood for `rest` used the first `used` bytes of `left`, returned `frame`, and now keeps `kept`, which stands for
--- `now`: the frames of `rest` and `left` are `frame`, where it is complete, and then those of `now` and the bytes that weren't used
+-- an assembler that stood for `rest` used the first `used` bytes of `left`, returned `frame`, and now keeps `kept`, which stands
+-- for `now`: the frames of `rest` and `left` are `frame`, where it is complete, and then those of `now` and the bytes that
+-- weren't used
 pub record Takes (rest left : List ℕ) (used : ℕ) (frame : Frame) (kept : Kept) : Type 0 where
   pub now : List ℕ
   pub stands : StandsFor kept now
   pub seen : frames_behind rest left ≡ completed frame ++ frames_behind now (drop used left)
   pub rests : rest_behind rest left ≡ rest_behind now (drop used left)
 
--- without a line feed all bytes are used, and no frame is completed
-takes_without_feed : (rest left : List ℕ) (used : ℕ) (frame : Frame) (kept : Kept) → position is_line_feed left ≡ None → used ≡ length left → frame ≡ More
+-- `Takes` is true where `left` has no line feed, all of it was used, the frame is `More`, and the assembler stands for `rest` and
+-- then `left`
+takes_without_feed : (rest left : List ℕ) (used : ℕ) (frame : Frame) (kept : Kept) → position is_line_feed left ≡ None
+    → used ≡ length left → frame ≡ More
     → StandsFor kept (rest ++ left) → Takes rest left used frame kept
 takes_without_feed rest left used frame kept none all more s =
     let cut = cut_none rest left none in
@@ -49,7 +51,8 @@ takes_without_feed rest left used frame kept none all more s =
       rests = rw nothing cut.1;
     }
 
--- with a line feed the bytes through it are used, and they complete a frame
+-- `Takes` is true where the first line feed of `left` is at place `at`, the bytes through it were used, the frame is that of
+-- `rest` and the bytes before the line feed, and the assembler stands for no bytes
 takes_with_feed : (rest left : List ℕ) (at used : ℕ) (frame : Frame) (kept : Kept) → position is_line_feed left ≡ Some at → used ≡ at + 1
     → frame ≡ frame_of (rest ++ take at left) → StandsFor kept [] → Takes rest left used frame kept
 takes_with_feed rest left at used frame kept some next is s =
@@ -61,8 +64,8 @@ takes_with_feed rest left at used frame kept some next is s =
       rests = rw next cut.1;
     }
 
--- `Takes` follows from what `Assembler::next` ensures: of bytes `left` without a line feed, and of bytes whose first line feed is at
--- place `at`
+-- `Takes` follows from what `Assembler::next` ensures: of bytes `left` without a line feed, and of bytes whose first line feed is
+-- at place `at`
 pub takes : (rest left : List ℕ) (used : ℕ) (frame : Frame) (kept : Kept)
     → (position is_line_feed left ≡ None → (used ≡ length left) × (frame ≡ More) × StandsFor kept (rest ++ left))
     → ((at : ℕ) → position is_line_feed left ≡ Some at → (used ≡ at + 1) × (frame ≡ frame_of (rest ++ take at left)) × StandsFor kept [])
@@ -73,7 +76,8 @@ takes rest left used frame kept more whole = elim (position is_line_feed left) a
 ] refl
 
 -- some frames of a piece after `rest` were answered, and some of their texts wait; `left` is what is left of the piece
-pub record PieceAnswered {State : Type 0} (rule : AnswerRule State) (rest piece left : List ℕ) (kept : Kept) (from to : Progress State) (text lengths : List ℕ) : Type 0 where
+pub record PieceAnswered {State : Type 0} (rule : AnswerRule State) (rest piece left : List ℕ) (kept : Kept) (from to : Progress State)
+    (text lengths : List ℕ) : Type 0 where
   pub now : List ℕ
   pub answered : List Frame
   pub stands : StandsFor kept now
@@ -81,8 +85,10 @@ pub record PieceAnswered {State : Type 0} (rule : AnswerRule State) (rest piece 
   pub rests : rest_behind rest piece ≡ rest_behind now left
   pub gathered : Gathering rule from to answered text lengths
 
--- `PieceAnswered` is true before the first frame: nothing of the piece was used, and no text waits
-pub piece_start : {State : Type 0} (rule : AnswerRule State) (rest piece : List ℕ) (kept : Kept) (start : Progress State) (text lengths : List ℕ) → text ≡ [] → lengths ≡ [] → StandsFor kept rest
+-- `PieceAnswered` is true before the first frame, where the assembler stands for `rest`, nothing of the piece was used, and no
+-- text waits
+pub piece_start : {State : Type 0} (rule : AnswerRule State) (rest piece : List ℕ) (kept : Kept) (start : Progress State)
+    (text lengths : List ℕ) → text ≡ [] → lengths ≡ [] → StandsFor kept rest
     → PieceAnswered rule rest piece piece kept start start text lengths
 piece_start rule rest piece kept start text lengths empty none s = record {
   now = rest;
@@ -93,14 +99,17 @@ piece_start rule rest piece kept start text lengths empty none s = record {
   gathered = rw (empty, none) (gathering_start rule start start [] (all_none rule start.state start.taken start.whole));
 }
 
--- where all frames are those answered and those left, they stay so when the first of those left goes over to the answered
+-- where `all` is `answered` and then `left`, and `left` is `frame` and then `later`, `all` is `answered ++ frame` and then
+-- `later`
 seen_more : (answered frame later all left : List Frame) → all ≡ answered ++ left → left ≡ frame ++ later → all ≡ (answered ++ frame) ++ later
 seen_more answered frame later all left e f = e ∙ ap (λ zs. answered ++ zs) f ∙ sym (append_assoc answered frame later)
 
--- `PieceAnswered` stays true when one more frame was answered, whose text waits, or went out with all that waited
+-- where `PieceAnswered` is true, the assembler takes more of the piece, as `Takes` has it, and `Gathering` is true of the frames
+-- answered before and then the one that this completed, if any, `PieceAnswered` is true with what is left of the piece now
 pub piece_goes_on : {State : Type 0} (rule : AnswerRule State) (rest piece left : List ℕ) (used : ℕ) (frame : Frame) (kept kept' : Kept)
     (from to next : Progress State) (text lengths text' lengths' : List ℕ)
-    → (g : PieceAnswered rule rest piece left kept from to text lengths) → Takes g.now left used frame kept' → Gathering rule from next (g.answered ++ completed frame) text' lengths'
+    → (g : PieceAnswered rule rest piece left kept from to text lengths) → Takes g.now left used frame kept'
+    → Gathering rule from next (g.answered ++ completed frame) text' lengths'
     → PieceAnswered rule rest piece (drop used left) kept' from next text' lengths'
 piece_goes_on rule rest piece left used frame kept kept' from to next text lengths text' lengths' g taken more = record {
   now = taken.now;
@@ -111,10 +120,12 @@ piece_goes_on rule rest piece left used frame kept kept' from to next text lengt
   gathered = more;
 }
 
--- where one more frame was answered and then a text went out in part, the piece was answered up to that text's frame
+-- where `PieceAnswered` is true, the assembler takes more of the piece, as `Takes` has it, and `GathersPart` is true of the
+-- frames answered before and then the one that this completed, if any, `GathersPart` is true of all frames of the piece
 pub piece_cut : {State : Type 0} (rule : AnswerRule State) (rest piece left : List ℕ) (used : ℕ) (frame : Frame) (kept kept' : Kept)
     (from to last : Progress State) (text lengths : List ℕ) (bytes : ℕ) (gathers : Bool)
-    → (g : PieceAnswered rule rest piece left kept from to text lengths) → Takes g.now left used frame kept' → GathersPart rule from last (g.answered ++ completed frame) bytes gathers
+    → (g : PieceAnswered rule rest piece left kept from to text lengths) → Takes g.now left used frame kept'
+    → GathersPart rule from last (g.answered ++ completed frame) bytes gathers
     → GathersPart rule from last (frames_behind rest piece) bytes gathers
 piece_cut rule rest piece left used frame kept kept' from to last text lengths bytes gathers g taken part =
     let later = frames_behind taken.now (drop used left) in
@@ -126,7 +137,8 @@ piece_cut rule rest piece left used frame kept kept' from to last text lengths b
       alone = part.alone;
     }
 
--- where nothing is left of the piece, all of its frames were answered
+-- where `PieceAnswered` is true with nothing left of the piece, the assembler stands for what follows the last line feed of
+-- `rest` and the piece, and `Gathering` is true of all frames that the piece completes: they were answered, though texts may wait
 pub piece_end : {State : Type 0} (rule : AnswerRule State) (rest piece : List ℕ) (kept : Kept) (from to : Progress State) (text lengths : List ℕ)
     → PieceAnswered rule rest piece [] kept from to text lengths
     → StandsFor kept (rest_behind rest piece) × Gathering rule from to (frames_behind rest piece) text lengths

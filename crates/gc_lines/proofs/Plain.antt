@@ -21,7 +21,7 @@ use Rattle.gc_lines.proofs.Keeping.{line_frame, last-append}
 abbrev pub IsPlainByte : ℕ → Type 0
 IsPlainByte b = (b ≢ 10) × (b ≢ 13)
 
--- plain bytes after plain bytes are plain
+-- plain bytes xs and then plain bytes ys are plain together
 pub plain_append : (xs ys : List ℕ) → IsPlain xs → IsPlain ys → IsPlain (xs ++ ys)
 plain_append xs ys = All-append IsPlainByte xs ys
 
@@ -32,7 +32,7 @@ digits_plain : (ds : List ℕ) → AllDigits 10 ds → AllByRecursion IsPlainByt
 digits_plain [] h = tt
 digits_plain (d ∷ ds) h = let r = digit_from_value d h.0 in ((λ e. absurd (omega arith), λ e. absurd (omega arith)), digits_plain ds h.1)
 
--- a written number is plain
+-- a written number below 65536 is plain
 pub decimal_plain : (n : ℕ) → n < 65536 → IsPlain (decimal n)
 decimal_plain n h = All-from_recursion IsPlainByte (decimal n) (digits_plain (decimal n) (decimal_is_IsNumeral n (omega arith)).0.1)
 
@@ -49,24 +49,25 @@ id_plain (Some i) = All-from_recursion IsPlainByte (44 ∷ (48 + i) ∷ []) (pla
 pub plain_cons : (b : ℕ) (xs : List ℕ) → 13 < b → IsPlain xs → IsPlain (b ∷ xs)
 plain_cons b xs above h = plain_append (b ∷ []) xs (All-from_recursion IsPlainByte (b ∷ []) (plain_above_13 b above, tt)) h
 
--- plain parameters are plain with the comma that a reply has before them
+-- where a reply's parameters are plain, what is written of them is plain: a comma and then the parameters, or nothing where there
+-- are none
 params_plain : (params : List ℕ) → IsPlain params → IsPlain (params_text params)
 params_plain [] h = h
 params_plain (b ∷ bs) h = plain_cons 44 (b ∷ bs) (omega arith) h
 
--- a signature is plain: `%R1`, a byte `c` (Q for a request, P for a reply), and a comma
+-- a signature is plain: `%R1`, a byte `c` above 13 (Q for a request, P for a reply), and a comma
 pub signature_plain : (c : ℕ) → 13 < c → IsPlain (37 ∷ 82 ∷ 49 ∷ c ∷ 44 ∷ [])
 signature_plain c h = All-from_recursion IsPlainByte (37 ∷ 82 ∷ 49 ∷ c ∷ 44 ∷ []) (
   plain_above_13 37 (omega arith),
   (plain_above_13 82 (omega arith), (plain_above_13 49 (omega arith), (plain_above_13 c h, (plain_above_13 44 (omega arith), tt)))),
 )
 
--- a request with plain parameters is plain
+-- the text of a request in range with plain parameters is plain
 pub request_plain : (q : RequestFields) → IsRequestInRange q → IsPlain q.params → IsPlain (request_text q)
 request_plain q r h = plain_append (37 ∷ 82 ∷ 49 ∷ 81 ∷ 44 ∷ []) _ (signature_plain 81 (omega arith))
     (plain_append (decimal q.rpc) _ (decimal_plain q.rpc r.rpc) (plain_append (id_text q.id) _ (id_plain q.id) (plain_cons 58 q.params (omega arith) h)))
 
--- a reply with plain parameters is plain
+-- the text of a reply in range with plain parameters is plain
 pub reply_plain : (r : ReplyFields) → IsReplyInRange r → IsPlain r.params → IsPlain (reply_text r)
 reply_plain r in_range h = plain_append (37 ∷ 82 ∷ 49 ∷ 80 ∷ 44 ∷ []) _ (signature_plain 80 (omega arith))
     (plain_append (decimal r.rc_com) _ (decimal_plain r.rc_com in_range.rc_com) (plain_append (id_text r.id) _ (id_plain r.id)
@@ -79,7 +80,7 @@ plain_has_no_feed : (bytes : List ℕ) → AllByRecursion IsPlainByte bytes → 
 plain_has_no_feed [] h = ((λ e. absurd (omega arith)), tt)
 plain_has_no_feed (b ∷ bs) h = (h.0.0, plain_has_no_feed bs h.1)
 
--- at most 512 bytes and a CR are the frame of these bytes as a line
+-- the frame of at most 512 bytes and a CR is the line of these bytes
 plain_frame : (bytes : List ℕ) → length bytes ≤ 512 → Line (record { items = bytes }) ≡ frame_of (bytes ++ 13 ∷ [])
 plain_frame bytes fits =
     let long : length (bytes ++ 13 ∷ []) ≡ length bytes + 1 = length-append bytes (13 ∷ []) in
@@ -88,7 +89,7 @@ plain_frame bytes fits =
     let items : bytes ≡ take (length (bytes ++ 13 ∷ []) - 1) (bytes ++ 13 ∷ []) = sym (ap (λ n. take n (bytes ++ 13 ∷ [])) one ∙ take_at bytes (13 ∷ []) (length bytes) refl) in
     line_frame (bytes ++ 13 ∷ []) (record { items = bytes }) (omega arith) last (omega arith) items
 
--- at most 512 plain bytes and CR LF are one line, and no rest
+-- at most 512 plain bytes and then CR LF are one line, and leave no rest
 pub plain_line : (bytes : List ℕ) → IsPlain bytes → length bytes ≤ 512
     → (frames (bytes ++ 13 ∷ 10 ∷ []) ≡ Line (record { items = bytes }) ∷ []) × (rest_of (bytes ++ 13 ∷ 10 ∷ []) ≡ [])
 plain_line bytes h fits =

@@ -10,46 +10,48 @@ pub record ReadsField {A : Type 0} (read : List ℕ → Result A LineFault) (Has
   pub again : (bytes : List ℕ) (a : A) → Has bytes a → read bytes ≡ Ok a
   pub named : (bytes : List ℕ) (d : LineFault) → read bytes ≡ Err d → fault ≡ d
 
--- where nothing has the form, the reader gives its fault
+-- where bytes have the form with no value, a reader of that form (`ReadsField`) gives its fault for them
 pub none_means_fault : {A : Type 0} (read : List ℕ → Result A LineFault) (Has : List ℕ → A → Type 0) (fault : LineFault) → ReadsField read Has fault
     → (bytes : List ℕ) → ((a : A) → ¬ Has bytes a) → read bytes ≡ Err fault
-none_means_fault {A} read Has fault reads bytes fault_means_none = by_cases (read bytes) refl where
-  -- whatever the reader gave: as nothing has the form, it is the reader's fault
+none_means_fault {A} read Has fault reads bytes none = by_cases (read bytes) refl where
+  -- whatever the reader gave: as the bytes have the form with no value, it is the reader's fault
   by_cases : (r : Result A LineFault) → read bytes ≡ r → r ≡ Err fault
-  by_cases (Ok a) e = absurd (fault_means_none a (reads.found bytes a e))
+  by_cases (Ok a) e = absurd (none a (reads.found bytes a e))
   by_cases (Err d) e = ap (λ (g : LineFault). Err g) (sym (reads.named bytes d e))
 
--- where the reader gives a fault, nothing has the form
+-- where a reader of a form (`ReadsField`) gives a fault for bytes, they have the form with no value
 pub fault_means_none : {A : Type 0} (read : List ℕ → Result A LineFault) (Has : List ℕ → A → Type 0) (fault : LineFault) → ReadsField read Has fault
     → (bytes : List ℕ) (d : LineFault) → read bytes ≡ Err d → (a : A) → ¬ Has bytes a
 fault_means_none read Has fault reads bytes d e a has = let again = reads.again bytes a has in (cc)
 
--- where a chain gives the value y, its first part gave a value x, and its second part made y of x
+-- where a chain gives the value y, its first part gives a value x, and its second part gives y for x
 pub bind_ok : {A B : Type 0} (r : Result A LineFault) (f : A → Result B LineFault) (y : B) → (r >>= f) ≡ Ok y → (x : A) × (r ≡ Ok x) × (f x ≡ Ok y)
 bind_ok (Ok x) f y e = (x, refl, e)
 bind_ok (Err d) f y e = (cc)
 
--- where a chain gives a fault, its first part gave the fault, or its second did
-pub bind_err : {A B : Type 0} (r : Result A LineFault) (f : A → Result B LineFault) (d : LineFault) → (r >>= f) ≡ Err d → (r ≡ Err d) ⊎ ((x : A) × (r ≡ Ok x) × (f x ≡ Err d))
+-- where a chain gives a fault, its first part gives the fault, or its first part gives a value for which its second part gives
+-- the fault
+pub bind_err : {A B : Type 0} (r : Result A LineFault) (f : A → Result B LineFault) (d : LineFault) → (r >>= f) ≡ Err d
+    → (r ≡ Err d) ⊎ ((x : A) × (r ≡ Ok x) × (f x ≡ Err d))
 bind_err (Ok x) f d e = inr (x, refl, e)
 bind_err (Err c) f d e = inl (cc)
 
--- a chain goes on with its first part's value
+-- where its first part gives the value x, a chain gives what its second part gives for x
 pub bind_on : {A B : Type 0} (r : Result A LineFault) (f : A → Result B LineFault) (x : A) → r ≡ Ok x → (r >>= f) ≡ f x
 bind_on (Ok y) f x e = let same : y ≡ x = cc in ap f same
 bind_on (Err d) f x e = (cc)
 
--- a chain stops at its first part's fault
+-- where its first part gives a fault, a chain gives that fault
 pub bind_stop : {A B : Type 0} (r : Result A LineFault) (f : A → Result B LineFault) (d : LineFault) → r ≡ Err d → (r >>= f) ≡ Err d
 bind_stop (Ok y) f d e = (cc)
 bind_stop (Err c) f d e = let same : c ≡ d = cc in ap (λ (g : LineFault). Err g) same
 
--- where the value x, which is given only if the test b holds, was given as y, the test held, and x is y
+-- where x, if the test b holds, and else a fault, is the value y: the test holds, and x is y
 pub guard_ok : {A : Type 0} (b : Bool) (x y : A) (d : LineFault) → cond b (Ok x) (Err d) ≡ Ok y → (b ≡ true) × (x ≡ y)
 guard_ok true x y d e = (refl, cc)
 guard_ok false x y d e = (cc)
 
--- where the value x, which is given only if the test b holds, was refused, the test failed, and the fault is c
+-- where the value x, if the test b holds, and else the fault c, is the fault d: the test fails, and c is d
 pub guard_err : {A : Type 0} (b : Bool) (x : A) (c d : LineFault) → cond b (Ok x) (Err c) ≡ Err d → (b ≡ false) × (c ≡ d)
 guard_err true x c d e = (cc)
 guard_err false x c d e = (refl, cc)
@@ -63,14 +65,17 @@ pub record ReadsLines {F : Type 0} (read : List ℕ → Result F LineFault) (Is 
 
 -- what a caller of a reader of lines learns, who sees the result by a view: a value has the grammar, a fault is the first bad
 -- field, and each of them is given wherever the line has it
-pub record KnowsResult {F X : Type 0} (Is : List ℕ → F → Type 0) (Bad : List ℕ → LineFault → Type 0) (view : X → F) (line : List ℕ) (r : Result X LineFault) : Type 0 where
+pub record KnowsResult {F X : Type 0} (Is : List ℕ → F → Type 0) (Bad : List ℕ → LineFault → Type 0) (view : X → F) (line : List ℕ)
+    (r : Result X LineFault) : Type 0 where
   pub found : IfOk r (λ x. Is line (view x))
   pub only : (y : F) → Is line y → Gives view r (Ok y)
   pub fault : IfErr r (λ d. Bad line d)
   pub faulty : (d : LineFault) → Bad line d → r ≡ Err d
 
--- where a result, seen by a view, is what a reader of lines gives of the line, the caller learns what `KnowsResult` says
-pub knows_result : {F X : Type 0} {read : List ℕ → Result F LineFault} {Is : List ℕ → F → Type 0} {Bad : List ℕ → LineFault → Type 0} → ReadsLines read Is Bad
+-- where a result, seen by a view, is what a reader of lines (`ReadsLines`) gives of the line, the caller learns what
+-- `KnowsResult` says
+pub knows_result : {F X : Type 0} {read : List ℕ → Result F LineFault} {Is : List ℕ → F → Type 0} {Bad : List ℕ → LineFault → Type 0}
+    → ReadsLines read Is Bad
     → (view : X → F) (line : List ℕ) (r : Result X LineFault) → Gives view r (read line) → KnowsResult Is Bad view line r
 knows_result {F} {X} {read} {Is} {Bad} reads view line r gives = record { found = found r gives; only = only; fault = fault r gives; faulty = faulty r gives } where
   -- a value has the grammar

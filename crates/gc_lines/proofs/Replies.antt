@@ -5,7 +5,7 @@ use Rattle.gc_lines.specs.declared.fault.LineFault.{LineFault}
 use Rattle.gc_lines.specs.declared.fault.LineFault.TheVariants.{Code}
 use Rattle.gc_lines.specs.Numbers.{HasNumber, NoDigitFirst}
 use Rattle.gc_lines.specs.Headers.{id_text}
-use Rattle.gc_lines.specs.Replies.{ReplyFields, IsReply, HasCode, EndsCode, FirstBadOfReply, reply_signature}
+use Rattle.gc_lines.specs.Replies.{ReplyFields, IsReply, HasCode, EndsCode, IsReplyBody, FirstBadOfReply, reply_signature}
 use Rattle.gc_lines.specs.Readers.{number_at, HeaderFields, header_at, ◌>>=◌, params_at, code_at, reply_at}
 use Rattle.gc_lines.proofs.Reading.{ReadsLines, ReadsField, none_means_fault, fault_means_none, bind_ok, bind_err, bind_on, guard_ok, guard_err}
 use Rattle.gc_lines.proofs.Fields.{number_reads}
@@ -13,29 +13,29 @@ use Rattle.gc_lines.proofs.Headers.{header_found, header_again, ReadsBody, line_
 
 -- the parameters
 
--- what is read after a return code has the form of a reply's end
+-- where `params_at` gives parameters, the bytes are a reply's end with these, as `EndsCode` has it
 params_found : (bytes params : List ℕ) → params_at bytes ≡ Ok params → EndsCode bytes params
 params_found [] params e = inl (refl, cc)
 params_found (b ∷ bs) params e = let g = guard_ok (eqb b 44) bs params Code e in let t = eqb-true b 44 g.0 in inr (cc)
 
--- what has the form of a reply's end is read
+-- where the bytes are a reply's end with some parameters, as `EndsCode` has it, `params_at` gives these
 params_again : (bytes params : List ℕ) → EndsCode bytes params → params_at bytes ≡ Ok params
 params_again bytes params (inl e) = ap params_at e.0 ∙ ap (λ (p : List ℕ). Ok p) (sym e.1)
 params_again bytes params (inr e) = ap params_at e
 
--- a refusal of a reply's end is the fault `Code`
+-- where `params_at` gives a fault, the fault is `Code`
 params_named : (bytes : List ℕ) (d : LineFault) → params_at bytes ≡ Err d → Code ≡ d
 params_named [] d e = (cc)
 params_named (b ∷ bs) d e = (guard_err (eqb b 44) bs Code d e).1
 
 -- the code with its parameters
 
--- a reply's end begins with no digit
+-- a reply's end, as `EndsCode` has it, doesn't begin with a digit
 tail_stops : (tail params : List ℕ) → EndsCode tail params → NoDigitFirst tail
 tail_stops tail params (inl e) = subst NoDigitFirst (sym e.0) tt
 tail_stops tail params (inr e) = subst NoDigitFirst (sym e) refl
 
--- what is read as a return code and parameters has that form
+-- where `code_at` gives a return code and parameters, the bytes have the form of these, as `HasCode` has it
 code_found : (bytes : List ℕ) (x : ℕ × List ℕ) → code_at bytes ≡ Ok x → HasCode bytes x.0 x.1
 code_found bytes x e =
     let a = bind_ok (number_at Code bytes) _ x e in
@@ -45,14 +45,14 @@ code_found bytes x e =
     let same : (let p : ℕ × List ℕ = (a.0.0, b.0) in p) ≡ x = cc in
     subst (λ (p : ℕ × List ℕ). HasCode bytes p.0 p.1) same it
 
--- what has the form of a return code and parameters is read
+-- where the bytes have the form of a return code and parameters, as `HasCode` has it, `code_at` gives these
 code_again : (bytes : List ℕ) (x : ℕ × List ℕ) → HasCode bytes x.0 x.1 → code_at bytes ≡ Ok x
 code_again bytes x has =
     let n : HasNumber bytes x.0 has.tail = record { text = has.text; is_number = has.is_number; whole = has.whole; ends = tail_stops has.tail x.1 has.is_tail } in
     bind_on (number_at Code bytes) (λ code. params_at code.1 >>= λ params. Ok (code.0, params)) (x.0, has.tail) ((number_reads Code).again bytes (x.0, has.tail) n)
     ∙ bind_on (params_at has.tail) (λ params. Ok (x.0, params)) x.1 (params_again has.tail x.1 has.is_tail)
 
--- a refusal of a return code or of what follows is the fault `Code`
+-- where `code_at` gives a fault, the fault is `Code`
 code_named : (bytes : List ℕ) (d : LineFault) → code_at bytes ≡ Err d → Code ≡ d
 code_named bytes d e = elim (bind_err (number_at Code bytes) _ d e) [
   | inl h ↦ (number_reads Code).named bytes d h
@@ -62,7 +62,7 @@ code_named bytes d e = elim (bind_err (number_at Code bytes) _ d e) [
   ]
 ]
 
--- `code_at` reads just what has the form of a return code and parameters, and has one fault
+-- `code_at` gives a return code and parameters just where the bytes have the form of these, and its one fault is `Code`
 code_reads : ReadsField code_at (λ bytes x. HasCode bytes x.0 x.1) Code
 code_reads = record { found = code_found; again = code_again; named = code_named }
 
@@ -76,26 +76,22 @@ reply_fields h code = record { rc_com = h.number; id = h.id; rc = code.0; params
 abbrev read_body : HeaderFields → Result ReplyFields LineFault
 read_body h = code_at h.rest >>= λ code. Ok (reply_fields h code)
 
--- what may follow a reply's colon
-abbrev IsBody : List ℕ → Type 0
-IsBody bytes = (rc : ℕ) × (params : List ℕ) × HasCode bytes rc params
-
--- a refusal of the body is the fault `Code`, and the body hasn't its form
-body_named : (h : HeaderFields) (d : LineFault) → read_body h ≡ Err d → (Code ≡ d) × (¬ IsBody h.rest)
+-- where `read_body` gives a fault, the fault is `Code`, and what follows the header hasn't the form of a reply's body
+body_named : (h : HeaderFields) (d : LineFault) → read_body h ≡ Err d → (Code ≡ d) × (¬ IsReplyBody h.rest)
 body_named h d e = elim (bind_err (code_at h.rest) _ d e) [
   | inl f ↦ (code_named h.rest d f, λ has. fault_means_none _ _ _ code_reads h.rest d f (has.0, has.1) has.2)
   | inr a ↦ (cc)
 ]
 
--- a body that hasn't its form is refused with `Code`
-body_refused : (h : HeaderFields) → (¬ IsBody h.rest) → read_body h ≡ Err Code
+-- where what follows the header hasn't the form of a reply's body, `read_body` gives the fault `Code`
+body_refused : (h : HeaderFields) → (¬ IsReplyBody h.rest) → read_body h ≡ Err Code
 body_refused h bad = rw (none_means_fault _ _ _ code_reads h.rest (λ x has. bad (x.0, x.1, has))) refl
 
--- `read_body` reads just the bodies that have their form
-reads_body : ReadsBody read_body IsBody
+-- `read_body` fails just where what follows the header hasn't the form of a reply's body, and then with `Code`
+reads_body : ReadsBody read_body IsReplyBody
 reads_body = record { named = body_named; refused = body_refused }
 
--- what is read as a reply has the grammar
+-- where `reply_at` gives fields, the line has the grammar of a reply with these fields
 pub reply_found : (line : List ℕ) (r : ReplyFields) → reply_at line ≡ Ok r → IsReply line r
 unfolding reply_at
 reply_found line r e =
@@ -116,7 +112,7 @@ reply_found line r e =
     let same : reply_fields a.0 b.0 ≡ r = cc in
     subst (λ (f : ReplyFields). IsReply line f) same it
 
--- what has the grammar of a reply is read
+-- where a line has the grammar of a reply with some fields, `reply_at` gives these fields
 pub reply_again : (line : List ℕ) (r : ReplyFields) → IsReply line r → reply_at line ≡ Ok r
 unfolding reply_at
 reply_again line r is =
@@ -125,20 +121,21 @@ reply_again line r is =
     bind_on (header_at reply_signature line) read_body h (header_again reply_signature line h (record { number = is.number; is_number = is.is_number; is_id = is.is_id; whole = is.whole }))
     ∙ bind_on (code_at h.rest) (λ code. Ok (reply_fields h code)) (r.rc, r.params) (code_again h.rest (r.rc, r.params) c)
 
--- a reply's fault is its first bad field
+-- where `reply_at` gives a fault, that fault names the first bad field of the line, as `FirstBadOfReply` has it
 pub reply_fault : (line : List ℕ) (d : LineFault) → reply_at line ≡ Err d → FirstBadOfReply line d
 unfolding reply_at
-reply_fault line d e = line_fault reply_signature read_body IsBody reads_body line d e
+reply_fault line d e = line_fault reply_signature read_body IsReplyBody reads_body line d e
 
--- a reply's first bad field is its fault
+-- where a fault names the first bad field of the line, as `FirstBadOfReply` has it, `reply_at` gives that fault
 pub reply_bad : (line : List ℕ) (f : LineFault) → FirstBadOfReply line f → reply_at line ≡ Err f
 unfolding reply_at
-reply_bad line f bad = line_bad reply_signature read_body IsBody reads_body line f bad
+reply_bad line f bad = line_bad reply_signature read_body IsReplyBody reads_body line f bad
 
--- a line reads as at most one reply
-pub reply_one : (line : List ℕ) (p r : ReplyFields) → IsReply line p → IsReply line r → p ≡ r
-reply_one line p r is_p is_r = let a = reply_again line p is_p in let b = reply_again line r is_r in cc
+-- a line has the grammar of a reply with at most one list of fields
+pub one_reply : (line : List ℕ) (p r : ReplyFields) → IsReply line p → IsReply line r → p ≡ r
+one_reply line p r is_p is_r = let a = reply_again line p is_p in let b = reply_again line r is_r in cc
 
--- `reply_at` finds just the lines that have the grammar of a reply, and names just the first bad field of the others
+-- `reply_at` gives fields just where the line has the grammar of a reply with them, and a fault just where that fault names the
+-- first bad field
 pub reply_reads : ReadsLines reply_at IsReply FirstBadOfReply
 reply_reads = record { found = reply_found; again = reply_again; fault = reply_fault; bad = reply_bad }

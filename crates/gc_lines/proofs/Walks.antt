@@ -1,5 +1,5 @@
--- A step that hand-written proofs (walks) of higher crates share: those of gc_links `history.rt`, gc_files `past.rt` and gc_station
--- `kept.rt`. Assumes `Logic`.
+-- A step that hand-written proofs (walks) of higher crates share: those of gc_links `history.rt`, gc_files `past.rt` and
+-- gc_station `kept.rt`. Assumes `Logic`.
 use Rattle.std.proofs.Common.{List, [], ◌∷◌, refl}
 use seplogic.Ra.Ura.{Ura}
 use mir.Val.{Val, vstruct, vnil}
@@ -18,7 +18,8 @@ abbrev pub fieldless : RattleType
 fieldless = Struct (record { name = []; args = []; types = []; fields = [] })
 
 -- a step of a walk over the value of a struct without fields, which owns nothing: the other items and the goal stay as they are
-pub none_made : {M : Type 1} {𝓤 : Ura M} {𝓛 : Logic 𝓤} {K : Type 0} {Γ : List (Item 𝓤)} {G : Goal 𝓤 𝓛.H} → K → Step K 𝓛 (‵ (fieldless.own_val tt (none ∷ [])) ∷ Γ) G Γ G
+pub none_made : {M : Type 1} {𝓤 : Ura M} {𝓛 : Logic 𝓤} {K : Type 0} {Γ : List (Item 𝓤)} {G : Goal 𝓤 𝓛.H} → K
+    → Step K 𝓛 (‵ (fieldless.own_val tt (none ∷ [])) ∷ Γ) G Γ G
 none_made t = step (λ s.
     nothing t $ feq_i t (List Val) (none ∷ []) (none ∷ []) refl $ fjoin t $
     fpack t (Valss []) (within (record { name = []; args = []; types = []; fields = [] }) tt (none ∷ [])) tt $ s)

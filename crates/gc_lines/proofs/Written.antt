@@ -13,7 +13,7 @@ use Rattle.gc_lines.proofs.Digits.{digits_are_numerals}
 use Rattle.gc_lines.proofs.Requests.{request_again}
 use Rattle.gc_lines.proofs.Replies.{reply_again}
 
--- a number as it is written has a number's form
+-- a number below 65536, as it is written, has a number's form
 pub decimal_number : (n : ℕ) → n < 65536 → IsNumber (decimal n) n
 decimal_number n h =
     let numeral = decimal_is_IsNumeral n (omega arith) in
@@ -25,7 +25,7 @@ decimal_number n h =
       bound = h;
     }
 
--- a number as it is written has no leading zero
+-- a number below 65536, as it is written, has no leading zero
 decimal_zeros : (n : ℕ) → n < 65536 → NoLeadingZero (decimal n)
 decimal_zeros n h zero = elim (cases_lt 0 n) [
   | inl some ↦ absurd (omega (arith, first_decimal n some (omega arith)))
@@ -36,17 +36,17 @@ decimal_zeros n h zero = elim (cases_lt 0 n) [
 number_written : (text : List ℕ) (n : ℕ) → IsNumber text n → NoLeadingZero text → text ≡ decimal n
 number_written text n is zeros = sym (decimal-digits_value digits_are_numerals text is.digits is.some zeros (omega (arith, is.value, is.bound))) ∙ ap decimal is.value
 
--- the parameters of a written reply have the form of a reply's end
+-- what is written after a reply's return code is a reply's end with the same parameters, as `EndsCode` has it
 params_end : (params : List ℕ) → EndsCode (params_text params) params
 params_end [] = inl (refl, refl)
 params_end (b ∷ bs) = inr refl
 
--- a written reply ends after its return code exactly where it has no parameters
+-- what is written after a reply's return code is empty exactly where there are no parameters
 params_comma : (params : List ℕ) → (params_text params ≡ []) ↔ (params ≡ [])
 params_comma [] = (λ e. refl, λ e. refl)
 params_comma (b ∷ bs) = (λ e. (cc), λ e. (cc))
 
--- a reply's end that has a comma exactly where parameters are is the one that is written
+-- a reply's end that is empty exactly where it has no parameters is the one that is written
 tail_written : (tail params : List ℕ) → EndsCode tail params → ((tail ≡ []) ↔ (params ≡ [])) → tail ≡ params_text params
 tail_written tail params (inl e) comma = e.0 ∙ ap params_text (sym e.1)
 tail_written tail [] (inr e) comma = comma.1 refl
@@ -54,15 +54,15 @@ tail_written tail (b ∷ bs) (inr e) comma = e
 
 -- requests
 
--- a request's text has the grammar
+-- the text of a request in range has the grammar of a request with its fields
 abbrev request_has : (q : RequestFields) → IsRequestInRange q → IsRequest (request_text q) q
 request_has q r = record { number = decimal q.rpc; is_number = decimal_number q.rpc r.rpc; is_id = r.id; whole = refl }
 
--- a request's text is a written one
+-- the text of a request in range is a written line with its fields
 request_is_written : (q : RequestFields) → IsRequestInRange q → IsWrittenRequest (request_text q) q
 request_is_written q r = record { is = request_has q r; number = decimal_zeros q.rpc r.rpc }
 
--- a request's text is the one written line with its fields
+-- a line is a written one with the fields of a request exactly where the request is in range and the line is its text
 pub request_written : (line : List ℕ) (q : RequestFields) → IsWrittenRequest line q ↔ (IsRequestInRange q × (line ≡ request_text q))
 request_written line q = (
   λ w. (
@@ -72,13 +72,13 @@ request_written line q = (
   λ r. subst (λ (l : List ℕ). IsWrittenRequest l q) (sym r.1) (request_is_written q r.0),
 )
 
--- a request's text reads back
+-- `request_at` gives the fields of a request in range for its text
 pub request_back : (q : RequestFields) → IsRequestInRange q → request_at (request_text q) ≡ Ok q
 request_back q r = request_again (request_text q) q (request_has q r)
 
 -- replies
 
--- a reply's text has the grammar
+-- the text of a reply in range has the grammar of a reply with its fields
 abbrev reply_has : (r : ReplyFields) → IsReplyInRange r → IsReply (reply_text r) r
 reply_has r in_range = record {
   number = decimal r.rc_com;
@@ -91,11 +91,11 @@ reply_has r in_range = record {
   whole = refl;
 }
 
--- a reply's text is a written one
+-- the text of a reply in range is a written line with its fields
 reply_is_written : (r : ReplyFields) → IsReplyInRange r → IsWrittenReply (reply_text r) r
 reply_is_written r in_range = record { is = reply_has r in_range; number = decimal_zeros r.rc_com in_range.rc_com; code = decimal_zeros r.rc in_range.rc; comma = params_comma r.params }
 
--- a reply's text is the one written line with its fields
+-- a line is a written one with the fields of a reply exactly where the reply is in range and the line is its text
 pub reply_written : (line : List ℕ) (r : ReplyFields) → IsWrittenReply line r ↔ (IsReplyInRange r × (line ≡ reply_text r))
 reply_written line r = (
   λ w. (
@@ -108,6 +108,6 @@ reply_written line r = (
   λ e. subst (λ (l : List ℕ). IsWrittenReply l r) (sym e.1) (reply_is_written r e.0),
 )
 
--- a reply's text reads back
+-- `reply_at` gives the fields of a reply in range for its text
 pub reply_back : (r : ReplyFields) → IsReplyInRange r → reply_at (reply_text r) ≡ Ok r
 reply_back r in_range = reply_again (reply_text r) r (reply_has r in_range)

@@ -36,8 +36,10 @@ fault_text (TooManyReads _) = numbered 44
 abbrev pub AnswerRule : Type 0 → Type 1
 AnswerRule State = State → Frame → State → Option (List ℕ) → Type 0
 
--- answering the frames, one after the other, takes the state from `before` to `after`, and these are the texts in order
-abbrev pub AnswersInOrder : (State : Type 0) → AnswerRule State → (before : State) → List Frame → (after : State) → (texts : List (List ℕ)) → Type 0
+-- by the rule, answering the frames one after the other takes the state from `before` to `after`, and these are the texts in
+-- order
+abbrev pub AnswersInOrder : (State : Type 0) → AnswerRule State → (before : State) → List Frame → (after : State)
+    → (texts : List (List ℕ)) → Type 0
 AnswersInOrder State rule before [] after texts = (after ≡ before) × (texts ≡ [])
 AnswersInOrder State rule before (frame ∷ later) after texts =
     (state : State) × (text : Option (List ℕ)) × (rest : List (List ℕ))
@@ -47,19 +49,21 @@ AnswersInOrder State rule before (frame ∷ later) after texts =
 abbrev pub all_of : List (List ℕ) → List ℕ
 all_of texts = flat_map (λ text. text) texts
 
--- all of the frames `seen` were answered, which took the answerer from the state `from` to `to`, and the sink took all of their texts, so
--- that what it has taken, where that is known, grew from `old` to `new`. `before` is how many texts it had taken earlier, and `count` how
--- many it has taken since the start
-pub record AnswersAll {State : Type 0} (rule : AnswerRule State) (from to : State) (seen : List Frame) (old new : Option (List ℕ)) (before count : ℕ) : Type 0 where
+-- all of the frames `seen` were answered by the rule, which took the answerer from the state `from` to `to`, and the sink took
+-- all of their texts, so that what the sink has taken, where that is known, grew from `old` to `new`. `before` is how many texts
+-- of the run the sink had taken earlier, and `count` how many it has taken by now, these included
+pub record AnswersAll {State : Type 0} (rule : AnswerRule State) (from to : State) (seen : List Frame) (old new : Option (List ℕ))
+    (before count : ℕ) : Type 0 where
   pub texts : List (List ℕ)
   pub answers : AnswersInOrder State rule from seen to texts
   pub counts : count ≡ before + length texts
   pub took : Appends old new (all_of texts)
 
--- the frames `seen` were answered up to one, `frame`, of whose text the sink took only the first `bytes` bytes; no later frame was
--- answered. `count` is how many texts the sink has taken whole, the `before` earlier ones included; the other parameters are those of
--- `AnswersAll`
-pub record AnswersPart {State : Type 0} (rule : AnswerRule State) (from to : State) (seen : List Frame) (old new : Option (List ℕ)) (before count bytes : ℕ) : Type 0 where
+-- by the rule, answering the frames `seen` up to one, `frame`, and including it, took the answerer from the state `from` to `to`.
+-- Of the text of `frame` the sink took only the first `bytes` bytes, and not all. `count` is how many texts the sink has taken
+-- whole, the `before` earlier ones included; `old` and `new` are as in `AnswersAll`
+pub record AnswersPart {State : Type 0} (rule : AnswerRule State) (from to : State) (seen : List Frame) (old new : Option (List ℕ))
+    (before count bytes : ℕ) : Type 0 where
   -- the frames whose texts were taken whole, the one whose text was cut, and those after it
   pub earlier : List Frame
   pub frame : Frame
@@ -76,16 +80,17 @@ pub record AnswersPart {State : Type 0} (rule : AnswerRule State) (from to : Sta
   pub not_all : bytes < length text
   pub took : Appends old new (all_of texts ++ take bytes text)
 
--- which of the frames `seen`, all that were read, were answered, by the result of the run: all of them, or after a failed write those up to
--- the one whose text was cut
-abbrev pub AnswersFrames : {State : Type 0} → AnswerRule State → (from to : State) → (seen : List Frame) → (old new : Option (List ℕ)) → Result Served ServeFault → Type 0
+-- which of the frames `seen`, all that were read, were answered, by the result of the run: all of them, or after a failed write
+-- those up to the one whose text was cut. `from`, `to`, `old` and `new` are as in `AnswersAll`
+abbrev pub AnswersFrames : {State : Type 0} → AnswerRule State → (from to : State) → (seen : List Frame) → (old new : Option (List ℕ))
+    → Result Served ServeFault → Type 0
 AnswersFrames rule from to seen old new (Ok served) = AnswersAll rule from to seen old new 0 served.replies
 AnswersFrames rule from to seen old new (Err (Read count)) = AnswersAll rule from to seen old new 0 count
 AnswersFrames rule from to seen old new (Err (Write count bytes)) = AnswersPart rule from to seen old new 0 count bytes
 AnswersFrames rule from to seen old new (Err (TooManyReads count)) = AnswersAll rule from to seen old new 0 count
 
 -- what is seen of a source and a sink: the bytes that are still to come and those that were taken, where they are known, how many
--- reads were answered and whether the last was the end, and which port has failed
+-- reads were answered and whether the last was the end, and whether each port has failed
 pub record Ports : Type 0 where
   pub remaining : Option (List ℕ)
   pub reads : ℕ
@@ -105,15 +110,24 @@ ports_of of_source source of_sink sink = record {
   sink_failed = of_sink.failed sink;
 }
 
--- what each result of a run of at most `most` reads says of the ports before (`old`) and after it (`new`). Ok: a read was answered, and the
--- last was the end. Read: one of the reads failed at the source, so fewer than `most` were answered, and none was the end. Write: the sink
--- failed, after a read that wasn't the end. TooManyReads: all `most` reads were answered, none was the end, and no port failed. Where no
--- read was answered, `ended` is left from an earlier run, and nothing is claimed of it. A source whose read was answered hasn't failed
+-- what each result of a run of at most `most` reads says of the ports before (`old`) and after it (`new`). Ok: a read was
+-- answered, and the last was the end. Read: one of the reads failed at the source, so fewer than `most` were answered, and none
+-- was the end. Write: the sink failed, after a read that wasn't the end. TooManyReads: all `most` reads were answered, none was
+-- the end, and no port failed in the run. Where no read was answered, `ended` is left from an earlier run, and nothing is claimed
+-- of it. After Ok and Write the source hasn't failed, since its last read was answered. `sink_failed` stays as it was unless the
+-- result is Write, and `source_failed` stays as it was if the result is TooManyReads
 abbrev pub EndsBecause : (old new : Ports) → (most : ℕ) → Result Served ServeFault → Type 0
-EndsBecause old new most (Ok _) = (old.reads < new.reads) × (new.reads ≤ old.reads + most) × (new.ended ≡ true) × (new.source_failed ≡ false) × (new.sink_failed ≡ old.sink_failed)
-EndsBecause old new most (Err (Read _)) = (new.reads < old.reads + most) × (old.reads < new.reads → new.ended ≡ false) × (new.source_failed ≡ true) × (new.sink_failed ≡ old.sink_failed)
-EndsBecause old new most (Err (Write _ _)) = (old.reads < new.reads) × (new.reads ≤ old.reads + most) × (new.ended ≡ false) × (new.source_failed ≡ false) × (new.sink_failed ≡ true)
-EndsBecause old new most (Err (TooManyReads _)) = (new.reads ≡ old.reads + most) × (old.reads < new.reads → new.ended ≡ false)
+EndsBecause old new most (Ok _) =
+    (old.reads < new.reads) × (new.reads ≤ old.reads + most) × (new.ended ≡ true)
+    × (new.source_failed ≡ false) × (new.sink_failed ≡ old.sink_failed)
+EndsBecause old new most (Err (Read _)) =
+    (new.reads < old.reads + most) × (old.reads < new.reads → new.ended ≡ false)
+    × (new.source_failed ≡ true) × (new.sink_failed ≡ old.sink_failed)
+EndsBecause old new most (Err (Write _ _)) =
+    (old.reads < new.reads) × (new.reads ≤ old.reads + most) × (new.ended ≡ false)
+    × (new.source_failed ≡ false) × (new.sink_failed ≡ true)
+EndsBecause old new most (Err (TooManyReads _)) =
+    (new.reads ≡ old.reads + most) × (old.reads < new.reads → new.ended ≡ false)
     × (new.source_failed ≡ old.source_failed) × (new.sink_failed ≡ old.sink_failed)
 
 -- answering in at most `most` reads took the ports from `old` to `new`, and gave this result
@@ -131,7 +145,9 @@ pub record HasEnded (old new : Ports) (most : ℕ) (result : Result Served Serve
   pub too_many : old.source_failed ≡ false → old.sink_failed ≡ false → IsErrAnd result (λ fault. fault_number fault ≡ 44)
       ↔ ((new.reads ≡ old.reads + most) × (old.reads < new.reads → new.ended ≡ false) × (new.source_failed ≡ false) × (new.sink_failed ≡ false))
 
--- the frames of the bytes that the source gave, at most 256 a read, were answered, and the sink took the texts as the result says
+-- the source gave at most 256 bytes a read, the frames of these bytes were answered, and the sink took the texts: how far,
+-- `AnswersFrames` says by the result. `old` and `new` are the ports before and after the run; `from` and `to` are as in
+-- `AnswersAll`, or after a failed write as in `AnswersPart`
 abbrev pub AnswersGiven : {State : Type 0} → AnswerRule State → (from to : State) → (old new : Ports) → Result Served ServeFault → Type 0
 AnswersGiven rule from to old new result =
     (given : List ℕ) × Consumes old.remaining new.remaining given
@@ -139,11 +155,14 @@ AnswersGiven rule from to old new result =
 
 -- a run answered as `AnswersGiven` says, which took the answerer from the state `from` to one that it reached. Without `gathers` that is
 -- its state at the end, `to`; with `gathers` the answerer may have got later frames after it
-abbrev pub AnswersRun : {State : Type 0} → AnswerRule State → (from to : State) → (old new : Ports) → (gathers : Bool) → Result Served ServeFault → Type 0
+abbrev pub AnswersRun : {State : Type 0} → AnswerRule State → (from to : State) → (old new : Ports) → (gathers : Bool)
+    → Result Served ServeFault → Type 0
 AnswersRun {State} rule from to old new gathers result =
     (reached : State) × AnswersGiven rule from reached old new result × (gathers ≡ false → reached ≡ to)
 
--- what an answerer did with the text that it was handed: it appended its answer to a frame (true), or left the text as it is (false)
-abbrev pub AppendsAnswer : (answered : Option (List ℕ) → Type 0) → (old new : List ℕ) → Bool → Type 0
+-- what an answerer did with the text that it was handed, `old` before the call and `new` after it: it appended its answer to a
+-- frame (`appended` is true), or it had no answer and left the text as it is (false). `answered` says which answers it may give,
+-- and whether it may give none
+abbrev pub AppendsAnswer : (answered : Option (List ℕ) → Type 0) → (old new : List ℕ) → (appended : Bool) → Type 0
 AppendsAnswer answered old new true = (text : List ℕ) × answered (Some text) × (new ≡ old ++ text)
 AppendsAnswer answered old new false = answered None × (new ≡ old)

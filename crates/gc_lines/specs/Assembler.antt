@@ -3,14 +3,15 @@
 -- at a line feed) gives a stream's frames.
 use Rattle.std.specs.Prelude.{◌≡◌, ℕ, ◌-◌, List, Bool, length, take, nat_lt, slice_index}
 
--- what an assembler keeps of the bytes since the last line feed: the first 513, the last one, and whether there are more than 513
+-- what an assembler keeps of the bytes since the last line feed, or since the start where none came: the first 513, the last one
+-- (0 where there are no bytes), and whether there are more than 513
 pub record Kept : Type 0 where
   pub front : List ℕ
   pub last : ℕ
   pub long : Bool
 
--- an assembler that keeps this may have got these bytes since the last line feed. Up to 513 bytes that is true of one list alone,
--- above of many
+-- an assembler that keeps this may have got the bytes `rest` since the last line feed, or since the start where none came. Where
+-- `rest` has at most 513 bytes, no other list fits what is kept; where it has more, many do
 pub record StandsFor (kept : Kept) (rest : List ℕ) : Type 0 where
   pub front : kept.front ≡ take 513 rest
   pub last : kept.last ≡ slice_index rest (length rest - 1)

@@ -1,19 +1,16 @@
 -- The frames and lines of a stream. The manual ends a line by CR LF and lets a lone LF clear the receiver; the rest is this project's own.
 use Rattle.std.specs.Prelude.{◌≡◌, ◌≢◌, ℕ, ◌-◌, ◌==◌, ◌&&◌, Bool, List, [], ◌∷◌, ◌++◌, length, take, nat_lt, slice_index, if◌then◌else◌, map, Option, Some, None}
+pub use Rattle.std.specs.Char.{is_newline as is_line_feed}
 use Rattle.std.specs.List.{flat_map, filter_map, AllByRecursion}
 use Rattle.gc_lines.specs.declared.frame.Frame.{Frame}
 use Rattle.gc_lines.specs.declared.frame.Frame.TheVariants.{Line, Cleared, Overlong, More}
-
--- whether a byte is a line feed
-abbrev pub is_line_feed : ℕ → Bool
-is_line_feed b = b == 10
 
 -- whether the last byte is a carriage return
 abbrev pub ends_in_return : List ℕ → Bool
 ends_in_return bytes = nat_lt 0 (length bytes) && (slice_index bytes (length bytes - 1) == 13)
 
--- the frame of the bytes between two line feeds: cleared without a carriage return at their end, overlong with more than 512 bytes before
--- it, and else a line
+-- the frame that a line feed makes of the bytes since the one before it, or since the start: cleared without a carriage return at
+-- their end, overlong with more than 512 bytes before that, and else the line of the bytes before that
 abbrev pub frame_of : List ℕ → Frame
 frame_of bytes =
     if ends_in_return bytes
@@ -26,8 +23,8 @@ abbrev pub pieces_behind : (before stream : List ℕ) → List (List ℕ)
 pieces_behind before [] = []
 pieces_behind before (b ∷ bs) = if is_line_feed b then before ∷ pieces_behind [] bs else pieces_behind (before ++ b ∷ []) bs
 
--- what follows the last line feed of a stream; without a line feed in it, all of it after the bytes `before`, which have no line feed
--- and come before the stream
+-- what follows the last line feed of a stream. Where the stream has none, that is the bytes `before`, which have none either and come
+-- before the stream, and then the whole stream
 abbrev pub rest_behind : (before stream : List ℕ) → List ℕ
 rest_behind before [] = before
 rest_behind before (b ∷ bs) = if is_line_feed b then rest_behind [] bs else rest_behind (before ++ b ∷ []) bs

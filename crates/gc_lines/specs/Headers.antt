@@ -16,13 +16,15 @@ abbrev pub EndsId : Option ℕ → (rest : List ℕ) → Type 0
 EndsId None rest = (after : List ℕ) → rest ≢ 44 ∷ after
 EndsId (Some id) rest = NoDigitFirst rest
 
--- the bytes begin with an id from 0 to 7 after a comma, or with no comma, and the rest follows
+-- the bytes begin with a comma and an id from 0 to 7, and the rest, which doesn't begin with a digit, follows; or the id is none,
+-- and the rest is all of the bytes, which don't begin with a comma
 pub record HasId (bytes : List ℕ) (id : Option ℕ) (rest : List ℕ) : Type 0 where
   pub below : IfSome id (λ i. i < 8)
   pub whole : bytes ≡ id_text id ++ rest
   pub ends : EndsId id rest
 
--- The first faulty field: the fields before it have their form, and it has not.
+-- The first faulty field: the fields before it have their form, and it has not. `from` is the part of the line that begins with
+-- the field in question.
 
 -- the line is this signature and then the rest
 abbrev pub PastSignature : (signature line rest : List ℕ) → Type 0
@@ -48,14 +50,18 @@ pub record PastColon (signature line rest : List ℕ) : Type 0 where
   pub before : PastId signature line from
   pub here : from ≡ 58 ∷ rest
 
--- the fault names the first faulty field, from the left, of a line that is to have this signature. `Body` says what may
--- follow the colon; `Code`: what is there doesn't fit. No field is `TooLong`
+-- the fault names the first faulty field, from the left, of a line that is to have this signature. `Body` is true of what may
+-- follow the colon; where it isn't true of what does, the fault is `Code`. It is never `TooLong`, which names no field
 abbrev pub FirstBadField : (signature : List ℕ) → (Body : List ℕ → Type 0) → (line : List ℕ) → LineFault → Type 0
 FirstBadField signature Body line Signature = (rest : List ℕ) → ¬ PastSignature signature line rest
-FirstBadField signature Body line Number = (from : List ℕ) × PastSignature signature line from × ((n : ℕ) (rest : List ℕ) → ¬ HasNumber from n rest)
-FirstBadField signature Body line Id = (from : List ℕ) × PastNumber signature line from × ((id : Option ℕ) (rest : List ℕ) → ¬ HasId from id rest)
-FirstBadField signature Body line Colon = (from : List ℕ) × PastId signature line from × ((rest : List ℕ) → from ≢ 58 ∷ rest)
-FirstBadField signature Body line Code = (from : List ℕ) × PastColon signature line from × (¬ Body from)
+FirstBadField signature Body line Number =
+    (from : List ℕ) × PastSignature signature line from × ((n : ℕ) (rest : List ℕ) → ¬ HasNumber from n rest)
+FirstBadField signature Body line Id =
+    (from : List ℕ) × PastNumber signature line from × ((id : Option ℕ) (rest : List ℕ) → ¬ HasId from id rest)
+FirstBadField signature Body line Colon =
+    (from : List ℕ) × PastId signature line from × ((rest : List ℕ) → from ≢ 58 ∷ rest)
+FirstBadField signature Body line Code =
+    (from : List ℕ) × PastColon signature line from × (¬ Body from)
 FirstBadField signature Body line TooLong = ⊥
 
 -- What a reader answers.

@@ -10,12 +10,14 @@ use Rattle.gc_lines.specs.Readers.{request_at, reply_at}
 
 -- a stream can be cut at its line feeds in one way alone: into its `pieces` and its `rest_of`
 abbrev pub OneCut : Type 0
-OneCut = (stream : List ℕ) (parts : List (List ℕ)) (rest : List ℕ) → IsCut stream parts rest ↔ ((parts ≡ pieces stream) × (rest ≡ rest_of stream))
+OneCut = (stream : List ℕ) (parts : List (List ℕ)) (rest : List ℕ)
+    → IsCut stream parts rest ↔ ((parts ≡ pieces stream) × (rest ≡ rest_of stream))
 
--- wherever a stream is cut in two, its frames are those of the front, and then those of the front's rest with what follows it; and
--- its rest is the rest of these
+-- wherever a stream is cut in two, its frames are those of the front, and then those of the front's rest with the back after it; and its
+-- rest is that of the front's rest with the back after it
 abbrev pub FramesHoweverCut : Type 0
-FramesHoweverCut = (front back : List ℕ) → (frames (front ++ back) ≡ frames front ++ frames (rest_of front ++ back)) × (rest_of (front ++ back) ≡ rest_of (rest_of front ++ back))
+FramesHoweverCut = (front back : List ℕ)
+    → (frames (front ++ back) ≡ frames front ++ frames (rest_of front ++ back)) × (rest_of (front ++ back) ≡ rest_of (rest_of front ++ back))
 
 -- a stream of at most 512 bytes without CR and LF, and then CR LF, is one line, and no rest
 abbrev pub PlainIsOneLine : Type 0
@@ -36,24 +38,26 @@ pub record ReadsReplies : Type 0 where
   pub fault : (line : List ℕ) (f : LineFault) → (reply_at line ≡ Err f) ↔ FirstBadOfReply line f
   pub one : (line : List ℕ) (p r : ReplyFields) → IsReply line p → IsReply line r → p ≡ r
 
--- a request with a number and an id that a line can have
+-- a request's number is below 65536, and its id, where it has one, below 8: a line can have them
 pub record IsRequestInRange (q : RequestFields) : Type 0 where
   pub rpc : q.rpc < 65536
   pub id : IfSome q.id (λ id. id < 8)
 
--- a reply with numbers and an id that a line can have
+-- a reply's numbers are below 65536, and its id, where it has one, is below 8: a line can have them
 pub record IsReplyInRange (r : ReplyFields) : Type 0 where
   pub rc_com : r.rc_com < 65536
   pub id : IfSome r.id (λ id. id < 8)
   pub rc : r.rc < 65536
 
--- the text of a request is the one written line with its fields, reads back, and is plain where the parameters are
+-- a request has a written line exactly where it is in range. Its text is then the one written line with its fields, reads back,
+-- and is plain where the parameters are
 pub record WritesRequests : Type 0 where
   pub written : (line : List ℕ) (q : RequestFields) → IsWrittenRequest line q ↔ (IsRequestInRange q × (line ≡ request_text q))
   pub back : (q : RequestFields) → IsRequestInRange q → request_at (request_text q) ≡ Ok q
   pub plain : (q : RequestFields) → IsRequestInRange q → IsPlain q.params → IsPlain (request_text q)
 
--- the text of a reply is the one written line with its fields, reads back, and is plain where the parameters are
+-- a reply has a written line exactly where it is in range. Its text is then the one written line with its fields, reads back, and
+-- is plain where the parameters are
 pub record WritesReplies : Type 0 where
   pub written : (line : List ℕ) (r : ReplyFields) → IsWrittenReply line r ↔ (IsReplyInRange r × (line ≡ reply_text r))
   pub back : (r : ReplyFields) → IsReplyInRange r → reply_at (reply_text r) ≡ Ok r

@@ -1,4 +1,4 @@
--- Lines: the bytes between two terminators CR LF, which are the manual's.
+-- Lines: each is the bytes before a terminator CR LF, which is the manual's.
 use Rattle.std.specs.Prelude.{◌≡◌, ◌≢◌, ℕ, ◌<◌, ◌≤◌, List, [], ◌∷◌, ◌++◌, length, All}
 use Rattle.gc_lines.specs.declared.fault.LineFault.{LineFault}
 use Rattle.gc_lines.specs.declared.fault.LineFault.TheVariants.{TooLong}
@@ -15,6 +15,6 @@ with_end line = line ++ 13 ∷ 10 ∷ []
 abbrev pub IsLineWithText : (text line : List ℕ) → Type 0
 IsLineWithText text line = (line ≡ text) × (length text ≤ 512)
 
--- the text would have more than 512 bytes as a line, and the fault says so
+-- the text has more than 512 bytes, too many for a line, and the fault is `TooLong`
 abbrev pub IsTooLong : (text : List ℕ) → LineFault → Type 0
 IsTooLong text fault = (fault ≡ TooLong) × (512 < length text)

@@ -38,7 +38,7 @@ abbrev pub session_progress : {State K : Type 0} → Sink K → State → K → 
 session_progress of_sink state sink session = record { state = state; taken = of_sink.taken sink; whole = session.replies }
 
 -- between the progress `from` and `to` the frames `seen` were answered; the texts of the first ones, `done`, went out, and those
--- of the others, `held`, wait in `text`, with these lengths
+-- of the others, `held`, wait in `text`, with these lengths. `state` is the answerer's state after the frames `done`
 pub record Gathering {State : Type 0} (rule : AnswerRule State) (from to : Progress State) (seen : List Frame) (text lengths : List ℕ) : Type 0 where
   pub state : State
   pub done : List Frame
@@ -50,38 +50,51 @@ pub record Gathering {State : Type 0} (rule : AnswerRule State) (from to : Progr
   pub text_is : text ≡ all_of texts
   pub lengths_are : lengths ≡ map length texts
 
--- the sink failed within a text, of which it took the first `bytes` bytes. The answerer may have got later frames than that text's, but
--- none where texts aren't gathered
-pub record GathersPart {State : Type 0} (rule : AnswerRule State) (from to : Progress State) (seen : List Frame) (bytes : ℕ) (gathers : Bool) : Type 0 where
+-- between the progress `from` and `to` the frames `seen` were answered up to one of whose text the sink took only the first
+-- `bytes` bytes, as `AnswersPart` has it; `reached` is the answerer's state after that frame. Without `gathers` that is its state
+-- at the end; with `gathers` the answerer may have got later frames after it
+pub record GathersPart {State : Type 0} (rule : AnswerRule State) (from to : Progress State) (seen : List Frame) (bytes : ℕ)
+    (gathers : Bool) : Type 0 where
   pub reached : State
   pub part : AnswersPart rule from.state reached seen from.taken to.taken from.whole to.whole bytes
   pub alone : gathers ≡ false → reached ≡ to.state
 
--- one more frame was answered: where `Gathering` was true of the frames `seen` before it, it is true of these frames and then `frame`
-abbrev pub GathersFrame : {State K : Type 0} → AnswerRule State → Sink K → (from to : State) → (sink_old sink_new : K) → (old new : Session) → Frame → Type 0
+-- one more frame was answered, or none where `frame` is `More`: if, from some `start`, `Gathering` was true of the frames `seen`
+-- before the call, then after the call `Gathering` is true, from that `start`, of `seen` and then `frame`, or of `seen` alone
+-- where `frame` is `More`
+abbrev pub GathersFrame : {State K : Type 0} → AnswerRule State → Sink K → (from to : State) → (sink_old sink_new : K)
+    → (old new : Session) → Frame → Type 0
 GathersFrame {State} {K} rule of_sink from to sink_old sink_new old new frame =
     (start : Progress State) (seen : List Frame)
     → Gathering rule start (session_progress of_sink from sink_old old) seen old.text.items old.lengths
     → Gathering rule start (session_progress of_sink to sink_new new) (seen ++ completed frame) new.text.items new.lengths
 
--- one more frame was answered, and then the sink failed within a text, of which it took the first `bytes` bytes: where `Gathering` was
--- true of the frames `seen` before it, `GathersPart` is true of these frames and then `frame`
-abbrev pub GathersFramePart : {State K : Type 0} → AnswerRule State → Sink K → (from to : State) → (sink_old sink_new : K) → (old new : Session) → Frame → (bytes : ℕ)
+-- one more frame was answered, or none where `frame` is `More`, and of some text the sink took only the first `bytes` bytes: if,
+-- from some `start`, `Gathering` was true of the frames `seen` before the call, then after the call `GathersPart` is true, from
+-- that `start`, of `seen` and then `frame`, or of `seen` alone where `frame` is `More`
+abbrev pub GathersFramePart : {State K : Type 0} → AnswerRule State → Sink K → (from to : State) → (sink_old sink_new : K)
+    → (old new : Session) → Frame → (bytes : ℕ)
     → Type 0
 GathersFramePart {State} {K} rule of_sink from to sink_old sink_new old new frame bytes =
     (start : Progress State) (seen : List Frame)
     → Gathering rule start (session_progress of_sink from sink_old old) seen old.text.items old.lengths
     → GathersPart rule start (session_progress of_sink to sink_new new) (seen ++ completed frame) bytes old.gathers
 
--- all frames that the piece completes were answered, and all of their texts went out, whatever bytes `rest` came before the piece
-abbrev pub AnswersPiece : {State K : Type 0} → AnswerRule State → Sink K → (from to : State) → (sink_old sink_new : K) → (old new : Session) → (piece : List ℕ) → Type 0
+-- for whatever bytes `rest` the assembler stood for before the piece: all frames that the piece completes were answered, and all
+-- of their texts went out; and the assembler then stands for what follows the piece's last line feed, or, where the piece has
+-- none, for `rest` and then the whole piece
+abbrev pub AnswersPiece : {State K : Type 0} → AnswerRule State → Sink K → (from to : State) → (sink_old sink_new : K)
+    → (old new : Session) → (piece : List ℕ) → Type 0
 AnswersPiece rule of_sink from to sink_old sink_new old new piece =
     (rest : List ℕ) → StandsFor old.assembler rest
     → StandsFor new.assembler (rest_behind rest piece)
     × AnswersAll rule from to (frames_behind rest piece) (of_sink.taken sink_old) (of_sink.taken sink_new) old.replies new.replies
 
--- the frames that the piece completes were answered up to one whose text the sink took only in part: its first `bytes` bytes
-abbrev pub AnswersPiecePart : {State K : Type 0} → AnswerRule State → Sink K → (from to : State) → (sink_old sink_new : K) → (old new : Session) → (piece : List ℕ)
+-- for whatever bytes `rest` the assembler stood for before the piece: the frames that the piece completes were answered up to one
+-- of whose text the sink took only the first `bytes` bytes; where texts are gathered, the answerer may also have got frames after
+-- that one (`GathersPart`)
+abbrev pub AnswersPiecePart : {State K : Type 0} → AnswerRule State → Sink K → (from to : State) → (sink_old sink_new : K)
+    → (old new : Session) → (piece : List ℕ)
     → (bytes : ℕ) → Type 0
 AnswersPiecePart rule of_sink from to sink_old sink_new old new piece bytes =
     (rest : List ℕ) → StandsFor old.assembler rest
@@ -95,7 +108,7 @@ NoneWait session = (session.text.items ≡ []) × (session.lengths ≡ [])
 abbrev pub ChangesTextsAlone : (old new : Session) → Type 0
 ChangesTextsAlone old new = (new.assembler ≡ old.assembler) × (new.gathers ≡ old.gathers)
 
--- there is room for one more text, which has at most 514 bytes, and for its length; and no text waits where texts aren't gathered
+-- there is room for one more text of at most 514 bytes, and for its length; and without `gathers` no text waits
 pub record HasRoom (text lengths : List ℕ) (gathers : Bool) : Type 0 where
   pub for_text : length text + 514 ≤ 8192
   pub for_length : length lengths < 256
@@ -112,7 +125,8 @@ abbrev pub WritesWaiting : {K : Type 0} → Sink K → (sink_old sink_new : K) �
 WritesWaiting of_sink sink_old sink_new old new =
     Appends (of_sink.taken sink_old) (of_sink.taken sink_new) old.text.items × (new.replies ≡ old.replies + length old.lengths)
 
--- the sink failed within the texts that waited: the texts that it took whole were counted, and it took `bytes` bytes of the next
+-- of the texts that waited the sink took only the first n bytes, and not all: the texts that it took whole were counted, and of
+-- the next one it took `bytes` bytes
 abbrev pub WritesWaitingPart : {K : Type 0} → Sink K → (sink_old sink_new : K) → (old new : Session) → (bytes : ℕ) → Type 0
 WritesWaitingPart of_sink sink_old sink_new old new bytes =
     (n : ℕ) × TakesFront (of_sink.taken sink_old) (of_sink.taken sink_new) n old.text.items

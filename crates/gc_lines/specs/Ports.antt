@@ -1,5 +1,6 @@
 -- What a call of a source and of a sink does to what contracts see of them: this project's own. `old` and `new` are what is seen
--- before and after the call: the bytes that a source has still to give, those that a sink took, or whether a port has failed.
+-- before and after the call: the bytes that a source has still to give, or those that a sink took (`None`: they aren't known, and
+-- nothing is claimed of them), or whether a port has failed.
 use Rattle.std.specs.Prelude.{◌≡◌, ℕ, ◌+◌, ◌<◌, ◌≤◌, ◌==◌, Bool, true, false, List, length, take, Option, Result, Ok, Err}
 use Rattle.std.specs.Io.KnownBytes.{Consumes, Appends, Keeps, IsAtEnd}
 
@@ -8,7 +9,8 @@ abbrev pub GivesBytes : {E : Type 0} → (old new : Option (List ℕ)) → Resul
 GivesBytes old new (Ok n) buf = (n ≤ length buf) × Consumes old new (take n buf) × (n ≡ 0 → IsAtEnd new)
 GivesBytes old new (Err _) buf = Keeps old new
 
--- an answered read is counted, and was the end where it gave no byte; a failed one changes neither the count nor the end
+-- an answered read is counted, and was the end exactly where it gave no byte. A failed one changes neither the count nor whether
+-- the last answered read was the end
 abbrev pub CountsRead : {E : Type 0} → (old_reads new_reads : ℕ) (old_end new_end : Bool) → Result ℕ E → Type 0
 CountsRead old_reads new_reads old_end new_end (Ok n) = (new_reads ≡ old_reads + 1) × (new_end ≡ (n == 0))
 CountsRead old_reads new_reads old_end new_end (Err _) = (new_reads ≡ old_reads) × (new_end ≡ old_end)

@@ -19,20 +19,23 @@ abbrev pub ◌>>=◌ : {A B : Type 0} → Result A LineFault → (A → Result B
 
 -- what follows the signature at the front of a line, or the fault `Signature`
 abbrev pub signature_at : (signature line : List ℕ) → Result (List ℕ) LineFault
-signature_at signature line = if pointwise nat_eq (take (length signature) line) signature then Ok (drop (length signature) line) else Err Signature
+signature_at signature line =
+    if pointwise nat_eq (take (length signature) line) signature then Ok (drop (length signature) line) else Err Signature
 
 -- how many digits are at the front
 abbrev pub digits_len : List ℕ → ℕ
 digits_len bytes = length (take_while is_ascii_digit bytes)
 
--- the number at the front of the bytes and what follows it, or this fault where no number of one to five digits, at most 65535, is there
+-- the number that the digits at the front write, and what follows them; or this fault where there are no digits there or more
+-- than five, or where they write more than 65535
 abbrev pub number_at : LineFault → List ℕ → Result (ℕ × List ℕ) LineFault
 number_at fault bytes =
     let len = digits_len bytes in
     if nat_lt 0 len && (nat_lt len 6 && nat_lt (digits_value 10 (take len bytes)) 65536)
     then Ok (digits_value 10 (take len bytes), drop len bytes) else Err fault
 
--- the id after a comma at the front, or none without a comma, and what follows; or the fault `Id`
+-- the id after a comma at the front, or none without a comma, and what follows; or the fault `Id` where the digits that follow
+-- the comma are none, or more than one, or 8 or 9
 abbrev pub id_at : List ℕ → Result (Option ℕ × List ℕ) LineFault
 id_at bytes =
     if slice_index bytes 0 == 44
@@ -56,7 +59,7 @@ header_seen h = record { number = h.number; id = h.id; rest = h.rest.now }
 
 -- reads the fields through the colon, from the left, or gives the fault of the first that hasn't its form. `from` is what
 -- follows the signature
-unfoldable pub header_at : List ℕ → List ℕ → Result HeaderFields LineFault
+unfoldable pub header_at : (signature line : List ℕ) → Result HeaderFields LineFault
 header_at signature line = do
   from ← signature_at signature line
   number ← number_at Number from
@@ -70,7 +73,8 @@ request_at line = do
   header ← header_at request_signature line
   Ok (record { rpc = header.number; id = header.id; params = header.rest })
 
--- the parameters after a return code: none at the end of the line, else all that follows a comma; or the fault `Code`
+-- the parameters after a return code: none at the end of the line, else all that follows a comma; or the fault `Code` where
+-- another byte comes
 abbrev pub params_at : List ℕ → Result (List ℕ) LineFault
 params_at [] = Ok []
 params_at (b ∷ bs) = if b == 44 then Ok bs else Err Code

@@ -16,7 +16,8 @@ SourceCountsRead of_source old new result =
 abbrev pub SourceFails : {S E : Type 0} → Source S → (old new : S) → Result ℕ E → Type 0
 SourceFails of_source old new result = Fails (of_source.failed old) (of_source.failed new) result
 
--- where bytes are held, a read succeeds and gives as many of them as `buf` has room for, and doesn't touch the reader under it
+-- where a reader holds bytes (`held`) that it read ahead, a read of it succeeds and returns how many of them `buf` has room for,
+-- all of them at most, and the reader that they came from stays as it was. Which bytes are in `buf` then isn't said here
 abbrev pub GivesHeld : {R E : Type 0} → (held : List ℕ) → (reader_old reader_new : R) → (buf : List ℕ) → Result ℕ E → Type 0
 GivesHeld held reader_old reader_new buf result =
     0 < length held → (result ≡ Ok (min (length held) (length buf))) × (reader_new ≡ reader_old)

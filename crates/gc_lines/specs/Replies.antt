@@ -7,7 +7,7 @@ use Rattle.gc_lines.specs.Numbers.{IsNumber, NoLeadingZero}
 use Rattle.gc_lines.specs.Headers.{id_text, FirstBadField}
 
 -- the fields of a reply: the return code of the communication, the transaction id where there is one, the return code of the
--- procedure, and all bytes after the comma that follows it
+-- procedure, and all bytes after the comma that follows it, or none without a comma
 pub record ReplyFields : Type 0 where
   pub rc_com : ℕ
   pub id : Option ℕ
@@ -45,9 +45,13 @@ pub record HasCode (bytes : List ℕ) (rc : ℕ) (params : List ℕ) : Type 0 wh
   pub is_tail : EndsCode tail params
   pub whole : bytes ≡ text ++ tail
 
+-- the bytes may follow a reply's colon: a return code and parameters, as `HasCode` has them
+abbrev pub IsReplyBody : List ℕ → Type 0
+IsReplyBody bytes = (rc : ℕ) × (params : List ℕ) × HasCode bytes rc params
+
 -- the fault names the first field of a reply, from the left, that doesn't have its form
 abbrev pub FirstBadOfReply : List ℕ → LineFault → Type 0
-FirstBadOfReply line fault = FirstBadField reply_signature (λ bytes. (rc : ℕ) × (params : List ℕ) × HasCode bytes rc params) line fault
+FirstBadOfReply line fault = FirstBadField reply_signature IsReplyBody line fault
 
 -- a line is the written form of a reply: its numbers have no leading zeros, and a comma follows the return code exactly
 -- where there are parameters

@@ -27,6 +27,10 @@ pub record IsRequest (line : List ℕ) (fields : RequestFields) : Type 0 where
   pub is_id : IfSome fields.id (λ id. id < 8)
   pub whole : line ≡ request_signature ++ (number ++ (id_text fields.id ++ 58 ∷ fields.params))
 
+-- the line is no request
+abbrev pub IsNoRequest : (line : List ℕ) → Type 0
+IsNoRequest line = (q : RequestFields) → ¬ IsRequest line q
+
 -- the fault names the first field of a request, from the left, that doesn't have its form; parameters may be any bytes
 abbrev pub FirstBadOfRequest : List ℕ → LineFault → Type 0
 FirstBadOfRequest line fault = FirstBadField request_signature (λ _. Unit {0}) line fault

@@ -17,8 +17,9 @@ KeepsPiece old new piece used frame =
     position is_line_feed piece ≡ None → (used ≡ length piece) × (frame ≡ More)
     × ((rest : List ℕ) → StandsFor old rest → StandsFor new (rest ++ piece))
 
--- of a piece with a line feed the bytes through the first one are used. Where the assembler stood for some bytes, the frame is that of
--- these with the bytes before the line feed. The assembler then stands for no bytes
+-- of a piece with a line feed the bytes up to its first line feed, and this line feed, are used. Where the assembler stood for
+-- some bytes, the frame is that of these and then the piece's bytes before its first line feed. After the call the assembler
+-- stands for the empty list of bytes
 abbrev pub EndsFrame : (old new : Kept) → (piece : List ℕ) → (used : ℕ) → Frame → Type 0
 EndsFrame old new piece used frame =
     (at : ℕ) → position is_line_feed piece ≡ Some at → (used ≡ at + 1)

@@ -37,16 +37,16 @@ pub trait Answers {
 
 /// Answers the frames of a source until its end, in at most `max_reads` reads of at most 256 bytes, and writes the texts
 /// into a sink. Without `gathers` it writes each text before it looks at the next frame. With it the texts of one read wait and
-/// are sent together before the next read, or earlier where there is no room for one more: 8192 bytes or 256 texts can wait. It
-/// allocates nothing.
+/// are sent together before the next read, or earlier as soon as one more text of 514 bytes has no room: there is room for 8192
+/// bytes and 256 texts. It allocates nothing itself.
 ///
-/// Bytes without a line feed at the end of the input are no frame. Without `gathers` the answerer has got all frames that were
-/// read or, after a failed write, those up to the frame whose text the sink took only in part. With `gathers` it may then have
-/// got later frames of the same read, too.
+/// Bytes that no line feed followed are no frame, however the run ends. The answerer has got all frames that were read; after a
+/// failed write only those up to the one whose text the sink didn't take whole, and with `gathers` maybe later ones of the same
+/// read, too.
 ///
-/// It returns [`Served`] exactly where the last read was the end. Over ports that hadn't failed before, it fails with `Read` (42)
+/// It returns [`Served`] exactly where its last read was the end. Over ports that hadn't failed before, it fails with `Read` (42)
 /// exactly where the source failed, with `Write` (43) exactly where the sink did, and with `TooManyReads` (44) exactly where all
-/// reads were answered, none was the end, and no port failed.
+/// `max_reads` reads were answered, none was the end, and no port failed: so also where `max_reads` is 0.
 pub fn answer_frames<A: Answers, S: Source, K: Sink>(
     answerer: &mut A,
     source: &mut S,

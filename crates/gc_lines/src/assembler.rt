@@ -1,4 +1,4 @@
-//! Lines out of the pieces of a stream: a line ends at LF alone, wherever the stream is cut.
+//! Frames out of the pieces of a stream: each ends at a line feed, wherever the stream is cut.
 
 ghost use Rattle.std.specs.Prelude.{◌≡◌, ℕ, List, [], ◌++◌, ◌<◌, ◌↔◌, length, IfSome, IsTrue};
 ghost use Rattle.std.specs.List.{position};
@@ -15,11 +15,11 @@ use std::marker::Model;
 
 /// Takes the pieces of a stream, and gives its frames.
 ///
-/// Of the bytes since the last line feed it keeps what the next frame needs and no more, so its size does not grow with the
+/// Of the bytes since the last line feed it keeps at most the first 513, and the last one, so its size does not grow with the
 /// stream. Contracts say with `StandsFor` which bytes may have come since the last line feed; at first none have.
 #[derive(Drop)]
 pub struct Assembler {
-    // The first 513 bytes since the last line feed.
+    // The bytes since the last line feed, or since the start: only the first 513 where there are more.
     front: ArrayVec<u8, 513>,
     // The last byte since the last line feed, or 0 where none came.
     last: u8,
@@ -50,7 +50,7 @@ impl Assembler {
         }
     }
 
-    /// Whether no byte came since the last line feed.
+    /// Whether the assembler is at the start of a line: no byte came since the last line feed, or none at all.
     pub fn at_start(&self) -> bool
         ensures stands { (rest : List ℕ) × StandsFor self.now rest }
         ensures start { (rest : List ℕ) → StandsFor self.now rest → IsTrue result ↔ (rest ≡ []) }
@@ -62,7 +62,7 @@ impl Assembler {
     ///
     /// Where the piece has no line feed, all of it is used and the frame is [`Lent::More`], also where it is empty. After
     /// any other frame the assembler is at the start of a line. A line that is whole in the piece is lent from there; one
-    /// that earlier pieces began is put together in `cut`, whatever was there, and lent from there.
+    /// that earlier pieces began is put together in `cut`, in place of what was there, and lent from `cut`.
     #[inline(always)]
     pub fn next<'a>(&mut self, piece: &'a [u8], cut: &'a mut Line) -> (usize, Lent<'a>)
         ensures stands { (rest : List ℕ) × StandsFor self.old rest }
@@ -95,8 +95,8 @@ impl Assembler {
         (used, lent.to_frame())
     }
 
-    // Keeps further bytes of the line: it appends them to `front` as far as there is room, and notes the last of them, and
-    // whether room ran out.
+    // Keeps further bytes of the line: it appends to `front` those that have room there, sets `last` to the last of the bytes,
+    // and sets `long` where not all of them had room. Without bytes nothing changes.
     #[inline(never)]
     fn keep(&mut self, bytes: &[u8])
         ensures stands { (rest : List ℕ) × StandsFor self.old rest }
@@ -113,8 +113,8 @@ impl Assembler {
         }
     }
 
-    // The frame that a line feed makes of what came so far, its line put together in `cut`. The assembler is then at the start
-    // of a line.
+    // The frame that a line feed makes of the bytes since the one before it, or since the start. Where it is a line, it is put
+    // together in `cut`. The assembler is then at the start of a line.
     #[inline(never)]
     fn finish<'a>(&mut self, cut: &'a mut Line) -> Lent<'a>
         ensures frame { (rest : List ℕ) → StandsFor self.old rest → lent_seen result ≡ frame_of rest }

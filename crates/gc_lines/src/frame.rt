@@ -2,9 +2,9 @@
 
 ghost use Rattle.std.specs.Prelude.{◌≡◌};
 
-use crate::line::{Line, append};
+use crate::line::{Line, line_from};
 
-/// What is between two line feeds of a stream.
+/// What a line feed makes of the bytes since the one before it, or since the start of the stream.
 ///
 /// The manual ends a line by CR LF and says that a lone LF clears the receiver's buffer. That a line above 512 bytes is
 /// discarded whole is this project's own.
@@ -14,14 +14,14 @@ pub enum Frame {
     Line(Line),
     /// A line feed without a CR before it: the bytes before it are discarded.
     Cleared,
-    /// A line of more than 512 bytes, without its CR LF: it is discarded.
+    /// A line of more than 512 bytes, its CR LF not counted: it is discarded.
     Overlong,
-    /// No line feed came yet.
+    /// No frame yet: no line feed came.
     More,
 }
 
-/// A frame whose line is borrowed: from the piece, where the whole line is in one piece, and else from the buffer in which it was
-/// put together.
+/// A frame whose line is borrowed: from the piece, where the line and its CR LF are whole in it, and else from the buffer in
+/// which the line was put together.
 #[derive(Clone, Copy, Debug, PartialEq, Eq)]
 pub enum Lent<'a> {
     /// As [`Frame::Line`].
@@ -37,17 +37,13 @@ pub enum Lent<'a> {
 ghost use Rattle.gc_lines.specs.Lent.{lent_seen, IsLineWithin};
 
 impl Lent<'_> {
-    // The same frame, with a copy of its line.
+    // The same frame; where it is a line, its bytes are copied.
     pub(crate) fn to_frame(self) -> Frame
         requires { IsLineWithin self }
         ensures { result ≡ lent_seen self.entry }
     {
         match self {
-            Lent::Line(bytes) => {
-                let mut line = Line::new();
-                append(&mut line, bytes);
-                Frame::Line(line)
-            }
+            Lent::Line(bytes) => Frame::Line(line_from(bytes)),
             Lent::Cleared => Frame::Cleared,
             Lent::Overlong => Frame::Overlong,
             Lent::More => Frame::More,

@@ -8,13 +8,14 @@ use std::io::Read;
 
 /// A source that reads from a reader of std.
 ///
-/// It fails at the first error of the reader, and at the read after 2^64 - 1 answered ones. Then each later read fails, too.
+/// It fails at the first error of the reader, also an interruption, and at the read after 2^64 - 1 answered ones. Then each later
+/// read fails, too.
 #[derive(Drop)]
 pub struct FromReader<R> {
     reader: R,
     // How many reads were answered.
     answered: u64,
-    // Whether the last answered read was the end.
+    // Whether the last answered read was the end; false where none was answered yet.
     at_end: bool,
     // Whether a read has failed.
     broken: bool,
@@ -53,7 +54,7 @@ impl<R: Read> Source for FromReader<R> {
         ensures fails { SourceFails ⟦<FromReader<R> as Source>⟧ self.old self.new result }
         ensures limit { ⟦<FromReader<R> as Source>⟧.reads self.old ≡ 2 ^ 64 - 1 → IsErr result }
     {
-        // Where 2^64 - 1 reads were answered, no further one can be counted: it fails.
+        // A read fails where one has failed before, and where 2^64 - 1 were answered, since no further one can be counted.
         if self.broken || self.answered == u64::MAX {
             self.broken = true;
             return Err(PortFailed);

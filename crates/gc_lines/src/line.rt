@@ -25,3 +25,14 @@ pub fn append<const N: usize>(to: &mut ArrayVec<u8, N>, bytes: &[u8])
     // The caller has shown that there is room, so this never fails.
     let _ = to.try_extend_from_slice(bytes);
 }
+
+/// A line of these bytes, which are at most 512.
+#[inline]
+pub fn line_from(bytes: &[u8]) -> Line
+    requires { length bytes.now ≤ 512 }
+    ensures { result.items ≡ bytes.now }
+{
+    let mut line = Line::new();
+    append(&mut line, bytes);
+    line
+}

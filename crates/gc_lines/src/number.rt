@@ -20,8 +20,8 @@ pub(crate) fn count_digits(bytes: &[u8]) -> usize
     bytes.iter().take_while(|b| b.is_ascii_digit()).count()
 }
 
-// The number at the front, of one to five digits and at most 65535, and the bytes after it. Where there is none, `fault` is
-// returned, which names the number's field.
+// The number that the whole run of digits at the front writes, and the bytes after the run. Where the run isn't one to five
+// digits, or its number is above 65535, `fault` is returned, which names the number's field.
 #[inline(always)]
 pub(crate) fn number_of(bytes: &[u8], fault: LineFault) -> Result<(u16, &[u8]), LineFault>
     ensures { Gives (λ x. (x.0, x.1.now)) result (number_at fault bytes.now) }
@@ -55,7 +55,7 @@ pub(crate) fn push_number<const N: usize>(to: &mut ArrayVec<u8, N>, n: u16)
     }
 }
 
-// Appends a number without leading zeros, at most 5 bytes. `push_number` calls it for those of two digits or more.
+// As `push_number`, without its short way for a number of one digit.
 fn push_digits<const N: usize>(to: &mut ArrayVec<u8, N>, n: u16)
     requires { array_vec_len to.old + 5 ≤ N }
     ensures items { to.new.items ≡ to.old.items ++ decimal n }

@@ -34,7 +34,7 @@ pub trait Source {
     /// How many reads were answered.
     ghost reads: { Self → ℕ };
 
-    /// Whether the last answered read was the end.
+    /// Whether the last answered read was the end. Nothing is claimed of it before the first one.
     ghost ended: { Self → Bool };
 
     /// Whether a read has failed.
@@ -57,12 +57,13 @@ pub trait Source {
 /// Where bytes go.
 ///
 /// An implementor says with `taken` which bytes it has taken, or `None` where that is not known, as of a socket. `failed` is
-/// true from the first failed write on, and of a `Durable` sink also from the first failed sync on.
+/// true at the latest from the first failed write on, and of a `Durable` sink also from the first failed sync on.
 pub trait Sink {
     /// The bytes that were taken, where they are known.
     ghost taken: { Self → Option (List ℕ) };
 
-    /// Whether a write has failed, or a sync of a `Durable` sink.
+    /// Whether the sink takes nothing any more: a write has failed, or a sync of a `Durable` sink; or it had no room from the
+    /// beginning.
     ghost failed: { Self → Bool };
 
     /// Takes bytes from the front of `bytes`, which is not empty, and returns how many: at least one.
@@ -73,7 +74,8 @@ pub trait Sink {
         ensures bytes { TakesBytes (taken self.old) (taken self.new) result bytes.now }
         ensures fails { Fails (failed self.old) (failed self.new) result };
 
-    /// Whether a write has failed, or a sync of a `Durable` sink.
+    /// Whether the sink takes nothing any more: a write has failed, or a sync of a `Durable` sink; or it had no room from the
+    /// beginning.
     fn has_failed(&self) -> bool
         ensures { result ≡ failed self.now };
 }
@@ -83,7 +85,7 @@ pub trait Sink {
 /// An implementor says with `is_durable` whether the bytes that were taken outlast what the sink is meant to outlast: a crash, for a
 /// file that is synced. The end of a pipe is meant to outlast nothing, so its bytes always do.
 pub trait Durable: Sink {
-    /// Whether the bytes that were taken outlast what this sink is meant to outlast, as a crash.
+    /// Whether the bytes that were taken outlast what this sink is meant to outlast, such as a crash.
     ghost is_durable: { Self → Bool };
 
     /// Makes all bytes that were taken outlast what this sink is meant to outlast. It takes no bytes, and fails exactly where

@@ -11,11 +11,12 @@ use std::marker::Model;
 /// How many bytes are read ahead at most.
 const AHEAD: usize = 8192;
 
-/// A reader that reads ahead from another one, up to 8192 bytes at a time. It allocates nothing.
+/// A reader that reads ahead from another one, up to 8192 bytes at a time. It allocates nothing itself.
 ///
-/// A call returns bytes that are held, and doesn't read from the other reader. Where none are held, the call first reads once from
-/// the other, and returns some of the bytes that came. The other's end, or its error, is returned only after all bytes before it; a
-/// later call reads from the other again.
+/// Where bytes are held, a call returns as many of them as its buffer has room for, and doesn't read from the other reader. Where
+/// none are held, it first reads once from the other, also for an empty buffer, and then returns as many of the bytes that came
+/// as its buffer has room for. The other's end, or its error, is returned only after all bytes before it; a later call reads
+/// from the other again.
 #[derive(Drop)]
 pub struct ReadAhead<R> {
     held: Held,
@@ -60,7 +61,8 @@ impl Held {
         self.start == self.end
     }
 
-    // Where nothing is held: reads once from `reader`, and holds the bytes that came. Where the read fails, nothing is held.
+    // Reads once from `reader`, and holds the bytes that came: none at its end, or where the read fails. The caller has shown that
+    // nothing was held.
     fn refill<R: Read>(&mut self, reader: &mut R) -> io::Result<()>
         requires { self.old ≡ [] }
         ensures ok { OnOk result (Consumes (R.remaining reader.old) (R.remaining reader.new) self.new
@@ -106,7 +108,7 @@ impl<R: Read> Read for ReadAhead<R> {
         ensures bytes { ReadConsumes (⟦<ReadAhead<R> as Read>⟧.remaining self.old)
             (⟦<ReadAhead<R> as Read>⟧.remaining self.new) result buf.new }
 
-        // While it holds bytes it returns some of them, and doesn't read from the other.
+        // Where bytes are held, it returns as many of them as `buf` has room for, and doesn't read from the other.
         ensures held { GivesHeld self.old.held self.old.reader self.new.reader buf.old result }
 
         // Where the other failed, nothing is held: all bytes before that were returned.

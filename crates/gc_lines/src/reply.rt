@@ -43,7 +43,8 @@ fn params_of(bytes: &[u8]) -> Result<&[u8], LineFault>
     }
 }
 
-// The return code and the parameters after it. `Code`: there is no such code, or neither a comma nor the end follows it.
+// The return code at the front and the parameters after it. `Code`: the bytes don't begin with a run of one to five digits with
+// a value of at most 65535, or neither a comma nor the end follows the run.
 #[inline(always)]
 fn code_of(bytes: &[u8]) -> Result<(u16, &[u8]), LineFault>
     ensures { Gives (λ x. (x.0, x.1.now)) result (code_at bytes.now) }
@@ -83,7 +84,7 @@ pub fn read_reply(line: &[u8]) -> Result<Reply<'_>, LineFault>
     reply_of(line)
 }
 
-/// Appends a reply through its return code, at most 18 bytes; parameters may follow, each after a comma.
+/// Appends a reply with an id, from 0 to 7, through its return code, at most 18 bytes; parameters may follow, each after a comma.
 #[inline]
 pub fn push_reply<const N: usize>(to: &mut ArrayVec<u8, N>, rc_com: u16, id: u8, rc: u16)
     requires id { id < 8 }

@@ -6,7 +6,7 @@ ghost use Rattle.gc_lines.specs.Answering.{fault_number, fault_text};
 use std::error::Error;
 use std::fmt;
 
-/// The fault number of a read that failed, wherever one is printed. This project's own, as are the two below.
+/// The fault number of a read that failed, in every text that names the fault. It is this project's own, as are the two below.
 pub const READ_FAILED: u8 = 42;
 
 /// The fault number of a write that failed.
@@ -22,19 +22,19 @@ pub struct Served {
     pub replies: u64,
 }
 
-/// Why answering stopped before the input ended. `replies` is how many replies were written whole.
+/// Why answering stopped before a read was the end of the input. `replies` is how many replies were written whole.
 #[derive(Clone, Copy, Debug, PartialEq, Eq)]
 pub enum ServeFault {
     /// The source failed. The replies to all that was read are written.
     Read { replies: u64 },
-    /// The sink failed. It took the first `bytes` bytes of the next reply, its line end counted.
+    /// The sink failed. It took only the first `bytes` bytes of the next reply, its line end counted.
     Write { replies: u64, bytes: usize },
     /// All reads that were allowed were answered, and none was the end. The replies to all that was read are written.
     TooManyReads { replies: u64 },
 }
 
 impl ServeFault {
-    /// The number of the fault: 42, 43 or 44, in the order above.
+    /// The number of the fault: 42 for `Read`, 43 for `Write`, 44 for `TooManyReads`.
     pub fn number(self) -> u8
         ensures { result ≡ fault_number self }
     {

@@ -128,7 +128,7 @@ impl Session {
     }
 
     // Writes all texts that wait, and counts those that the sink took whole. `Err(bytes)`: the sink failed, and took only the first
-    // `bytes` bytes of one of them.
+    // `bytes` bytes of one of them; none of them is removed then, not even those that were counted.
     #[inline]
     fn write_texts<K: Sink>(&mut self, sink: &mut K) -> Result<(), usize>
         requires { self.old.replies + length self.old.lengths < 2 ^ 64 }

@@ -7,7 +7,8 @@ use std::io::Write;
 
 /// A sink that writes to a writer of std.
 ///
-/// It fails at the first error of the writer, or where the writer takes none of the bytes, and at each later call.
+/// It fails at the first error of the writer, also an interruption, or where the writer takes none of the bytes, and at each later
+/// call. It never flushes the writer.
 #[derive(Drop)]
 pub struct ToWriter<W> {
     writer: W,

@@ -8,17 +8,17 @@ use Rattle.gc_links.specs.declared.link.Moment.{Moment}
 pub data Act : Type 0 where
   -- the clock was read
   Told : (moment : Moment) → Act
-  -- the clock couldn't be read, alone or in a read
+  -- the clock couldn't be read, by itself or in a read of the link; what that read gave isn't known then
   Untold : Act
   -- these bytes went out whole
   Put : (bytes : List ℕ) → Act
-  -- of these bytes the first `count` went out, and the connection failed
+  -- of these bytes the first `count` went out, and the connection failed, or there was none
   Cut : (bytes : List ℕ) (count : ℕ) → Act
   -- a read gave these bytes, and then it was this moment
   Gave : (bytes : List ℕ) (moment : Moment) → Act
-  -- a read gave no byte in the time that it was allowed; none had come by this moment
+  -- a read gave no byte, as none had come by this moment
   Silent : (moment : Moment) → Act
-  -- the other end closed the connection, as a read said
+  -- the other end closed the connection, or the device is at its end, as a read said
   Ended : Act
   -- a read failed
   Broke : Act

@@ -1,11 +1,12 @@
--- How the proofs' logic stores acts: as numbers and bytes, from which the acts come back.
+-- The coding of a link's acts as numbers and bytes, from which the acts come back: a field for proofs alone has to have a coding
+-- (`Coded`) of what it holds.
 use Rattle.std.specs.Prelude.{◌≡◌, ℕ, Bool, false, List, [], cond, ◌==◌, refl}
 use Rattle.std.specs.Coded.{Coded, code_by, coded×, coded_ℕ, coded_bool, coded_list}
 use Rattle.gc_links.specs.declared.link.Moment.{Moment}
 use Rattle.gc_links.specs.Acts.{Act, Told, Untold, Put, Cut, Gave, Silent, Ended, Broke, Closed, Opened, Unopened}
 
--- the parts of an act: a number for its kind, its bytes, its count, and its moment on both clocks, with whether the end of the run was
--- asked for by then
+-- the parts of an act: a number for its kind, its bytes, its count, and its moment, which is a time on each of two clocks and whether the
+-- end of the run was asked for by then
 abbrev Parts : Type 0
 Parts = ℕ × (List ℕ × (ℕ × (ℕ × (ℕ × Bool))))
 
@@ -38,8 +39,16 @@ moment_in p = record { elapsed = p.1.1.1.0; utc = p.1.1.1.1.0; stops = p.1.1.1.1
 -- the act of these parts; a kind above 10, which no act has, counts as 10
 abbrev from_parts : Parts → Act
 from_parts p =
-    cond (p.0 == 0) (Told (moment_in p)) (cond (p.0 == 1) Untold (cond (p.0 == 2) (Put p.1.0) (cond (p.0 == 3) (Cut p.1.0 p.1.1.0) (cond (p.0 == 4) (Gave p.1.0 (moment_in p))
-    (cond (p.0 == 5) (Silent (moment_in p)) (cond (p.0 == 6) Ended (cond (p.0 == 7) Broke (cond (p.0 == 8) Closed (cond (p.0 == 9) Opened Unopened)))))))))
+    cond (p.0 == 0) (Told (moment_in p))
+    (cond (p.0 == 1) Untold
+    (cond (p.0 == 2) (Put p.1.0)
+    (cond (p.0 == 3) (Cut p.1.0 p.1.1.0)
+    (cond (p.0 == 4) (Gave p.1.0 (moment_in p))
+    (cond (p.0 == 5) (Silent (moment_in p))
+    (cond (p.0 == 6) Ended
+    (cond (p.0 == 7) Broke
+    (cond (p.0 == 8) Closed
+    (cond (p.0 == 9) Opened Unopened)))))))))
 
 -- an act comes back from its parts
 pub from_parts-to_parts : (act : Act) → from_parts (to_parts act) ≡ act
@@ -57,4 +66,7 @@ from_parts-to_parts Unopened = refl
 
 -- the coding of a list of acts, for the field `acts` of `history.rt`
 abbrev pub acts_code : Coded (List Act)
-acts_code = coded_list (code_by Parts (coded× coded_ℕ (coded× (coded_list coded_ℕ) (coded× coded_ℕ (coded× coded_ℕ (coded× coded_ℕ coded_bool))))) to_parts from_parts from_parts-to_parts)
+acts_code =
+    coded_list
+    (code_by Parts (coded× coded_ℕ (coded× (coded_list coded_ℕ) (coded× coded_ℕ (coded× coded_ℕ (coded× coded_ℕ coded_bool)))))
+    to_parts from_parts from_parts-to_parts)

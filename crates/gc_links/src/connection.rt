@@ -18,10 +18,11 @@ pub(crate) enum Peer<'a> {
     Host(&'a str),
 }
 
-/// Connects to a peer, at the first of its addresses that answers. It waits for each address no longer than `patience`.
+/// Connects to a peer, at the first of its addresses where that can be done. It waits for each address no longer than `patience`,
+/// which isn't zero. How long the look-up of a name takes is up to the system.
 ///
-/// It fails where the name isn't found, and where no address answers. A connection to itself counts as no answer: the system can
-/// make one at a port where nobody listens.
+/// It fails where the name can't be looked up, and where none of its addresses can be connected to. A connection to itself
+/// counts as failed: the system can make one at a port where nobody listens.
 pub(crate) fn connect<R: Net<Listener = TcpListener, Stream = TcpStream>>(
     rt: &R,
     peer: Peer<'_>,

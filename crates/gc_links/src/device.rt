@@ -21,7 +21,7 @@ pub(crate) const REST: u64 = 2;
 /// Why a path can't be used as the device of a link.
 #[derive(Clone, Copy, Debug, PartialEq, Eq)]
 pub enum Unusable {
-    /// The path leads to something that is no terminal.
+    /// The path leads to something that is no terminal, or doesn't answer as one.
     NoTerminal,
     /// Another program, or another opening of this one, holds the device.
     Held,
@@ -33,7 +33,7 @@ pub enum Unusable {
 /// waits. Where one would have to, the system answers `WouldBlock`; a read of a device that `stty` has set to `min 0` gives no
 /// bytes, which is an end. Without `clocal` the opening itself may wait for the carrier.
 ///
-/// `None` as the reason: the device isn't there now, or it can't be opened for a reason without a name.
+/// `None` as the reason: the device isn't there now, or it can't be opened, locked or set up for a reason without a name.
 pub(crate) fn open_device<R: Files<File = File>>(
     rt: &R,
     path: &str,
@@ -85,9 +85,10 @@ pub(crate) fn rest<R: Clock>(rt: &R) {
     thread::sleep(rt, Duration::from_millis(REST));
 }
 
-/// Writes a front of these bytes, as many as a device takes at once, rests until it takes some, and returns how many it took.
-/// `rests` counts the rests of the writes before this one, too. Where all of them together last [`PATIENCE`], it fails with
-/// `TimedOut`; any other error of a write is returned at once.
+/// Writes a front of these bytes, as many as a device takes at once, and returns how many it took: 0 where a write succeeded
+/// and took none. Where a write fails because the device isn't ready, or was interrupted, it rests and tries again; any other
+/// error is returned at once. `rests` counts the rests of the writes before this one, too. Once all of them together last
+/// [`PATIENCE`], it fails with `TimedOut`.
 pub(crate) fn write_some<R: Clock>(
     rt: &R,
     file: &File,
@@ -109,9 +110,10 @@ pub(crate) fn write_some<R: Clock>(
     Err(io::Error::from(ErrorKind::TimedOut))
 }
 
-/// A serial device by its path, and the time since the link was made. No clause says what a device carried, so its acts are not
-/// known. Each of its calls ends, whatever the device does, but for an opening that waits for the carrier. A close lets the
-/// device go only where it ended or failed; else it stays locked, and the next opening takes it again.
+/// A serial device by its path, and the time since the link was made. No clause says what a device carried, so its acts are
+/// not known. Each of its calls ends, whatever the device does, but for an opening that waits for the carrier. A close lets
+/// the device go only where it ended or failed, and no read gave bytes after that; else it stays locked, and the next opening
+/// takes it again, if it is still a terminal then.
 #[derive(Drop)]
 pub struct DeviceLink<'a, R> {
     rt: &'a R,
@@ -119,7 +121,8 @@ pub struct DeviceLink<'a, R> {
     path: &'a str,
     // The device, while a connection is open.
     file: Option<File>,
-    // Whether the device ended or failed in this connection: it may come back under another name.
+    // Whether the device ended, or a read or put of it failed, in this connection, and no read gave bytes after that: it may
+    // come back under another name.
     gone: bool,
     // The device where no connection is open, so that its lock stays: as `hold` opened it, or as the last connection left it.
     held: Option<File>,
@@ -138,8 +141,8 @@ impl<'a, R: Files<File = File> + Clock> DeviceLink<'a, R> {
         })
     }
 
-    /// Opens the device, and holds it for the link's first opening. `None` as the reason: it isn't there now, or it can't be
-    /// opened for a reason without a name.
+    /// Opens the device, and holds it for the link's next opening. `None` as the reason: it isn't there now, or it can't be
+    /// opened, locked or set up for a reason without a name.
     pub fn hold(&mut self) -> Result<(), Option<Unusable>> {
         self.held = Some(open_device(self.rt, self.path)?);
         Ok(())
@@ -151,7 +154,8 @@ impl<'a, R: Files<File = File> + Clock> DeviceLink<'a, R> {
         if held.is_terminal() { Some(held) } else { None }
     }
 
-    // Reads once, and returns how many bytes came: 0 where the device has ended or isn't open. `None`: nothing has come yet.
+    // Reads once, and returns how many bytes came: 0 where the device has ended or isn't open. `None`: nothing has come
+    // yet, or the read was interrupted.
     fn read_once(&mut self, buf: &mut [u8]) -> io::Result<Option<usize>>
         ensures { IfOk result (λ read. IfSome read (λ n. n ≤ length buf.new)) }
     {
@@ -192,7 +196,7 @@ impl<'a, R: Files<File = File> + Clock> DeviceLink<'a, R> {
             }
             self.timer.rest(REST.min(millis - waited));
         }
-        // Never in practice: 2^64 reads that gave nothing.
+        // Never in practice: 2^64 - 1 reads that gave nothing.
         Came::End
     }
 }
@@ -204,7 +208,8 @@ impl<'a, R: Files<File = File> + Clock> Link for DeviceLink<'a, R> {
         self.timer.moment().map_err(|_| PortFailed)
     }
 
-    // Reads until bytes come or `millis` milliseconds have gone by. Where no device is open, it only waits.
+    // Reads until bytes come, the device ends or fails, the clock can't be read, or `millis` milliseconds have gone by. Where no
+    // device is open, it only waits.
     fn read(&mut self, buf: &mut [u8], millis: u64) -> Came {
         if self.file.is_none() {
             return self.timer.wait(millis);
@@ -215,7 +220,8 @@ impl<'a, R: Files<File = File> + Clock> Link for DeviceLink<'a, R> {
         self.read_until(buf, moment.elapsed, millis)
     }
 
-    // Writes all bytes, and rests where the device takes none. All rests of one put together last no longer than `PATIENCE`.
+    // Writes all bytes, and rests while the device isn't ready. All rests of one put together last about `PATIENCE` at most;
+    // after that the put fails. A write that succeeds and takes nothing counts as failed.
     fn put(&mut self, bytes: &[u8]) -> Result<(), usize> {
         let Some(file) = &self.file else {
             return Err(0);
@@ -234,8 +240,8 @@ impl<'a, R: Files<File = File> + Clock> Link for DeviceLink<'a, R> {
         Ok(())
     }
 
-    // Ends the connection. A device that neither ended nor failed stays open, and so stays locked. What comes until the next
-    // opening waits in the system.
+    // Ends the connection. A device that isn't `gone` stays open, and so stays locked. What comes until the next opening
+    // waits in the system.
     fn close(&mut self) {
         let file = self.file.take();
         if file.is_some() && !self.gone {
@@ -244,7 +250,8 @@ impl<'a, R: Files<File = File> + Clock> Link for DeviceLink<'a, R> {
         self.gone = false;
     }
 
-    // Takes the device that is held, if one is held and still there, and else reopens the path.
+    // Ends the connection, if one is open, also where no new one can be made. Takes the device that is held, if one is held and
+    // still there, and else opens the path.
     fn open(&mut self) -> Result<(), PortFailed> {
         self.close();
         self.file = match self.take_held() {

@@ -27,13 +27,13 @@ pub enum Note<'a> {
     Untold,
     /// All of these bytes went out.
     Put(&'a [u8]),
-    /// `Cut(bytes, n)`: only the first n of these bytes went out.
+    /// `Cut(bytes, n)`: only the first n of these bytes went out, and the connection failed, or there was none.
     Cut(&'a [u8], usize),
     /// A read gave these bytes, and then it was this moment.
     Gave(&'a [u8], Moment),
-    /// A read gave no byte in the time that it was allowed; none had come by this moment.
+    /// A read gave no byte, and none had come by this moment.
     Silent(Moment),
-    /// The other end closed the connection.
+    /// The other end closed the connection, or the device is at its end.
     Ended,
     /// A read failed.
     Broke,

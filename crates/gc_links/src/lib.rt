@@ -23,5 +23,6 @@ pub use place::{Place, place_of};
 pub use placed::PlacedLink;
 pub use tcp::TcpLink;
 pub use telling::Telling;
+pub use timer::millis_of;
 pub use watched::Watched;
-pub use wire::{Wire, read_stream_within, wire_on, wire_to};
+pub use wire::{Wire, read_stream_within, wire_on, wire_to, write_stream};

@@ -5,25 +5,27 @@ ghost use Rattle.gc_links.specs.Acts.{Closed, Tells, clock_act, put_act, read_ac
 
 use gc_lines::PortFailed;
 
-/// A moment, on two clocks. Either clock may go back. A request's deadline isn't moved then, so it is that much further away.
+/// A moment, on two clocks. Either clock may go back. Where `elapsed` does, the deadline of a request isn't moved, so it is
+/// further away by as much.
 #[derive(Clone, Copy, Debug, PartialEq, Eq)]
 pub struct Moment {
     /// Milliseconds since some start, for deadlines.
     pub elapsed: u64,
     /// Milliseconds since 1970-01-01, UTC, for time stamps.
     pub utc: u64,
-    /// Whether the end of the run was asked for by then. `false` where nobody can ask.
+    /// Whether the end of the run was asked for by this moment. `false` where nobody can ask.
     pub stops: bool,
 }
 
 /// The result of a read of a link. With bytes comes the moment after the read, and with silence a moment by which none had come.
 #[derive(Clone, Copy, Debug, PartialEq, Eq)]
 pub enum Came {
-    /// This many bytes came.
+    /// This many bytes came, at least one.
     Bytes(usize, Moment),
-    /// No byte came in the time that was allowed, and none had come until this moment. The link is as good as before.
+    /// No byte came before the read ended, and none had come by this moment. The read ended at about the end of its time, or
+    /// earlier. The link is as good as before.
     Silence(Moment),
-    /// The other end closed the connection.
+    /// The other end closed the connection, or the device is at its end.
     End,
     /// The connection failed.
     Failure,
@@ -48,14 +50,14 @@ pub trait Link {
     /// Reads some bytes into the front of `buf`, which is not empty, and waits for them about `millis` milliseconds at most. It may
     /// end earlier, with `Silence`.
     ///
-    /// Without a connection it waits that long, and returns `Silence`.
+    /// Without a connection it waits that long, and returns `Silence`, or `NoMoment`.
     fn read(&mut self, buf: &mut [u8], millis: u64) -> Came
         requires { 0 < length buf.old }
         ensures tells { Tells (acts self.old) (acts self.new) (read_act result buf.new ∷ []) }
         ensures within { IsWithin result buf.new };
 
-    /// Writes all of these bytes, at least one. `Err(n)`: only the first n of them went out, and the connection failed, or there is
-    /// none, and n is 0. A write that stalls is cut off.
+    /// Writes all of these bytes, at least one. `Err(n)`: only the first n of them went out, because the connection failed,
+    /// or because there is none (then n is 0). A write that stalls is cut off.
     fn put(&mut self, bytes: &[u8]) -> Result<(), usize>
         requires { 0 < length bytes.now }
         ensures tells { Tells (acts self.old) (acts self.new) (put_act result bytes.now ∷ []) }
@@ -65,7 +67,8 @@ pub trait Link {
     fn close(&mut self)
         ensures { Tells (acts self.old) (acts self.new) (Closed ∷ []) };
 
-    /// Makes a new connection. `Err`: none could be made.
+    /// Makes a new connection, in place of the old one, if one is open. `Err`: none could be made; the old one may be closed
+    /// or not.
     fn open(&mut self) -> Result<(), PortFailed>
         ensures { Tells (acts self.old) (acts self.new) (open_act result ∷ []) };
 }

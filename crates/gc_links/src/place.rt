@@ -30,7 +30,8 @@ impl<'a> Display for Place<'a> {
 
 /// The place that a word names. A word with a slash is the path of a device; `://`, as in a URL, is refused. Any other word
 /// is a port from 1 to 65535, or `HOST:PORT` with such a port. A host with colons (an IPv6 address) is in brackets, and no
-/// other host is. `None`: the word is none of the three. No clause says when that is, nor what brackets and `://` mean.
+/// other host is. `None`: the word is none of the three. No clause says which words are none, nor what brackets and `://`
+/// mean.
 pub fn place_of(word: &str) -> Option<Place<'_>>
     ensures { IfSome result (λ place. IsPlace word.now place) }
 {

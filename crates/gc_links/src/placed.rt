@@ -25,9 +25,9 @@ impl<
     'a,
     R: Net<Listener = TcpListener, Stream = TcpStream> + Files<File = File> + Clock,
 > PlacedLink<'a, R> {
-    /// A link to a place. A device is opened at once: one that can't be used is refused, and one that can be is held for the link's
-    /// first opening. One that isn't there yet, or can't be opened for a reason without a name, is not refused. `None` as the reason:
-    /// the clock can't be read.
+    /// A link to a place. A device is opened at once: one that can't be used is refused, and one that can be is held for the
+    /// link's first opening. One that isn't there yet, or can't be opened, locked or set up for a reason without a name, is
+    /// not refused. `None` as the reason: the clock can't be read.
     pub fn new(rt: &'a R, place: Place<'a>) -> Result<PlacedLink<'a, R>, Option<Unusable>> {
         match place {
             Place::Port(port) => TcpLink::new(rt, port)

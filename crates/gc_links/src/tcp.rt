@@ -1,4 +1,5 @@
-//! A link over a real connection, to a port of 127.0.0.1 or to a host. None of its calls waits for ever.
+//! A link over a real connection, to a port of 127.0.0.1 or to a host. None of its calls waits for ever, but for what the system
+//! takes to look up a name.
 
 ghost use Rattle.std.specs.Prelude.{◌≤◌, length, None, IfOk, IfSome};
 ghost use Rattle.gc_links.specs.Acts.{IsWithin};
@@ -25,7 +26,7 @@ pub struct TcpLink<'a, R> {
     rt: &'a R,
     timer: Timer<'a, R>,
     peer: Peer<'a>,
-    // How long one write, and the making of a connection, may wait, in milliseconds: at least one.
+    // How long one write, and the making of a connection at one address, may wait, in milliseconds: at least one.
     patience: u64,
     stream: Option<TcpStream>,
 }
@@ -42,8 +43,9 @@ impl<'a, R: Net<Listener = TcpListener, Stream = TcpStream> + Clock> TcpLink<'a,
         TcpLink::to_peer(rt, Peer::Port(port), patience)
     }
 
-    /// A link to `HOST:PORT` that is not connected yet. The name is looked up at each open, and each of its addresses is tried in
-    /// turn. It fails where the clock can't be read.
+    /// A link to `HOST:PORT` that is not connected yet. The name is looked up at each open, for as long as the system takes for
+    /// that, and its addresses are tried in turn until one can be connected to, each for ten seconds at most. It fails where the
+    /// clock can't be read.
     pub fn to_host(rt: &'a R, host: &'a str) -> io::Result<TcpLink<'a, R>> {
         TcpLink::to_peer(rt, Peer::Host(host), PATIENCE)
     }
@@ -92,9 +94,9 @@ impl<'a, R: Net<Listener = TcpListener, Stream = TcpStream> + Clock> TcpLink<'a,
     }
 }
 
-// The timeout in milliseconds for a read that is to end within `millis` milliseconds. The system may end a wait too late: one of
-// more than a quarter of a second by an eighth of it, and a shorter one by two of the system's ticks. The caller repeats a read
-// that ended early.
+// The timeout in milliseconds for a read that is to end within `millis` milliseconds: 0 if that is 20 or less. The system may end
+// a wait too late: one of more than a quarter of a second by an eighth of it, and a shorter one by two of the system's ticks. The
+// caller repeats a read that ended early.
 fn timeout_within(millis: u64) -> u64
     ensures { result ≤ millis }
 {
@@ -106,7 +108,8 @@ fn is_interrupted(error: &io::Error) -> bool {
     error.kind() == ErrorKind::Interrupted
 }
 
-/// Whether an error of a read says only that nothing came in its time, or that the read was interrupted.
+/// Whether an error of a read counts as silence: nothing came in its time, the read was interrupted, or the system gave the
+/// connection up because the other end answered nothing (`TimedOut`).
 pub(crate) fn is_silence(kind: ErrorKind) -> bool {
     matches!(
         kind,
@@ -139,7 +142,7 @@ impl<'a, R: Net<Listener = TcpListener, Stream = TcpStream> + Clock> Link for Tc
     }
 
     // Writes all bytes, as many at once as the system takes. A write that was interrupted is made again, at most
-    // `MOST_INTERRUPTIONS` times in one put.
+    // `MOST_INTERRUPTIONS` times in one put. A write that succeeds and takes nothing counts as failed.
     fn put(&mut self, bytes: &[u8]) -> Result<(), usize> {
         let Some(stream) = &mut self.stream else {
             return Err(0);
@@ -163,7 +166,7 @@ impl<'a, R: Net<Listener = TcpListener, Stream = TcpStream> + Clock> Link for Tc
         self.stream = None;
     }
 
-    // Connects to the peer, and sets how long a write may wait. The old connection stays where that fails.
+    // Connects to the peer, and sets how long a write may wait. Where either fails, the old connection stays.
     fn open(&mut self) -> Result<(), PortFailed> {
         let patience = Duration::from_millis(self.patience);
         let Ok(stream) = connect(self.rt, self.peer, patience) else {

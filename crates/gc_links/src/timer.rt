@@ -23,8 +23,9 @@ impl<'a, R: Clock> Timer<'a, R> {
         })
     }
 
-    /// Reads both clocks. It fails where one can't be read. A time of day before 1970 counts as the beginning of 1970. Nobody asks
-    /// for the end of a run here: `Watched` looks for that.
+    /// Reads both clocks. It fails where one can't be read. Where the system's clock has gone back behind the start,
+    /// `elapsed` is 0. A time of day before 1970 counts as the beginning of 1970. The moment's `stops` is `false`: this clock
+    /// doesn't know whether the end of the run was asked for.
     pub(crate) fn moment(&self) -> io::Result<Moment> {
         let elapsed = self.start.elapsed(self.rt)?;
         let since_1970 = match SystemTime::now(self.rt)?.duration_since(UNIX_EPOCH) {
@@ -55,8 +56,8 @@ impl<'a, R: Clock> Timer<'a, R> {
         }
     }
 
-    /// The outcome of a read that gave `n` bytes, with the moment after it; `n` is 0 at the end of the stream. `NoMoment`: the
-    /// clock couldn't be read.
+    /// The outcome of a read that gave `n` bytes: `Bytes` with the moment after the read, or `End` where `n` is 0, at the end of
+    /// the stream. `NoMoment`: bytes came, and the clock couldn't be read.
     pub(crate) fn came(&self, n: usize) -> Came
         ensures { (buf : List ℕ) → n ≤ length buf → IsWithin result buf }
     {
@@ -70,7 +71,7 @@ impl<'a, R: Clock> Timer<'a, R> {
     }
 }
 
-// A time in whole milliseconds; `u64::MAX` where it has more.
-fn millis_of(time: Duration) -> u64 {
+/// A time in milliseconds, rounded down; `u64::MAX` if it has more.
+pub fn millis_of(time: Duration) -> u64 {
     u64::try_from(time.as_millis()).unwrap_or(u64::MAX)
 }

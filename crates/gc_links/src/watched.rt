@@ -9,9 +9,9 @@ use std::rt::Files;
 
 /// A link over another, whose moments say whether a file is there by which somebody asks for the run's end.
 ///
-/// It looks for the file each time that the link inside reports a moment. A file that can't be looked at, for any error,
-/// counts as not there: a run doesn't end for a directory that can't be read. Without a file (`None`) it makes no system
-/// call of its own.
+/// It looks for the file each time that the link inside reports a moment, unless the moment says already that the run's end
+/// was asked for. A file that can't be looked at, for any error, counts as not there: a run doesn't end for a directory that
+/// can't be read. Without a file (`None`) it makes no system call of its own.
 #[derive(Drop)]
 pub struct Watched<'a, R, L> {
     rt: &'a R,
@@ -21,12 +21,12 @@ pub struct Watched<'a, R, L> {
 }
 
 impl<'a, R: Files, L> Watched<'a, R, L> {
-    /// A link over this one that looks for the file at this path, if there is one.
+    /// A link over this one that looks for the file at the path `until`. `None`: it looks for no file.
     pub fn new(rt: &'a R, link: L, until: Option<&'a str>) -> Watched<'a, R, L> {
         Watched { rt, link, until }
     }
 
-    // Whether the file is there.
+    // Whether the file is there: `false` without a path, and where the system doesn't say.
     fn is_there(&self) -> bool {
         match self.until {
             Some(path) => fs::exists(self.rt, path).unwrap_or(false),
@@ -34,7 +34,7 @@ impl<'a, R: Files, L> Watched<'a, R, L> {
         }
     }
 
-    // A moment that the link inside reported, which also says whether the file is there.
+    // A moment that the link inside reported. Its `stops` is `true` also where the file is there.
     fn seen(&self, moment: Moment) -> Moment {
         Moment {
             elapsed: moment.elapsed,
@@ -44,7 +44,7 @@ impl<'a, R: Files, L> Watched<'a, R, L> {
     }
 }
 
-// Each call is that of the link inside.
+// Each call is that of the link inside; the moments that it reports pass through `seen`.
 impl<'a, R: Files, L: Link> Link for Watched<'a, R, L> {
     ghost acts = { λ _. None };
 

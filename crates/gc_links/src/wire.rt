@@ -24,8 +24,10 @@ pub enum Wire<'a, R> {
     Device(&'a R, File),
 }
 
-/// Connects to a place, or opens it where it is a device. `None` as the reason: no connection could be made, or the device
-/// isn't there now or can't be opened for a reason without a name.
+/// Connects to a place, or opens it where it is a device, as [`wire_on`] does. For a port, and for each address of a host, it
+/// waits ten seconds at most; how long the look-up of a host's name takes is up to the system. `None` as the reason: no
+/// connection could be made, or the device isn't there now, or it can't be opened, locked or set up for a reason without a
+/// name.
 pub fn wire_to<'a, R: Net<Listener = TcpListener, Stream = TcpStream> + Files<File = File>>(
     rt: &'a R,
     place: Place<'_>,
@@ -41,8 +43,9 @@ pub fn wire_to<'a, R: Net<Listener = TcpListener, Stream = TcpStream> + Files<Fi
     }
 }
 
-/// Opens a device. A read of it waits until something comes, as a read over TCP does. `None` as the reason: the device isn't
-/// there now, or it can't be opened for a reason without a name.
+/// Opens a device. Without `clocal` this may wait for the carrier. A read of the device waits until something comes, as a
+/// read over TCP does. `None` as the reason: the device isn't there now, or it can't be opened, locked or set up for a reason
+/// without a name.
 pub fn wire_on<'a, R: Files<File = File>>(
     rt: &'a R,
     path: &str,
@@ -52,7 +55,8 @@ pub fn wire_on<'a, R: Files<File = File>>(
 
 impl<'a, R: Clock> Wire<'a, R> {
     /// Reads as `read` does, but waits no longer than about `millis` milliseconds, where 0 counts as 1. `None`: nothing came in that
-    /// time, or a read over TCP was interrupted.
+    /// time, or a read over TCP was interrupted. A device is looked at every 2 milliseconds, the last time before they end: what
+    /// comes after that, or at all within less than 2 milliseconds, is left for the next read.
     pub fn read_within(&self, buf: &mut [u8], millis: u64) -> io::Result<Option<usize>>
         ensures { IfOk result (λ read. IfSome read (λ n. n ≤ length buf.new)) }
     {
@@ -63,7 +67,7 @@ impl<'a, R: Clock> Wire<'a, R> {
     }
 }
 
-// A read waits until something comes.
+// A read waits until something comes, or the connection ends or fails.
 impl<'a, R: Clock> Read for &Wire<'a, R> {
     fn read(&mut self, buf: &mut [u8]) -> io::Result<usize> {
         match *self {
@@ -73,13 +77,12 @@ impl<'a, R: Clock> Read for &Wire<'a, R> {
     }
 }
 
-// A write over TCP waits until the other end takes something. One over a device waits about ten seconds at most, and then fails with
-// `TimedOut`.
-// Each is sent at once, so there is nothing to flush.
+// A write over TCP waits until the system takes something, or the connection fails. One over a device waits about ten seconds
+// at most, and then fails with `TimedOut`. Each is sent at once, so there is nothing to flush.
 impl<'a, R: Clock> Write for &Wire<'a, R> {
     fn write(&mut self, buf: &[u8]) -> io::Result<usize> {
         match *self {
-            Wire::Tcp(stream) => write_to(stream, buf),
+            Wire::Tcp(stream) => write_stream(stream, buf),
             Wire::Device(rt, file) => write_some(*rt, file, buf, &mut 0),
         }
     }
@@ -97,17 +100,19 @@ fn read_from(stream: &TcpStream, buf: &mut [u8]) -> io::Result<usize>
     stream.read(buf)
 }
 
-// Writes to a connection over TCP.
-fn write_to(stream: &TcpStream, buf: &[u8]) -> io::Result<usize>
+/// Writes to a connection over TCP, as much as it takes at once, and returns how many bytes that is.
+pub fn write_stream(stream: &TcpStream, buf: &[u8]) -> io::Result<usize>
     ensures { IfOk result (λ n. n ≤ length buf.now) }
 {
     let mut stream = stream;
     stream.write(buf)
 }
 
-/// Reads what comes over a connection within `millis` milliseconds, where 0 counts as 1, and returns how many bytes came, 0 at the end
-/// of the stream. `None`: nothing came in that time, or the read was interrupted. The reads after this one may each wait as long as
-/// `longest` says, and for ever where that is `None`.
+/// Reads what comes over a connection within `millis` milliseconds, where 0 counts as 1, and returns how many bytes came, 0
+/// at the end of the stream. `None`: nothing came in that time, or the read was interrupted. The reads after this one may
+/// each wait as long as `longest` says, which isn't zero, and for ever where that is `None`. It also fails where the system
+/// can't set how long a read may wait; what had come may be lost then, and the reads after this one may then wait no longer
+/// than this one did.
 pub fn read_stream_within(
     stream: &TcpStream,
     buf: &mut [u8],
@@ -127,8 +132,8 @@ pub fn read_stream_within(
     }
 }
 
-// Reads what has come over a device, and rests for about `millis` milliseconds at most until something has. `None`: nothing came in
-// that time. A device that was pulled out is at its end.
+// Reads what has come over a device, and rests for about `millis` milliseconds at most until something has. `None`: nothing had come
+// by the last look, after which it rested once more. A device that was pulled out is at its end.
 fn read_device_within<R: Clock>(
     rt: &R,
     file: &File,

@@ -1,11 +1,12 @@
 -- The lines that a log has of more and more bytes, what is pending after these, and the bytes that the lines stand for
--- (`wire`). `Takes` says that a log's sink, if it hasn't failed, took a text.
+-- (`wire`). `Takes` says that a log's sink, if it hasn't failed, took a text: a, b and c are what the sink has taken at first, then and at
+-- last, and fa, fb and fc whether it had failed by then. `p` is what is pending.
 use Rattle.std.proofs.Common.{◌≡◌, ℕ, ◌+◌, ◌-◌, ◌<◌, ◌==◌, ◌&&◌, Bool, true, false, cond, not, List, [], ◌∷◌, ◌++◌, length, take, get_or, Option, refl, sym, ap, subst, ◌∙◌, arith, append_assoc, append-nil}
 use Rattle.std.specs.Prelude.{nat_lt}
 use Rattle.std.proofs.lemmas.Bool.{cond_both, eqb-true, ltb-true, and_parts}
 use Rattle.std.proofs.lemmas.List.{take_all, take_more}
 use Rattle.std.proofs.lemmas.List.Concat.{flat_map-append}
-use Rattle.gc_lines.proofs.Known.{Appends-append}
+use Rattle.std.proofs.KnownBytes.{Appends-trans}
 use Rattle.gc_lines.specs.Frames.{ends_in_return}
 use Rattle.gc_texts.specs.Logs.{log_line}
 use Rattle.gc_logs.specs.Logging.{Entry, entry, nothing, pending, line_mark, part_mark, entry_of_line, entries_at, pending_at, entries, pending_behind, log_text_of, Takes, wire_of, wire, LogKeepsAll}
@@ -14,7 +15,8 @@ use Rattle.gc_logs.specs.declared.logging.Direction.{Direction}
 use Rattle.gc_logs.specs.declared.logging.Direction.TheVariants.{Went, Came}
 
 -- the lines that the bytes `bs` and then b give are those that `bs` give, and after them those that b gives
-entries_more : (way : Direction) (p : Unwritten) (bs : List ℕ) (b : ℕ) → entries way p (bs ++ b ∷ []) ≡ entries way p bs ++ entries_at way (pending_behind p bs) b
+entries_more : (way : Direction) (p : Unwritten) (bs : List ℕ) (b : ℕ)
+    → entries way p (bs ++ b ∷ []) ≡ entries way p bs ++ entries_at way (pending_behind p bs) b
 entries_more way p [] b = append-nil (entries_at way p b)
 entries_more way p (c ∷ cs) b = ap (λ es. entries_at way p c ++ es) (entries_more way (pending_at p c) cs b)
     ∙ sym (append_assoc (entries_at way p c) (entries way (pending_at p c) cs) (entries_at way (pending_behind (pending_at p c) cs) b))
@@ -29,9 +31,10 @@ text_more : (utc : ℕ) (es fs : List Entry) → log_text_of utc (es ++ fs) ≡ 
 text_more utc es fs = flat_map-append (λ (e : Entry). log_line utc e.mark e.bytes) es fs
 
 -- if a log took one text, and then another, it took both as one
-pub takes_both : (a b c : Option (List ℕ)) (fa fb fc : Bool) (xs ys : List ℕ) → Takes a b fa fb xs → Takes b c fb fc ys → Takes a c fa fc (xs ++ ys)
+pub takes_both : (a b c : Option (List ℕ)) (fa fb fc : Bool) (xs ys : List ℕ)
+    → Takes a b fa fb xs → Takes b c fb fc ys → Takes a c fa fc (xs ++ ys)
 takes_both a b c fa fb fc xs ys one next = record {
-  took = λ stands. Appends-append a b c xs ys (one.took (next.stood stands)) (next.took stands);
+  took = λ stands. Appends-trans a b c xs ys (one.took (next.stood stands)) (next.took stands);
   stood = λ stands. one.stood (next.stood stands);
 }
 
@@ -40,13 +43,16 @@ takes_is : (a b : Option (List ℕ)) (fa fb : Bool) (xs ys : List ℕ) → xs �
 takes_is a b fa fb xs ys e h = subst (Takes a b fa fb) e h
 
 -- one turn of the loop over the bytes `bs`, at byte i: `p` is pending before the loop, `q` before this byte, and `r` after it
-module _ (a b c : Option (List ℕ)) (fa fb fc : Bool) (utc : ℕ) (way : Direction) (p q r : Unwritten) (bs : List ℕ) (i : ℕ) (within : i < length bs) where
+module _
+    (a b c : Option (List ℕ)) (fa fb fc : Bool) (utc : ℕ) (way : Direction) (p q r : Unwritten)
+    (bs : List ℕ) (i : ℕ) (within : i < length bs) where
   -- the first i + 1 bytes are the first i and byte i
   more : take (i + 1) bs ≡ take i bs ++ get_or bs i 0 ∷ []
   more = take_more bs i 0 within
 
   -- if a log took the lines of the first i bytes, and then those of byte i, it took the lines of the first i + 1
-  pub took_more : q ≡ pending_behind p (take i bs) → Takes a b fa fb (log_text_of utc (entries way p (take i bs))) → Takes b c fb fc (log_text_of utc (entries_at way q (get_or bs i 0)))
+  pub took_more : q ≡ pending_behind p (take i bs)
+      → Takes a b fa fb (log_text_of utc (entries way p (take i bs))) → Takes b c fb fc (log_text_of utc (entries_at way q (get_or bs i 0)))
       → Takes a c fa fc (log_text_of utc (entries way p (take (i + 1) bs)))
   took_more behind one next =
       let es = entries way p (take i bs) in
@@ -78,7 +84,7 @@ part_wire : (way : Direction) (bytes : List ℕ) → wire (entry (part_mark way)
 part_wire Went bytes = append-nil bytes
 part_wire Came bytes = append-nil bytes
 
--- what a line feed ends stands for the pending bytes and the line feed
+-- the line that a line feed makes of what is pending stands for the pending bytes and the line feed
 line_wire : (way : Direction) (p : Unwritten) → wire (entry_of_line way p ∷ []) ≡ p.bytes.items ++ 10 ∷ []
 line_wire way p =
     cond_both (not p.is_long && ends_in_return p.bytes.items) (entry (line_mark way) (take (length p.bytes.items - 1) p.bytes.items)) (entry (part_mark way) (p.bytes.items ++ 10 ∷ []))
@@ -89,9 +95,10 @@ line_wire way p =
     whole_wire way front ∙ sym (append_assoc front (13 ∷ []) (10 ∷ [])) ∙ ap (λ bs. bs ++ 10 ∷ []) (sym cut))
     (λ _. part_wire way (p.bytes.items ++ 10 ∷ []))
 
--- of a byte that is no line feed: the lines that it gives, and what is pending then, stand for what was pending and the byte,
+-- of a byte that is taken as no line feed: the lines that it gives, and what is pending then, stand for what was pending and the byte,
 -- whether there was room for it (`short`), or what was pending became a part
-in_line : (way : Direction) (p : Unwritten) (b : ℕ) (short : Bool) → wire (cond short [] (entry (part_mark way) p.bytes.items ∷ [])) ++
+in_line : (way : Direction) (p : Unwritten) (b : ℕ) (short : Bool)
+    → wire (cond short [] (entry (part_mark way) p.bytes.items ∷ [])) ++
     (cond short (pending (p.bytes.items ++ b ∷ []) p.is_long) (pending (b ∷ []) true)).bytes.items ≡ p.bytes.items ++ b ∷ []
 in_line way p b true = refl
 in_line way p b false = ap (λ w. w ++ b ∷ []) (part_wire way p.bytes.items)
@@ -100,7 +107,8 @@ in_line way p b false = ap (λ w. w ++ b ∷ []) (part_wire way p.bytes.items)
 -- pending and the byte
 at_end : (way : Direction) (p : Unwritten) (b : ℕ) (feed : Bool) → (b == 10) ≡ feed
     → wire (cond feed (entry_of_line way p ∷ []) (cond (nat_lt (length p.bytes.items) 513) [] (entry (part_mark way) p.bytes.items ∷ [])))
-    ++ (cond feed nothing (cond (nat_lt (length p.bytes.items) 513) (pending (p.bytes.items ++ b ∷ []) p.is_long) (pending (b ∷ []) true))).bytes.items ≡ p.bytes.items ++ b ∷ []
+    ++ (cond feed nothing (cond (nat_lt (length p.bytes.items) 513) (pending (p.bytes.items ++ b ∷ []) p.is_long) (pending (b ∷ []) true))).bytes.items
+    ≡ p.bytes.items ++ b ∷ []
 at_end way p b true is = append-nil (wire (entry_of_line way p ∷ [])) ∙ line_wire way p ∙ ap (λ c. p.bytes.items ++ c ∷ []) (sym (eqb-true b 10 is))
 at_end way p b false is = in_line way p b (nat_lt (length p.bytes.items) 513)
 
@@ -127,7 +135,8 @@ keeps_all way p bytes = sym (keeps way p bytes)
 -- if a log took the lines of one list, and then those of another, it took those of both
 pub takes_then : (a b c : Option (List ℕ)) (fa fb fc : Bool) (utc : ℕ) (es fs : List Entry) → Takes a b fa fb (log_text_of utc es)
     → Takes b c fb fc (log_text_of utc fs) → Takes a c fa fc (log_text_of utc (es ++ fs))
-takes_then a b c fa fb fc utc es fs one next = takes_is a c fa fc _ _ (sym (text_more utc es fs)) (takes_both a b c fa fb fc (log_text_of utc es) (log_text_of utc fs) one next)
+takes_then a b c fa fb fc utc es fs one next =
+    takes_is a c fa fc _ _ (sym (text_more utc es fs)) (takes_both a b c fa fb fc (log_text_of utc es) (log_text_of utc fs) one next)
 
 -- if a log took the lines of one list, and then those of another, written at an equal moment, it took those of both
 pub takes_last : (a b c : Option (List ℕ)) (fa fb fc : Bool) (utc now : ℕ) (es fs : List Entry) → now ≡ utc → Takes a b fa fb (log_text_of utc es)

@@ -1,7 +1,8 @@
 -- A log marks each line by the direction of its bytes: `>` if they were sent, `<` if they were received.
-use Rattle.std.proofs.Common.{◌-◌, ◌==◌, ◌&&◌, ℕ, Bool, true, false, not, if◌then◌else◌, List, [], ◌∷◌, ◌++◌, length, take, refl}
+use Rattle.std.proofs.Common.{◌-◌, ◌==◌, ◌&&◌, ℕ, cond, not, List, [], ◌∷◌, ◌++◌, length, take, refl}
 use Rattle.std.specs.Prelude.{nat_lt}
 use Rattle.std.specs.List.{AllByRecursion}
+use Rattle.std.proofs.lemmas.Bool.{cond_both}
 use Rattle.gc_lines.proofs.Lists.{all_append}
 use Rattle.gc_lines.specs.Frames.{ends_in_return}
 use Rattle.gc_logs.specs.Logging.{Entry, entry, line_mark, part_mark, entry_of_line, entries_at, pending_at, entries, entries_of_pending}
@@ -20,26 +21,21 @@ part_signed : (way : Direction) (bytes : List ℕ) → IsSigned (sign_of way) (e
 part_signed Went bytes = (124 ∷ [], refl)
 part_signed Came bytes = (124 ∷ [], refl)
 
--- where two lines are marked by this direction, so is whichever is chosen
-one_of : (way : Direction) (b : Bool) (x y : Entry) → IsSigned (sign_of way) x → IsSigned (sign_of way) y → IsSigned (sign_of way) (if b then x else y)
-one_of way true x y h k = h
-one_of way false x y h k = k
-
 -- what a line feed ends is marked by its direction
 end_signed : (way : Direction) (p : Unwritten) → IsSigned (sign_of way) (entry_of_line way p)
 end_signed way p =
-    one_of way (not p.is_long && ends_in_return p.bytes.items) _ _ (line_signed way (take (length p.bytes.items - 1) p.bytes.items)) (part_signed way (p.bytes.items ++ 10 ∷ []))
-
--- if the lines of two lists are marked by this direction, so are those of whichever is chosen
-all_of : (way : Direction) (b : Bool) (xs ys : List Entry) → AllByRecursion (IsSigned (sign_of way)) xs → AllByRecursion (IsSigned (sign_of way)) ys
-    → AllByRecursion (IsSigned (sign_of way)) (if b then xs else ys)
-all_of way true xs ys h k = h
-all_of way false xs ys h k = k
+    let line = take (length p.bytes.items - 1) p.bytes.items in
+    let part = p.bytes.items ++ 10 ∷ [] in
+    cond_both (not p.is_long && ends_in_return p.bytes.items) (entry (line_mark way) line) (entry (part_mark way) part) (IsSigned (sign_of way))
+    (λ _. line_signed way line) (λ _. part_signed way part)
 
 -- the lines that one more byte gives are marked by their direction
 at_signed : (way : Direction) (p : Unwritten) (b : ℕ) → AllByRecursion (IsSigned (sign_of way)) (entries_at way p b)
 at_signed way p b =
-    all_of way (b == 10) _ _ (end_signed way p, tt) (all_of way (nat_lt (length p.bytes.items) 513) [] (entry (part_mark way) p.bytes.items ∷ []) tt (part_signed way p.bytes.items, tt))
+    let part = entry (part_mark way) p.bytes.items ∷ [] in
+    let is_short = nat_lt (length p.bytes.items) 513 in
+    cond_both (b == 10) (entry_of_line way p ∷ []) (cond is_short [] part) (AllByRecursion (IsSigned (sign_of way))) (λ _. (end_signed way p, tt))
+    (λ _. cond_both is_short [] part (AllByRecursion (IsSigned (sign_of way))) (λ _. tt) (λ _. (part_signed way p.bytes.items, tt)))
 
 -- the lines that bytes give are marked by their direction
 lines_signed : (way : Direction) (p : Unwritten) (bytes : List ℕ) → AllByRecursion (IsSigned (sign_of way)) (entries way p bytes)

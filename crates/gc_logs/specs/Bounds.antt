@@ -11,7 +11,7 @@ abbrev pub full_line : List ℕ → List ℕ
 full_line line = take (min (length line) 24) line ++ codes " - full: what went or came from here on is left out\n"
 
 -- a sink took all of the line that replaces `line`, or a front of that line
-abbrev pub TakesFull : Option (List ℕ) → Option (List ℕ) → List ℕ → Type 0
+abbrev pub TakesFull : (old new : Option (List ℕ)) → (line : List ℕ) → Type 0
 TakesFull old new line = Appends old new (full_line line) ⊎ ((n : ℕ) × TakesFront old new n (full_line line))
 
 -- what is seen of a sink with a bound: what the one below it took, how many more bytes have room, and whether it has ended
@@ -29,8 +29,8 @@ pub record TakesInRoom {E : Type 0} (old new : BoundSeen) (result : Result ℕ E
   pub took : TakesBytes old.taken new.taken result bytes
   pub left : IfOk result (λ n. new.left + n ≡ old.left)
 
--- a write to a sink with a bound: if it has ended nothing more is taken; what has room is taken; and in place of what has none
--- comes the line that says so, as far as the sink below takes it, and that is the end
+-- a write of these bytes to a sink with a bound: if it has ended nothing is taken; bytes that have room go to the sink below; and in place
+-- of bytes that have none that sink takes the line that says so, or a front of it
 pub record Bounds {E : Type 0} (old new : BoundSeen) (result : Result ℕ E) (bytes : List ℕ) : Type 0 where
   pub ended : old.ended ≡ true → new.taken ≡ old.taken
   pub fits : old.ended ≡ false → length bytes ≤ old.left → TakesInRoom old new result bytes

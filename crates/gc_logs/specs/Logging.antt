@@ -48,8 +48,8 @@ entry_of_line way p =
     if not p.is_long && ends_in_return p.bytes.items then entry (line_mark way) (take (length p.bytes.items - 1) p.bytes.items)
     else entry (part_mark way) (p.bytes.items ++ codes "\n")
 
--- which lines of a log one more byte gives: a line feed gives the line that it ends; any other byte gives none, or, where 513 bytes are
--- pending, the part that these are
+-- which lines of a log one more byte gives: a line feed gives the line that it ends; any other byte gives none, or, where at
+-- least 513 bytes are pending, the part that these are
 abbrev pub entries_at : Direction → Unwritten → ℕ → List Entry
 entries_at way p b =
     if b == 10 then entry_of_line way p ∷ []
@@ -87,11 +87,11 @@ pub record Takes (old new : Option (List ℕ)) (old_failed new_failed : Bool) (t
 
 -- if this sink hasn't failed now, it took the text of these lines, written at the moment `utc` (`Takes`). `old` and `new` are the sink
 -- before and after
-abbrev pub TakesEntries : {K : Type 0} → Sink K → K → K → ℕ → List Entry → Type 0
+abbrev pub TakesEntries : {K : Type 0} → Sink K → (old new : K) → (utc : ℕ) → List Entry → Type 0
 TakesEntries of_sink old new utc es = Takes (of_sink.taken old) (of_sink.taken new) (of_sink.failed old) (of_sink.failed new) (log_text_of utc es)
 
--- the bytes on the link that a line of a log with this mark stands for: its bytes, with CR LF after a whole line; none for a
--- word on the connection
+-- the bytes on the link that a line of a log with this mark and these bytes stands for: its bytes, with CR LF after a whole line; none for
+-- a word on the connection
 abbrev pub wire_of : LogMark → List ℕ → List ℕ
 wire_of mark.Went bytes = bytes ++ 13 ∷ 10 ∷ []
 wire_of mark.WentPart bytes = bytes
@@ -106,7 +106,9 @@ wire es = flat_map (λ (e : Entry). wire_of e.mark e.bytes) es
 -- of the bytes of one direction nothing is missing, nothing is added and nothing changes places: the bytes that were pending,
 -- and after them the new ones, are those that the lines stand for, and after them those that are pending then
 abbrev pub LogKeepsAll : Type 0
-LogKeepsAll = (way : Direction) (p : Unwritten) (bytes : List ℕ) → p.bytes.items ++ bytes ≡ wire (entries way p bytes) ++ (pending_behind p bytes).bytes.items
+LogKeepsAll =
+    (way : Direction) (p : Unwritten) (bytes : List ℕ)
+    → p.bytes.items ++ bytes ≡ wire (entries way p bytes) ++ (pending_behind p bytes).bytes.items
 
 -- what is seen of a log: what its sink took and whether it has failed, what is pending of each direction, and the last moment
 pub record LogSeen : Type 0 where
@@ -118,7 +120,8 @@ pub record LogSeen : Type 0 where
 
 -- what is seen of this log, by the ghost members of its sink
 abbrev pub log_seen : {K : Type 0} → Sink K → Log K → LogSeen
-log_seen of_sink log = record { taken = of_sink.taken log.sink; failed = of_sink.failed log.sink; went = log.went; came = log.came; utc = log.utc }
+log_seen of_sink log =
+    record { taken = of_sink.taken log.sink; failed = of_sink.failed log.sink; went = log.went; came = log.came; utc = log.utc }
 
 -- the line of a log that says what became of the connection, in this word
 abbrev pub link_entry : List ℕ → Entry
@@ -132,26 +135,28 @@ utc_of utc (Silent m) = m.utc
 utc_of utc _ = utc
 
 -- the lines that a log has of an act of its link, where `went` and `came` are pending before the act: what the bytes of a write
--- or read give; a word if the connection ended, failed, was made or wasn't; and at a close also all that is pending
-abbrev pub entries_of_act : Unwritten → Unwritten → Act → List Entry
+-- or read give; at a close all that is pending; and after these a word, if the connection ended, failed, was closed, was made or
+-- couldn't be made
+abbrev pub entries_of_act : (went came : Unwritten) → Act → List Entry
 entries_of_act went came (Put bytes) = entries Went went bytes
 entries_of_act went came (Cut bytes count) = entries Went went (take count bytes) ++ link_entry (codes "failed") ∷ []
 entries_of_act went came (Gave bytes m) = entries Came came bytes
 entries_of_act went came Ended = link_entry (codes "ended") ∷ []
 entries_of_act went came Broke = link_entry (codes "failed") ∷ []
-entries_of_act went came Closed = entries_of_pending Went went.bytes.items ++ entries_of_pending Came came.bytes.items ++ link_entry (codes "closed") ∷ []
+entries_of_act went came Closed =
+    entries_of_pending Went went.bytes.items ++ entries_of_pending Came came.bytes.items ++ link_entry (codes "closed") ∷ []
 entries_of_act went came Opened = link_entry (codes "open") ∷ []
 entries_of_act went came Unopened = link_entry (codes "not open") ∷ []
 entries_of_act went came _ = []
 
--- what is pending after an act of the bytes that were sent, where `went` was pending before it: nothing after a close
+-- what is pending of the sent bytes after an act, where `went` was pending before it: nothing after a close
 abbrev pub went_behind : Unwritten → Act → Unwritten
 went_behind went (Put bytes) = pending_behind went bytes
 went_behind went (Cut bytes count) = pending_behind went (take count bytes)
 went_behind went Closed = nothing
 went_behind went _ = went
 
--- what is pending after an act of the received bytes, where `came` was pending before it: nothing after a close
+-- what is pending of the received bytes after an act, where `came` was pending before it: nothing after a close
 abbrev pub came_behind : Unwritten → Act → Unwritten
 came_behind came (Gave bytes m) = pending_behind came bytes
 came_behind came Closed = nothing

@@ -15,8 +15,9 @@ const MOMENT: usize = 24;
 const SPARE: u64 = 100;
 
 /// A sink that takes lines, each in one write, up to a bound. It ends at the first line that has no room: in place of that line
-/// comes one with the same moment, which says that all from there on is left out. It ends, too, if the sink below fails. Once
-/// it has ended, it counts as failed.
+/// comes one with the same moment, which says that all from there on is left out, as far as the sink below takes it. It ends,
+/// too, if the sink below fails, and at once, without that line, if it is made with too little room (`new`). Once it has ended,
+/// it counts as failed.
 #[derive(Drop)]
 pub struct Bounded<K> {
     sink: K,
@@ -27,7 +28,7 @@ pub struct Bounded<K> {
 
 impl<K: Sink> Bounded<K> {
     /// A sink that adds at most `room` bytes to what the sink below holds, of which 100 are kept free for the line that says that the
-    /// rest is left out. If `room` is less than these, it has ended at once, without that line.
+    /// rest is left out. If `room` is below 100, it has ended at once, without that line.
     pub fn new(sink: K, room: u64) -> Bounded<K>
         ensures sink { result.sink ≡ sink }
         ensures few { result.is_ended ≡ false → result.left + 100 ≤ room }
@@ -46,7 +47,7 @@ impl<K: Sink> Bounded<K> {
         }
     }
 
-    /// Whether this sink has ended at its bound, or had no room at first: it has ended, and the sink below hasn't failed.
+    /// Whether this sink has ended though the sink below hasn't failed: at its bound, or at once, because its room was below 100.
     pub fn is_full(&self) -> bool {
         self.is_ended && !self.sink.has_failed()
     }
@@ -88,8 +89,7 @@ fn write_full_line<K: Sink>(sink: &mut K, line: &[u8]) -> Result<(), usize>
     write_whole(sink, &full_line(line))
 }
 
-// Writes the line that replaces `line`, as far as the sink takes it. If it takes only a part, that part is cut off when the log is next
-// opened.
+// Writes the line that replaces `line`. If the sink fails at that, only a part of the line is written, or nothing.
 fn note_full<K: Sink>(sink: &mut K, line: &[u8])
     ensures { TakesFull (K.taken sink.old) (K.taken sink.new) line.now }
 {
@@ -102,7 +102,7 @@ impl<K: Sink> Sink for Bounded<K> {
     ghost failed = { λ b. b.is_ended };
 
     // Writes a line that has room. In place of the first line that has none it writes the line that says that the log is full,
-    // and it fails from then on. It also does if the sink below fails.
+    // and it fails from then on. Once the sink below has failed, it fails, too, and writes nothing more.
     fn write(&mut self, bytes: &[u8]) -> Result<usize, PortFailed>
         requires { 0 < length bytes.now }
         ensures bytes { TakesBytes None None result bytes.now }
@@ -129,7 +129,7 @@ impl<K: Sink> Sink for Bounded<K> {
         }
     }
 
-    // Whether this sink has ended: at its bound, or because the sink below failed.
+    // Whether this sink has ended: at its bound, at once for want of room, or because the sink below failed.
     fn has_failed(&self) -> bool {
         self.is_ended
     }

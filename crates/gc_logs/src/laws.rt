@@ -3,8 +3,8 @@
 ghost use Rattle.gc_logs.specs.Logging.{LogKeepsAll};
 ghost use Rattle.gc_logs.specs.Ways.{MarksTellTheWay};
 
-/// The log has all bytes of each direction: those in its lines, followed by the pending bytes, which aren't written yet, are
-/// all bytes sent, or all received, in order.
+/// The log has all bytes of each direction, unless its sink fails: those in its lines, followed by the pending bytes, which
+/// aren't written yet, are all bytes sent, or all received, in order.
 pub fn log_keeps_all()
     ensures { LogKeepsAll }
 {}

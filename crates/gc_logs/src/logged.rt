@@ -12,8 +12,9 @@ use gc_links::{Came, Link, Moment};
 /// A link over another, of which a log is written into a sink: each line that went or came, and what became of the
 /// connection. Its acts are those of the link inside, whatever becomes of the log.
 ///
-/// A line of the log has the last moment that the link's clock gave before the line ended. If the sink fails the log ends
-/// there, and the link goes on.
+/// A line of the log has the last moment that the link's clock gave before the line was written, or that given to `new` if the
+/// clock gave none yet; a line that ends in received bytes has the moment that came with these bytes. If the sink fails the log
+/// ends there, and the link goes on.
 #[derive(Drop)]
 pub struct Logged<L, K> {
     /// The link inside.
@@ -61,7 +62,8 @@ impl<L, K: Drop> Logged<L, K> {
 impl<L: Link, K: Sink> Link for Logged<L, K> {
     ghost acts = { λ l. L.acts l.link };
 
-    // Reads the clock of the link inside. The lines that are logged next have the moment that it gives.
+    // Reads the clock of the link inside. If it gives a moment, the lines from here on have that moment, until the link gives
+    // another.
     fn now(&mut self) -> Result<Moment, PortFailed>
         ensures tells { Tells (L.acts self.old.link) (L.acts self.new.link) (clock_act result ∷ []) }
         ensures logs { Logs (log_seen K.Sink self.old.log) (log_seen K.Sink self.new.log) (clock_act result) }
@@ -73,8 +75,8 @@ impl<L: Link, K: Sink> Link for Logged<L, K> {
         told
     }
 
-    // Reads from the link inside, and logs the lines that end in the received bytes, or that the connection ended or failed. Of a read
-    // after which the moment isn't known it logs nothing.
+    // Reads from the link inside, and logs the received bytes (`add_received`), or that the connection ended or failed. Of a
+    // silence it takes the moment, and logs nothing. Nor does it log anything where the clock couldn't be read (`NoMoment`).
     fn read(&mut self, buf: &mut [u8], millis: u64) -> Came
         requires { 0 < length buf.old }
         ensures tells { Tells (L.acts self.old.link) (L.acts self.new.link) (read_act result buf.new ∷ []) }
@@ -95,7 +97,7 @@ impl<L: Link, K: Sink> Link for Logged<L, K> {
         came
     }
 
-    // Writes to the link inside, and logs the lines that end in the sent bytes, and that the connection failed, if it did.
+    // Writes to the link inside, and logs the bytes that were sent (`add_sent`), and that the connection failed, if it did.
     fn put(&mut self, bytes: &[u8]) -> Result<(), usize>
         requires { 0 < length bytes.now }
         ensures tells { Tells (L.acts self.old.link) (L.acts self.new.link) (put_act result bytes.now ∷ []) }

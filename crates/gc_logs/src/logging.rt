@@ -45,7 +45,7 @@ impl Direction {
 #[derive(Drop)]
 struct Unwritten {
     bytes: ArrayVec<u8, 513>,
-    // Whether the first bytes of this line were written already.
+    // Whether the first bytes of this line are no longer pending: they were written as parts, unless the sink had failed.
     is_long: bool,
 }
 
@@ -67,7 +67,7 @@ pub(crate) struct Log<K> {
     pub(crate) sink: K,
     went: Unwritten,
     came: Unwritten,
-    // The last moment that the link's clock gave, in milliseconds since 1970.
+    // The last moment that the link's clock gave, in milliseconds since 1970; before the first, the moment given to `new`.
     pub(crate) utc: u64,
 }
 
@@ -87,7 +87,7 @@ impl<K: Sink> Log<K> {
         }
     }
 
-    // Logs sent bytes: writes the lines that end in them. The rest is pending then.
+    // Logs sent bytes, as `log_bytes` says: writes the lines that end in them, and full parts of longer ones. The rest is pending then.
     pub(crate) fn add_sent(&mut self, bytes: &[u8])
         ensures took { TakesEntries K.Sink self.old.sink self.new.sink self.old.utc (entries Went self.old.went bytes.now) }
         ensures went { self.new.went ≡ pending_behind self.old.went bytes.now }
@@ -103,7 +103,7 @@ impl<K: Sink> Log<K> {
         );
     }
 
-    // Logs received bytes: writes the lines that end in them. The rest is pending then.
+    // Logs received bytes, as `log_bytes` says: writes the lines that end in them, and full parts of longer ones. The rest is pending then.
     pub(crate) fn add_received(&mut self, bytes: &[u8])
         ensures took { TakesEntries K.Sink self.old.sink self.new.sink self.old.utc (entries Came self.old.came bytes.now) }
         ensures went { self.new.went ≡ self.old.went }
@@ -119,8 +119,8 @@ impl<K: Sink> Log<K> {
         );
     }
 
-    // Writes the pending bytes of both directions, each as a part of a line, at a close: no more bytes of these lines will be
-    // sent or received.
+    // Writes the pending bytes of both directions, the sent ones first, each as a part of a line; of a direction without pending
+    // bytes it writes nothing. Nothing is pending after that.
     pub(crate) fn flush(&mut self)
         ensures took { TakesEntries K.Sink self.old.sink self.new.sink self.old.utc
             (entries_of_pending Went self.old.went.bytes.items ++ entries_of_pending Came self.old.came.bytes.items) }
@@ -145,7 +145,7 @@ impl<K: Sink> Log<K> {
 }
 
 // Logs bytes of this direction that come after the pending ones. Writes each line that they end, with the moment `utc`, and of a line with
-// more than 513 bytes each 513 as a part. The rest is pending then.
+// more than 513 bytes before its line feed each 513 as a part, once a further one comes. The rest is pending then.
 fn log_bytes<K: Sink>(sink: &mut K, utc: u64, way: Direction, pending: &mut Unwritten, bytes: &[u8])
     ensures took { TakesEntries K.Sink sink.old sink.new utc (entries way pending.old bytes.now) }
     ensures pending { pending.new ≡ pending_behind pending.old bytes.now }

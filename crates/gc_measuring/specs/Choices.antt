@@ -5,12 +5,12 @@ use Rattle.gc_station.specs.declared.plan.Plan.{Plan}
 use Rattle.gc_texts.specs.declared.tasks.Task.{Task}
 
 -- the longest deadline in use: the greatest of this one and those of the tasks
-abbrev pub longest : ℕ → List Task → ℕ
+abbrev pub longest : (deadline : ℕ) → List Task → ℕ
 longest deadline [] = deadline
 longest deadline (task ∷ later) = longest (max deadline task.deadline) later
 
 -- the plan of a choice, for these tasks, of which the first `setup` are the setup. Its deadline is the longest in use
-abbrev pub plan_of : Choice → ℕ → List Task → Plan
+abbrev pub plan_of : Choice → (setup : ℕ) → List Task → Plan
 plan_of choice setup tasks =
     record {
       width = choice.width;

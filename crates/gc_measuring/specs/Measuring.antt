@@ -15,10 +15,9 @@ use Rattle.gc_measuring.specs.declared.stop.Stop.{Stop}
 use Rattle.gc_measuring.specs.declared.stop.Stop.TheVariants.{Text, Empty, Line, Run}
 use Rattle.gc_lines.specs.Ports.{TakesFront}
 use Rattle.gc_links.specs.Acts.{Act}
-use Rattle.gc_station.specs.Keeping.{Snapshot, KeepsUp, close_at_output}
+use Rattle.gc_station.specs.Keeping.{Snapshot, KeepsUpForReadings, close_at_output}
 use Rattle.gc_station.specs.Records.{Record}
-use Rattle.gc_station.specs.Runs.{Ran, LastsBut}
-use Rattle.gc_station.specs.Scopes.{ForReadings}
+use Rattle.gc_station.specs.Runs.{RanForReadings, LastUnlessFailed}
 use Rattle.gc_station.specs.declared.plan.Plan.{Plan}
 use Rattle.gc_station.specs.declared.tally.Tally.{Tally}
 use Rattle.gc_texts.specs.Names.{name_text}
@@ -30,7 +29,7 @@ use Rattle.gc_texts.specs.declared.tasks.Task.{Task}
 use Rattle.gc_rows.specs.declared.when.When.{When}
 
 -- the moments, the cycle, the place and the turn of a record, in a run that began at `run`, in milliseconds since 1970-01-01, UTC
-abbrev pub when_of : ℕ → Record → When
+abbrev pub when_of : (run : ℕ) → Record → When
 when_of run r = record { run = run; stamp = record { sent = r.sent; utc = r.utc; cycle = r.cycle; place = r.place; turn = r.turn } }
 
 -- the text of a record in a layout, where targets have these names
@@ -50,8 +49,8 @@ pub record PortsSeen : Type 0 where
   pub messages : Option (List ℕ)
   pub turns : List Snapshot
 
--- the sink failed before the records: of what comes before them it took the first `bytes` bytes, not all, and nothing else was
--- done
+-- the run ended with `Output`, because the sink failed before the records: of what comes before them it took the first `bytes` bytes, not
+-- all, and nothing else was done
 pub record FailsInFront (layout : Layout) (old new : PortsSeen) (result : Result Tally Stop) : Type 0 where
   pub is : result ≡ Err (Run Output)
   pub bytes : ℕ
@@ -74,20 +73,20 @@ survey_of station max_turns setup tasks names =
     record { plan = plan_of station.choice setup tasks; tasks = tasks; max_turns = max_turns; layout = station.layout; names = names }
 
 -- a run over a link, whose acts before and after are `acts` and `acts'`, wrote the records that its acts give of the tasks into a
--- sink, which had taken `taken` before and `taken'` after, and ended with `end`. This holds with every function that gives each
--- reply's reading for its call, and there is such a function
+-- sink, which had taken `taken` before and `taken'` after, and ended with `end` (`RanForReadings`)
 abbrev pub RunsSurvey : Survey → (acts acts' : Option (List Act)) → (taken taken' : Option (List ℕ)) → (end : Result Tally RunFault) → Type 0
-RunsSurvey survey acts acts' taken taken' end = ForReadings (λ reads.
-    Ran survey.plan survey.tasks (record { turns = survey.max_turns; reads = reads }) (text_in survey.layout survey.names) acts acts' taken taken' end)
+RunsSurvey survey acts acts' taken taken' end =
+    RanForReadings survey.plan survey.tasks survey.max_turns (text_in survey.layout survey.names) acts acts' taken taken' end
 
--- at each act of a run over these tasks, all that the acts before it settled was recorded, and lasted (`KeepsUp`). `seen` and
--- `seen'` are the turns before the run and after it
+-- at each act of a run over these tasks, all that the acts before it settled was recorded, and lasted (`KeepsUpForReadings`).
+-- `taken` is what the sink had taken before the run; `seen` and `seen'` are what was seen at each act so far, before the run and
+-- after it
 abbrev pub SurveyKeepsUp : Survey → (acts acts' : Option (List Act)) → (taken : Option (List ℕ)) → (seen seen' : List Snapshot) → (end : Result Tally RunFault) → Type 0
-SurveyKeepsUp survey acts acts' taken seen seen' end = ForReadings (λ reads.
-    KeepsUp survey.plan survey.tasks (record { turns = survey.max_turns; reads = reads }) (text_in survey.layout survey.names) acts acts' taken seen seen' (close_at_output end))
+SurveyKeepsUp survey acts acts' taken seen seen' end =
+    KeepsUpForReadings survey.plan survey.tasks survey.max_turns (text_in survey.layout survey.names) acts acts' taken seen seen' (close_at_output end)
 
--- the sink took what comes before the records, and then what a run over the link records of its tasks. Before each act all that
--- was written by then lasted. `between` is what the sink had taken before the records
+-- the sink took what comes before the records, and then what a run over the link records of its tasks. At each act all that the acts
+-- before it settled was recorded, and lasted. `between` is what the sink had taken before the records
 pub record RunsAfterFront (survey : Survey) (old new : PortsSeen) (result : Result Tally Stop) : Type 0 where
   pub between : Option (List ℕ)
   pub front : Appends old.taken between (front_text survey.layout)
@@ -105,7 +104,7 @@ pub record IsUnused (old new : PortsSeen) : Type 0 where
 
 -- the text `given` by a source was refused, and then nothing was done over the link, and nothing written; or the sink failed
 -- before the records; or the text's tasks were measured, in at most `max_turns` acts
-abbrev pub Measures : List ℕ → Settings → (max_turns : ℕ) → (old new : PortsSeen) → Result Tally Stop → Type 0
+abbrev pub Measures : (given : List ℕ) → Settings → (max_turns : ℕ) → (old new : PortsSeen) → Result Tally Stop → Type 0
 Measures given station max_turns old new result =
     ((stop : Stop) × (result ≡ Err stop) × RefusesTasks given old.input new.input stop × IsUnused old new)
     ⊎ ((setup : ℕ) × (tasks : List Task) × (names : List Name) × GivesTasks given old.input new.input station.choice setup tasks names
@@ -142,11 +141,11 @@ IsUntouched old new _ = Unit {0}
 -- all records last, as `is_durable` says; nothing is said where the text was refused or the sink failed
 abbrev pub AllLast : (is_durable : Bool) → Result Tally Stop → Type 0
 AllLast is_durable (Ok _) = is_durable ≡ true
-AllLast is_durable (Err (Run fault)) = LastsBut {X = Tally} is_durable (Err fault)
+AllLast is_durable (Err (Run fault)) = LastUnlessFailed {X = Tally} is_durable (Err fault)
 AllLast is_durable (Err _) = Unit {0}
 
 -- the line of a cycle that was not done when the next was due
-abbrev pub overrun_line : ℕ → List ℕ
+abbrev pub overrun_line : (cycle : ℕ) → List ℕ
 overrun_line cycle = codes "geocom: cycle " ++ decimal cycle ++ codes " was not done when the next was due\n"
 
 -- the front of the line of the counts: how many commands were answered, late and lost
@@ -168,6 +167,6 @@ abbrev pub tally_line : Tally → List ℕ
 tally_line t = main_counts_text t ++ other_counts_text t ++ repeats_text t
 
 -- how the program reports a station's end: by status 0 and the line of its counts, or by status 1 and the lines of its stop
-abbrev pub ReportsEndOfRun : Result Tally Stop → ℕ → (old new : Option (List ℕ)) → Type 0
+abbrev pub ReportsEndOfRun : Result Tally Stop → (status : ℕ) → (old new : Option (List ℕ)) → Type 0
 ReportsEndOfRun (Ok tally) status old new = (status ≡ 0) × Appends old new (tally_line tally)
 ReportsEndOfRun (Err stop) status old new = (status ≡ 1) × Appends old new (stop_text stop)

@@ -16,11 +16,12 @@ use Rattle.gc_texts.specs.declared.tasks.Tasks.{Tasks}
 use Rattle.gc_texts.specs.declared.trouble.Trouble.{Trouble}
 
 -- the stop by which a text with this fault is refused: for a faulty line, with the line's trouble
-abbrev pub IsRefusal : List ℕ → RunFault → Stop → Type 0
+abbrev pub IsRefusal : (text : List ℕ) → (fault : RunFault) → Stop → Type 0
 IsRefusal text (Schedule n) stop = (trouble : Trouble) × IsTrouble (line_at text n) trouble × (stop ≡ Line n trouble)
 IsRefusal text fault stop = stop ≡ Text fault
 
--- the text that a source gave is a station's text without a command of a cycle, whatever deadline and chaining it has by default
+-- the text that a source gave, to its end, is a station's text without a command of a cycle, read with some deadline and some chaining
+-- as its defaults, and so the stop is `Empty`
 pub record HasNoCommand (given : List ℕ) (old new : Input) (stop : Stop) : Type 0 where
   pub read : WasRead given old new
   pub deadline : ℕ
@@ -33,8 +34,8 @@ pub record HasNoCommand (given : List ℕ) (old new : Input) (stop : Stop) : Typ
   pub none : length tasks ≤ setup
   pub is : stop ≡ Empty
 
--- the text that a source gave is no station's text, or wasn't read, or it has no command of a cycle
-abbrev pub RefusesTasks : List ℕ → (old new : Input) → Stop → Type 0
+-- the text that a source gave wasn't read to its end, or is no station's text, or has no command of a cycle, and this stop says which
+abbrev pub RefusesTasks : (given : List ℕ) → (old new : Input) → Stop → Type 0
 RefusesTasks given old new stop =
     ((fault : RunFault) × RefusesText TaskFault given old new fault × IsRefusal given fault stop) ⊎ HasNoCommand given old new stop
 

@@ -27,7 +27,7 @@ use Rattle.gc_texts.specs.declared.fault.RunFault.TheVariants.{Log}
 
 -- what is seen of a station's ports: of its streams by the ghost members of their traits, the acts that its link recorded, and
 -- what was seen at each of them
-abbrev pub ports_seen : {S K E : Type 0} → Source S → Sink K → (E → Option (List ℕ)) → Streams S K E → Option (List Act) → List Snapshot → PortsSeen
+abbrev pub ports_seen : {S K E : Type 0} → Source S → Sink K → (shown : E → Option (List ℕ)) → Streams S K E → Option (List Act) → List Snapshot → PortsSeen
 ports_seen source sink shown streams acts turns =
     record { input = input_of source streams.input; acts = acts; taken = sink.taken streams.output; messages = shown streams.messages; turns = turns }
 
@@ -36,8 +36,9 @@ abbrev pub acts_of : {L : Type 0} → Option (Telling L) → Option (List Act)
 acts_of None = None
 acts_of (Some link) = Some link.history.acts
 
--- a text was refused, or its commands were measured, over a link that recorded these acts, with what was seen at each; and the
--- status and the messages report how that ended. `between` are the messages before this report
+-- a text was refused, or its commands were measured, over a link that recorded these acts, with what was seen at each; and the status and
+-- the messages report how that ended. All records last, as `AllLast` has it, and the sink has failed if the run ended with `Output`, else
+-- only if it had before. `between` are the messages before the report
 pub record ReportsMeasuring {S K E : Type 0} (source : Source S) (sink : Sink K) (lasts : K → Bool) (shown : E → Option (List ℕ)) (station : Settings)
     (acts acts' : Option (List Act)) (turns turns' : List Snapshot) (old new : Streams S K E) (status : ℕ) : Type 0 where
   pub end : Result Tally Stop
@@ -47,16 +48,16 @@ pub record ReportsMeasuring {S K E : Type 0} (source : Source S) (sink : Sink K)
   pub fails : FailsAtOutput (sink.failed old.output) (sink.failed new.output) (with_fault end)
   pub counts : ReportsEndOfRun end status (shown between) (shown new.messages)
 
--- as `ReportsMeasuring` says, and then whether the log isn't complete (`is_lost`). `behind` are the messages before the report of the
--- log
-abbrev pub ReportsLogged : {S K E : Type 0} → Source S → Sink K → (K → Bool) → (E → Option (List ℕ)) → Settings → (acts acts' : Option (List Act))
+-- as `ReportsMeasuring` says; and then, if the log isn't complete (`is_lost`), the messages report that (`ReportsLoss`). `behind`
+-- are the messages before the report of the log
+abbrev pub ReportsLogged : {S K E : Type 0} → Source S → Sink K → (lasts : K → Bool) → (shown : E → Option (List ℕ)) → Settings → (acts acts' : Option (List Act))
     → (turns turns' : List Snapshot) → (old new : Streams S K E) → (is_lost : Bool) → (status : ℕ) → Type 0
 ReportsLogged {S = S} {K = K} {E = E} source sink lasts shown station acts acts' turns turns' old new is_lost status =
     (behind : E) × ReportsMeasuring source sink lasts shown station acts acts' turns turns' old (record new { messages = behind }) status
     × ReportsLoss is_lost (shown behind) (shown new.messages)
 
--- a source gave a text to its end, and the run over its commands is done, or its end was asked for, over a link that recorded
--- these acts
+-- a source gave a text to its end, and the run over its commands is done, or its end was asked for, over a link that recorded these acts.
+-- `between` are the messages as the run left them
 pub record MeasuresAll {S K E : Type 0} (source : Source S) (sink : Sink K) (shown : E → Option (List ℕ)) (station : Settings)
     (acts acts' : Option (List Act)) (turns turns' : List Snapshot) (old new : Streams S K E) : Type 0 where
   pub between : E
@@ -66,7 +67,7 @@ pub record MeasuresAll {S K E : Type 0} (source : Source S) (sink : Sink K) (sho
 abbrev pub CannotBegin : (has_log : Bool) → RunFault → Type 0
 CannotBegin has_log fault = IsFaultWithoutLink fault ⊎ ((has_log ≡ true) × (fault ≡ Log))
 
--- a run didn't begin, and then there was no link, and nothing was read or written
+-- a run didn't begin, and ended with a fault for which it can't (`CannotBegin`); then there was no link, and nothing was read or written
 abbrev pub IsUnbegun : {S K E : Type 0} → (has_log : Bool) → (old new : Streams S K E) → (acts : Option (List Act)) → (turns turns' : List Snapshot)
     → (end : Result Tally Stop) → Type 0
 IsUnbegun has_log old new acts turns turns' end = (fault : RunFault) × (end ≡ Err (Run fault)) × CannotBegin has_log fault
@@ -81,9 +82,9 @@ pub record MeasuresFromNone {S K E : Type 0} (source : Source S) (sink : Sink K)
   pub measured : MeasuresBegun station (ports_seen source sink shown old (Some []) turns) (ports_seen source sink shown new (Some told) turns') end
   pub all_last : AllLast (lasts new.output) end
 
--- a run measured by these acts of its link, with what was seen at each, or it didn't begin; and the status and the messages
--- report how it ended, and then whether the log, if one was asked for (`has_log`), isn't complete (`is_lost`). `between` are the
--- messages before the report of the end, and `behind` those after it
+-- a run measured by these acts of its link, with what was seen at each, or it didn't begin; and the status and the messages report how it
+-- ended, and then whether the log, if one was asked for (`has_log`), isn't complete (`is_lost`). The sink has failed if the run ended with
+-- `Output`, else only if it had before. `between` are the messages before the report of the end, and `behind` those after it
 pub record ReportsRun {S K E : Type 0} (source : Source S) (sink : Sink K) (lasts : K → Bool) (shown : E → Option (List ℕ)) (has_log : Bool) (station : Settings)
     (old new : Streams S K E) (acts : Option (List Act)) (turns turns' : List Snapshot) (status : ℕ) : Type 0 where
   pub end : Result Tally Stop
@@ -99,7 +100,7 @@ pub record ReportsRun {S K E : Type 0} (source : Source S) (sink : Sink K) (last
 
 -- a source gave a text to its end, and the run over its commands is done, or its end was asked for, by these acts, which its
 -- link recorded from none on
-abbrev pub MeasuresAllFromNone : {S K E : Type 0} → Source S → Sink K → (E → Option (List ℕ)) → Settings → (old new : Streams S K E)
+abbrev pub MeasuresAllFromNone : {S K E : Type 0} → Source S → Sink K → (shown : E → Option (List ℕ)) → Settings → (old new : Streams S K E)
     → (acts : Option (List Act)) → (turns turns' : List Snapshot) → Type 0
 MeasuresAllFromNone source sink shown station old new acts turns turns' =
     (told : List Act) × (acts ≡ Some told) × ((run : ℕ) × MeasuresAll source sink shown (begun_at run station) (Some []) (Some told) turns turns' old new)
@@ -130,10 +131,9 @@ pub record ReportsAppended {S F K E : Type 0} (source : Source S) (sink : Sink F
   pub filed : IsFiled sink old new begun ended file
   pub run : ReportsRun source sink lasts shown has_log (appended station) begun ended acts turns turns' status
 
--- either a file of records can't be had, which is reported (`RefusesFile`), or a run appended to it, and its end is reported
--- (`ReportsAppended`)
-abbrev pub ReportsAppending : {S F K E : Type 0} → Source S → Sink F → (F → Bool) → (E → Option (List ℕ)) → (has_log : Bool) → Settings → (old new : Streams S K E)
-    → Option F → Option (List Act) → (turns turns' : List Snapshot) → (status : ℕ) → Type 0
+-- a file of records can't be had, which is reported (`RefusesFile`); or a run appended to it, and its end is reported (`ReportsAppended`)
+abbrev pub ReportsAppending : {S F K E : Type 0} → Source S → Sink F → (lasts : F → Bool) → (shown : E → Option (List ℕ)) → (has_log : Bool) → Settings
+    → (old new : Streams S K E) → (file : Option F) → (acts : Option (List Act)) → (turns turns' : List Snapshot) → (status : ℕ) → Type 0
 ReportsAppending source sink lasts shown has_log station old new file acts turns turns' status =
     RefusesFile shown old new status ⊎ ReportsAppended source sink lasts shown has_log station old new file acts turns turns' status
 

@@ -1,6 +1,6 @@
 -- Since when a station wants an answer that doesn't come: this project's own. A want (`Wanted`) has the moment since which an
--- answer is wanted, if one is (`since`); whether an answer came since the last cycle ended (`heard`); and whether one has been
--- wanted for so long that a message on that is due, or was written (`overdue`).
+-- answer is wanted, if one is (`since`); whether an answer came since the last cycle ended, or since the start if none has
+-- (`heard`); and whether one has been wanted for so long that a message on that is due, or was written (`overdue`).
 use Rattle.std.specs.Prelude.{◌≡◌, ℕ, ◌-◌, Bool, true, false, ◌&&◌, not, nat_lt, List, [], ◌∷◌, Option, None, Some, if◌then◌else◌}
 use Rattle.gc_links.specs.declared.link.Moment.{Moment}
 use Rattle.gc_station.specs.declared.book.LinkHealth.{LinkHealth}
@@ -16,13 +16,14 @@ abbrev pub wanted_from : Option Moment → Moment → Option Moment
 wanted_from None moment = Some moment
 wanted_from (Some since) moment = Some since
 
--- the want once a cycle has ended, because nothing of it is left to be asked: it is over if the cycle had an answer, and it isn't
--- overdue
+-- the want once a cycle has ended, because nothing of the cycle is left to be asked: if the cycle had an answer, and the want
+-- isn't overdue, no answer is wanted any longer; else the moment since which one is wanted stays. The next cycle has had no
+-- answer yet
 abbrev pub after_cycle : Wanted → Wanted
 after_cycle w = record { since = if w.heard && not w.overdue then None else w.since; heard = false; overdue = w.overdue }
 
--- the want after a look at a station: an answer is wanted without a connection, while a new one isn't quiet yet, and while a
--- request has no reply. A station that is idle has ended a cycle, and one that is fine changes nothing
+-- the want after a look at a station: an answer is wanted where a connection is wanted and there is none, while a new one isn't
+-- quiet yet, and while a request has no reply. A station that is idle has ended a cycle, and one that is fine changes nothing
 abbrev pub after_look : LinkHealth → Moment → Wanted → Wanted
 after_look Fine moment w = w
 after_look Idle moment w = after_cycle w
@@ -44,7 +45,7 @@ pub record Look : Type 0 where
   pub health : LinkHealth
   pub moment : Moment
 
--- the want after these looks, if no answer comes before any of them
+-- the want after these looks, in order, if no answer comes before the last of them
 abbrev pub after_looks : List Look → Wanted → Wanted
 after_looks [] w = w
 after_looks (look ∷ later) w = after_looks later (after_look look.health look.moment w)

@@ -21,7 +21,7 @@ use std::process::ExitCode;
 /// the names of their targets, the deadlines of their commands in milliseconds, and how often and after what they may be sent again.
 /// What looks wrong, and is no fault, is reported on the messages, as far as they can be written: angles outside one turn, targets
 /// of which the text says where they are, though no command measures their direction, names of targets without a command, and
-/// spaces at ends of lines.
+/// spaces or tabs at ends of lines.
 ///
 /// Status 0: the text can be measured. Status 1: it can't be read or is refused, memory was refused, or the output failed, each of
 /// which is reported as a run reports it. `Err`: this report couldn't be written. The streams are handed back. No clause says
@@ -54,8 +54,9 @@ pub fn check_task_text<S: Source, K: Sink, E: Write>(
     (streams, status)
 }
 
-// Reports what looks wrong in the text of these tasks, and is no fault: angles outside one turn, targets of which the text says where
-// they are, though no command measures their direction, names of targets without a command, and spaces at ends of lines.
+// Reports what looks wrong in the text of these tasks, and is no fault: angles outside one turn, targets of which the text says
+// where they are, though no command measures their direction, names of targets without a command, and spaces or tabs at ends of
+// lines. `Err`: the messages couldn't be written, and what comes after that isn't reported.
 fn report_doubts<E: Write>(text: &[u8], tasks: &Tasks, messages: &mut E) -> io::Result<()> {
     report_odd_angles(text, tasks, messages)?;
     report_unasked(tasks, messages)?;
@@ -75,8 +76,8 @@ fn write_outline<K: Sink>(alloc: Global, tasks: &Tasks, output: &mut K) -> Resul
     }
 }
 
-// Writes the outline of these tasks: a line for each command of the setup, if there is one, and a line for each chain of a cycle, with
-// a line before each of the two parts that counts its commands.
+// Writes the outline of these tasks: if there is a setup, a line with the number of its commands and a line for each of them; and
+// then a line with the number of a cycle's commands and a line for each of its chains.
 fn outline_tasks<W: Write>(tasks: &Tasks, outline: &mut W) -> io::Result<()> {
     let setup = tasks.setup;
     if setup > 0 {
@@ -94,7 +95,7 @@ fn outline_tasks<W: Write>(tasks: &Tasks, outline: &mut W) -> io::Result<()> {
 
 // Writes a line for each chain of a cycle: its target, its commands, and how often and after what it may be sent again.
 fn outline_chains<W: Write>(tasks: &Tasks, outline: &mut W) -> io::Result<()> {
-    // Of the chain that is being written: how often it may be sent again, and after what. `None`: none is.
+    // Of the chain that is being written: how often it may be sent again, and after what. `None`: no chain is being written.
     let mut chain: Option<(u64, Again)> = None;
     for task in tasks.tasks.iter().skip(tasks.setup) {
         // A later attempt has the commands of the first: it only counts.
@@ -120,7 +121,8 @@ fn begin_chain<W: Write>(tasks: &Tasks, target: u32, outline: &mut W) -> io::Res
     write!(outline, ":")
 }
 
-/// Writes a target, and after it in parentheses its name, as in `target 7 (pier 4)`. A name that is empty or isn't UTF-8 is left out.
+/// Writes a target, and after it in parentheses its name, as in `target 7 (pier 4)`. A name that is empty or isn't UTF-8 is left
+/// out, with its parentheses. `Err`: `out` couldn't be written.
 pub fn write_target<W: Write>(target: u32, name: &[u8], out: &mut W) -> io::Result<()> {
     write!(out, "target {target}")?;
     let name = str::from_utf8(name).unwrap_or("");
@@ -142,7 +144,7 @@ fn outline_command<W: Write>(task: &Task, outline: &mut W) -> io::Result<()> {
     write!(outline, " within {deadline} ms;")
 }
 
-// Ends the line of a chain, if one is being written: how often it may be sent again, and after what.
+// Ends the line of a chain, if one is being written: how often it may be sent again, and after what, if it may be at all.
 fn end_chain<W: Write>(chain: Option<(u64, Again)>, outline: &mut W) -> io::Result<()> {
     let Some((again, rule)) = chain else {
         return Ok(());

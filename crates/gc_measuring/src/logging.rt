@@ -52,7 +52,8 @@ fn begins_log(front: &[u8]) -> bool {
 
 // Opens the file of a log, which is made if the path is free, and cuts off a torn last line. The file is refused, and stays as it
 // is, if it can't be opened or read, is no regular file, doesn't begin as a log does, or is held by another program or by the
-// records of this one. It is refused, too, if the cut fails. If a file can't be locked, it is taken unlocked.
+// records of this one. It is refused, too, if the cut or its sync fails; the cut may be done then. A file that can't be locked
+// for another reason is taken unlocked.
 fn open_log<R: Files<File = File>>(rt: &R, path: &str) -> Result<RowsFile<SystemFile>, Unfit> {
     let file = open_file(rt, path)?;
     if file.hold() == Err(Unfit::Held) {
@@ -72,8 +73,8 @@ fn open_log<R: Files<File = File>>(rt: &R, path: &str) -> Result<RowsFile<System
 }
 
 /// Opens the log at `log`, and notes in `noticed` how many bytes of a torn line were cut off. The file grows to `log.most` bytes
-/// at most; if its length can't be read, nothing is appended. Returns `None` if no log is asked for, and fails with `Log` if the
-/// file can't be had as a log.
+/// at most. If fewer than 100 bytes are left until then, or its length can't be read, nothing is appended. Returns `None` if no
+/// log is asked for, and fails with `Log` if the file can't be had as a log.
 pub(crate) fn log_at<'a, R: Files<File = File>>(
     rt: &R,
     noticed: &'a Cell<Noticed>,
@@ -96,7 +97,7 @@ pub(crate) fn log_at<'a, R: Files<File = File>>(
     }))
 }
 
-// How many bytes may be appended until the file has `most`; 0 where its length can't be read.
+// How many bytes may be appended until the file has `most`; 0 if it has more already, or its length can't be read.
 fn room_in<F: Appending>(file: &F, most: u64) -> u64 {
     match file.len() {
         Ok(len) => most.saturating_sub(len),
@@ -159,9 +160,9 @@ fn note_torn(noticed: &Cell<Noticed>, torn: u64) {
     });
 }
 
-/// Measures over a link with a log, and reports how the run ended, as `measure_over` does. After that it reports, if so, that the log
-/// isn't complete: it ended at its bound, or its file failed. Returns the streams and the status of the first report, or the error of
-/// a report that couldn't be written. What was seen of link and output at each act is noted in `kept`.
+/// Measures over a link with a log, and reports how the run ended, as `measure_over` does. If the log isn't complete, because it
+/// ended at its bound or its file failed, a line says so after that. Returns the streams and the status of the first report, or
+/// the error of a report that couldn't be written. What was seen of link and output at each act is noted in `kept`.
 pub(crate) fn measure_logged<L: Link, G: Sink, S: Source, K: Durable, E: Write>(
     alloc: Global,
     logged: &mut Logged<L, G>,

@@ -6,7 +6,7 @@ ghost use Rattle.gc_measuring.specs.Measuring.{text_in, front_text, survey_of, R
 ghost use Rattle.gc_measuring.specs.Stops.{with_fault};
 ghost use Rattle.gc_measuring.specs.Telling.{ports_seen};
 ghost use Rattle.gc_lines.specs.Ports.{FailsWith, TakesFront};
-ghost use Rattle.gc_station.specs.Runs.{FailsAtOutput, LastsBut};
+ghost use Rattle.gc_station.specs.Runs.{FailsAtOutput, LastUnlessFailed};
 ghost use Rattle.gc_texts.specs.declared.text.TheConstants.{TEXT_LIMIT};
 
 use crate::plan::plan_of;
@@ -27,9 +27,9 @@ use std::alloc::Global;
 use std::cell::Cell;
 use std::io::Write;
 
-/// Reads the whole text of the input, writes what comes before the records on the output, and measures the commands over a link
-/// by the settings of `station`, in at most `max_turns` acts. What was seen of link and output at each act is noted in `kept`.
-/// The streams are handed back, with how the run ended.
+/// Reads the whole text of the input, writes what comes before the records on the output, unless `station.layout.headed` says
+/// that it is there already, and measures the commands over a link by the settings of `station`, in at most `max_turns` acts.
+/// What was seen of link and output at each act is noted in `kept`. The streams are handed back, with how the run ended.
 ///
 /// Before the link is used or anything is written, `Text` comes with `Read` if the input failed, with `InputTooLong` if it gave
 /// more than 65,536 bytes, and with `Memory` if memory was refused, `Line` at the first faulty line, and `Empty` if the text
@@ -37,11 +37,11 @@ use std::io::Write;
 /// the records, and then the link wasn't used, or when records were written or synced.
 ///
 /// The messages get at the start what is odd about the text: each angle of a positioning that lies outside one turn, and each
-/// target of which the text says where it is, though no command measures its direction. If somebody watches (`choice.watch`),
-/// they then get the number of a cycle's commands and the place, signs of life, each kind at most once a minute (the status line
-/// of a terminal once a second), and what `spot` has noticed as odd about the line. In any case they get what it has noticed of
-/// the files, and, if the run ends because it is stale, since when no answer of a good quality came. If they can't be written the
-/// station measures on.
+/// target of which the text says where it is, though no command measures its direction. If somebody watches (`choice.watch`), the
+/// messages then get the number of a cycle's commands and the place, signs of life, each kind at most once a minute (the status
+/// line of a terminal once a second), and what `spot` has noticed as odd about the line. In any case they get what `spot` has
+/// noticed of the files, and, if the run ends because it is stale, since when no answer of a good quality came. If the messages
+/// can't be written, the station measures on.
 pub fn run_station_text<L: Link, S: Source, K: Durable, E: Write>(
     alloc: Global,
     link: &mut L,
@@ -51,8 +51,9 @@ pub fn run_station_text<L: Link, S: Source, K: Durable, E: Write>(
     max_turns: u64,
     kept: &mut Kept,
 ) -> (Streams<S, K, E>, Result<Tally, Stop>)
-    // The text was refused; or its commands were measured, and the link, the output and the run's end are as the model has
-    // them. At each act all that the acts before it settled was written, and lasted.
+    // The text was refused; or the output failed before the records; or the text's commands were measured, and the link, the
+    // output and the run's end are as the model has them. At each act all that the acts before it settled was written, and
+    // lasted.
     ensures measures { MeasuresText station max_turns
         (ports_seen S.Source K.Sink E.contents streams (L.acts link.old) kept.old.turns)
         (ports_seen S.Source K.Sink E.contents result.0 (L.acts link.new) kept.new.turns)
@@ -61,7 +62,7 @@ pub fn run_station_text<L: Link, S: Source, K: Durable, E: Write>(
     // If the fault is `Output` the output has failed; otherwise whether it has failed is as before.
     ensures output { FailsAtOutput (K.failed streams.output) (K.failed result.0.output) (with_fault result.1) }
 
-    // Unless the output failed, all that was written outlasts what the output is meant to outlast.
+    // Unless the text was refused or the output failed, all that was written outlasts what the output is meant to outlast.
     ensures is_durable { AllLast (K.is_durable result.0.output) result.1 }
 
     // At most 65,537 reads of the input were answered.
@@ -109,7 +110,7 @@ fn measure<L: Link, S, K: Durable, E: Write>(
     ensures keeps { SurveyKeepsUp (survey_of station max_turns work.setup work.tasks.items work.named.names.items)
         (L.acts link.old) (L.acts link.new) (K.taken streams.output) kept.old.turns kept.new.turns result.1 }
     ensures output { FailsAtOutput (K.failed streams.output) (K.failed result.0.output) result.1 }
-    ensures is_durable { LastsBut (K.is_durable result.0.output) result.1 }
+    ensures is_durable { LastUnlessFailed (K.is_durable result.0.output) result.1 }
     ensures input { result.0.input ≡ streams.input }
 {
     let Streams {
@@ -159,8 +160,8 @@ fn write_front<K: Durable>(sink: &mut K, layout: Layout) -> Result<(), usize>
     write_head(sink, layout.form)
 }
 
-// When the last answer of a good quality came, or the run began, once a command had this ending at the moment `utc`. Before that it
-// was `fresh`. All are in milliseconds since 1970.
+// What `Records::fresh` is after a command ended at `utc` with this ending: `utc` if it was answered well (`is_well`), and else
+// `fresh`, which is what it was before. Both moments are in milliseconds since 1970.
 fn fresh_after(fresh: u64, utc: u64, ending: Ending<'_>) -> u64 {
     if is_well(ending) { utc } else { fresh }
 }
@@ -173,7 +174,7 @@ struct Records<'a, K, E> {
     named: Tasks,
     // What was noticed of the line and of the station's files.
     noticed: &'a Cell<Noticed>,
-    // When an answer of a good quality came last, or the run began, in milliseconds since 1970.
+    // When an answer of a good quality came last, or when the run began if none came yet, in milliseconds since 1970.
     fresh: u64,
     reporter: Reporter<E>,
 }
@@ -208,7 +209,7 @@ impl<'a, K: Durable, E: Write> Book for Records<'a, K, E> {
 
     ghost is_durable = { λ book. K.is_durable book.sink };
 
-    // Writes a record. The signs of life count the record also if it can't be written.
+    // Writes a record. The signs of life count it, and an answer of a good quality is noted, also if the record can't be written.
     fn write(
         &mut self,
         stamp: Stamp,
@@ -240,7 +241,7 @@ impl<'a, K: Durable, E: Write> Book for Records<'a, K, E> {
         self.reporter.report(self.noticed.get(), health, moment);
     }
 
-    // Reports on the messages that the cycle wasn't done when the next was due, if a line of this kind may be written.
+    // Reports on the messages that this cycle wasn't done when the next was due, if a line of this kind may be written now.
     fn overran(&mut self, cycle: u64) {
         self.reporter.report_overrun(cycle);
     }

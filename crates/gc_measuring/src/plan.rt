@@ -7,7 +7,8 @@ use gc_station::Plan;
 use gc_texts::Task;
 use gc_words::Choice;
 
-/// The plan of a choice for these tasks, of which the first `setup` are the setup. Its deadline is the longest in use.
+/// The plan of a choice for these tasks, of which the first `setup` are the setup. Its deadline is the longest in use: the
+/// greatest of the choice's own and those of the tasks.
 pub fn plan_of(choice: Choice, setup: usize, tasks: &[Task]) -> Plan
     ensures { result ≡ plan_of choice setup tasks.now }
 {

@@ -79,9 +79,9 @@ fn write_rotation<E: Write>(why: Unfit, messages: &mut E) -> io::Result<()>
     }
 }
 
-// Opens the file of a station's records at `recording.path`, for rows in the station's form, each of which is synced if `recording.sync`
-// is set. Writes how many rows were copied and how many bytes of an incomplete row were cut off, if any were. Returns the file, and
-// whether this could be written. `Err`: why the file can't be had; then nothing is written.
+// Opens the file of a station's records at `recording.path`, for rows in `form_of_rows` of the station, each of which is synced
+// if `recording.sync` is set. Writes how many rows were copied and how many bytes of an incomplete row were cut off, if any were.
+// Returns the file, and whether this could be written. `Err`: why the file can't be had; then there is no message.
 fn open_records<R: Files<File = File>, E: Write>(
     rt: &R,
     alloc: Global,
@@ -120,8 +120,10 @@ pub struct Appended<'a, R> {
 }
 
 impl<'a, R: Files<File = File>> Appended<'a, R> {
-    /// Closes the link, and then ends the appending. If the path still leads to the file, and all that it holds is on the disk,
-    /// this takes away the mark by which the next start would copy the file.
+    /// Closes the link, and then ends the appending, as [`Followed::end`] does: if the file was opened with `sync`, the path
+    /// still leads to it, and all that it holds is on the disk, if need be after one more sync, this removes the mark by which
+    /// the next start would copy the file. The mark stays if the path can't be followed, the system refuses to remove the mark,
+    /// or memory runs out.
     pub fn end(self) {
         let Appended { file, link } = self;
         drop(link);
@@ -131,10 +133,10 @@ impl<'a, R: Files<File = File>> Appended<'a, R> {
 
 /// Measures at a site, as [`measure_at`] does, and appends the records as rows to a file, which is opened before anything else is
 /// done. If the file can't be had, nothing is read or sent, and the fault, which is reported with status 1, is `RecordsUnopened`,
-/// `RecordsHeld`, `RecordsForeign`, or `Output` if a call of the system failed. For `RecordsForeign` the messages also say how to
-/// rotate the file. What was in the file stays, but for half a row at its end, which is cut off. If a mark beside the file says
-/// that an earlier run was killed or a sync failed, the rows are copied to a new file. Cut and copy are reported. If the path no longer
-/// leads to the file, rows go on in a new one there, if it can be had.
+/// `RecordsHeld`, `RecordsForeign`, or `Output` if a call of the system failed, a read gave nothing, or memory ran out. For
+/// `RecordsForeign` the messages also say how to rotate the file. What was in the file stays, but for half a row at its end,
+/// which is cut off. If a mark is beside the file, as after a run that was killed or a sync that failed, the rows are copied to a
+/// new file. Cut and copy are reported. If the path no longer leads to the file, rows go on in a new one there, if it can be had.
 ///
 /// The streams are handed back, and, if the file could be had, the file and the link, if there was one; [`Appended::end`] is left
 /// to the caller. What was seen of link and file at each act is noted in `kept`.

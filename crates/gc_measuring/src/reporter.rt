@@ -80,7 +80,7 @@ impl<E: Write> Reporter<E> {
     }
 
     /// Writes, of a run that ended because it is stale, since when no answer of a good quality came. `since` is in milliseconds since
-    /// 1970. The line is written also if the choice has no signs of life.
+    /// 1970. The line is written also if nobody watches.
     pub(crate) fn report_stale(&mut self, since: u64) {
         let _ = self.signs.report_stale(since, &mut self.messages);
     }

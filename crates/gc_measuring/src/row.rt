@@ -9,8 +9,8 @@ use gc_rows::{When, write_record};
 use gc_texts::{Ending, Stamp, Tasks, Wish};
 use gc_words::Layout;
 
-/// Writes the record of a command that ended, in a layout, with the name that its target has in `named`. `Err`: the sink took a
-/// first part of the record's bytes, not all of them, and has failed.
+/// Writes the record of a command that ended, in a layout, with the name that its target has in `named`, empty if it has none.
+/// `Err`: the sink took a first part of the record's bytes, not all of them, and has failed.
 pub fn write_station_row<K: Sink>(
     sink: &mut K,
     layout: Layout,

@@ -12,8 +12,9 @@ use gc_texts::{Ending, Stamp, stamp_text};
 use gc_words::Watch;
 use std::io::{self, Write};
 
-// How long a line that isn't quiet, or an answer that doesn't come, has to last before it is reported, in milliseconds. A station is
-// looked at each second, so the message comes within a minute.
+// How long a line that isn't quiet, or an answer that doesn't come, has to last before it is reported, in milliseconds. A station
+// is looked at before each act, and a read takes a second at most: so the message comes within a minute, unless one of its kind
+// was written in the last minute, or an act takes longer, as making a connection may.
 const LASTING: u64 = 59_000;
 
 // How many columns the status line of a terminal has at most.
@@ -22,7 +23,8 @@ const COLUMNS: usize = 79;
 // A second, in milliseconds: the status line of a terminal is rewritten once a second at most, and gives ages in seconds.
 const SECOND: u64 = 1_000;
 
-// Limits how often a line of one kind is written. `last`: when one was written last, in milliseconds of the clock for deadlines.
+// Limits how often a line of one kind is written. `last`: when one was allowed last, also one that couldn't be written, in
+// milliseconds of the clock for deadlines; `None`: none was yet.
 #[derive(Clone, Copy)]
 struct RateLimit {
     last: Option<u64>,
@@ -52,26 +54,28 @@ impl RateLimit {
 #[derive(Clone, Copy)]
 pub(crate) struct Signs {
     watch: Watch,
-    // The health of the link when it was seen last, since when it has been the same, and when it was seen, in milliseconds of the
-    // clock for deadlines.
+    // The health of the link at the last look, since when it has been the same, and when that look was, in milliseconds of the
+    // clock for deadlines. Before the first look they are `Idle` and 0, and if nobody watches they stay so.
     health: LinkHealth,
     since: Moment,
     elapsed: u64,
     // Since when an answer is wanted.
     wanted: Wanted,
-    // Whether a trouble was reported and no line yet says that it is over, and whether a command was answered since the trouble.
+    // Whether a trouble was reported and no line yet says that it is over; and whether a command was answered since the last report of a
+    // trouble, and since the last look without a connection.
     is_troubled: bool,
     is_answered: bool,
-    // How many skipped commands no line has reported yet, how many of them the last look found, and when the first of them was
-    // skipped, in milliseconds since 1970.
+    // How many skipped commands no line has reported yet, how many of them there were after the last look, and when the first of them
+    // was skipped, in milliseconds since 1970.
     skipped: u64,
     skipped_before: u64,
     skipped_since: u64,
     // Since when the setup isn't done, in milliseconds since 1970: a command of it wasn't answered well, and no record of a
     // cycle came since.
     unprepared_since: Option<u64>,
-    // The cycle of the last record of one, how many commands ended in each way, and when the last answer came, in milliseconds of the
-    // clock for deadlines.
+    // The cycle of the last record that isn't one of the setup (0: there was none), how many commands ended in each way, those of
+    // each attempt of a chain counted, and when the last look before the last answer was, in milliseconds of the clock for
+    // deadlines (`None`: no answer came yet).
     cycle: u64,
     counts: Tally,
     answered: Option<u64>,
@@ -151,8 +155,8 @@ impl Signs {
         }
     }
 
-    // Notes that an answer came, also one with a return code other than 0, with values that can't be read, or
-    // with a direction that is elsewhere.
+    // Notes that an answer came, also one with a return code other than 0, with values that can't be read, or with a direction that is
+    // elsewhere.
     fn note_answer(&mut self)
         ensures { self.new.counts ≡ self.old.counts }
     {
@@ -211,7 +215,7 @@ impl Signs {
 
     // Notes whether an answer is wanted, and writes the lines that are due, each kind at most once a minute: on a missing connection,
     // on a setup that isn't done, on a line that isn't quiet, on an answer that doesn't come, and on the end of such a trouble.
-    // `before` is the health of the link at the last look, and `is_lost` as in `see`.
+    // `before` is the health of the link at the look before this one, and `is_lost` as in `see`.
     fn report_troubles<E: Write>(
         &mut self,
         before: LinkHealth,
@@ -236,7 +240,7 @@ impl Signs {
         Ok(())
     }
 
-    /// Writes what is odd about the line, each thing once; nothing if nobody watches.
+    /// Writes each thing that is odd about the line (`odd`) and wasn't at the call before; nothing if nobody watches.
     pub(crate) fn report_odd<E: Write>(
         &mut self,
         odd: Oddities,
@@ -263,9 +267,9 @@ impl Signs {
         Ok(())
     }
 
-    // Reports at most once a minute that there is no connection, if the last one was lost or couldn't be made (`is_lost`), and the
-    // health of the link at the last look (`before`) wasn't `Idle`: after that a cycle just began, and the station makes a connection
-    // at once. Without a connection an earlier answer no longer ends a trouble.
+    // Reports at most once a minute that there is no connection, if the last one was lost or couldn't be made (`is_lost`), and
+    // the health of the link at the look before this one (`before`) wasn't `Idle`: if it was, a cycle has just begun, and the
+    // station makes a connection at once. Without a connection an earlier answer no longer ends a trouble.
     fn report_connection<E: Write>(
         &mut self,
         before: LinkHealth,
@@ -345,7 +349,8 @@ impl Signs {
         writeln!(messages, "geocom: {what} since {since}")
     }
 
-    // Reports the end of a trouble, once a command was answered after it, unless a line of this kind was written in the last minute.
+    // Reports the end of a trouble, once a command was answered after the last report of a trouble and after the last look
+    // without a connection, unless a line of this kind was written in the last minute.
     fn report_recovery<E: Write>(&mut self, messages: &mut E) -> io::Result<()> {
         if !self.is_troubled || !self.is_answered || !self.connected.allows(self.elapsed, MINUTE) {
             return Ok(());
@@ -369,7 +374,8 @@ impl Signs {
         writeln!(messages, "geocom: commands skipped since {since}: {count}")
     }
 
-    // Rewrites the status line, if a terminal shows one, at most once a second. What has no room in `COLUMNS` is left out.
+    // Writes the status line, over the one that is shown, if somebody watches at a terminal: at most once a second. What has no
+    // room in `COLUMNS` is left out.
     fn show<E: Write>(&mut self, messages: &mut E) -> io::Result<()> {
         if self.watch != Watch::Terminal || !self.shown.allows(self.elapsed, SECOND) {
             return Ok(());
@@ -391,7 +397,8 @@ impl Signs {
         show_others(self.counts, row)
     }
 
-    // Writes how many seconds ago the last answer of any kind came, if one did.
+    // Writes how many seconds ago the last answer of any kind came, if one did. They count from the last look before the answer,
+    // and are 0 if the clock for deadlines went back since then.
     fn show_age<E: Write>(&self, row: &mut E) -> io::Result<()> {
         match self.answered {
             Some(moment) => {

@@ -14,7 +14,7 @@ pub struct Spot<'a> {
 }
 
 impl<'a> Spot<'a> {
-    /// Notes the fault for which the run stopped.
+    /// Notes the fault for which the run stopped, or couldn't begin.
     pub fn note_fault(self, fault: RunFault) {
         let seen = self.noticed.get();
         self.noticed.set(Noticed {

@@ -28,12 +28,13 @@ use std::process::ExitCode;
 use std::rt::Files;
 use std::time::Clock;
 
-/// Measures at a site, and reports how the run ended: with status 0 by the counts, or with status 1 by the fault (`Err`: the messages
-/// couldn't be written). If the site has a log, its file is opened first, and what was on the link is appended to it. If the site's
-/// file `until` is there, the run ends between two chains, as one that is done. Beside the faults of a run, the fault is `Log` if no
-/// log can be had, `Clock` if the clock can't be read, and what is wrong with the device if the place is one and can't be used. That a
-/// log isn't complete, because it ended at its bound or its file failed, is reported after that, and changes no status. The streams
-/// are handed back, and the link, if there was one. What was seen of link and output at each act is noted in `kept`.
+/// Measures at a site, and reports how the run ended: with status 0 by the counts, or with status 1 by the fault (`Err`: the
+/// messages couldn't be written). If the site has a log, its file is opened first, and what was on the link is appended to it. If
+/// the site's file `until` is there, the run ends between two chains, or two attempts of one, as a run that is done. Beside the
+/// faults of a run, the fault is `Log` if no log can be had, `Clock` if the clock can't be read, and what is wrong with the
+/// device if the place is one and can't be used. That a log isn't complete, because it ended at its bound or its file failed, is
+/// reported after that, and changes no status. The streams are handed back, and the link, if there was one. What was seen of link
+/// and output at each act is noted in `kept`.
 pub fn measure_at<
     'a,
     R: Net<Listener = TcpListener, Stream = TcpStream> + Clock + Files<File = File>,
@@ -52,9 +53,10 @@ pub fn measure_at<
     io::Result<ExitCode>,
     Option<Telling<Watched<'a, R, PlacedLink<'a, R>>>>,
 )
-    // The status and the messages report how the run ended, and then whether the log isn't complete. Either the text was refused, or
-    // its commands were measured: the link that is handed back has recorded all acts of the run and no other, the sink its
-    // records, and at each act all that was settled before lasted. Or log, link or clock couldn't be had, and nothing was done.
+    // The status and the messages report how the run ended, and then whether the log isn't complete. Either the text was refused,
+    // or the output failed before the records, or the text's commands were measured: the link that is handed back has recorded
+    // all acts of the run and no other, the sink its records, and at each act all that was settled before lasted. Or log, link or
+    // clock couldn't be had, and nothing was done.
     ensures told { IfOk result.1 (λ status. ReportsRun S.Source K.Sink K.is_durable E.contents (is_some spot.entry.site.log) station
         streams result.0 (acts_of result.2) kept.old.turns kept.new.turns (exit_status status)) }
 
@@ -94,7 +96,7 @@ struct Opened<'a, R> {
     log: Option<LogSink<'a, RowsFile<SystemFile>>>,
 }
 
-// Opens the log, if one is asked for, and then the link. Fails with `Log` if the log can't be had, else with the fault of
+// Opens the log, if one is asked for, and then makes the link. Fails with `Log` if the log can't be had, else with the fault of
 // `link_at`, which is also noted at `spot`.
 fn open_link_and_log<
     'a,
@@ -155,7 +157,8 @@ pub(crate) fn measure_over<L: Link, S: Source, K: Durable, E: Write>(
     streams: Streams<S, K, E>,
     kept: &mut Kept,
 ) -> (Streams<S, K, E>, io::Result<ExitCode>)
-    // The text was refused, or its commands were measured; and the status and the messages report how that ended.
+    // The text was refused, or the output failed before the records, or the text's commands were measured; and the status and the
+    // messages report how that ended.
     ensures told { IfOk result.1 (λ status. ReportsMeasuring S.Source K.Sink K.is_durable E.contents station
         (L.acts link.old) (L.acts link.new) kept.old.turns kept.new.turns streams result.0 (exit_status status)) }
 

@@ -10,14 +10,14 @@ use std::io::{self, Write};
 /// Why a station stopped before its end.
 #[derive(Clone, Copy, Debug, PartialEq, Eq)]
 pub enum Stop {
-    /// The text couldn't be read or was refused, for this fault, before anything was done.
+    /// The text couldn't be read or was refused, or memory was refused, for this fault, before anything was done.
     Text(RunFault),
     /// The text has no command of a cycle. Nothing was done.
     Empty,
     /// The line of the text with this number, counted from 1, is the first faulty one, with this trouble. Nothing was done.
     Line(u32, Trouble),
     /// The run over the text's commands ended for this fault or couldn't begin, or what comes before the records couldn't be
-    /// written.
+    /// written; or, of a text that is only checked, the outline couldn't be made or written.
     Run(RunFault),
 }
 

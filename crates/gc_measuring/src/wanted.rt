@@ -12,7 +12,7 @@ use gc_station::LinkHealth;
 pub(crate) struct Wanted {
     // The moment from which on an answer has been wanted. `None`: no answer is wanted.
     pub since: Option<Moment>,
-    // Whether an answer came since the last cycle ended.
+    // Whether an answer came since the last cycle ended, or since the start if none has ended.
     pub heard: bool,
     // Whether an answer has been wanted for so long that a message on that is due, or was written.
     pub overdue: bool,
@@ -37,9 +37,9 @@ impl Wanted {
         self.overdue = false;
     }
 
-    /// Notes by the health of the link at this moment whether an answer is wanted: it is from now on, or from earlier on as before, if
-    /// there is no connection, if a new one isn't quiet yet, or if a request has no reply. `Idle` ends the cycle, and `Fine` changes
-    /// nothing.
+    /// Notes by the health of the link at this moment whether an answer is wanted. If there is no connection, if a new connection
+    /// isn't quiet yet, or if a request has no reply, an answer is wanted from this moment on, unless one was wanted already.
+    /// `Idle` ends the cycle, and `Fine` changes nothing.
     pub(crate) fn look(&mut self, health: LinkHealth, moment: Moment)
         ensures { self.new ≡ after_look health moment self.old }
     {

@@ -12,14 +12,14 @@ pub struct Work {
     pub setup: usize,
     /// The tasks, in order: the setup, and then those of a cycle.
     pub tasks: Vec<Task>,
-    /// The names of the tasks' targets, in a `Tasks` whose own tasks are empty.
+    /// The names of targets, and where targets are, in a `Tasks` that has no tasks.
     pub named: Tasks,
     /// How many commands a cycle has, each counted once, however often its chain may be sent again.
     pub commands: usize,
 }
 
-/// Takes the tasks of a text apart into the work of a run: the tasks, the names of their targets, and the number of a cycle's
-/// commands, of which no clause speaks.
+/// Takes the tasks of a text apart into the work of a run: the tasks, the names of targets, where targets are, and the number of
+/// a cycle's commands. Of the last two no clause speaks.
 pub fn work_of(alloc: Global, tasks: Tasks) -> Work
     ensures setup { result.setup ≡ tasks.setup }
     ensures tasks { result.tasks.items ≡ tasks.tasks.items }

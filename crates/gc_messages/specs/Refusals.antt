@@ -9,7 +9,7 @@ range_line = codes "error: a number on the command line is out of range\n"
 abbrev pub stale_line : List ℕ
 stale_line = codes "error: --stale is below --every: the run would end before its second cycle\n"
 
--- the line that says that a word is no place: none to serve a simulator on (`true`), or none of an instrument
-abbrev pub place_line : Bool → List ℕ
+-- the line that says that a word is no place: none to serve a simulator on (`to_serve`), or none of an instrument
+abbrev pub place_line : (to_serve : Bool) → List ℕ
 place_line true = codes "error: a simulator is served on a port of 127.0.0.1, from 1 to 65535, on the path of a device, which has a /, or with --any-address at HOST:PORT\n"
 place_line false = codes "error: a place is a port from 1 to 65535, HOST:PORT, [ADDRESS]:PORT, or the path of a device, which has a /\n"

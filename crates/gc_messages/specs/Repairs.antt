@@ -3,11 +3,11 @@ use Rattle.std.specs.Prelude.{ℕ, List, [], ◌++◌, ◌==◌, if◌then◌els
 use Rattle.std.specs.Fmt.{decimal}
 
 -- what is written of a torn row that was cut off, by its number of bytes: nothing if there were none
-abbrev pub torn_line : ℕ → List ℕ
+abbrev pub torn_line : (torn : ℕ) → List ℕ
 torn_line torn = if torn == 0 then [] else codes "geocom: " ++ decimal torn ++ codes " bytes of an incomplete row were cut off\n"
 
--- what is written of rows that were copied because the run before was killed or a sync failed, by their number: nothing if
+-- what is written of rows that were copied to a new file, as after a kill or a failed sync, by their number: nothing if
 -- there were none
-abbrev pub copied_line : ℕ → List ℕ
+abbrev pub copied_line : (copied : ℕ) → List ℕ
 copied_line copied =
     if copied == 0 then [] else codes "geocom: the last run was killed, or a sync failed: " ++ decimal copied ++ codes " rows were copied to a new file and synced\n"

@@ -38,8 +38,8 @@ pub fn refuse_stale<E: Write>(messages: &mut E) -> io::Result<ExitCode>
     Ok(ExitCode::from(2))
 }
 
-/// Reports, with status 2, that a word is no place: where `serves` is set, none to serve a simulator on (a port, a device, or an address
-/// with `--any-address`), and else none of an instrument. `Err`: the messages couldn't be written.
+/// Reports, with status 2, that a word is no place of an instrument or, if `serves`, no place to serve a simulator on (a port, a
+/// device, or an address with `--any-address`). `Err`: the messages couldn't be written.
 pub fn refuse_place<E: Write>(serves: bool, messages: &mut E) -> io::Result<ExitCode>
     ensures told { IfOk result (λ status. (exit_status status ≡ 2) × Appends (E.contents messages.old) (E.contents messages.new) (place_line serves)) }
 {

@@ -1,5 +1,6 @@
 //! What becomes of the files that a station writes while it runs, and how that is reported. No record and no request depends on
-//! it. The path of the rows leads astray if it doesn't lead to the file that takes the rows, and no new file can be had there.
+//! what is noted or reported here. The path of the rows leads astray if it isn't known to lead to the file that takes the rows,
+//! and no new file can be had at the path.
 
 ghost use Rattle.std.specs.Prelude.{OnOk};
 ghost use Rattle.std.specs.Io.KnownBytes.{Appends};
@@ -8,16 +9,17 @@ ghost use Rattle.gc_messages.specs.Repairs.{copied_line, torn_line};
 use gc_links::Moment;
 use std::io::{self, Write};
 
-/// A minute, in milliseconds: the least time between two lines of a kind that may come again and again while a station measures. Lines
-/// on what changed of its files are written at once.
+/// A minute, in milliseconds: the least time between two lines of a kind that may come again and again while a station measures.
+/// Lines on what changed of the station's files are written at once, also if the path of the rows leads astray anew within a
+/// minute.
 pub const MINUTE: u64 = 60_000;
 
 /// What became of the log.
 #[derive(Clone, Copy, Debug, PartialEq, Eq)]
 pub enum LogSeen {
-    /// It has all that went and came.
+    /// It hasn't ended, or there is no log.
     Whole,
-    /// It has as many bytes as it may have, and ends.
+    /// A line had no room in it, and it ends there.
     Full,
     /// It couldn't be written, and ends.
     Lost,
@@ -32,11 +34,11 @@ pub struct FilesSeen {
     pub log_torn: u64,
     /// How many times the rows went on in a new file, because the path no longer led to the one before.
     pub moves: u64,
-    /// How many rows of the last of these new files were copied, because an earlier run was killed or a sync failed.
+    /// How many rows of the last of these new files were copied (`open_at`), as after a kill or a failed sync.
     pub copied: u64,
     /// How many bytes of an incomplete row were cut off the last of these new files.
     pub torn: u64,
-    /// Whether the path doesn't lead to the rows' file, and no new one can be had there.
+    /// Whether the path isn't known to lead to the rows' file, and no new one can be had there.
     pub is_astray: bool,
 }
 
@@ -73,8 +75,9 @@ impl FilesTold {
         }
     }
 
-    /// Returns what is to be reported now, which then counts as reported: what is new since the last call, and that the path of the rows
-    /// leads astray, at once and then once a minute while it does.
+    /// Returns what is to be reported now, which then counts as reported: what is new since the last call (at the first call,
+    /// what was seen at all); and that the path of the rows leads astray: at once and, while it does, again at the first call at
+    /// which the clock for deadlines is a minute or more past the last report of that.
     ///
     /// `None`: there is nothing to report. `Some` may have nothing to write, as when the path leads to the file again.
     pub fn take_news(&mut self, seen: FilesSeen, moment: Moment) -> Option<FilesNews> {
@@ -132,7 +135,7 @@ impl FilesNews {
         )
     }
 
-    // Writes what became of the log, if that is new.
+    // Writes how many bytes were cut off the log, and that it has ended, each if that is new.
     fn report_log<E: Write>(self, messages: &mut E) -> io::Result<()> {
         self.report_torn_log(messages)?;
         if self.now.log == self.before.log {
@@ -177,7 +180,8 @@ impl FilesNews {
     }
 }
 
-/// Writes how many rows were copied to a new file, because the run before was killed or a sync failed; nothing if there were none.
+/// Writes how many rows were copied to a new file (`open_at`), as after a kill or a failed sync; nothing if there were none.
+/// `Err`: the line couldn't be written.
 pub fn report_copied<E: Write>(copied: u64, messages: &mut E) -> io::Result<()>
     ensures { OnOk result (Appends (E.contents messages.old) (E.contents messages.new) (copied_line copied)) }
 {
@@ -191,7 +195,7 @@ pub fn report_copied<E: Write>(copied: u64, messages: &mut E) -> io::Result<()>
     )
 }
 
-/// Writes how many bytes of an incomplete row were cut off; nothing if there were none.
+/// Writes how many bytes of an incomplete row were cut off; nothing if there were none. `Err`: the line couldn't be written.
 pub fn report_torn<E: Write>(torn: u64, messages: &mut E) -> io::Result<()>
     ensures { OnOk result (Appends (E.contents messages.old) (E.contents messages.new) (torn_line torn)) }
 {

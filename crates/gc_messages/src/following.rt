@@ -12,9 +12,10 @@ use std::cell::Cell;
 use std::fs::File;
 use std::rt::Files;
 
-/// A file of rows by its path. Each `sync` looks whether the path still leads to the file. If it doesn't, and a file can be had
-/// there as at the start (`open_at`), the rows go on in that one, after its head; otherwise they go on in the old one. What
-/// became of it is noted in `noticed`. What was appended to all of these files, in order, counts as taken.
+/// A file of rows by its path. Each `sync` of the file that succeeds is followed by a look whether the path still leads to it. If
+/// the path doesn't, or the system doesn't say, and a file can be had there as at the start (`open_at`), the rows go on in that
+/// one, after what it holds by then; otherwise they go on in the old one. What became of the file is noted in `noticed`. What was
+/// appended to all of these files since each was opened, in order, counts as taken.
 #[derive(Drop)]
 pub struct Followed<'a, R> {
     rt: &'a R,
@@ -30,7 +31,7 @@ pub struct Followed<'a, R> {
 impl<'a, R: Files<File = File>> Followed<'a, R> {
     ghost use Rattle.gc_messages.specs.Following.{bytes_in};
 
-    /// A file of rows that was opened at this path.
+    /// A file of rows that was opened at this path. What becomes of it is noted in `noticed`.
     pub fn new(
         rt: &'a R,
         alloc: Global,
@@ -52,8 +53,9 @@ impl<'a, R: Files<File = File>> Followed<'a, R> {
     }
 
     /// Ends the appending to the file that takes the rows now, as `end_at` does: if the path leads to that file, and all that it
-    /// holds is on the disk, if need be after one more sync, this removes the mark by which the next start would copy the file. A
-    /// file that was opened without `sync` is only closed.
+    /// holds is on the disk, if need be after one more sync, this removes the mark by which the next start would copy the file.
+    /// The mark stays if the path can't be followed, the system refuses to remove the mark, or memory runs out. A file that was
+    /// opened without `sync` is only closed.
     pub fn end(self) {
         let Followed {
             rt,
@@ -96,9 +98,11 @@ impl<'a, R: Files<File = File>> Sink for Followed<'a, R> {
 impl<'a, R: Files<File = File>> Durable for Followed<'a, R> {
     ghost is_durable = { λ f. is_durable f.rows };
 
-    // Syncs the rows. Then, if the path no longer leads to their file, they go on in a new one there, if it can be had, and that one
-    // is synced; else they go on in the old one, and it is noted that the path leads astray. `Err`: the file failed, or the new one
-    // did, which takes the rows then.
+    // Syncs the file, as `RowsFile` does: without effect if it was opened without `sync`. Then looks whether the path leads to
+    // it. If not, or if the system doesn't say, the rows go on in a new file there, if one can be had, and that one is synced,
+    // too; else they go on in the old one, and it is noted that the path leads astray. If the path leads to the file again, that
+    // is noted. `Err`: the file failed, now or before, and the path isn't looked at; or the new file failed, which takes the rows
+    // then.
     fn sync(&mut self) -> Result<(), PortFailed> {
         match self.rows.sync() {
             Ok(()) => {}

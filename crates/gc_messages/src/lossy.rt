@@ -21,7 +21,7 @@ impl<E: Write> Write for Lossy<E> {
         }
     }
 
-    // Flushes the place inside. That this fails is no error.
+    // Flushes the place inside, and succeeds also if that flush fails.
     fn flush(&mut self) -> io::Result<()> {
         let _ = self.inner.flush();
         Ok(())

@@ -63,8 +63,8 @@ impl<'a, R> Noting<'a, R> {
         self.last.set(None);
     }
 
-    /// If a run ended (`ended`) with another status than 0, writes a line with what the system refused last, and why, and clears the
-    /// note; nothing where nothing is noted or the messages are closed. Returns `ended`, also if that line couldn't be written.
+    /// If a run ended (`ended`) with a status other than 0, and the messages are open, writes a line with what the system refused
+    /// last, and why, if anything is noted, and clears the note. Returns `ended`, also if that line couldn't be written.
     pub fn report<E: Write>(
         &self,
         standard: Standard,

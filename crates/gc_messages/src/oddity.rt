@@ -34,9 +34,9 @@ impl Oddities {
 pub struct Noticed {
     /// What is odd about the line.
     pub odd: Oddities,
-    /// Whether the last connection ended or failed, or couldn't be made. One that the station closed did none of these.
+    /// Whether the last connection ended or failed, or couldn't be made. That the station closes it changes nothing.
     pub is_lost: bool,
-    /// The fault for which the run stopped, if it did.
+    /// The fault that was noted as the one for which the run stopped. `None`: no fault was noted.
     pub fault: Option<RunFault>,
     /// What became of the files.
     pub files: FilesSeen,
@@ -54,8 +54,9 @@ impl Noticed {
     }
 }
 
-/// Writes a line with the place and a reason in words, for the faults of a run over a connection that are listed here. For any other
-/// fault, such as `Socket`, whose reason the system gives, it writes nothing. `Err`: the messages couldn't be written.
+/// Writes a line with the place and a reason in words, for the faults `LinkClosed`, `Mute`, `SetUp`, `Write`, `NoTerminal` and
+/// `Held` of a run over a connection. For any other fault, such as `Socket`, whose reason the system gives, it writes nothing.
+/// `Err`: the messages couldn't be written.
 pub fn tell_place<E: Write>(place: Place<'_>, fault: RunFault, messages: &mut E) -> io::Result<()> {
     let why = match fault {
         RunFault::LinkClosed => "the connection ended",
@@ -145,7 +146,7 @@ impl<'a, L> Noticing<'a, L> {
         }
     }
 
-    // Notes whether the connection is lost: it ended or failed, or couldn't be made.
+    // Notes whether the connection is lost (`is_lost`): it ended or failed, or couldn't be made.
     fn note_loss(&self, is_lost: bool) {
         let seen = self.seen.get();
         self.seen.set(Noticed { is_lost, ..seen });
@@ -181,7 +182,7 @@ impl<'a, L: Link> Link for Noticing<'a, L> {
         put
     }
 
-    // Closes, and forgets the front of a line that hasn't ended. That isn't noted as a lost connection.
+    // Closes, and forgets the front of a line that hasn't ended. Whether the connection is lost stays as it was noted before.
     fn close(&mut self) {
         self.count = 0;
         self.link.close();

@@ -3,7 +3,7 @@
 use std::io::{self, Write};
 
 /// Writes a line for each line of a text that ends with a space or a tab, with its number, counted from 1. CRs after that space or tab
-/// don't count. `Err`: the messages couldn't be written, and the lines after it aren't reported.
+/// don't count. `Err`: a message couldn't be written; those after that one aren't.
 pub fn report_spaces<E: Write>(text: &[u8], messages: &mut E) -> io::Result<()> {
     let mut line = 1u32;
     let mut last = b'\n';

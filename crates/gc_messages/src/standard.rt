@@ -1,5 +1,5 @@
 //! The three standard streams: which of them are open, and what takes the places of those that aren't. A socket that is opened
-//! while one is closed takes its place, and gets what is written there.
+//! while a stream is closed may take that stream's place, and gets then what is written to the stream.
 
 ghost use Rattle.std.specs.Prelude.{◌≡◌, ◌≤◌, IfOk};
 ghost use Rattle.std.specs.Process.{exit_status};
@@ -11,7 +11,7 @@ use std::io::{self, IsTerminal, Write};
 use std::os::fd::AsFd;
 use std::process::ExitCode;
 
-/// Which of the standard streams are open, and whether somebody reads the messages at a terminal.
+/// Which of the standard streams are open, and whether a terminal shows the messages alone.
 #[derive(Clone, Copy, Debug, PartialEq, Eq)]
 pub struct Standard {
     pub input: bool,
@@ -22,8 +22,9 @@ pub struct Standard {
 }
 
 impl Standard {
-    /// Looks which of these are open, and whether the messages go to a terminal and the output to none. It changes none, and
-    /// opens nothing that stays open.
+    /// Looks which of these are open, and whether the messages go to a terminal and the output to none. It changes no stream, and
+    /// opens nothing that stays open. If the system refuses a second handle of an open stream, as when the process may open
+    /// nothing more, that stream counts as closed, too.
     pub fn look<I: AsFd, O: AsFd, E: AsFd>(input: &I, output: &O, messages: &E) -> Standard {
         Standard {
             input: is_open(input),
@@ -40,8 +41,9 @@ impl Standard {
         self.input && self.output && self.messages
     }
 
-    /// Opens `/dev/null` for each stream that is closed. It takes that stream's place, because the system gives a file the
-    /// lowest place that is free, and holds it until the result is dropped. `Err`: it couldn't be opened for one of them.
+    /// Opens `/dev/null` for each stream that is closed. It takes that stream's place, because the system gives a file the lowest
+    /// place that is free, and holds it until the result is dropped. `Err`: `/dev/null` couldn't be opened for one of the closed
+    /// streams, and no place stays taken.
     pub fn fill<R: Files>(self, rt: &R) -> io::Result<Places<R::File>> {
         Ok(Places {
             input: null_for(rt, self.input)?,
@@ -72,8 +74,8 @@ pub struct Places<F> {
 }
 
 // Whether a stream is open: then a second handle of the stream can be had, which is given back at once. That handle's number is
-// above those of the three streams, so it takes no stream's place. Where the process may open
-// nothing more, an open stream counts as closed, too.
+// above those of the three streams, so it takes no stream's place. If the system refuses the handle though the stream is open, as
+// when the process may open nothing more, the stream counts as closed, too.
 fn is_open<F: AsFd>(stream: &F) -> bool {
     match stream.as_fd().try_clone_to_owned() {
         Ok(_) => true,

@@ -27,7 +27,7 @@ fn is_v_outside_a_turn(v: Decimal) -> bool {
 }
 
 /// Writes a line for each angle outside one turn that a positioning of `text` has, with the number of its line, counted from 1. `all`
-/// has the tasks that were read from this text. `Err`: the messages couldn't be written, and the lines after it aren't reported.
+/// has the tasks that were read from this text. `Err`: a message couldn't be written; those after that one aren't.
 pub fn report_odd_angles<E: Write>(text: &[u8], all: &Tasks, messages: &mut E) -> io::Result<()> {
     let mut setup = all.tasks.iter().take(all.setup);
     let mut cycle = all.tasks.iter().skip(all.setup);

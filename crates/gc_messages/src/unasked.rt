@@ -4,8 +4,8 @@
 use gc_texts::Tasks;
 use std::io::{self, Write};
 
-/// Writes a line for each target of which the text says where it is (`near`), though no command measures its direction, neither of the
-/// setup nor of the cycle. `Err`: the messages couldn't be written, and the targets after it aren't reported.
+/// Writes a line for each target of which the text says where it is (`near`), though no command of the setup or of the cycle
+/// measures its direction. `Err`: a message couldn't be written; those after that one aren't.
 pub fn report_unasked<E: Write>(tasks: &Tasks, messages: &mut E) -> io::Result<()> {
     for near in tasks.nears.as_slice() {
         if !tasks.asks_direction_of(near.target) {
@@ -15,8 +15,8 @@ pub fn report_unasked<E: Write>(tasks: &Tasks, messages: &mut E) -> io::Result<(
     Ok(())
 }
 
-/// Writes a line for each target that has a name in the text, and for which the text has no command, neither of the setup nor of the
-/// cycle. `Err`: the messages couldn't be written, and the targets after it aren't reported.
+/// Writes a line for each target that has a name in the text, and for which the text has no command, neither of the setup nor of
+/// the cycle. `Err`: a message couldn't be written; those after that one aren't.
 pub fn report_unused_names<E: Write>(tasks: &Tasks, messages: &mut E) -> io::Result<()> {
     for name in tasks.names.as_slice() {
         if !tasks

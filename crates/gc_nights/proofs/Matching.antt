@@ -1,21 +1,20 @@
--- Rows and the replies that they speak of, one after the other.
-use Rattle.std.proofs.Common.{◌≡◌, ℕ, ◌+◌, ◌<◌, ◌≤◌, List, [], ◌∷◌, ◌++◌, length, take, get_or, inl, inr, Option, Some, None, refl, ap, subst, sym, ◌∙◌, arith}
+-- Rows, each by its claim, and the replies that they speak of, each by its truth, one after the other.
+use Rattle.std.proofs.Common.{◌≡◌, ℕ, ◌+◌, ◌<◌, ◌≤◌, List, [], ◌∷◌, ◌++◌, length, take, get_or, inl, inr, Option, Some, subst, sym, ◌∙◌, arith}
 use Rattle.std.specs.Prelude.{slice_get}
-use Rattle.std.proofs.lemmas.List.{take_all}
 use Rattle.std.proofs.lemmas.Option.{slice_get_within, slice_get-get_or}
 use Rattle.gc_nights.specs.Claims.{SpeaksOf, IsTrueAt, MatchesNext, AreTrue}
 use Rattle.gc_nights.specs.declared.claim.Claim.{Claim}
 use Rattle.gc_rehearsal.specs.declared.truth.Truth.{Truth}
 use Rattle.gc_texts.proofs.SettlementLines.{at_place}
 
--- one more reply leaves rows true
+-- rows that are true by some replies are true by these and one more
 stays_true_by_one_reply_more : (claims : List Claim) (truths : List Truth) (truth : Truth) → AreTrue claims truths → AreTrue claims (truths ++ truth ∷ [])
 stays_true_by_one_reply_more [] truths truth matched = tt
 stays_true_by_one_reply_more (c ∷ cs) [] truth matched = absurd matched
 stays_true_by_one_reply_more (c ∷ cs) (t ∷ ts) truth (inl both) = inl (both.0, stays_true_by_one_reply_more cs ts truth both.1)
 stays_true_by_one_reply_more (c ∷ cs) (t ∷ ts) truth (inr later) = inr (stays_true_by_one_reply_more (c ∷ cs) ts truth later)
 
--- one more row is true by one more reply
+-- one more row, which speaks of one more reply, is true with those before it
 one_row_more_is_true : (claims : List Claim) (truths : List Truth) (claim : Claim) (truth : Truth) → AreTrue claims truths → SpeaksOf claim truth
     → AreTrue (claims ++ claim ∷ []) (truths ++ truth ∷ [])
 one_row_more_is_true [] [] claim truth matched is = inl (is, tt)
@@ -24,26 +23,25 @@ one_row_more_is_true (c ∷ cs) [] claim truth matched is = absurd matched
 one_row_more_is_true (c ∷ cs) (t ∷ ts) claim truth (inl both) is = inl (both.0, one_row_more_is_true cs ts claim truth both.1 is)
 one_row_more_is_true (c ∷ cs) (t ∷ ts) claim truth (inr later) is = inr (one_row_more_is_true (c ∷ cs) ts claim truth later is)
 
--- how far the comparison has come: the first `matched` rows are true by the first `seen` replies
+-- how far the comparison has come: there are at least `matched` rows, and the first `matched` are true by the first `seen`
+-- replies
 pub record HasMatched (claims : List Claim) (truths : List Truth) (matched seen : ℕ) : Type 0 where
   pub within : matched ≤ length claims
   pub are : AreTrue (take matched claims) (take seen truths)
 
--- at the start no row is matched, and no reply was seen
-pub matched_first : (claims : List Claim) (truths : List Truth) → HasMatched claims truths 0 0
-matched_first claims truths = record { within = omega arith; are = tt }
-
--- a further reply with which no row is matched: as many rows are true by one reply more
-pub matched_skip : (claims : List Claim) (truths : List Truth) (matched seen : ℕ) (truth : Truth) → HasMatched claims truths matched seen → seen < length truths → truth ≡ get_or truths seen truth
-    → HasMatched claims truths matched (seen + 1)
+-- where the first `matched` rows are true by the first `seen` replies, and there is a further reply, they are true by one reply
+-- more
+pub matched_skip : (claims : List Claim) (truths : List Truth) (matched seen : ℕ) (truth : Truth)
+    → HasMatched claims truths matched seen → seen < length truths → truth ≡ get_or truths seen truth → HasMatched claims truths matched (seen + 1)
 matched_skip claims truths matched seen truth so_far within is = record {
   within = so_far.within;
   are = subst (λ ts. AreTrue (take matched claims) ts) (sym (at_place truths seen truth within is).0) (stays_true_by_one_reply_more (take matched claims) (take seen truths) truth so_far.are);
 }
 
--- a further reply of which the next row speaks: one row more is true by one reply more
-pub matched_more : (claims : List Claim) (truths : List Truth) (matched seen : ℕ) (truth : Truth) → HasMatched claims truths matched seen → seen < length truths → truth ≡ get_or truths seen truth
-    → IsTrueAt claims matched truth → HasMatched claims truths (matched + 1) (seen + 1)
+-- where the first `matched` rows are true by the first `seen` replies, and the next row speaks of the next reply, one row more is
+-- true by one reply more
+pub matched_more : (claims : List Claim) (truths : List Truth) (matched seen : ℕ) (truth : Truth)
+    → HasMatched claims truths matched seen → seen < length truths → truth ≡ get_or truths seen truth → IsTrueAt claims matched truth → HasMatched claims truths (matched + 1) (seen + 1)
 matched_more claims truths matched seen truth so_far within is at =
     let some : matched < length claims = slice_get_within claims matched at.claim at.there in
     let here : at.claim ≡ get_or claims matched at.claim =
@@ -56,17 +54,11 @@ matched_more claims truths matched seen truth so_far within is at =
           (one_row_more_is_true (take matched claims) (take seen truths) at.claim truth so_far.are at.is));
     }
 
--- a further reply: the rows that `MatchesNext` counts as matched are true by one reply more
-pub matched_next : (claims : List Claim) (truths : List Truth) (matched seen next : ℕ) (truth : Truth) → HasMatched claims truths matched seen → seen < length truths → truth ≡ get_or truths seen truth
-    → MatchesNext claims matched truth next → HasMatched claims truths next (seen + 1)
+-- where the first `matched` rows are true by the first `seen` replies, and with the next reply `next` rows are matched
+-- (`MatchesNext`), the first `next` rows are true by one reply more
+pub matched_next : (claims : List Claim) (truths : List Truth) (matched seen next : ℕ) (truth : Truth)
+    → HasMatched claims truths matched seen → seen < length truths → truth ≡ get_or truths seen truth → MatchesNext claims matched truth next → HasMatched claims truths next (seen + 1)
 matched_next claims truths matched seen next truth so_far within is (inl same) =
     subst (λ n. HasMatched claims truths n (seen + 1)) (sym same) (matched_skip claims truths matched seen truth so_far within is)
 matched_next claims truths matched seen next truth so_far within is (inr more) =
     subst (λ n. HasMatched claims truths n (seen + 1)) (sym more.0) (matched_more claims truths matched seen truth so_far within is more.1)
-
--- where no row is left, all rows are true
-pub matched_all : (claims : List Claim) (truths : List Truth) (matched seen : ℕ) → HasMatched claims truths matched seen → length claims ≤ matched → seen ≡ length truths → AreTrue claims truths
-matched_all claims truths matched seen so_far none end =
-    let all : matched ≡ length claims = omega (arith, so_far.within, none) in
-    subst (λ cs. AreTrue cs truths) (ap (λ n. take n claims) all ∙ take_all (length claims) claims (omega arith))
-    (subst (λ ts. AreTrue (take matched claims) ts) (ap (λ n. take n truths) end ∙ take_all (length truths) truths (omega arith)) so_far.are)

@@ -16,7 +16,7 @@ use Rattle.gc_texts.specs.declared.fault.RunFault.TheVariants.{Output}
 use Rattle.gc_texts.specs.declared.tasks.Task.{Task}
 use Rattle.gc_nights.specs.Runs.{IsRunOf, AreRuns, AreFaithfulRuns}
 
--- no runs at all lead from these acts to the same acts
+-- where no run was made, the acts before and after are the same, and `AreRuns` is true of them
 pub no_runs : (commands : List Task) (acts : List Act) → AreRuns commands acts acts
 no_runs commands acts = record { stations = []; each = tt; told = sym (append-nil acts) }
 
@@ -39,7 +39,8 @@ runs_behind commands old mid new first second = record {
 
 module _ (plan : Plan) (commands : List Task) (scope : Scope) (text : Record → List ℕ) (askable : AreAskable commands) (old new : List Act) (taken taken' : Option (List ℕ)) where
   -- the acts of a run, and quiet acts after them, are those of one run
-  run_then_quiet : (acts behind : List Act) → Runs plan commands (opening plan scope) acts → AllByRecursion IsQuiet behind → new ≡ old ++ (acts ++ behind) → AreRuns commands old new
+  run_then_quiet : (acts behind : List Act) → Runs plan commands (opening plan scope) acts → AllByRecursion IsQuiet behind
+      → new ≡ old ++ (acts ++ behind) → AreRuns commands old new
   run_then_quiet acts behind runs quiet told = record {
     stations = record { plan = plan; commands = commands; scope = scope; acts = acts; after_run = behind } ∷ [];
     each = ((refl, record { askable = askable; runs = runs; quiet = quiet }), tt);
@@ -53,7 +54,7 @@ module _ (plan : Plan) (commands : List Task) (scope : Scope) (text : Record →
   run_is_one (Err Output) (inr r) = run_then_quiet r.acts (Closed ∷ []) r.runs (tt, tt) r.tells
   run_is_one (Err fault) r = run_then_quiet r.2.acts [] r.2.runs tt (r.2.tells ∙ ap (λ xs. old ++ xs) (sym (append-nil r.2.acts)))
 
--- runs that made all acts of the line from the first on are faithful
+-- runs that made all acts of a rehearsal's line, from the first on, are as `AreFaithfulRuns` says, by the law on rehearsals in a row
 pub faithful_runs : (commands : List Task) (acts : List Act) → RehearsalsInARowAreFaithful → IsOfLine acts → AreRuns commands [] acts → AreFaithfulRuns commands acts
 faithful_runs commands acts law line runs = record {
   stations = runs.stations;

@@ -6,7 +6,8 @@ use Rattle.gc_links.specs.Acts.{Act}
 use Rattle.gc_rehearsed.specs.Rehearsals.{Station, RunsAndStops, AreRehearsed, FewEndUnbegun, acts_of_all}
 use Rattle.gc_texts.specs.declared.tasks.Task.{Task}
 
--- a run of a station with these commands
+-- a run of a station with these commands, each of which is `IsAskable`; after the run and before the next one nothing was sent
+-- whole, and nothing came (`RunsAndStops`)
 abbrev pub IsRunOf : List Task → Station → Type 0
 IsRunOf commands x = (x.commands ≡ commands) × RunsAndStops x
 

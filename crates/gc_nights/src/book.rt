@@ -1,4 +1,5 @@
-//! The book of a rehearsed station: it writes the rows, keeps what they claim, and ends the station where it is killed.
+//! The book of a rehearsed station: it writes the rows, keeps what they claim, and ends a run where the station is killed or the night
+//! is over.
 
 ghost use Rattle.std.specs.Prelude.{◌≡◌, true};
 ghost use Rattle.gc_measuring.specs.Measuring.{text_in};
@@ -6,7 +7,7 @@ ghost use Rattle.gc_measuring.specs.Measuring.{text_in};
 use crate::claim::Claim;
 use crate::deadlines::Deadlines;
 use crate::summary::Summary;
-use gc_lines::{Line, PortFailed, Sink, append};
+use gc_lines::{Line, PortFailed, Sink, line_from};
 use gc_links::Moment;
 use gc_measuring::write_station_row;
 use gc_station::{Book, LinkHealth};
@@ -42,8 +43,8 @@ impl Seen {
         }
     }
 
-    // Counts a row and, if it says that a reply came, notes what it claims. If memory is refused, a count or the claim is missing, and
-    // `lacks_memory` is set.
+    // Counts a row and, if the row says that its request was sent and that a reply came, notes what the row claims. If memory is
+    // refused, a count or the claim is missing, or both, and `lacks_memory` is set.
     fn see(&mut self, stamp: Stamp, command: &Wish, ending: Ending<'_>) {
         if self.summary.note(stamp, command, ending).is_err() {
             self.lacks_memory = true;
@@ -81,14 +82,13 @@ fn speaks_of_reply(ending: Ending<'_>) -> bool {
 
 // The reply's line of a row with this ending; empty where it has none.
 fn line_of(ending: Ending<'_>) -> Line {
-    let mut kept = Line::new();
-    if let Some(line) = ending.line() {
-        append(&mut kept, line.as_slice());
+    match ending.line() {
+        Some(line) => line_from(line.as_slice()),
+        None => Line::new(),
     }
-    kept
 }
 
-/// A book that writes rows into a sink, until the station is killed.
+/// A book that writes rows into a sink, until the station is killed or the night is over.
 #[derive(Drop)]
 pub(crate) struct RunBook<K> {
     sink: K,
@@ -175,7 +175,8 @@ impl<K: Sink> Book for RunBook<K> {
 
     ghost is_durable = { λ _. true };
 
-    // Writes a row, counts it, and notes what it claims, also if it can't be written.
+    // Counts a row, notes what it claims (`see`), and then writes it. `Err`: it couldn't be written whole; it is counted all the
+    // same.
     fn write(
         &mut self,
         stamp: Stamp,
@@ -200,7 +201,8 @@ impl<K: Sink> Book for RunBook<K> {
         }
     }
 
-    // Counts the act that comes next, or the end of the run. `Err`: the night is over, or no act is left, so that the station is killed.
+    // Counts the act that comes next, or the end of the run. `Err`: the night is over, and the run is cut off; or it isn't, but
+    // no act is left, and the station is killed.
     fn sync(&mut self) -> Result<(), PortFailed> {
         if self.is_over {
             self.is_cut_off = true;

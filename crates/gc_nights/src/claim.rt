@@ -16,7 +16,7 @@ use gc_texts::Stamp;
 pub struct Claim {
     /// The last moment that the clock gave before the request was sent.
     pub sent: u64,
-    /// The last moment that the clock gave when the command ended.
+    /// The last moment that the clock had given when the command ended.
     pub at: u64,
     /// How long after `sent` a reply is in time, in milliseconds.
     pub deadline: u64,
@@ -26,11 +26,11 @@ pub struct Claim {
     pub has_line: bool,
     /// That line; empty if the row has none.
     pub line: Line,
-    /// The row's moments, in milliseconds since 1970, and its place.
+    /// The row's moments, in milliseconds since 1970, and its cycle, place and turn.
     pub stamp: Stamp,
     /// The row's target.
     pub target: u32,
-    /// Which row it is, counted from 1.
+    /// Which row it is, counted from 1 over all nights.
     pub row: u64,
 }
 
@@ -62,9 +62,9 @@ fn same_line(has_line: bool, line: &[u8], reply: &[u8]) -> bool
     !has_line || line == reply
 }
 
-// Whether a reply that came at the moment `at`, to a request that was sent at the moment `sent`, came before the deadline, `deadline`
-// milliseconds after `sent`, if `in_time` is set; otherwise whether it came then or later. A reply before `sent`, as a clock that was set
-// back gives it, is in time.
+// Of a reply that came at the moment `at`, to a request that was sent at the moment `sent`: if `in_time` is set, whether it came
+// before the deadline, which is `deadline` milliseconds after `sent`; else whether it came at the deadline or later. A reply
+// before `sent`, as a clock that was set back gives it, counts as one before the deadline, also if `deadline` is 0.
 fn is_in_time_iff(in_time: bool, sent: u64, at: u64, deadline: u64) -> bool
     ensures { IsTrue result → IsInTimeIff in_time sent at deadline }
 {
@@ -101,7 +101,8 @@ fn is_true_by(claims: &[Claim], place: usize, truth: &Truth) -> bool
     }
 }
 
-// How many of the first claims are matched with replies once this reply came, if the first `matched` were before it.
+// How many claims, from the first on, are matched with replies once this reply came, if `matched` were before it: one more if the
+// claim after them speaks of this reply.
 fn matched_with(claims: &[Claim], matched: usize, truth: &Truth) -> usize
     ensures { MatchesNext claims.now matched truth.now result }
 {
@@ -114,8 +115,9 @@ fn matched_with(claims: &[Claim], matched: usize, truth: &Truth) -> usize
     matched
 }
 
-/// The place of the first claim that isn't true: the claims before it speak of replies that came, in their order, and it speaks of none
-/// of those that came after them. `None`: all claims are true. Of a place the contract says only that there is a claim at it.
+/// The place of the first claim that isn't true, counted from 0: the claims before it speak of replies that came, in their order,
+/// and it speaks of none that came after those. `None`: all claims are true. Of a place the contract says only that there is a
+/// claim at it.
 pub fn first_false(claims: &[Claim], truths: &[Truth]) -> Option<usize>
     ensures all_true { IfNone result (AreTrue claims.now truths.now) }
     ensures within { IfSome result (λ k. k < length claims.now) }

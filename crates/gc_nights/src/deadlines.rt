@@ -30,7 +30,8 @@ impl Deadlines {
         Ok(deadlines)
     }
 
-    // Adds a task of a cycle, unless it is one of a later attempt, whose commands have the deadlines of the first.
+    // Adds the deadline of a task of a cycle, but nothing for a task of a further attempt of a chain: its command has the same
+    // place and deadline in each attempt. It fails if memory is refused.
     fn add(&mut self, task: &Task) -> Result<(), AllocError> {
         if task.turn.attempt == 1 {
             self.cycle.push(task.deadline)?;

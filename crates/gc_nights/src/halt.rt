@@ -50,7 +50,7 @@ impl FileOption {
 /// Why a rehearsal stopped before its end.
 #[derive(Clone, Copy, Drop)]
 pub(crate) enum Halt {
-    /// The station's text was refused.
+    /// The station's text couldn't be read or was refused, or memory was refused for it.
     Text(Stop),
     /// The text of the file of `--line` was refused.
     Line(Refusal),
@@ -59,20 +59,22 @@ pub(crate) enum Halt {
     /// The file of this option was refused for this fault, which no line of its text has: it can't be read, it is too long, its
     /// scene has more than an instrument can have, or memory was refused.
     File(FileOption, RunFault),
-    /// The output failed, or memory was refused.
+    /// The output failed (`Output`), or memory was refused for something other than the texts of the input and of the files
+    /// (`Memory`).
     Fault(RunFault),
     /// This row is false, in the rehearsal with this seed.
     Untrue(u64, FalseRow),
 }
 
 impl Halt {
-    /// Writes the line of the fault. For a faulty line, a text without a command, a file and a false row a second line follows: what is
-    /// at fault in the line, that there is no command, which file it is, or which row.
+    /// Writes the line of the fault. For a faulty line, a text without a command, a file and a false row a second line follows:
+    /// what is at fault in the line, that there is no command, which file it is, or which row. `Err`: the messages couldn't be
+    /// written whole.
     pub(crate) fn tell<E: Write>(self, messages: &mut E) -> io::Result<()> {
         match self {
             Halt::Text(stop) => stop.report(messages),
             Halt::Line(refusal) => tell_refusal(refusal, messages),
-            Halt::Scene(line, trouble) => tell_scene(line, trouble, messages),
+            Halt::Scene(line, trouble) => trouble.tell_with_fault(line, messages),
             Halt::File(option, fault) => tell_file(option, fault, messages),
             Halt::Fault(fault) => fault.tell(messages),
             Halt::Untrue(seed, row) => tell_untrue(seed, row, messages),
@@ -91,12 +93,6 @@ fn tell_refusal<E: Write>(refusal: Refusal, messages: &mut E) -> io::Result<()> 
             fault.tell(messages)
         }
     }
-}
-
-// Writes the fault of a scene with a faulty line, and what is at fault in that line.
-fn tell_scene<E: Write>(line: u32, trouble: SceneTrouble, messages: &mut E) -> io::Result<()> {
-    RunFault::Schedule { line }.tell(messages)?;
-    trouble.tell(line, messages)
 }
 
 // Writes a fault, and that it is one of the file of this option.

@@ -1,5 +1,5 @@
-//! Nights: a station that measures over the line of a rehearsal, night after night, in simulated time. Each row is compared with the
-//! truth.
+//! Nights: a station that measures over the line of a rehearsal, night after night, in simulated time. Each row that says that a
+//! reply came is compared with the truth.
 #![tactic(auto)]
 
 mod book;

@@ -21,7 +21,7 @@ use gc_words::{Choice, DAY};
 // After how many milliseconds a station that gave up begins again.
 const RESTART_DELAY: u64 = 60_000;
 
-// How many acts a command takes at least.
+// With how many acts a command is reckoned: its request is put, and its reply read.
 const ACTS_OF_COMMAND: u64 = 2;
 
 // How many acts a run makes at least before it is killed.
@@ -88,10 +88,11 @@ enum RunEnd {
 /// Rehearses all nights over a link that is new. However they end, the acts that the link recorded are those of a station, run after
 /// run. As long as fewer than six runs in a row ended while they synchronized, each run is one in the field: whatever the line lost,
 /// repeated, held or closed, each answer that it recorded was made on executing the very request of its cycle and place. Runs that
-/// end before they are done are counted in `counts`.
+/// end before they are done are counted in `counts`, but not a run at which the rehearsal fails.
 ///
-/// It fails after the first run with a false row, with `Untrue`, and with the fault `Memory` or `Output` if memory was refused or the
-/// output failed. The nights that are left aren't rehearsed then.
+/// It fails with `Untrue` after the first run with a false row, with the fault `Memory` if memory was refused for a claim, a
+/// count or a truth, and with the fault `Output` if a row couldn't be written. The nights that are left aren't rehearsed then. A
+/// line for which memory is refused is lost, and that is no failure.
 pub(crate) fn run_nights<K: Sink>(
     link: &mut Rehearsed<Seeded>,
     book: &mut RunBook<K>,
@@ -131,8 +132,8 @@ fn run_each_night<K: Sink>(
     Ok(())
 }
 
-// Rehearses a night, run after run, until its cycles are done or its time is over; the first is night 0. A station that was killed begins
-// again at once, and one that gave up after `RESTART_DELAY`. Runs that end before they are done are counted in `counts`. It fails as
+// Rehearses the night with this number, counted from 0, run after run, until its cycles are done or its time is over. A station
+// that was killed begins again at once, and one that gave up after `RESTART_DELAY`. It counts in `counts` and fails as
 // `run_nights` does.
 fn run_night<K: Sink>(
     link: &mut Rehearsed<Seeded>,
@@ -201,9 +202,10 @@ fn cycles_left(programme: Programme<'_>, begins: u64, now: u64) -> u64 {
     programme.cycles.saturating_sub(gone)
 }
 
-// After how many acts of its run the next kill of a night comes, if `left` kills are left of the night. The number is drawn uniformly
-// from `ACTS_BEFORE_KILL` on. Its mean is about the night's least number of acts divided by one more than its kills, so that the kills are
-// spread over the night. Each planned kill has a draw of its own, whether it comes or not.
+// After how many acts of its run the next kill of a night comes, if `left` kills are left of the night: `ACTS_BEFORE_KILL`, and a
+// number that is drawn uniformly from 0 to a greatest one. The greatest one is twice the number of acts with which the commands
+// of the night's cycles are reckoned (`ACTS_OF_COMMAND`), divided by one more than the night's kills, so that the kills are
+// spread over the night; it is at most the greatest `u32`. Each planned kill has a draw of its own, whether it comes or not.
 fn acts_until_kill(programme: Programme<'_>, night: u64, left: u64) -> u64 {
     let acts = programme
         .commands
@@ -235,8 +237,8 @@ fn run_by_plan<K: Sink>(
 }
 
 // Runs the station over the line for this many cycles, in at most `acts` acts, and until it has read the moment `until`, in milliseconds
-// since 1970, or a later one. Then all rows of the run are compared with the truth, and only then is its end judged (`end_of_run`). It
-// fails with `Untrue` if a row is false, and with the fault `Memory` or `Output` if memory was refused or the output failed.
+// since 1970, or a later one. Then the rows of the run are compared with the truth (`compare`), and if that succeeds, the end of
+// the run is judged (`end_of_run`). It fails as these two do.
 fn run_once<K: Sink>(
     link: &mut Rehearsed<Seeded>,
     book: &mut RunBook<K>,
@@ -259,9 +261,10 @@ fn run_once<K: Sink>(
     end_of_run(book, fault)
 }
 
-// How a run ended: it stopped for this fault, or is done (`None`). The summary counts the last cycle of a run that is done, and leaves out
-// the one that was going on in any other. The fault of a run that was killed, or cut off at the end of its night, is that end's. Otherwise
-// the fault `Output` is a failure; so is `Memory`, if memory was refused for the last cycle.
+// How a run ended that stopped for this fault; `None`: it is done. The summary counts the last cycle of a run that is done, and
+// leaves out the last one of any other, also if it has a row for each command. A run that was killed, or cut off at the end of
+// its night, ended for that, whatever its fault. It fails with `Output` for any other run with that fault, and with `Memory` if
+// memory was refused for the last cycle.
 fn end_of_run<K>(book: &mut RunBook<K>, fault: Option<RunFault>) -> Result<RunEnd, Halt> {
     let Some(fault) = fault else {
         if book.seen.summary.finish().is_err() {
@@ -282,8 +285,9 @@ fn end_of_run<K>(book: &mut RunBook<K>, fault: Option<RunFault>) -> Result<RunEn
     }
 }
 
-// Compares the rows of a run with the truth. It fails with `Untrue` at the first false one, and before that with the fault `Memory` if
-// memory was refused in this run or an earlier one, so that claims, counts or truths are missing.
+// Compares each row of a run that says that a reply came with the truth, and fails with `Untrue` at the first false one. If
+// memory was refused in this run or an earlier one, so that claims, counts or truths are missing, it compares none, and fails
+// with the fault `Memory`.
 fn compare<K>(link: &Rehearsed<Seeded>, book: &RunBook<K>, seed: u64) -> Result<(), Halt> {
     if book.seen.lacks_memory || link.missing_truths() > 0 {
         return Err(Halt::Fault(RunFault::Memory));

@@ -32,10 +32,11 @@ const BEGINNING: u64 = 1_767_297_600_000;
 const SIMULATOR: &[u8] =
     b"target 0.5 1.5 25.125\ntarget 2.25 1.625 110.0625\ntarget 4.0 1.5 48.5\n";
 
-/// Rehearses the nights of a station with the text of the input, writes its rows on the output, and reports on the messages how commands
-/// ended, with status 0. Status 1, with the line of the fault: a text was refused, a file couldn't be read, the output failed, memory was
-/// refused, or a row is false; the rows up to then are written. It fails itself only if the fault can't be reported. The streams are
-/// handed back.
+/// Rehearses the nights of a station with the text of the input, writes its rows on the output, and reports on the messages how
+/// commands ended, with status 0, also if this report can't be written. Status 1, with the lines of the fault: the input or a
+/// file couldn't be read, a text was refused, the output failed, memory was refused, or a row is false; the rows up to then are
+/// written, as far as the output took them. A line in flight for which memory is refused is lost, and is no fault. The result is
+/// an error only if the fault can't be reported. The streams are handed back.
 pub fn rehearse<R: Files, S: Source, K: Sink + Drop, E: Write>(
     rt: &R,
     alloc: Global,
@@ -83,8 +84,8 @@ struct Texts {
     tasks: Tasks,
 }
 
-// Reads the texts of a rehearsal: the line's, the scene's and the station's, in this order. Fails at the first that can't be read or is
-// refused.
+// Reads the texts of a rehearsal: the line's, the scene's and the station's, in this order. Fails at the first that can't be read
+// or is refused, or for which memory is refused.
 fn texts_of<R: Files, S: Source>(
     rt: &R,
     alloc: Global,
@@ -120,7 +121,8 @@ fn read_file<R: Files>(
     }
 }
 
-// The rules of the line in the file at this path, or of a good line if it is `None`.
+// The rules of the line in the file at this path; without a path those of a line to which nothing happens. Fails as `read_file`
+// does, and with `Line` if the file's text is refused.
 fn rules_of<R: Files>(rt: &R, alloc: Global, line: Option<&str>) -> Result<Rules, Halt> {
     let Some(path) = line else {
         return Ok(Rules::none());
@@ -132,7 +134,8 @@ fn rules_of<R: Files>(rt: &R, alloc: Global, line: Option<&str>) -> Result<Rules
     }
 }
 
-// The instrument of the scene in the file at this path, or the simulator if it is `None`.
+// The instrument of the scene in the file at this path; without a path the simulator. Fails as `read_file` and `instrument_in`
+// do, and without a path with the fault of `read_rule_scene` (`Fault`).
 fn instrument_of<R: Files>(
     rt: &R,
     alloc: Global,
@@ -169,8 +172,9 @@ fn kills_of(rules: &Rules) -> u64 {
     }
 }
 
-// Rehearses the nights of these texts, writes the rows on the output, with a header if their form has one, and the summary on the messages.
-// The output is handed back. Fails as `run_nights` does, and before the first night if memory is refused or the header can't be written.
+// Rehearses the nights of these texts, writes the rows on the output, with a header if their form has one, and, once the nights
+// are done, the summary on the messages. The output is handed back. Fails as `run_nights` does, and before the first night if
+// memory is refused or the header can't be written, but not if the summary can't be written.
 fn rehearse_texts<K: Sink + Drop, E: Write>(
     alloc: Global,
     rehearsal: Rehearsal<'_>,
@@ -217,8 +221,8 @@ fn rehearse_texts<K: Sink + Drop, E: Write>(
     rehearse_over(programme, link, book, messages)
 }
 
-// Rehearses the nights over a link that is new, and writes the summary if they are done. The output is handed back. Fails as `run_nights`
-// does.
+// Rehearses the nights over a link that is new, and writes the summary if they are done. The output is handed back. Fails as
+// `run_nights` does, and not if the summary can't be written.
 fn rehearse_over<K: Sink + Drop, E: Write>(
     programme: Programme<'_>,
     mut link: Rehearsed<Seeded>,

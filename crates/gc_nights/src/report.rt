@@ -9,7 +9,9 @@ use gc_station::Tally;
 use gc_texts::Tasks;
 use std::io::{self, Write};
 
-/// Writes the summary: of all nights, of all cycles, of each target, of the line, and what a lost line cost.
+/// Writes the summary: of all nights, of all commands, of all cycles, of each target, of the line, and what a lost line cost, if
+/// any line was lost. It sorts the spans of `summary` first; if memory for that is refused, the figures that are taken from them
+/// may be wrong. `Err`: the messages couldn't be written.
 pub(crate) fn tell_summary<E: Write>(
     programme: Programme<'_>,
     runs: RunCounts,
@@ -20,7 +22,8 @@ pub(crate) fn tell_summary<E: Write>(
 ) -> io::Result<()> {
     tell_nights(programme, runs, summary.rows, messages)?;
     tell_tally(summary.tally, messages)?;
-    // If memory for the sorting is refused, the spans stay in their order, and only the figures on how long cycles took are wrong.
+    // If memory for the sorting is refused, the spans stay in their order, and only the figures that are taken from them may be
+    // wrong.
     let _ = summary.spans.sort();
     tell_cycles(programme, summary, messages)?;
     for target in &summary.targets {
@@ -31,8 +34,8 @@ pub(crate) fn tell_summary<E: Write>(
     tell_cost(summary, counts, messages)
 }
 
-// Writes how many nights there were and with which seed, how many runs were killed, gave up or were cut off, and how many rows there
-// were. None of the rows is false, because a false one ends the rehearsal.
+// Writes how many nights there were and with which seed, how many runs were killed, gave up (with the fault of the last that did)
+// or were cut off, and how many rows there were. None of the rows is false, because a false one ends the rehearsal.
 fn tell_nights<E: Write>(
     programme: Programme<'_>,
     runs: RunCounts,
@@ -62,8 +65,9 @@ fn tell_tally<E: Write>(tally: Tally, messages: &mut E) -> io::Result<()> {
     writeln!(messages)
 }
 
-// Writes how many of the cycles that were due are whole, and the least, the median and the greatest of the spans of `summary`, which
-// are in order; 0 for each if there is no span. Of an even number the median is the greater of the two in the middle.
+// Writes how many cycles were due, how many are whole, also in percent of those, and the least, the median and the greatest of
+// the spans of `summary`, provided that these are sorted; 0 for each if there is no span. Of an even number the median is the
+// greater of the two in the middle.
 fn tell_cycles<E: Write>(
     programme: Programme<'_>,
     summary: &Summary,
@@ -110,7 +114,7 @@ fn tell_target<E: Write>(target: TargetTally, name: &[u8], messages: &mut E) -> 
     tell_tally(target.tally, messages)
 }
 
-// Writes the first half of the counts of what happened on the line: requests, replies, and which of them were lost or repeated.
+// Writes the first half of the counts of what happened on the line: requests, replies, and how often a line was lost or repeated.
 fn tell_lines<E: Write>(counts: Counts, messages: &mut E) -> io::Result<()> {
     let requests = counts.requests;
     let replies = counts.replies;
@@ -120,7 +124,8 @@ fn tell_lines<E: Write>(counts: Counts, messages: &mut E) -> io::Result<()> {
     write!(messages, "lost {lost} repeated {repeated} ")
 }
 
-// Writes the second half of the counts, after `tell_lines`: holds, closes and refusals of connections, and restarts of the instrument.
+// Writes the second half of the counts, after `tell_lines`: holds, closes, refusals of connections, and restarts of the
+// instrument.
 fn tell_connections<E: Write>(counts: Counts, messages: &mut E) -> io::Result<()> {
     let holds = counts.holds;
     let closes = counts.closes;
@@ -130,8 +135,9 @@ fn tell_connections<E: Write>(counts: Counts, messages: &mut E) -> io::Result<()
     writeln!(messages, "refusals {refusals} restarts {restarts}")
 }
 
-// Writes what each lost line cost on average: how many commands have no answer, and how many milliseconds cycles took above the least of
-// the spans of `summary`, which are in order. Writes nothing if no line was lost.
+// Writes what each lost line cost on average: all commands without an answer, and all milliseconds by which cycles took longer
+// than the least of the spans of `summary`, provided that these are sorted, both divided by the number of lost lines. Writes
+// nothing if no line was lost.
 fn tell_cost<E: Write>(summary: &Summary, counts: Counts, messages: &mut E) -> io::Result<()> {
     if counts.lost == 0 {
         return Ok(());
@@ -150,7 +156,7 @@ fn tell_cost<E: Write>(summary: &Summary, counts: Counts, messages: &mut E) -> i
     )
 }
 
-// How many commands have no answer: they were late, lost, skipped or missed. One that was sent in several attempts counts in each.
+// How many commands have no answer: they were late, lost, skipped or missed. A command counts once for each attempt in which it has none.
 fn count_unanswered(tally: Tally) -> u64 {
     tally
         .late

@@ -9,7 +9,8 @@ const CUT_MAX: u64 = 512;
 // Which draw of a request gives the number of its bytes that are sent before such a close.
 const CUT_DRAW: u64 = 10;
 
-// Which draw of the request that set out last decides at a close about all lines in flight: odd, they are lost; even, they arrive.
+// Which draw of the request that set out last decides at a close about all lines in flight: odd, they are lost; even, they
+// arrive. Before the first request no line is in flight.
 const LOSS_DRAW: u64 = 14;
 
 /// What the rules of a text and a seed decide, line by line.
@@ -24,7 +25,7 @@ pub(crate) struct Seeded {
     downs: u64,
     // Whether a request reached the instrument, so that the next line to set out is its reply.
     is_reply_next: bool,
-    // For how many milliseconds the next connection is refused; 0 if it isn't.
+    // For how many milliseconds no connection is made once the next is wanted; 0 if it is made at once.
     refused: u64,
 }
 
@@ -56,8 +57,8 @@ impl Seeded {
 }
 
 impl Chance for Seeded {
-    // What happens to the line that sets out next. If the connection closes at it, this also notes for how long the next connection is
-    // refused.
+    // What happens to the line that sets out next. If its fate closes the connection, this also notes for how long no connection
+    // is made once the next is wanted, in place of what was noted before.
     fn fate(&mut self) -> Fate {
         let fate = self.next_fate();
         if fate.closes {
@@ -83,8 +84,8 @@ impl Chance for Seeded {
         self.up.draw(self.ups, LOSS_DRAW) % 2 == 0
     }
 
-    // For how many milliseconds the next connection is refused, as the last close decided. Each close counts once: after this the
-    // number is 0.
+    // For how many milliseconds from now on no connection is made, by the last fate that closed the connection. 0 if no such fate
+    // was drawn since the last call of this.
     fn refusal(&mut self) -> u64 {
         let millis = self.refused;
         self.refused = 0;

@@ -19,20 +19,21 @@ pub(crate) struct Summary {
     // How the commands of all rows ended, those of the setup and of each attempt of a chain, too; and those of each target.
     pub(crate) tally: Tally,
     pub(crate) targets: Vec<TargetTally>,
-    // How long each cycle took that has a row for each command: from its first request until the last command that was sent ended. A cycle
-    // in which nothing was sent has no span.
+    // How long each cycle took that was counted (`finish`): from its first request until the last command that was sent ended. A
+    // cycle in which nothing was sent has no span.
     pub(crate) spans: Vec<u64>,
-    // How many of the cycles with a row for each command have an answer of a good quality for each.
+    // How many of the cycles that were counted (`finish`) have a good answer (`is_well`) in the last row of each command.
     pub(crate) whole: u64,
-    // The cycle of the last row that isn't one of the setup; 0 where none is going on. When its first request went out (`None`: nothing was
-    // sent yet), and when the last of its commands ended that were sent.
+    // The cycle of the last row that isn't one of the setup; 0 where none is going on. When its first request went out (`None`:
+    // nothing was sent yet), and when the last of its commands ended that were sent (without meaning as long as nothing was
+    // sent).
     cycle: u64,
     first: Option<u64>,
     last: u64,
     // For each command of a cycle, by its place: the number of the cycle of its last row, counted over all nights, if it was answered
     // well there, and else 0.
     good: Vec<u64>,
-    // How many cycles began, over all nights.
+    // How many times a run came to the first row of a cycle, over all nights.
     count: u64,
 }
 
@@ -62,7 +63,8 @@ impl Summary {
         })
     }
 
-    /// Counts a row. At the first row of a cycle the cycle before it is finished. A row of the setup, whose cycle is 0, is of no cycle.
+    /// Counts a row. At the first row of a cycle the one before it in the run is counted, too (`finish`). A row of the setup,
+    /// whose cycle is 0, is of no cycle. It fails if memory is refused: then the row or the cycle may be counted in part.
     pub(crate) fn note(
         &mut self,
         stamp: Stamp,
@@ -99,7 +101,8 @@ impl Summary {
         }
     }
 
-    // Counts a row of a target, which gets a tally at its first row.
+    // Counts a row of a target, which gets a tally at its first row. It fails, and doesn't count the row, if memory is refused
+    // for that tally.
     fn count_target(&mut self, target: u32, ending: Ending<'_>) -> Result<(), AllocError> {
         let place = place_of_target(self.targets.as_slice(), target);
         if let Some(target) = self.targets.get_mut(place) {
@@ -112,8 +115,9 @@ impl Summary {
         Ok(())
     }
 
-    /// Ends the cycle that is going on, if there is one, once it has a row for each command: counts how long it took, unless nothing was
-    /// sent, and whether it is whole.
+    /// Ends the cycle that is going on, if there is one, and counts it: how long it took, unless nothing was sent, and whether it
+    /// is whole. It is called once the cycle has a row for each command. It fails, and doesn't count the cycle, if memory is
+    /// refused for its span.
     pub(crate) fn finish(&mut self) -> Result<(), AllocError> {
         if self.cycle == 0 {
             return Ok(());
@@ -129,7 +133,8 @@ impl Summary {
         Ok(())
     }
 
-    /// Ends the cycle that is going on, and doesn't count it: the run ended in it before it was done.
+    /// Ends the cycle that is going on, and doesn't count it, also if it has a row for each command: the run ended before it was
+    /// done.
     pub(crate) fn leave(&mut self) {
         self.cycle = 0;
     }

@@ -11,7 +11,7 @@
 //!     do hear 0                what this caller, counted from 0, has heard at the end of its connection, or `it waits` if no end comes
 //!     do ask 9 7 5003\n        these commands are asked at the port, in that many reads
 //!     do accept                the connection that `ask` or `at` made is accepted, and its end here is one more caller
-//!     do listen [::1]          another port, of this address; on a machine without such addresses `at` reports `done`
+//!     do listen [::1]          another port, of this address; where it can't be listened at, `at` reports `done`
 //!     do at [::1]              a text without commands is asked there
 //!     do port 7                a text without commands is asked at this port, by its number and as a place, and the port is served
 //!     do ends, cut_ends        in ends.rt
@@ -26,7 +26,7 @@ use gc_cases::{Case, Player, Rows, Told, bytes_behind, cut_word, play_rows, port
 use gc_instrument::Instrument;
 use gc_links::{Place, listen};
 use gc_probes::{PieceSink, PieceSource};
-use gc_scenes::{Delay, SceneInstrument, SlowInstrument, Ways};
+use gc_scenes::{Delay, SceneInstrument, SceneRules, SlowInstrument, Ways};
 use gc_texts::{RunFault, number_of};
 use gc_values::Text;
 use std::alloc::Global;
@@ -63,7 +63,7 @@ fn play_at(rt: &HostRuntime, listener: TcpListener, case: &Case<'_>, wrong: &mut
 struct Played<'a> {
     rt: &'a HostRuntime,
     listener: TcpListener,
-    // Whether the machine has no address of the kind that was to be listened at.
+    // Whether the last row `listen [::1]` couldn't listen, as on a machine that has no such address.
     is_absent: bool,
     instrument: Instrument,
     callers: Vec<TcpStream>,
@@ -162,8 +162,8 @@ impl<'a> Played<'a> {
         }
     }
 
-    // The last caller writes what is in `bytes` after the number `times`, that many times; a number above 1000, or a word that is none,
-    // counts as 0. Returns whether that could be done; it stops at the first write that fails.
+    // The last caller writes what is in `bytes` after the number `times`, that many times; a number above 1000, or a word that is
+    // none, counts as 0. Returns whether that could be done, as `write` says; it stops at the first write that fails.
     fn write_times(&mut self, times: &str, bytes: &[u8]) -> bool {
         for _ in 0..u64_up_to(times, 1000) {
             if !self.write(bytes_behind(times, bytes)) {
@@ -173,7 +173,8 @@ impl<'a> Played<'a> {
         true
     }
 
-    // The last caller writes these bytes. Returns whether that could be done; without a caller nothing is written, and it is.
+    // The last caller writes these bytes. Returns whether that could be done; also `true` without a caller, where
+    // nothing is written.
     fn write(&mut self, bytes: &[u8]) -> bool {
         match self.callers.last_mut() {
             Some(caller) => caller.write_all(bytes).is_ok(),
@@ -181,7 +182,7 @@ impl<'a> Played<'a> {
         }
     }
 
-    // The last caller writes no more. Returns whether that could be done; without a caller it is.
+    // The last caller writes no more. Returns whether that could be done; also `true` without a caller.
     fn shut(&self) -> bool {
         match self.callers.last() {
             Some(caller) => caller.shutdown(Shutdown::Write).is_ok(),
@@ -189,8 +190,9 @@ impl<'a> Played<'a> {
         }
     }
 
-    // Listens at a free port of the address 127.0.0.2, if `what` says so, and otherwise of ::1, from now on. Returns whether that could be
-    // done. A machine without ::1 counts as one on which it could: then `is_absent` is true, and the listener from before stays.
+    // Listens at a free port of the address 127.0.0.2, if `what` says so, and otherwise of ::1, from now on. Returns whether that
+    // could be done; for ::1 always `true`: where ::1 can't be listened at, as on a machine without it, `is_absent` is true. If
+    // it can't be done, the listener from before stays.
     fn listen(&mut self, what: &str) -> bool {
         if what == "127.0.0.2" {
             let address = SocketAddr::from(([127, 0, 0, 2], 0));
@@ -229,9 +231,10 @@ impl<'a> Played<'a> {
         tell_end(end, came)
     }
 
-    // Serves a caller with an instrument whose reply to a procedure takes time. `what` is `drop` or `queue`, the procedure and the time in
-    // milliseconds, at most 9999; a procedure or a time that is no such number counts as 0. Reports how serving ended, and `late` if it
-    // took at least that time; or `no clock`, with nobody served, if the clock can't be read.
+    // Serves a caller with an instrument whose reply to a procedure takes time. `what` is `drop` or `queue`, the procedure and
+    // the time in milliseconds, at most 9999; a procedure or a time that is no such number counts as 0. Reports how serving
+    // ended, and `late` if it took at least that time by the clock; or `no clock`, with nobody served, if the clock can't be
+    // read.
     fn serve_slowly(&mut self, what: &str, came: &mut Told) {
         let (busy, rest) = cut_word(what);
         let (rpc, ms) = cut_word(rest);
@@ -258,8 +261,9 @@ impl<'a> Played<'a> {
         }
     }
 
-    // Serves as many callers as the digit `what` says (0 if it is no digit) at a kept port, which closes the connection of one that is idle
-    // for a second. Reports whether all lines on their faults could be written, and these lines.
+    // Serves as many callers as the digit `what` says (0 if it is no digit) at a kept port, each in at most nine reads. The port
+    // closes the connection of one that is idle for a second. Reports whether all lines on their faults could be written, and
+    // these lines.
     fn keep(&mut self, alloc: Global, what: &str, came: &mut Told) {
         let keeping = Keeping {
             connections: Some(u32_up_to(what, 9)),
@@ -303,8 +307,8 @@ impl<'a> Played<'a> {
         tell_end(end, came)
     }
 
-    // Asks a text without commands at the address or name `what`, with the listener's port, and reports how that ended. If `is_absent`,
-    // nobody is asked, and `done` is reported.
+    // Asks a text without commands at the address or name `what`, with the listener's port (0 if the system doesn't say), and
+    // reports how that ended. If `is_absent`, nobody is asked, and `done` is reported.
     fn ask_at(&mut self, alloc: Global, what: &str, came: &mut Told) {
         if self.is_absent {
             return came.text("done");
@@ -343,17 +347,15 @@ impl<'a> Played<'a> {
 fn slow_instrument(delay: Delay, drops: bool) -> SlowInstrument {
     let mut delays = ArrayVec::new();
     delays.push(delay);
-    let scene = SceneInstrument::new(
-        7,
-        slow_name(),
-        ArrayVec::new(),
-        ArrayVec::new(),
-        ArrayVec::new(),
-        None,
-        true,
-        Ways::none(),
-    );
-    SlowInstrument::new(scene, delays, drops)
+    let rules = SceneRules {
+        prisms: ArrayVec::new(),
+        faults: ArrayVec::new(),
+        answers: ArrayVec::new(),
+        noise: None,
+        repeats: true,
+        ways: Ways::none(),
+    };
+    SlowInstrument::new(SceneInstrument::new(7, slow_name(), rules), delays, drops)
 }
 
 // The name of the slow instrument. It is never empty, because plain bytes as these make a text.
@@ -374,7 +376,8 @@ fn tell_done(is_done: bool, came: &mut Told) {
     came.either(is_done, "", "it can't be done");
 }
 
-// Connects to this listener, and returns the caller's end, of which each read waits for a bounded time (`bounded`).
+// Connects to this listener, and returns the caller's end, of which each read waits for a bounded time (`bounded`). `Err`: the
+// system doesn't say the listener's address, can't connect to it, or can't bound the reads.
 fn connected(rt: &HostRuntime, listener: &TcpListener) -> io::Result<TcpStream> {
     let address = listener.local_addr()?;
     bounded(TcpStream::connect(rt, address)?)
@@ -388,7 +391,7 @@ fn tell_kept(all: bool, messages: &[u8], came: &mut Told) {
     tell_uncounted(str::from_utf8(messages).unwrap_or("no text"), came);
 }
 
-// Reports what a caller hears until the end of its connection, or `it waits` if no end comes, or a read fails.
+// Reports what a caller hears until the end of its connection, or `it waits` if no end comes, a read fails, or memory runs out.
 fn tell_heard(alloc: Global, caller: &mut TcpStream, came: &mut Told) {
     let mut bytes = Vec::new(alloc);
     if !hear(caller, &mut bytes) {

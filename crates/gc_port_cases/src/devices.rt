@@ -41,7 +41,7 @@ fn terminal(rt: &HostRuntime, reads: bool) -> Option<File> {
 enum Outcome {
     // The connections or the clock that the link needs couldn't be had.
     Nothing,
-    // No link to the device could be had in four seconds: another program holds it.
+    // No link to the device could be had in four seconds, as where another program holds it.
     Held,
     // A second link to the device wasn't refused as held.
     Shared,
@@ -51,13 +51,13 @@ enum Outcome {
     Open,
     // Something else than silence came, or the silence was too short.
     Unquiet,
-    // A put that was to be cut after a part of its bytes was sent whole, or not at all.
+    // All bytes of a put were sent, or none, though it was to be cut after a part of them.
     Uncut,
-    // A read failed.
+    // A read failed, as it should, or there is no device whose reads would fail.
     Failure,
     // A read that was to fail didn't.
     NoFailure,
-    // All is as it should be of a device that nobody reads or writes.
+    // All is as it should be of a device that nobody reads or writes, or there is no such device.
     Device,
 }
 
@@ -79,7 +79,7 @@ impl Outcome {
     }
 }
 
-// Reports what a link over a device comes to.
+// Reports what a link over a device comes to. If memory runs out for the bytes to put, `came` notes that it lacks a part.
 fn tell_device(rt: &HostRuntime, alloc: Global, came: &mut Told) {
     match dots(alloc, 1_000_000) {
         Ok(much) => came.text(device_outcome(rt, much.as_slice()).text()),
@@ -87,9 +87,9 @@ fn tell_device(rt: &HostRuntime, alloc: Global, came: &mut Told) {
     }
 }
 
-// What a link over a device comes to; `much` is more bytes than the system takes. It should be `Device`: a second link is refused the
-// device, a read takes its time if nothing comes, and a put is cut once the system takes no more. A machine without such devices counts
-// as right.
+// What a link over a device comes to; `much` is more bytes than the system takes. It should be `Device`: a second link is refused
+// the device, a read takes its time if nothing comes, and a put is cut once the system takes no more. Where no two such devices
+// can be opened, as on a machine without them, that counts as right.
 fn device_outcome(rt: &HostRuntime, much: &[u8]) -> Outcome {
     match (terminal(rt, true), terminal(rt, true)) {
         (Some(one), Some(other)) => opened_twice_outcome(rt, [one, other].as_slice(), much),
@@ -123,8 +123,8 @@ fn is_held(rig: &Rig<'_, '_, '_>) -> bool {
     }
 }
 
-// What an opening of this link, a read and a put of the bytes `much` come to: `Device` if all is as it should be, and otherwise `Shut`,
-// `Unquiet` or `Uncut`.
+// What an opening of this link, reads until it is silent, and a put of the bytes `much` come to: `Device` if all is as it should
+// be, and otherwise `Shut`, `Unquiet` or `Uncut`.
 fn device_acts_outcome<L: Link>(link: &mut L, much: &[u8]) -> Outcome {
     if link.open().is_err() {
         return Outcome::Shut;
@@ -154,8 +154,8 @@ fn device_link<'a, 'b, 'c, 'd>(
     None
 }
 
-// What a link comes to over a device of which each read fails, as of one that was pulled out. It should be `Failure`; a machine without
-// such devices counts as right.
+// What a link comes to over a device of which each read fails, as of one that was pulled out. It should be `Failure`. Where no
+// such device can be opened, as on a machine without them, that counts as right.
 fn pulled_outcome(rt: &HostRuntime) -> Outcome {
     let Some(device) = terminal(rt, false) else {
         return Outcome::Failure;

@@ -1,7 +1,7 @@
-//! Rows of a link over TCP, and of its far end, which is the case's own, in one thread. The link leads to a free port at which the case
-//! listens, or to the port under `port`, from 0 to 65535. One write on the link, and the making of its connection, waits for at most as
-//! many milliseconds as `patience` says, and without a patience for ten seconds. What comes of a row is appended to `came`, and what isn't
-//! as the case expects to `wrong`.
+//! Rows of a link over TCP, and of its far end, which is the case's own, in one thread. The link leads to a free port at which
+//! the case listens, or to the port under `port`, from 0 to 65535. One write on the link, and the making of its connection, waits
+//! for at most as many milliseconds as `patience` says (0 counts as 1), and without a patience for ten seconds. What comes of a
+//! row is appended to `came`, and what isn't as the case expects to `wrong`.
 //!
 //!     do open                  the link is opened: `open`, or `shut` if it can't be
 //!     do close                 the link is closed
@@ -90,7 +90,7 @@ struct Played<'a> {
     link: TcpLink<'a, HostRuntime>,
     // The far end of the connection that was accepted last. `None`: none was, or it went away.
     far: Option<TcpStream>,
-    // How many bytes of the put that stalled were sent.
+    // How many bytes of the last put that was to stall were sent; 0 before the first.
     sent: usize,
 }
 
@@ -127,7 +127,8 @@ impl<'a> Played<'a> {
         }
     }
 
-    // Puts sixteen million bytes, which is more than a connection takes while nobody reads, and reports what came of it.
+    // Puts sixteen million bytes, which is more than a connection takes while nobody reads, and reports what came of the put. If
+    // memory runs out for the bytes, `came` notes that it lacks a part.
     fn stall(&mut self, alloc: Global, came: &mut Told) {
         match dots(alloc, 16_000_000) {
             Ok(much) => self.put_much(much.as_slice(), came),
@@ -135,8 +136,9 @@ impl<'a> Played<'a> {
         }
     }
 
-    // Puts `much`, more than a connection takes while nobody reads, and stores in `sent` how many of its bytes were sent. A part of it is
-    // to be sent, and the put is to end within two seconds; otherwise it is reported how many bytes were sent in how many milliseconds.
+    // Puts `much`, more than a connection takes while nobody reads, and stores in `sent` how many of its bytes were sent. If that is a
+    // part of it, and the put took less than two seconds, reports `a part, in its time`; else how many bytes were sent in how many
+    // milliseconds. If the clock can't be read before the put, it counts as having taken no time.
     fn put_much(&mut self, much: &[u8], came: &mut Told) {
         let begun = elapsed(&mut self.link);
         let sent = put_counted(&mut self.link, much);
@@ -163,8 +165,8 @@ impl<'a> Played<'a> {
         tell_came(ended, buf.as_slice(), came)
     }
 
-    // Waits until the link was silent for as many milliseconds as `what` says, which is 0 if it is no number. Reports that this took less
-    // than a second, or else for how many milliseconds the link was silent.
+    // Waits until the link was silent for as many milliseconds as `what` says (0 if it is no number). Reports that the link was
+    // silent so long, in less than a second, or else for how many milliseconds it was silent, as `await_silence` says.
     fn wait(&mut self, what: &str, came: &mut Told) {
         let millis = number_of(what.as_bytes(), u64::MAX).unwrap_or(0);
         let waited = await_silence(&mut self.link, millis);
@@ -187,8 +189,8 @@ impl<'a> Played<'a> {
         came.either(write_all(&mut self.far, bytes), "", "it can't be written");
     }
 
-    // Accepts the connection that the link made, and returns its far end. It waits for ever if none was made. `None`: nobody listens any
-    // more, or the system can't accept it.
+    // Accepts the connection that the link made, and returns its far end. It waits for ever if none was made. `None`: nobody
+    // listens any more, or the system can't accept it or bound its reads.
     fn accept(&self) -> Option<TcpStream> {
         accepted(self.listener.as_ref()?).ok()
     }
@@ -210,8 +212,9 @@ fn tell_heard(alloc: Global, far: &mut TcpStream, sent: usize, came: &mut Told) 
     tell_heard_bytes(is_end, bytes.as_slice(), sent, came);
 }
 
-// Reports what a far end heard: `bytes` until its connection was shut, or `open` if that end didn't come (`is_end` is false). Of a hundred
-// bytes or more only the number is reported, and as "that part" if it is `sent`, how many bytes the stalled put sent.
+// Reports what a far end heard: `bytes` until its connection was shut, or `open` if it wasn't heard to that end (`is_end` is
+// false). Of a hundred bytes or more only the number is reported, and as "that part" if it is `sent`, how many bytes the stalled
+// put sent.
 fn tell_heard_bytes(is_end: bool, bytes: &[u8], sent: usize, came: &mut Told) {
     if !is_end {
         return came.text("open");
@@ -231,7 +234,7 @@ pub fn dots(alloc: Global, count: usize) -> Result<Vec<u8>, AllocError> {
     Ok(vec![in alloc; b'.'; count]?)
 }
 
-// The moment by a link's clock for deadlines, in milliseconds; `u64::MAX` if it can't be read.
+// The moment by a link's clock for deadlines, in milliseconds; `u64::MAX` if the clock can't be read.
 fn elapsed<L: Link>(link: &mut L) -> u64 {
     match link.now() {
         Ok(moment) => moment.elapsed,
@@ -265,8 +268,8 @@ fn tell_came(ended: Came, buf: &[u8], came: &mut Told) {
     }
 }
 
-/// Reads a link until it was silent for `millis` milliseconds, and returns for how many milliseconds it was: 0 if something else came, and
-/// fewer than `millis` if a thousand reads, each of which may end early, were too few.
+/// Reads a link until it was silent for `millis` milliseconds, and returns for how many milliseconds it was: 0 if something else
+/// came or the clock couldn't be read, and fewer than `millis` if a thousand reads, each of which may end early, were too few.
 pub fn await_silence<L: Link>(link: &mut L, millis: u64) -> u64 {
     let begun = elapsed(link);
     let mut buf = [0; 2];

@@ -15,7 +15,8 @@ use links::LinksPlayer;
 use std::io;
 use std::process::ExitCode;
 
-// Plays the files of links and of callers. The status is 1 if a case came to something else than it expects.
+// Plays the files of links and of callers. The status is 1 if a case came to something else than it expects. `Err`: that of
+// `play_folder`; if it comes of the links, no callers are played.
 fn main(rt: HostRuntime) -> io::Result<ExitCode> {
     let mut are_right = play_folder(&rt, ".", ".links", &LinksPlayer)?;
     are_right &= play_folder(&rt, ".", ".callers", &CallersPlayer)?;

@@ -1,7 +1,8 @@
 //! A runtime whose devices and connections a case made before, and whose clock goes only while a link rests. It has no other file
 //! and no folder.
 
-use gc_cases::{in_use, millis_of, not_found};
+use gc_cases::{in_use, not_found};
+use gc_links::millis_of;
 use std::alloc::Allocator;
 use std::cell::RefCell;
 use std::fs::{File, Files, Metadata, OpenOptions};
@@ -51,7 +52,7 @@ impl<'a, 'b, 'c> Clock for Rig<'a, 'b, 'c> {
         self.monotonic()
     }
 
-    // Adds a rest, in whole milliseconds, to those before, and returns at once.
+    // Adds a rest, in whole milliseconds, to those before, and returns at once. If `done` is in use, it adds none.
     fn sleep(&self, duration: Duration) {
         if let Ok(mut done) = self.done.try_borrow_mut() {
             done.rested = done.rested.saturating_add(millis_of(duration));
@@ -88,7 +89,8 @@ impl<'a, 'b, 'c> Net for Rig<'a, 'b, 'c> {
         }
     }
 
-    // Finds two addresses for each name. It leaves in `found` what is there: no address decides which connection is made.
+    // Finds two addresses for each name, or as many as `found` has room for if that is fewer. It leaves in `found` what is
+    // there: no address decides which connection is made.
     fn lookup_host(&self, _host: &str, _port: u16, found: &mut [SocketAddr]) -> io::Result<usize> {
         Ok(found.len().min(2))
     }

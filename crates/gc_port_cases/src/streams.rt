@@ -7,7 +7,7 @@ use std::net::{TcpListener, TcpStream};
 use std::time::Duration;
 
 /// Listens at 1024, the lowest port that any user may listen at. A call that took 1024 in place of a lower port would then connect, where
-/// the case expects a failure. `Err`: another program listens there.
+/// the case expects a failure. `Err`: the system doesn't let it listen there, as where another program does.
 pub fn listener_at_1024(rt: &HostRuntime) -> io::Result<TcpListener> {
     listen(rt, 1024)
 }

@@ -21,7 +21,7 @@ impl Pipe {
         }
     }
 
-    /// The end that reads. It answers `answers` reads and fails at the next one. A read of an empty pipe is the end.
+    /// An end that reads. It answers `answers` reads and fails from the next one on. A read of an empty pipe is the end.
     pub fn source(&self, answers: u64) -> PipeSource<'_>
         ensures { result.failed ≡ false }
     {
@@ -34,8 +34,8 @@ impl Pipe {
         }
     }
 
-    /// The end that writes. It takes up to `most` bytes for each call, answers `answers` writes and fails at the next one.
-    /// It fails, too, where no byte can be stored.
+    /// An end that writes. It takes up to `most` bytes for each call, as many of them as memory allows, answers `answers` writes
+    /// and fails from the next one on. A write of which no byte can be stored fails, too, and so does each later one.
     pub fn sink(&self, most: usize, answers: u64) -> PipeSink<'_>
         requires { 0 < most }
         ensures { result.failed ≡ false }
@@ -132,7 +132,7 @@ pub struct PipeSink<'a> {
     pipe: &'a Pipe,
     // How many bytes are taken for each call at most.
     most: usize,
-    // How many more writes are answered.
+    // How many more writes are answered, unless one fails because memory runs out: after that none is.
     answers_left: u64,
     // Whether a write has failed.
     failed: bool,

@@ -8,14 +8,14 @@ use gc_lines::{Durable, PortFailed, Sink};
 use std::alloc::Global;
 use std::marker::Model;
 
-/// Takes at most a given number of bytes for each call, and keeps them. It fails where memory to
-/// store them runs out, and then [`PieceSink::lacks_memory`] is true.
+/// Takes at most a given number of bytes for each call, and keeps them. A call at which memory to
+/// store them runs out fails, and so does each later one; then [`PieceSink::lacks_memory`] is true.
 #[derive(Drop)]
 pub struct PieceSink {
     taken: Vec<u8>,
     // How many bytes are taken for each call at most.
     most: usize,
-    // How many more writes are answered.
+    // How many more writes are answered, unless one fails because memory runs out: after that none is.
     answers_left: u64,
     // Whether a write has failed.
     failed: bool,
@@ -42,7 +42,7 @@ impl Model for PieceSink {
 
 impl PieceSink {
     /// A sink that takes up to `most` bytes for each call. It answers `answers` writes and fails
-    /// at the next one: so 0 fails at once, and `u64::MAX` never fails in a test but for memory.
+    /// from the next one on: so 0 fails at once, and `u64::MAX` never fails in a test but for memory.
     pub fn new(alloc: Global, most: usize, answers: u64) -> PieceSink
         requires { 0 < most }
         ensures { result ≡ record { taken = []; most = most; answers_left = answers; failed = false; lacks_memory = false } }
@@ -81,7 +81,8 @@ impl Sink for PieceSink {
         ensures bytes { TakesBytes (Some self.old.taken) (Some self.new.taken) result bytes.now }
         ensures fails { Fails self.old.failed self.new.failed result }
 
-        // The sink takes as many bytes as the test asked for, and fails exactly at the call that the test named, or where memory ran out.
+        // The sink takes as many bytes as the test asked for, or all if they are fewer. It fails at the call that the test named,
+        // or at which memory runs out, at each one after it, and at no other.
         ensures told { WritesAsAsked self.old self.new bytes.now result }
     {
         if self.failed || self.answers_left == 0 {

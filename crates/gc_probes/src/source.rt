@@ -7,8 +7,9 @@ ghost use Rattle.gc_probes.specs.Seen.{SourceSeen, ReadsAsAsked, piece_size};
 use gc_lines::{PortFailed, Source};
 use std::marker::Model;
 
-/// Gives bytes in pieces of the sizes that it was made with, one for each read. After the last size each read gets as many bytes
-/// as it has room for. A size of 0 counts as 1.
+/// Gives bytes in pieces of the sizes that it was made with, one for each read. A size of 0 counts as 1, and a piece is smaller
+/// where the read has less room, or fewer bytes are left. After the last size each read gets as many bytes as it has room for and
+/// are left.
 #[derive(Drop)]
 pub struct PieceSource<'a> {
     // The bytes that no read has given yet.
@@ -41,8 +42,8 @@ impl<'a> Model for PieceSource<'a> {
 }
 
 impl<'a> PieceSource<'a> {
-    /// A source of `bytes` in pieces of these sizes. It answers `answers` reads and fails at the
-    /// next one: so 0 fails at once, and `u64::MAX` never fails in a test.
+    /// A source of `bytes` in pieces of these sizes. It answers `answers` reads and fails from the
+    /// next one on: so 0 fails at once, and `u64::MAX` never fails in a test.
     pub fn new(bytes: &'a [u8], sizes: &'a [usize], answers: u64) -> PieceSource<'a>
         ensures { result ≡ record {
           left = bytes.entry.now;
@@ -97,7 +98,8 @@ impl<'a> Source for PieceSource<'a> {
         ensures counts { CountsRead self.old.reads self.new.reads self.old.ended self.new.ended result }
         ensures fails { Fails self.old.failed self.new.failed result }
 
-        // The source gives pieces of the sizes that the test named, and fails exactly at the call that the test named.
+        // The source gives pieces of the sizes that the test named (`piece_size`). It fails at the call that the test named,
+        // at each one after it, and at no other.
         ensures told { ReadsAsAsked self.old self.new (length buf.old) result }
     {
         if self.failed || self.reads >= self.answers {

@@ -1,9 +1,10 @@
 //! The far end of a case: a connection of one process, at which a simulator answers while the station waits, and a clock that
 //! goes only as it waits. So no case waits, and each moment is known.
 
-use gc_cases::{Told, in_use, millis_of};
+use gc_cases::{Told, in_use};
 use gc_console::{Oddities, run_exec};
 use gc_lines::{FromReader, ToWriter};
+use gc_links::millis_of;
 use std::alloc::Global;
 use std::cell::RefCell;
 use std::io::{self, ErrorKind, Read, Write};
@@ -55,15 +56,16 @@ impl Seen {
     }
 }
 
-// Makes a connection, and returns both ends, the station's first. They are a pair of Unix sockets, because what is written to one can be
-// read at the other at once. No read of either waits. `Err`: the system gives no such pair.
+// Makes a connection, and returns both ends, the station's first. They are a pair of Unix sockets, because what is written to one
+// can be read at the other at once. No read of either waits. `Err`: the system gives no pair, or can't set an end so that no read
+// of it waits.
 pub fn both_ends(net: &impl Net) -> io::Result<(TcpStream, TcpStream)> {
     let ends = UnixStream::pair(net)?;
     unblock_both(&ends)?;
     Ok(streams_of(ends))
 }
 
-// Sets these two ends so that no read of them waits.
+// Sets these two ends so that no read of them waits. `Err`: the system can't set one of them so.
 fn unblock_both(ends: &(UnixStream, UnixStream)) -> io::Result<()> {
     ends.0.set_nonblocking(true)?;
     ends.1.set_nonblocking(true)
@@ -85,9 +87,9 @@ fn stream_of(end: UnixStream) -> TcpStream {
 pub struct FarEnd<'a, 'b> {
     pub ends: &'a (TcpStream, TcpStream),
     pub seen: &'b RefCell<Seen>,
-    // How many milliseconds an answer takes: less than the station waits for it. `None`: nothing is answered.
+    // How many milliseconds an answer takes; that has to be less than the station waits for it. `None`: nothing is answered.
     pub answer: Option<u64>,
-    // After this many milliseconds the clock can't be read any more.
+    // After this many milliseconds the monotonic clock can't be read any more.
     pub until: u64,
     // How many connections are refused before one is made.
     pub refused: u64,
@@ -115,8 +117,8 @@ impl<'a, 'b> FarEnd<'a, 'b> {
         }
     }
 
-    // Answers the requests of a piece, after an echo of it if the line echoes. Returns whether there were any; `false` also if the echo or
-    // a reply can't be sent.
+    // Answers the requests of a piece, after an echo of it if the line echoes. Returns whether it sent a reply; `false` also if
+    // the echo or one of the replies can't be sent.
     fn answer_piece(&self, piece: &[u8]) -> bool {
         let mut far = &self.ends.1;
         if self.odd.echoes && far.write_all(piece).is_err() {
@@ -125,8 +127,8 @@ impl<'a, 'b> FarEnd<'a, 'b> {
         self.serve_piece(piece)
     }
 
-    // Has a new simulator answer the requests of a piece: none knows of an earlier piece. Returns whether there were any; `false` also if a
-    // reply can't be sent.
+    // Has a new simulator answer the requests of a piece: none knows of an earlier piece. Returns whether it sent a reply;
+    // `false` also if one of the replies can't be sent.
     fn serve_piece(&self, piece: &[u8]) -> bool {
         let mut source = FromReader::new(piece);
         let mut sink = ToWriter::new(Changing {
@@ -152,8 +154,8 @@ impl<'a, 'b> FarEnd<'a, 'b> {
         Ok(Duration::from_millis(seen.elapsed))
     }
 
-    // Plays a wait of the station of at most `millis` milliseconds. What the station sent, up to 256 bytes, is noted and answered, which
-    // takes the time of an answer. If there is nothing to answer, the whole wait passes.
+    // Plays a wait of the station of at most `millis` milliseconds. What the station sent, up to 256 bytes, is noted and
+    // answered, which takes the time of an answer. If nothing was sent, or it isn't answered (`hear`), the whole wait passes.
     fn wait(&self, seen: &mut Seen, millis: u64) {
         let mut buf = [0; 256];
         let mut far = &self.ends.1;
@@ -219,7 +221,7 @@ impl<'a, 'b> Clock for FarEnd<'a, 'b> {
         }
     }
 
-    // Lets this much time pass by the clock, and returns at once.
+    // Lets this much time pass by the clock, in whole milliseconds, and returns at once. If `seen` is in use, none passes.
     fn sleep(&self, duration: Duration) {
         if let Ok(mut seen) = self.seen.try_borrow_mut() {
             seen.pass(millis_of(duration));
@@ -244,7 +246,7 @@ impl<'a, 'b> Net for FarEnd<'a, 'b> {
     }
 
     // Counts the attempt. It refuses the first connections, as many as `refused` says. Each further one is the station's end of the same
-    // connection.
+    // connection. `Err`: the connection is refused, no further handle of that end can be had, or `seen` is in use.
     fn connect_timeout(&self, _addr: SocketAddr, _timeout: Duration) -> io::Result<TcpStream> {
         if self.count_attempt()? <= self.refused {
             return Err(io::Error::from(ErrorKind::ConnectionRefused));

@@ -11,7 +11,7 @@ impl<'a, 'b> Files for FarEnd<'a, 'b> {
 
     type Dir = File;
 
-    // Notes the file's path, and opens nothing: it always fails.
+    // Notes the file's path, unless `seen` is in use, and opens nothing: it always fails.
     fn open_file(&self, _how: &OpenOptions, path: &str) -> io::Result<File> {
         let Ok(mut seen) = self.seen.try_borrow_mut() else {
             return Err(in_use());

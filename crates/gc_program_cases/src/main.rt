@@ -14,7 +14,7 @@ use program::Program;
 use std::io;
 use std::process::ExitCode;
 
-// Plays the files of cases. The status is 1 if a case came to something else than it expects.
+// Plays the files of cases. The status is 1 if a case came to something else than it expects. `Err`: that of `play_folder`.
 fn main(rt: HostRuntime) -> io::Result<ExitCode> {
     let are_right = play_folder(&rt, ".", ".program", &Program)?;
     Ok(ExitCode::from(u8::from(!are_right)))

@@ -15,8 +15,9 @@ use std::alloc::Global;
 // The most texts that a case has under one key. Further ones aren't looked for.
 const MOST_PARTS: usize = 16;
 
-/// Reports each part that a case asks for and that the output or the messages, `told`, lack, and after these parts the messages: in one
-/// line under `wrong`, a key that no case has. Messages that aren't UTF-8 count as `no text`.
+/// Reports each part that a case asks for and that the output or the messages, `told`, lack, and after these parts the messages:
+/// in one line under `wrong`, a key that no case has. Such a line comes also if memory ran out for a part or for the messages.
+/// Messages that aren't UTF-8 count as `no text`.
 pub fn tell_parts(alloc: Global, case: &Case<'_>, output: &str, told: &Told, wrong: &mut Told) {
     let mut missing = Told::new(alloc);
     let messages = str::from_utf8(told.as_bytes()).unwrap_or("no text");
@@ -69,8 +70,8 @@ fn add_part(key: &str, value: &str, missing: &mut Told) {
     missing.text(" ");
 }
 
-// Whether the text in `value`, after its first word, occurs in the messages as often as that word says; `false` if that word is no number.
-// If memory runs out, `missing` notes that it lacks a part.
+// Whether the text in `value`, after its first word, occurs in the messages as often as that word says; `false` if that word is
+// no number, or no space follows it. If memory runs out, `missing` notes that it lacks a part.
 fn is_counted(alloc: Global, value: &str, messages: &str, missing: &mut Told) -> bool {
     let (count, text) = value.split_once(' ').unwrap_or(("", value));
     count.parse::<usize>().ok() == Some(count_of(alloc, text, messages, missing))
@@ -87,7 +88,7 @@ fn count_of(alloc: Global, value: &str, came: &str, missing: &mut Told) -> usize
     }
 }
 
-// How often the text of these bytes occurs in what came; 0 if they are no text.
+// How often the text of these bytes occurs in what came, without overlaps; 0 if they are no text.
 fn count_in(bytes: &[u8], came: &str) -> usize {
     match str::from_utf8(bytes) {
         Ok(text) => came.matches(text).count(),

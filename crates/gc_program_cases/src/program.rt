@@ -13,7 +13,7 @@
 //!     line echoes            of a far end: what is sent comes back; with `bare` a CR comes as LF
 //!     refused 2              of a far end: this many connections are refused before one is made
 //!     silent 500             of a far end: after this many milliseconds nothing is answered any more
-//!     until 9000             of a far end: after this many milliseconds its clock can't be read any more
+//!     until 9000             of a far end: after this many milliseconds its monotonic clock can't be read any more
 
 use crate::far_end::{FarEnd, Seen, both_ends};
 use crate::said::{Said, tell_seen};
@@ -27,7 +27,7 @@ use std::io::{self, ErrorKind, Read};
 use std::net::{Net, SocketAddr, TcpListener, TcpStream};
 use std::time::Clock;
 
-// An hour in milliseconds: how long the clock of a far end can be read, if the case doesn't say `until`.
+// An hour in milliseconds: how long the monotonic clock of a far end can be read, if the case doesn't say `until`.
 const HOUR: u64 = 3_600_000;
 
 /// Plays `.program`.

@@ -1,7 +1,8 @@
 //! What came of a run of the program, and what a case asks of it: its `status`, the `output` and the `messages`; of a far end
 //! what was `heard` there, how often a connection was tried (`opened`), the milliseconds that `elapsed`, and the `files` that were to be
-//! opened. A `status` or an `output` of `any` takes whatever came. If a case has `has`, its output isn't compared whole, and if it has
-//! `tells`, `begins`, `ends` or `counts`, its messages aren't. Of a far end only what the case has is compared.
+//! opened. A `status` of `any` takes each exit status, and an `output` of `any` whatever came. If a case has `has`, its output
+//! isn't compared whole, and if it has `tells`, `begins`, `ends` or `counts`, its messages aren't. Of a far end only what the
+//! case has is compared.
 
 use crate::far_end::Seen;
 use crate::parts::tell_parts;
@@ -32,8 +33,8 @@ impl Said {
         }
     }
 
-    /// Reports where the status, the output or the messages came otherwise than the case has them, and each part of these that it asks for
-    /// and that they lack. Without a far end the messages have `PORT` for the digits `port`.
+    /// Reports where the status, the output or the messages came otherwise than the case has them, and each part that the case
+    /// asks for and that the output or the messages lack. Without a far end the messages have `PORT` for the digits `port`.
     pub fn tell(&self, alloc: Global, case: &Case<'_>, port: &str, wrong: &mut Told) {
         let mut told = Told::new(alloc);
         self.append_messages(alloc, case, port, &mut told);
@@ -76,8 +77,9 @@ impl Said {
         }
     }
 
-    // Compares the messages, `told`, with the case's `messages`; but a case that asks for parts of the messages must have no `messages`,
-    // and is reported if it has. Then reports each part that the output or the messages lack.
+    // Compares the messages, `told`, with the case's `messages`; but a case that asks for parts of the messages must have no
+    // `messages`, and is reported if it has. Then reports each part that the output or the messages lack; an output that isn't
+    // UTF-8 counts as empty.
     fn compare_messages_and_parts(
         &self,
         alloc: Global,
@@ -106,7 +108,8 @@ fn status_digit(status: ExitCode) -> &'static str {
     "2"
 }
 
-// Appends messages to `told`, with `PORT` wherever they have the digits of the port.
+// Appends messages to `told`, with `PORT` wherever they have the digits of the port. If memory runs out, `told` notes that it
+// lacks a part.
 fn append_with_port(alloc: Global, messages: &str, port: &str, told: &mut Told) {
     match messages.replace(alloc, port, "PORT") {
         Ok(named) => told.text(named.as_str()),
@@ -131,7 +134,8 @@ fn asks_for_parts(case: &Case<'_>) -> bool {
         .any(|key| case.value(key) != "")
 }
 
-/// Reports where something else came at a far end than the case has, of the keys that it has.
+/// Reports each key of the case under which it has something else than what came at the far end. Keys that it doesn't have are
+/// left out.
 pub fn tell_seen(alloc: Global, case: &Case<'_>, seen: &Seen, wrong: &mut Told) {
     compare_if_asked(case, "heard", &seen.heard, wrong);
     compare_number(alloc, case, "opened", u64::from(seen.tried), wrong);

@@ -35,8 +35,8 @@ use Rattle.gc_promise.proofs.Plain.{moment_plain}
 abbrev pub find : List ℕ → List Member → Option json.Json
 find key ms = get_member key (members_read ms)
 
--- `later_or` takes the later of two results of a search, if something was found there, and else the earlier one. Here there is
--- no earlier one
+-- `later_or` takes its first argument, the later of two results of a search, if something was found there, and else its second
+-- one, the earlier. Where there is no earlier one, it gives the later
 pub later_none : (o : Option json.Json) → o ≡ later_or o None
 later_none None = refl
 later_none (Some j) = refl
@@ -66,12 +66,13 @@ find_both key (Texts name texts ∷ xs) ys =
 abbrev pub LacksAll : List Member → List (List ℕ) → Type 0
 LacksAll ms keys = AllByRecursion (λ (key : List ℕ). find key ms ≡ None) keys
 
--- the names under which something is looked up among the members of a record before those for quantities
+-- of the names of members that come before those for quantities in a record's object, the ones under which something is looked
+-- up
 abbrev pub early_names : List (List ℕ)
 early_names = codes "cycle" ∷ codes "place" ∷ codes "target" ∷ codes "procedure" ∷ codes "outcome" ∷ codes "rc_com" ∷ codes "rc" ∷ codes "values" ∷ codes "sent" ∷ []
 
--- no member for a quantity of this answer has one of the names of `early_names`. `came` are the parameters of the reply, as its line
--- has them
+-- no member for a quantity of this answer has one of the names of `early_names`. `came` are the parameters of the reply, as its
+-- line has them
 abbrev IsApart : Call → Answer → List ℕ → Type 0
 IsApart call answer came = LacksAll (values_members (column_of call answer) (answer_fields answer).values came) early_names
 
@@ -96,7 +97,7 @@ answer_apart call (Angles hz v) came = (refl, (refl, (refl, (refl, (refl, (refl,
 answer_apart call (Measured hz v distance) came = (refl, (refl, (refl, (refl, (refl, (refl, (refl, (refl, (refl, tt)))))))))
 answer_apart call (MeasuredMode hz v distance mode) came = (refl, (refl, (refl, (refl, (refl, (refl, (refl, (refl, (refl, tt)))))))))
 
--- the member for a reply's items has none of the names of `early_names`
+-- the member for a reply's items, if there is one, has none of the names of `early_names`
 items_apart : (items : Option (List (List ℕ))) → LacksAll (item_members items) early_names
 items_apart None = (refl, (refl, (refl, (refl, (refl, (refl, (refl, (refl, (refl, tt)))))))))
 items_apart (Some texts) = (refl, (refl, (refl, (refl, (refl, (refl, (refl, (refl, (refl, tt)))))))))
@@ -117,16 +118,16 @@ quantities_apart call Lost = (refl, (refl, (refl, (refl, (refl, (refl, (refl, (r
 quantities_apart call Skipped = (refl, (refl, (refl, (refl, (refl, (refl, (refl, (refl, (refl, tt)))))))))
 quantities_apart call Missed = (refl, (refl, (refl, (refl, (refl, (refl, (refl, (refl, (refl, tt)))))))))
 
--- the member for a quality has none of the names of `early_names`
-pub worded_apart : (word : List ℕ) → LacksAll (quality_members word) early_names
-worded_apart [] = (refl, (refl, (refl, (refl, (refl, (refl, (refl, (refl, (refl, tt)))))))))
-worded_apart (b ∷ bs) = (refl, (refl, (refl, (refl, (refl, (refl, (refl, (refl, (refl, tt)))))))))
+-- the member for a quality, if there is one, has none of the names of `early_names`
+pub quality_apart : (word : List ℕ) → LacksAll (quality_members word) early_names
+quality_apart [] = (refl, (refl, (refl, (refl, (refl, (refl, (refl, (refl, (refl, tt)))))))))
+quality_apart (b ∷ bs) = (refl, (refl, (refl, (refl, (refl, (refl, (refl, (refl, (refl, tt)))))))))
 
--- the member for a quality has no name of a quantity
-pub worded_without : (word : List ℕ) → LacksAll (quality_members word) quantity_names
-worded_without [] =
+-- the member for a quality, if there is one, has no name of a quantity
+pub quality_without : (word : List ℕ) → LacksAll (quality_members word) quantity_names
+quality_without [] =
     (refl, (refl, (refl, (refl, (refl, (refl, (refl, (refl, (refl, (refl, (refl, (refl, (refl, (refl, (refl, (refl, (refl, (refl, (refl, (refl, (refl, (refl, (refl, (refl, tt))))))))))))))))))))))))
-worded_without (b ∷ bs) =
+quality_without (b ∷ bs) =
     (refl, (refl, (refl, (refl, (refl, (refl, (refl, (refl, (refl, (refl, (refl, (refl, (refl, (refl, (refl, (refl, (refl, (refl, (refl, (refl, (refl, (refl, (refl, (refl, tt))))))))))))))))))))))))
 
 -- what two lists of members lack, both together lack
@@ -135,28 +136,29 @@ lacks_both xs ys [] a b = tt
 lacks_both xs ys (key ∷ keys) a b =
     (find_both key xs ys ∙ ap (λ (o : Option json.Json). later_or o (find key xs)) b.0 ∙ ap (later_or None) a.0, lacks_both xs ys keys a.1 b.1)
 
--- the attempt has none of the names of `early_names`
+-- the member for the attempt has none of the names of `early_names`
 pub attempt_apart : (when : When) → LacksAll (attempt_members when) early_names
 attempt_apart when = (refl, (refl, (refl, (refl, (refl, (refl, (refl, (refl, (refl, tt)))))))))
 
--- the attempt has no name of a quantity
+-- the member for the attempt has no name of a quantity
 pub attempt_without : (when : When) → LacksAll (attempt_members when) quantity_names
 attempt_without when =
     (refl, (refl, (refl, (refl, (refl, (refl, (refl, (refl, (refl, (refl, (refl, (refl, (refl, (refl, (refl, (refl, (refl, (refl, (refl, (refl, (refl, (refl, (refl, (refl, tt))))))))))))))))))))))))
 
--- the member for a reply's items has no name of a quantity
+-- the member for a reply's items, if there is one, has no name of a quantity
 pub items_without : (items : Option (List (List ℕ))) → LacksAll (item_members items) quantity_names
 items_without None =
     (refl, (refl, (refl, (refl, (refl, (refl, (refl, (refl, (refl, (refl, (refl, (refl, (refl, (refl, (refl, (refl, (refl, (refl, (refl, (refl, (refl, (refl, (refl, (refl, tt))))))))))))))))))))))))
 items_without (Some texts) =
     (refl, (refl, (refl, (refl, (refl, (refl, (refl, (refl, (refl, (refl, (refl, (refl, (refl, (refl, (refl, (refl, (refl, (refl, (refl, (refl, (refl, (refl, (refl, (refl, tt))))))))))))))))))))))))
 
--- the word of a quality is found under `quality`, if there is one
-pub worded_found : (o : Option Quality) → text_of (find (codes "quality") (quality_members (quality_text o))) ≡ quality_text o
-worded_found (Some quality.Fine) = refl
-worded_found (Some quality.Warning) = refl
-worded_found (Some quality.Refused) = refl
-worded_found None = refl
+-- the text under `quality` in the member for the quality `o` is the word of the quality; if there is no quality, it is empty,
+-- as is `quality_text None`
+pub quality_found : (o : Option Quality) → text_of (find (codes "quality") (quality_members (quality_text o))) ≡ quality_text o
+quality_found (Some quality.Fine) = refl
+quality_found (Some quality.Warning) = refl
+quality_found (Some quality.Refused) = refl
+quality_found None = refl
 
 -- no member for a whole number that answers a call has the name `quality`
 long_unqualified : (call : Call) (n : ℤ) (came : List ℕ) → find (codes "quality") (values_members (column_of call (Long n)) (answer_fields (Long n)).values came) ≡ None
@@ -169,7 +171,7 @@ answer_unqualified : (call : Call) (answer : Answer) (came : List ℕ) → find 
 answer_unqualified call (Long n) came = long_unqualified call n came
 answer_unqualified call answer came = refl
 
--- the member for a reply's items hasn't the name `quality`
+-- the member for a reply's items, if there is one, hasn't the name `quality`
 items_unqualified : (items : Option (List (List ℕ))) → find (codes "quality") (item_members items) ≡ None
 items_unqualified None = refl
 items_unqualified (Some texts) = refl
@@ -195,9 +197,9 @@ ending_unqualified Skipped = refl
 ending_unqualified Missed = refl
 
 -- no member on a command has the name `quality`
-pub what_unqualified : (command : Wish) (name : List ℕ) → find (codes "quality") (command_members command name) ≡ None
-what_unqualified command [] = refl
-what_unqualified command (b ∷ bs) = refl
+pub command_unqualified : (command : Wish) (name : List ℕ) → find (codes "quality") (command_members command name) ≡ None
+command_unqualified command [] = refl
+command_unqualified command (b ∷ bs) = refl
 
 -- no member on when and where has the name `quality`
 pub moment_unqualified : (sent : Option ℕ) (time cycle place : List ℕ)
@@ -233,15 +235,15 @@ ending_without Missed =
     (refl, (refl, (refl, (refl, (refl, (refl, (refl, (refl, (refl, (refl, (refl, (refl, (refl, (refl, (refl, (refl, (refl, (refl, (refl, (refl, (refl, (refl, (refl, (refl, tt))))))))))))))))))))))))
 
 -- no member on a command has the name `cycle`, `place` or `sent`
-pub what_apart : (command : Wish) (name : List ℕ) → LacksAll (command_members command name) (codes "cycle" ∷ codes "place" ∷ codes "sent" ∷ [])
-what_apart command [] = (refl, (refl, (refl, tt)))
-what_apart command (b ∷ bs) = (refl, (refl, (refl, tt)))
+pub command_apart : (command : Wish) (name : List ℕ) → LacksAll (command_members command name) (codes "cycle" ∷ codes "place" ∷ codes "sent" ∷ [])
+command_apart command [] = (refl, (refl, (refl, tt)))
+command_apart command (b ∷ bs) = (refl, (refl, (refl, tt)))
 
 -- no member on a command has the name of a quantity
-pub what_without : (command : Wish) (name : List ℕ) → LacksAll (command_members command name) quantity_names
-what_without command [] =
+pub command_without : (command : Wish) (name : List ℕ) → LacksAll (command_members command name) quantity_names
+command_without command [] =
     (refl, (refl, (refl, (refl, (refl, (refl, (refl, (refl, (refl, (refl, (refl, (refl, (refl, (refl, (refl, (refl, (refl, (refl, (refl, (refl, (refl, (refl, (refl, (refl, tt))))))))))))))))))))))))
-what_without command (b ∷ bs) =
+command_without command (b ∷ bs) =
     (refl, (refl, (refl, (refl, (refl, (refl, (refl, (refl, (refl, (refl, (refl, (refl, (refl, (refl, (refl, (refl, (refl, (refl, (refl, (refl, (refl, (refl, (refl, (refl, tt))))))))))))))))))))))))
 
 -- no member on when and where has the name of a quantity
@@ -252,31 +254,32 @@ moment_without None time cycle place =
 moment_without (Some utc) time cycle place =
     (refl, (refl, (refl, (refl, (refl, (refl, (refl, (refl, (refl, (refl, (refl, (refl, (refl, (refl, (refl, (refl, (refl, (refl, (refl, (refl, (refl, (refl, (refl, (refl, tt))))))))))))))))))))))))
 
--- a record's cycle and place are found among the members on when and where
+-- among the members on when and where the cycle is found under `cycle`, and the place under `place`
 pub moment_found : (sent : Option ℕ) (time cycle place : List ℕ) → let ms = sent_members sent ++ (Text (codes "time") time ∷ Number (codes "cycle") cycle ∷ Number (codes "place") place ∷ []) in
     (find (codes "cycle") ms ≡ Some (json.number cycle)) × (find (codes "place") ms ≡ Some (json.number place))
 moment_found None time cycle place = (refl, refl)
 moment_found (Some utc) time cycle place = (refl, refl)
 
--- where only the members on when and where have something under a name, that is what is found
+-- of the five results of a search in a record's object only the fourth one (`o`), among the members on when and where, may have
+-- found something: then `later_or` of all five is that one
 pub moments_found : (o : Option json.Json) → later_or (later_or (later_or (later_or None None) None) o) None ≡ o
 moments_found None = refl
 moments_found (Some j) = refl
 
--- when a request was sent is found among the members on when and where
+-- when a request was sent is found under `sent` among the members on when and where; if it wasn't sent, nothing is
 pub sent_found : (sent : Option ℕ) (time cycle place : List ℕ)
     → text_of (find (codes "sent") (sent_members sent ++ (Text (codes "time") time ∷ Number (codes "cycle") cycle ∷ Number (codes "place") place ∷ []))) ≡ moment_text sent
 sent_found None time cycle place = refl
 sent_found (Some utc) time cycle place = moment_plain (Some utc)
 
--- the target and the procedure are found among the members on a command
-pub what_found : (command : Wish) (name : List ℕ)
+-- among the members on a command the target is found under `target`, and the procedure's number under `procedure`
+pub command_found : (command : Wish) (name : List ℕ)
     → (find (codes "target") (command_members command name) ≡ Some (json.number (decimal command.target)))
     × (find (codes "procedure") (command_members command name) ≡ Some (json.number (decimal (procedure_of command.call))))
-what_found command [] = (refl, refl)
-what_found command (b ∷ bs) = (refl, refl)
+command_found command [] = (refl, refl)
+command_found command (b ∷ bs) = (refl, refl)
 
--- the word of the ending is found under `outcome`
+-- among the members on how a command ended, the word of the ending, escaped, is found under `outcome`
 pub outcome_found : (end : End) → find (codes "outcome") (ending_members end) ≡ Some (json.string (escaped (word_of end)))
 outcome_found (Answered quality answer line) = refl
 outcome_found (Unreadable line fault) = refl
@@ -286,13 +289,14 @@ outcome_found Lost = refl
 outcome_found Skipped = refl
 outcome_found Missed = refl
 
--- the codes and parameters of this line are found among these members
+-- under `rc_com` and `rc` these members have the codes of this line, without leading zeros, and under `values` its parameters,
+-- escaped
 pub record IsFound (ms : List Member) (line : List ℕ) : Type 0 where
   pub rc_com : find (codes "rc_com") ms ≡ Some (json.number (without_zeros (com_of line)))
   pub rc : find (codes "rc") ms ≡ Some (json.number (without_zeros (code_of line)))
   pub values : find (codes "values") ms ≡ Some (json.string (escaped (values_of line)))
 
--- the codes and parameters of the line that ended a command are found among the members on its ending
+-- if this line ended a command in time (`line_of`), `IsFound` holds of the members on how the command ended, and of the line
 pub line_found : (end : End) (line : List ℕ) → line_of end ≡ Some line → IsFound (ending_members end) line
 line_found (Answered quality answer l) line e = subst (IsFound (ending_members (Answered quality answer l))) (same_Some l line e) (record { rc_com = refl; rc = refl; values = refl })
 line_found (Unreadable l fault) line e = subst (IsFound (ending_members (Unreadable l fault))) (same_Some l line e) (record { rc_com = refl; rc = refl; values = refl })

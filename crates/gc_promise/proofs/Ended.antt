@@ -31,7 +31,7 @@ more xs ys ends = record { some = feed_behind xs ys ends.some; is = whole_behind
 feed : EndsInLineFeed (codes "\n")
 feed = record { some = refl; is = refl }
 
--- the end of an object ends in a line feed
+-- a closing brace and a line feed after it end in a line feed
 brace : EndsInLineFeed (codes "}\n")
 brace = record { some = refl; is = refl }
 

@@ -16,7 +16,9 @@ use Rattle.gc_texts.specs.Nears.{is_elsewhere}
 use Rattle.gc_links.specs.Acts.{Act, Told}
 use Rattle.gc_station.specs.Beginnings.{IsResynchronizing}
 use Rattle.gc_station.specs.Links.{AreChained}
-use Rattle.gc_station.specs.Model.{Runs, expected_first, opening}
+use Rattle.gc_station.proofs.Going.{runs-append}
+use Rattle.gc_station.specs.Model.{Runs, opening}
+use Rattle.gc_station.specs.NextCommand.{expected_first}
 use Rattle.gc_station.specs.Parts as part
 use Rattle.gc_station.specs.Parts.{Part, nothing, parts_of}
 use Rattle.gc_station.specs.Records.{Record, texts_of}
@@ -34,7 +36,7 @@ use Rattle.gc_field.specs.Instrument.{IsAnInstrument, AnyState}
 use Rattle.gc_field.specs.Instrument as instrument
 use Rattle.gc_field.specs.Shown.{AreShownAs, shown}
 use Rattle.gc_field.specs.Witness.{at, replies}
-use Rattle.gc_field.proofs.Witness.{asked_each, run_on, units, none_here}
+use Rattle.gc_field.proofs.Witness.{asked_each, units, none_here}
 use Rattle.gc_promise.specs.Eventful.{IsEventful, acts, anew_acts, anew_turns, at_start, begins_acts, begins_turns, breaks_acts, breaks_moves}
 use Rattle.gc_promise.specs.Eventful.{chain_acts, chain_moves, commands, first_stretch, given_up, last_stretch, left_by_first, plan, pointed, records, reporting, runs, scope, tally}
 use Rattle.gc_promise.proofs.TrueReadings.{patched, patched_same}
@@ -80,12 +82,12 @@ all_parts =
     ∷ nothing
     ∷ []
 
--- what the line does in the first synchronization shows these turns
+-- what the line does in the first synchronization (`begins_turns`) shows the station the turns `begins_shown`
 begins_are : shown reporting begins_turns (begins at_start) ≡ begins_shown
 unfolding is_elsewhere is_near header_at reply_at digits rounded
 begins_are = refl
 
--- what the line does in the second synchronization shows these turns
+-- what the line does in the second synchronization (`anew_turns`) shows the station the turns `anew_shown`
 anew_are : shown reporting anew_turns (begins left_by_first) ≡ anew_shown
 unfolding is_elsewhere is_near header_at reply_at digits rounded
 anew_are = refl
@@ -135,7 +137,8 @@ chained zero above upto = absurd (omega (arith, above))
 chained (suc zero) above upto = refl
 chained (suc (suc p)) above upto = absurd (omega (arith, upto))
 
--- the request of command 0 is the client's first one, and reaches the instrument at the fourth move
+-- the reply to command 0 in the first cycle was made on executing the request of command 0, which is request 8, the client's
+-- first one, and reaches the instrument at the fourth move
 made : WasMadeOn WINDOW reporting first_stretch.from breaks_moves 8 points pointed
 unfolding is_elsewhere is_near header_at reply_at digits rounded
 made = record { front = take 3 breaks_moves; later = drop 4 breaks_moves; split = refl; id = 0; rest = []; reaches = refl; executed = refl; reply = refl }
@@ -148,7 +151,7 @@ module _ (reads : Asked → List ℕ → Reading) where
   patched_scope = scope (patched reads)
 
   -- after the earlier acts, the later ones are a run
-  abbrev RunsAfter : List Act → List Act → Type 0
+  abbrev RunsAfter : (earlier later : List Act) → Type 0
   RunsAfter earlier later = Runs plan commands (state_after plan commands patched_scope earlier) later
 
   -- the acts until the second connection is made are a run
@@ -203,26 +206,27 @@ module _ (reads : Asked → List ℕ → Reading) where
   pub all_run : RunsAfter [] acts
   unfolding is_elsewhere is_near header_at reply_at digits rounded
   all_run =
-      run_on plan commands (opening plan patched_scope) given_up (anew_acts ++ chain_acts)
-      (run_on plan commands (opening plan patched_scope) begins_acts breaks_acts
-      (run_on plan commands (opening plan patched_scope) (take 16 begins_acts) (drop 16 begins_acts) begins_runs answers_eight)
-      (run_on plan commands (state_after plan commands patched_scope begins_acts) (take 8 breaks_acts) (drop 8 breaks_acts) breaks_runs gives_up_runs))
-      (run_on plan commands (state_after plan commands patched_scope given_up) anew_acts chain_acts
-      (run_on plan commands (state_after plan commands patched_scope given_up) (take 16 anew_acts) (drop 16 anew_acts) anew_runs answers_six)
-      (run_on plan commands (state_after plan commands patched_scope (given_up ++ anew_acts)) (take 9 chain_acts) (drop 9 chain_acts) misses_runs
-      (run_on plan commands (state_after plan commands patched_scope (given_up ++ (anew_acts ++ take 9 chain_acts))) (take 14 (drop 9 chain_acts)) (drop 23 chain_acts) answers_runs late_runs)))
+      runs-append plan commands (opening plan patched_scope) given_up (anew_acts ++ chain_acts)
+      (runs-append plan commands (opening plan patched_scope) begins_acts breaks_acts
+      (runs-append plan commands (opening plan patched_scope) (take 16 begins_acts) (drop 16 begins_acts) begins_runs answers_eight)
+      (runs-append plan commands (state_after plan commands patched_scope begins_acts) (take 8 breaks_acts) (drop 8 breaks_acts) breaks_runs gives_up_runs))
+      (runs-append plan commands (state_after plan commands patched_scope given_up) anew_acts chain_acts
+      (runs-append plan commands (state_after plan commands patched_scope given_up) (take 16 anew_acts) (drop 16 anew_acts) anew_runs answers_six)
+      (runs-append plan commands (state_after plan commands patched_scope (given_up ++ anew_acts)) (take 9 chain_acts) (drop 9 chain_acts) misses_runs
+      (runs-append plan commands (state_after plan commands patched_scope (given_up ++ (anew_acts ++ take 9 chain_acts))) (take 14 (drop 9 chain_acts)) (drop 23 chain_acts) answers_runs late_runs)))
 
-  -- the parts of the run are these
+  -- the parts of the run are `all_parts`
   parts_are : parts_of plan commands (opening plan patched_scope) acts ≡ all_parts
   unfolding is_elsewhere is_near header_at reply_at digits rounded
   parts_are = refl
 
-  -- the records of the run are these
+  -- the records of the run are `records`
   written : (state_after plan commands patched_scope acts).records ≡ records
   unfolding is_elsewhere is_near header_at reply_at digits rounded
   written = refl
 
-  -- the station resynchronizes where seven requests have timed out
+  -- after the acts `given_up`, by which seven requests have timed out, the next act, which reads the moment 345, makes the
+  -- station resynchronize
   begins_anew : IsResynchronizing plan commands patched_scope given_up (Told (at 345))
   unfolding is_elsewhere is_near header_at reply_at digits rounded
   begins_anew = record { resynchronizes = record { renews = refl; moment = at 345; told = refl; seven = refl; given_up = refl }; word = refl; client = refl }
@@ -253,7 +257,8 @@ module _ (reads : Asked → List ℕ → Reading) where
         connected = refl;
       }
 
-  -- with the patched readings it is a whole run, which ends as done with this tally, and whose records have these texts
+  -- with the patched readings the acts are a whole run, which ends as done with this tally, and of which the texts of these
+  -- records were taken
   computed_run : (text : Record → List ℕ) → RanTo plan commands (scope (patched reads)) text (Some []) (Some acts) (Some []) (Some (texts_of text records)) Done tally
   unfolding is_elsewhere is_near header_at reply_at digits rounded
   computed_run text =
@@ -263,7 +268,8 @@ module _ (reads : Asked → List ℕ → Reading) where
 pub eventful : (reads : Asked → List ℕ → Reading) → AreReadings reads → IsEventful reads
 eventful reads are = subst IsEventful (patched_same reads are) (computed reads)
 
--- with every function that gives what replies say it is a whole run, which ends as done with this tally, and whose records have these texts
+-- with every function that gives what replies say, the acts are a whole run, which ends as done with this tally, and of which the
+-- texts of these records were taken
 pub ran_whole : (text : Record → List ℕ) (reads : Asked → List ℕ → Reading) → AreReadings reads
     → RanTo plan commands (scope reads) text (Some []) (Some acts) (Some []) (Some (texts_of text records)) Done tally
 ran_whole text reads are =

@@ -44,11 +44,11 @@ use Rattle.gc_promise.specs.Fields.{quantity_in, under}
 use Rattle.gc_promise.specs.Objects.{text_of}
 use Rattle.gc_promise.proofs.Names.{IsAnswerTo, texts_of, word_plain}
 use Rattle.gc_promise.proofs.Plain.{decimal_plain, digits_plain, plain_both}
-use Rattle.gc_promise.proofs.Apart.{find, later_none, find_both, LacksAll, early_names, quantities_apart, worded_apart, worded_without, lacks_both, attempt_apart, attempt_without, items_without, worded_found, quantities_unqualified, ending_unqualified, what_unqualified, moment_unqualified, ending_apart, ending_without, what_apart, what_without, moment_without, moment_found, moments_found, sent_found, what_found, outcome_found, line_found}
+use Rattle.gc_promise.proofs.Apart.{find, later_none, find_both, LacksAll, early_names, quantities_apart, quality_apart, quality_without, lacks_both, attempt_apart, attempt_without, items_without, quality_found, quantities_unqualified, ending_unqualified, command_unqualified, moment_unqualified, ending_apart, ending_without, command_apart, command_without, moment_without, moment_found, moments_found, sent_found, command_found, outcome_found, line_found}
 
 -- A code without its zeros is the same number.
 
--- a number without its leading zeros is the same number
+-- digits that are the number n are that number also without their leading zeros
 pub zeros_gone : (ds : List ℕ) (n : ℕ) → IsNumber ds n → IsNumber (without_zeros ds) n
 zeros_gone [] n is = is
 zeros_gone (b ∷ []) n is = is
@@ -108,7 +108,7 @@ under_plain name (n ∷ names) (t ∷ texts) are =
 
 -- what is under a name in an answer's members is what is under that name among the answer's texts. `came` are the
 -- parameters of the reply, as its line has them
-abbrev AreUnder : Call → Answer → List ℕ → List ℕ → Type 0
+abbrev AreUnder : Call → Answer → (came name : List ℕ) → Type 0
 AreUnder call answer came name =
     text_of (find name (values_members (column_of call answer) (answer_fields answer).values came)) ≡ under name (names_from (column_of call answer) (answer_fields answer).values) (texts_of answer)
 
@@ -146,10 +146,11 @@ answer_under call (Measured hz v distance) came other =
 answer_under call (MeasuredMode hz v distance mode) came other =
     (refl, (refl, (refl, (refl, (refl, (refl, (refl, (refl, (refl, (refl, (refl, (refl, (refl, (refl, (refl, (refl, (refl, (refl, (refl, (refl, (refl, (refl, (refl, (refl, tt))))))))))))))))))))))))
 
--- under each name of a quantity, the member of an instrument's name has what its text has, escaped
-name_under : (call : Call) (bytes came : List ℕ)
+-- under `instrument` the members for an instrument's name have its bytes, escaped; under each other name of a quantity they
+-- have nothing
+name_under : (bytes came : List ℕ)
     → AllByRecursion (λ (name : List ℕ). text_of (find name (values_members 17 (value.Text bytes ∷ []) came)) ≡ escaped (under name (codes "instrument" ∷ []) (bytes ∷ []))) quantity_names
-name_under call bytes came =
+name_under bytes came =
     (refl, (refl, (refl, (refl, (refl, (refl, (refl, (refl, (refl, (refl, (refl, (refl, (refl, (refl, (refl, (refl, (refl, (refl, (refl, (refl, (refl, (refl, (refl, (refl, tt))))))))))))))))))))))))
 
 -- escaping changes nothing in the texts of an answer that isn't an instrument's name
@@ -186,7 +187,7 @@ module _ (call : Call) (name : List ℕ) (k : ℕ) (is : slice_get quantity_name
   is_under : (answer : Answer) (came : List ℕ) → IsUnder answer came
   is_under (Name bytes) came =
       all_at (λ (n : List ℕ). text_of (find n (values_members 17 (value.Text bytes ∷ []) came)) ≡ escaped (under n (codes "instrument" ∷ []) (bytes ∷ []))) quantity_names k name
-      (name_under call bytes came) is
+      (name_under bytes came) is
   is_under Nothing came = number_under Nothing came (λ bytes e. cc)
   is_under (Short n) came = number_under (Short n) came (λ bytes e. cc)
   is_under (Version release version subversion) came = number_under (Version release version subversion) came (λ bytes e. cc)
@@ -199,7 +200,8 @@ module _ (call : Call) (name : List ℕ) (k : ℕ) (is : slice_get quantity_name
   is_under (Measured hz v distance) came = number_under (Measured hz v distance) came (λ bytes e. cc)
   is_under (MeasuredMode hz v distance mode) came = number_under (MeasuredMode hz v distance mode) came (λ bytes e. cc)
 
--- under the name of a quantity is the answer's quantity of that name; the items of a reply are under no such name
+-- where `answer` is one to what was asked (`IsAnswerTo`), the members for quantities of a command that was answered with it
+-- have, under the name of a quantity, the answer's quantity of that name, escaped
 pub member_stands : (asked : Asked) (name : List ℕ) (k : ℕ) → slice_get quantity_names k ≡ Some name → (quality : Quality) (answer : Answer) (line : List ℕ) → IsAnswerTo asked answer
     → text_of (find name (quantity_members asked (Answered quality (Some answer) line))) ≡ escaped (quantity_in asked (Answers answer) name)
 member_stands (Table call) name k is quality answer line of =
@@ -216,8 +218,8 @@ module _ (when : When) (text : List ℕ) (command : Wish) (end : End) where
   quantities = quantity_members command.call end
 
   -- the member for the quality; none if the record has no quality
-  abbrev worded : List Member
-  worded = quality_members (quality_text (quality_of end))
+  abbrev on_quality : List Member
+  on_quality = quality_members (quality_text (quality_of end))
 
   -- the members after the quantities: for the quality and for the attempt
   abbrev last : List Member
@@ -232,8 +234,8 @@ module _ (when : When) (text : List ℕ) (command : Wish) (end : End) where
   ending = ending_members end
 
   -- the members on the command
-  abbrev what : List Member
-  what = command_members command text
+  abbrev on_command : List Member
+  on_command = command_members command text
 
   -- the members on when and where
   abbrev moments : List Member
@@ -251,58 +253,59 @@ module _ (when : When) (text : List ℕ) (command : Wish) (end : End) where
   abbrev started : List ℕ → Option json.Json
   started key = cond (bytes_eq (codes "run") key) (Some (json.string (escaped (stamp_text when.run)))) None
 
-  -- what is found under a key in the object, by what is found there in each of its four groups of members
-  found_at : (key : List ℕ) (a b c d : Option json.Json) → find key more ≡ a → find key ending ≡ b → find key what ≡ c → find key moments ≡ d
+  -- where a, b, c and d are what is found under a key in the four groups of members, the last group first, the text under the
+  -- key in the object is that of the first of a, b, c, d and the member `run` in which something was found
+  found_at : (key : List ℕ) (a b c d : Option json.Json) → find key more ≡ a → find key ending ≡ b → find key on_command ≡ c → find key moments ≡ d
       → at_member key ≡ text_of (later_or (later_or (later_or (later_or a b) c) d) (started key))
   found_at key a b c d ea eb ec ed =
       ap (λ (o : Option json.Json). text_of (later_or o (started key)))
-      (find_both key moments (what ++ (ending ++ more))
+      (find_both key moments (on_command ++ (ending ++ more))
       ∙ ap (λ (o : Option json.Json). later_or o (find key moments))
-      (find_both key what (ending ++ more)
-      ∙ ap (λ (o : Option json.Json). later_or o (find key what)) (find_both key ending more ∙ ap (λ (o : Option json.Json). later_or o (find key ending)) ea ∙ ap (later_or a) eb)
+      (find_both key on_command (ending ++ more)
+      ∙ ap (λ (o : Option json.Json). later_or o (find key on_command)) (find_both key ending more ∙ ap (λ (o : Option json.Json). later_or o (find key ending)) ea ∙ ap (later_or a) eb)
       ∙ ap (later_or (later_or a b)) ec)
       ∙ ap (later_or (later_or (later_or a b) c)) ed)
 
   -- no member for a quantity, for the quality or for the attempt has one of the names of `early_names`
   abbrev apart : LacksAll more early_names
   apart = lacks_both quantities last early_names (quantities_apart command.call end)
-      (lacks_both worded (attempt_members when) early_names (worded_apart (quality_text (quality_of end))) (attempt_apart when))
+      (lacks_both on_quality (attempt_members when) early_names (quality_apart (quality_text (quality_of end))) (attempt_apart when))
 
-  -- under `sent` the object has when the record's request was sent
+  -- under `sent` the object has when the record's request was sent; nothing if it wasn't
   pub member_sent : at_member (codes "sent") ≡ moment_text when.stamp.sent
   member_sent =
-      found_at (codes "sent") None None None (find (codes "sent") moments) apart.1.1.1.1.1.1.1.1.0 (ending_apart end).1.1.1.1.0 (what_apart command text).1.1.0 refl
+      found_at (codes "sent") None None None (find (codes "sent") moments) apart.1.1.1.1.1.1.1.1.0 (ending_apart end).1.1.1.1.0 (command_apart command text).1.1.0 refl
       ∙ ap text_of (moments_found (find (codes "sent") moments))
       ∙ sent_found when.stamp.sent (stamp_text when.stamp.utc) (decimal when.stamp.cycle) (decimal when.stamp.turn.place)
 
   -- under `cycle` the object has the record's cycle
   pub member_cycle : at_member (codes "cycle") ≡ decimal when.stamp.cycle
   member_cycle =
-      found_at (codes "cycle") None None None (Some (json.number (decimal when.stamp.cycle))) apart.0 (ending_apart end).0 (what_apart command text).0
+      found_at (codes "cycle") None None None (Some (json.number (decimal when.stamp.cycle))) apart.0 (ending_apart end).0 (command_apart command text).0
       (moment_found when.stamp.sent (stamp_text when.stamp.utc) (decimal when.stamp.cycle) (decimal when.stamp.turn.place)).0
 
   -- under `place` the object has the record's place
   pub member_place : at_member (codes "place") ≡ decimal when.stamp.turn.place
   member_place =
-      found_at (codes "place") None None None (Some (json.number (decimal when.stamp.turn.place))) apart.1.0 (ending_apart end).1.0 (what_apart command text).1.0
+      found_at (codes "place") None None None (Some (json.number (decimal when.stamp.turn.place))) apart.1.0 (ending_apart end).1.0 (command_apart command text).1.0
       (moment_found when.stamp.sent (stamp_text when.stamp.utc) (decimal when.stamp.cycle) (decimal when.stamp.turn.place)).1
 
   -- under `target` the object has the command's target
   pub member_target : at_member (codes "target") ≡ decimal command.target
   member_target =
       found_at (codes "target") None None (Some (json.number (decimal command.target))) (find (codes "target") moments) apart.1.1.0 (ending_apart end).1.1.0
-      (what_found command text).0 refl
+      (command_found command text).0 refl
 
   -- under `procedure` the object has the number of the command's procedure
   pub member_procedure : at_member (codes "procedure") ≡ decimal (procedure_of command.call)
   member_procedure =
       found_at (codes "procedure") None None (Some (json.number (decimal (procedure_of command.call)))) (find (codes "procedure") moments) apart.1.1.1.0
-      (ending_apart end).1.1.1.0 (what_found command text).1 refl
+      (ending_apart end).1.1.1.0 (command_found command text).1 refl
 
   -- under `outcome` the object has the word of the ending
   pub member_outcome : at_member (codes "outcome") ≡ word_of end
   member_outcome =
-      found_at (codes "outcome") None (Some (json.string (escaped (word_of end)))) (find (codes "outcome") what) (find (codes "outcome") moments) apart.1.1.1.1.0
+      found_at (codes "outcome") None (Some (json.string (escaped (word_of end)))) (find (codes "outcome") on_command) (find (codes "outcome") moments) apart.1.1.1.1.0
       (outcome_found end) refl refl
       ∙ word_plain end
 
@@ -310,47 +313,48 @@ module _ (when : When) (text : List ℕ) (command : Wish) (end : End) where
     -- under `rc_com` the object has the communication code of the line that ended the command, without leading zeros
     pub member_rc_com : at_member (codes "rc_com") ≡ without_zeros (com_of line)
     member_rc_com =
-        found_at (codes "rc_com") None (Some (json.number (without_zeros (com_of line)))) (find (codes "rc_com") what) (find (codes "rc_com") moments) apart.1.1.1.1.1.0
+        found_at (codes "rc_com") None (Some (json.number (without_zeros (com_of line)))) (find (codes "rc_com") on_command) (find (codes "rc_com") moments) apart.1.1.1.1.1.0
         (line_found end line is).rc_com refl refl
 
     -- under `rc` the object has the return code of the line that ended the command, without leading zeros
     pub member_rc : at_member (codes "rc") ≡ without_zeros (code_of line)
     member_rc =
-        found_at (codes "rc") None (Some (json.number (without_zeros (code_of line)))) (find (codes "rc") what) (find (codes "rc") moments) apart.1.1.1.1.1.1.0
+        found_at (codes "rc") None (Some (json.number (without_zeros (code_of line)))) (find (codes "rc") on_command) (find (codes "rc") moments) apart.1.1.1.1.1.1.0
         (line_found end line is).rc refl refl
 
-    -- under `values` the object has the values of the line that ended the command
+    -- under `values` the object has the values of the line that ended the command, escaped
     pub member_values : at_member (codes "values") ≡ escaped (values_of line)
     member_values =
-        found_at (codes "values") None (Some (json.string (escaped (values_of line)))) (find (codes "values") what) (find (codes "values") moments) apart.1.1.1.1.1.1.1.0
+        found_at (codes "values") None (Some (json.string (escaped (values_of line)))) (find (codes "values") on_command) (find (codes "values") moments) apart.1.1.1.1.1.1.1.0
         (line_found end line is).values refl refl
 
-  -- where only the last group of members has something under a name, that is what is found
+  -- of the five results of a search in the object only the first one (`o`), among the last group of members, may have found
+  -- something: then `later_or` of all five is that one
   last_found : (o : Option json.Json) → later_or (later_or (later_or (later_or o None) None) None) None ≡ o
   last_found None = refl
   last_found (Some j) = refl
 
-  -- under `quality` the object has the word of the answer's quality
+  -- under `quality` the object has the word of the answer's quality; nothing if the record has no quality
   pub member_quality : at_member (codes "quality") ≡ quality_text (quality_of end)
   member_quality =
       found_at (codes "quality") (find (codes "quality") last) None None None
       (find_both (codes "quality") quantities last ∙ ap (later_or (find (codes "quality") last)) (quantities_unqualified command.call end) ∙ sym (later_none (find (codes "quality") last)))
-      (ending_unqualified end) (what_unqualified command text)
+      (ending_unqualified end) (command_unqualified command text)
       (moment_unqualified when.stamp.sent (stamp_text when.stamp.utc) (decimal when.stamp.cycle) (decimal when.stamp.turn.place))
       ∙ ap text_of (last_found (find (codes "quality") last))
-      ∙ ap text_of (find_both (codes "quality") worded (attempt_members when))
-      ∙ worded_found (quality_of end)
+      ∙ ap text_of (find_both (codes "quality") on_quality (attempt_members when))
+      ∙ quality_found (quality_of end)
 
-  -- the attempt is found among what comes after how the command ended
+  -- the attempt is found under `attempt` among the members after those on how the command ended
   attempt_found : find (codes "attempt") more ≡ Some (json.number (decimal when.stamp.turn.attempt))
   attempt_found =
       find_both (codes "attempt") quantities last
-      ∙ ap (λ (o : Option json.Json). later_or o (find (codes "attempt") quantities)) (find_both (codes "attempt") worded (attempt_members when))
+      ∙ ap (λ (o : Option json.Json). later_or o (find (codes "attempt") quantities)) (find_both (codes "attempt") on_quality (attempt_members when))
 
   -- under `attempt` the object has the attempt of the record's chain
   pub member_attempt : at_member (codes "attempt") ≡ decimal when.stamp.turn.attempt
   member_attempt =
-      found_at (codes "attempt") (Some (json.number (decimal when.stamp.turn.attempt))) (find (codes "attempt") ending) (find (codes "attempt") what) (find (codes "attempt") moments)
+      found_at (codes "attempt") (Some (json.number (decimal when.stamp.turn.attempt))) (find (codes "attempt") ending) (find (codes "attempt") on_command) (find (codes "attempt") moments)
       attempt_found refl refl refl
 
   -- no name of a quantity is `run`
@@ -363,19 +367,20 @@ module _ (when : When) (text : List ℕ) (command : Wish) (end : End) where
     not_started : started name ≡ None
     not_started = all_at (λ (n : List ℕ). started n ≡ None) quantity_names k name none_started is
 
-    -- the quality and the attempt have other names than the quantities
+    -- what is found under this name of a quantity among the members after the ending is what is found among those for
+    -- quantities: the quality and the attempt have other names
     in_quantities : find name more ≡ find name quantities
     in_quantities =
         find_both name quantities last
         ∙ ap (λ (o : Option json.Json). later_or o (find name quantities)) (all_at (λ (n : List ℕ). find n last ≡ None) quantity_names k name
-        (lacks_both worded (attempt_members when) quantity_names (worded_without (quality_text (quality_of end))) (attempt_without when)) is)
+        (lacks_both on_quality (attempt_members when) quantity_names (quality_without (quality_text (quality_of end))) (attempt_without when)) is)
 
-    -- what is under the name of a quantity is among the quantities
+    -- under this name of a quantity the object has what the members for quantities have
     pub member_quantity : at_member name ≡ text_of (find name quantities)
     member_quantity =
         found_at name (find name quantities) None None None in_quantities
         (all_at (λ (n : List ℕ). find n ending ≡ None) quantity_names k name (ending_without end) is)
-        (all_at (λ (n : List ℕ). find n what ≡ None) quantity_names k name (what_without command text) is)
+        (all_at (λ (n : List ℕ). find n on_command ≡ None) quantity_names k name (command_without command text) is)
         (all_at (λ (n : List ℕ). find n moments ≡ None) quantity_names k name
         (moment_without when.stamp.sent (stamp_text when.stamp.utc) (decimal when.stamp.cycle) (decimal when.stamp.turn.place)) is)
         ∙ ap (λ (o : Option json.Json). text_of (later_or (later_or (later_or (later_or (find name quantities) None) None) None) o)) not_started

@@ -26,7 +26,7 @@ value_if_some (reading.Unreadable fault) answer e = cc
 pub no_value_if_none : (told : Reading) → answer_in told ≡ None → (answer : Answer) → told ≡ reading.Value answer → ⊥
 no_value_if_none told none answer is = let bad : Some answer ≡ None = sym (ap answer_in is) ∙ none in cc
 
--- a refusal that isn't accepted has the quality of a refusal, and no answer
+-- a reading that is a refusal (`IsRefusal`) has the quality `Refused`, and no answer
 refused_in : (accepted : Codes) (x : Reading) → IsRefusal accepted x → (quality_in accepted x ≡ quality.Refused) × (answer_in x ≡ None)
 refused_in accepted (reading.Value answer) is = absurd is
 refused_in accepted (reading.Refused code) is = (ap (λ b. if b then quality.Warning else quality.Refused) is, refl)
@@ -35,26 +35,27 @@ refused_in accepted (reading.Unreadable fault) is = absurd is
 
 module _ (reads : Asked → List ℕ → Reading) (are : AreReadings reads) (accepted : Codes) (call : Asked) (line : List ℕ) (reply : ReplyFields) (is_reply : IsReply line reply)
     (said told : Reading) (is_said : IsAskedReading call reply said) (is_told : IsAskedReading call (quantity_source (quality_in accepted said) reply) told) where
-  -- what the line says is what its reply says
+  -- where x is what the fields of the line's reply say of the call, `reads` gives x of the line
   line_says : (x : Reading) → IsAskedReading call reply x → reads call line ≡ x
   line_says x is = are call line x (record { reply = reply; is_reply = is_reply; is_reading = is })
 
-  -- what the line says as if its return code were 0 is what the reply with return code 0 says
+  -- where x is what the fields of the reply, with return code 0, say of the call, `reads` gives x of the line with return code
+  -- 0 (`as_zero`)
   zeroed_says : (x : Reading) → IsAskedReading call (record reply { rc = 0 }) x → reads call (as_zero line) ≡ x
   zeroed_says x is = are call (as_zero line) x (zero_reads call line reply x is_reply is)
 
-  -- q is the quality of an answer whose line says `said`, and `values` are the values of `told`, the reading from which a row has its
-  -- quantities
+  -- q is the quality of an answer whose line says `said`, and `values` are the values of `told`, the reading from which a row
+  -- has its quantities
   pub record IsJudged (q : Quality) (values : Option Answer) : Type 0 where
     pub quality_is : q ≡ quality_in accepted said
     pub values_are : values ≡ answer_in told
 
-  -- where the quality doesn't change the fields of the reply (`quantity_source`), the reading from which quantities are taken is what
-  -- the line says
+  -- where q is the quality of `said`, and doesn't change the fields of the reply (`quantity_source`), `told`, the reading from
+  -- which a row has its quantities, is what `reads` gives of the line
   quantity_reading_is : (q : Quality) → quality_in accepted said ≡ q → (quantity_source q reply ≡ reply) → reads call line ≡ told
   quantity_reading_is q is same = line_says told (subst (λ (r : ReplyFields). IsAskedReading call r told) (ap (λ (k : Quality). quantity_source k reply) is ∙ same) is_told)
 
-  -- an answer that is of this quality and these values, by the line, has the quality and the values of the two readings
+  -- if an answer in this line is of the quality q, with these values (`IsOfQuality`), `IsJudged` holds of q and the values
   pub judged : (q : Quality) (values : Option Answer) → IsOfQuality reads accepted call q values line → IsJudged q values
   judged quality.Fine values (answer, has, value) =
       let is : said ≡ reading.Value answer = sym (line_says said is_said) ∙ value in

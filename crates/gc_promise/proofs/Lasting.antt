@@ -49,14 +49,15 @@ between_is survey (Some bytes) headed front =
 
 -- What `append_at` reports is a run of a file.
 
--- no act was made between these places, or there is a run of this file between them, with these acts
-abbrev Found : (R : Type 0) → PortsSeen → PortsSeen → List Act → Followed R → Type 0
+-- what was seen at each act is the same in `new` as in `old`, or there is a run of this file by the acts `told`, before which
+-- what was seen is that of `old`, and after which it is that of `new`
+abbrev Found : (R : Type 0) (old new : PortsSeen) (told : List Act) (file : Followed R) → Type 0
 Found R old new told file =
     (new.turns ≡ old.turns)
     ⊎ ((run : RunOfFile R) × IsRunOfFile run × (run.file ≡ file) × (run.recorded ≡ told) × (run.old.turns ≡ old.turns) × (run.new.turns ≡ new.turns))
 
--- if a station measured over a link that had recorded no acts, into a file that had taken no bytes, there is a run of the file with
--- these acts and bytes, or no act was made
+-- if a station whose output has its header already (`headed`) measured over a link that had recorded no acts, and then had
+-- recorded `told`, into a file that had taken no bytes, and then had taken those of `file`, `Found` holds
 found : {R : Type 0} (station : Settings) (given : List ℕ) (old new : PortsSeen) (end : Result Tally Stop) (told : List Act) (file : Followed R)
     → station.layout.headed ≡ true → old.acts ≡ Some [] → new.acts ≡ Some told → old.taken ≡ Some [] → new.taken ≡ Some (bytes_in file)
     → Measures given station 18446744073709551615 old new end → Found R old new told file
@@ -71,7 +72,8 @@ found station given old new end told file headed none acts fresh took (inr (setu
   refl,
 )
 
--- what `append_at` reports is a run of the file that it hands back, or no act was made
+-- for a sink that has taken the bytes of its file (`bytes_in`), what `append_at` reports is a run of the file that it hands
+-- back, or no act was made (`AppendsAreRuns`)
 pub appends_are_runs : {S R : Type 0} (source : Source S) (sink : Sink (Followed R)) (K E : Type 0) → ((f : Followed R) → sink.taken f ≡ Some (bytes_in f)) → AppendsAreRuns source sink K E
 appends_are_runs source sink K E taken lasts shown has_log station old new file acts turns turns' status tells = elim tells.run.ran [
   | inl ran ↦
@@ -106,11 +108,11 @@ module _ {R : Type 0} (m : RunMoment R) (is : IsRunMoment m) (reads : Asked → 
   keeps : KeepsUp m.run.survey.plan m.run.survey.tasks scope text (Some []) (Some m.run.recorded) (Some []) m.run.old.turns m.run.new.turns (close_at_output ran.end)
   keeps = rw (← is.run.none, ← is.run.acts, ← none_between) (ran.keeps.0 reads are)
 
-  -- what the file took in the end is what the run wrote
+  -- what the file and those before it took in the end is what the run wrote (`Ran`)
   took : runs.Ran m.run.survey.plan m.run.survey.tasks scope text (Some []) (Some m.run.recorded) (Some []) (Some (bytes_in m.run.file)) ran.end
   took = rw (← is.run.none, ← is.run.acts, ← is.run.took, ← none_between) (ran.ran.0 reads are)
 
-  -- the moment's turn is one of the run's turns, and all that the acts before it settled was kept then
+  -- at the moment's turn, which is one of the run's, all that the acts before it settled was kept (`IsKeptAt`)
   seen : IsKeptAt m.run.survey.plan m.run.survey.tasks scope text (Some []) (Some []) [] m.turn
   seen =
       let turns = append_cancel_left m.run.old.turns keeps.turns (is.seen.earlier ++ m.turn ∷ is.seen.later) (sym keeps.saw ∙ is.seen.among) in
@@ -120,7 +122,7 @@ module _ {R : Type 0} (m : RunMoment R) (is : IsRunMoment m) (reads : Asked → 
   settled_by : bytes_in m.was ≡ rows_by m.run.survey reads m.done
   settled_by = seen_at m.run.survey.plan m.run.survey.tasks scope text m.turn seen.front m.done (bytes_in m.was) seen.kept is.seen.done is.seen.taken
 
-  -- what the file took in the end is a front of all rows
+  -- what the file and those before it took in the end is a front of the rows of what acts of the run settled (`Fronted`)
   end : Fronted m.run.survey.plan m.run.survey.tasks scope text m.run.recorded (bytes_in m.run.file)
   end = fronted m.run.survey.plan m.run.survey.tasks scope text m.run.recorded (bytes_in m.run.file) ran.end took
 
@@ -146,7 +148,7 @@ module _ {R : Type 0} (m : RunMoment R) (is : IsRunMoment m) (reads : Asked → 
   abbrev rest : List ℕ
   rest = appended since ++ (appended is.reached.rest ++ end.own.rest)
 
-  -- what the file had taken at the moment's act ends in a line feed
+  -- what the file had taken at the moment's act ends in a line feed, unless it is nothing
   taken_whole : whole taken ≡ taken
   taken_whole = whole_rest earlier_bytes taken (rw (settled_by) (rows_whole m.done))
 
@@ -179,7 +181,7 @@ module _ {R : Type 0} (m : RunMoment R) (is : IsRunMoment m) (reads : Asked → 
       let isnt : not m.was.rows.unkept ≡ true = subst (λ (b : Bool). (if b then not m.was.rows.unkept else true) ≡ true) is.seen.synced lasts in
       m.was.rows.kept (not-true m.was.rows.unkept isnt)
 
-  -- if the first `count` lines of the rows are left, at least as many as had been taken at the turn, `AreLeft` holds of them
+  -- `AreLeft` holds of the first `count` lines of `taken` and `rest`, if these are at least as many as the lines of `taken`
   left_of : (count : ℕ) → feeds taken ≤ count → AreLeft m reads (lines (take count (pieces (taken ++ rest))))
   left_of count least =
       let l = rows_left taken rest count taken_whole rest_whole least in
@@ -215,7 +217,8 @@ module _ {R : Type 0} (m : RunMoment R) (is : IsRunMoment m) (reads : Asked → 
             ∙ ap (λ (l : List ℕ). l ++ (appended is.reached.rest ++ end.own.rest)) (sym (appended_two (steps_in m.was.rows) since));
       }))
 
--- what a crash leaves of a run's rows is as the law says
+-- the law on crashes: after one, the file's table is the one that was there at first, rows of the earlier runs, and the rows
+-- that are left of this run
 pub rows_outlast_crashes : {R : Type 0} → RowsOutlastCrashes R
 rows_outlast_crashes m is reads are head first heads earlier happen steps opens found may =
     let life = life_after (settled first) earlier in
@@ -236,7 +239,9 @@ abbrev event_of : Run → Ending → Event
 event_of run Stopped = Ran run
 event_of run (Unsynced read disk) = Failed run read disk
 
--- what a failed sync leaves of a run's rows is as the law says
+-- the law on failed syncs: where a run ended by a kill or by a sync that failed, and events came before and after, the file's
+-- table is the one that was there at first, rows of the earlier runs, the rows that are left of this run, and rows of the later
+-- ones
 pub rows_outlast_failures : {R : Type 0} → RowsOutlastFailures R
 rows_outlast_failures m is reads are head first heads earlier occur trusted steps opens ending ends later then_ found is_found =
     let sides = sides_from first earlier in
@@ -259,7 +264,8 @@ rows_outlast_failures m is reads are head first heads earlier occur trusted step
         (trusted, is, subst (λ (d : Bool). Occur IsTrusted head (sides_ended sides run.steps Stopped) d later) (sym trusted) then_)
     occurs head sides doubted run (Unsynced read disk) later trusted is ends then_ = (trusted, is, ends.0, ends.1, then_)
 
-    -- after a run that ends in this way, as an event, the file is as its calls and its ending leave it
+    -- the sides of a file after a run that ends in this way, as an event, and later events are those after the later events on
+    -- the sides that the run's calls and its ending leave
     event_sides : (sides : Sides) (run : Run) (ending : Ending) (later : List Event)
         → sides_after sides (event_of run ending ∷ later) ≡ sides_after (sides_ended sides run.steps ending) later
     event_sides sides run Stopped later = refl

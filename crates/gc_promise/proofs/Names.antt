@@ -47,7 +47,7 @@ word_plain Lost = refl
 word_plain Skipped = refl
 word_plain Missed = refl
 
--- the word of a quality appears unchanged in a field
+-- the word of a quality, or the empty text if there is none, appears unchanged in a field
 pub quality_plain : (o : Option Quality) → escaped (quality_text o) ≡ quality_text o
 quality_plain (Some quality.Fine) = refl
 quality_plain (Some quality.Warning) = refl
@@ -69,7 +69,7 @@ is_among key names = list_any (λ name. pointwise nat_eq name key) names
 abbrev IsAmong : List ℕ → List (List ℕ) → Type 0
 IsAmong key names = is_among key names ≡ true
 
--- under a name that is among the first names of a row is what is under it in the first fields
+-- under a name that is among the first names of a row, which are as many as its first fields, is what is under it in these fields
 under_front : (key : List ℕ) (names fields more others : List (List ℕ)) → length fields ≡ length names → IsAmong key names
     → under key (names ++ more) (fields ++ others) ≡ under key names fields
 under_front key [] fields more others same among = cc
@@ -78,7 +78,8 @@ under_front key (n ∷ names) (f ∷ fields) more others same among =
     pick (pointwise nat_eq n key) f (under key (names ++ more) (fields ++ others)) (under key names fields)
     (λ other. under_front key names fields more others (omega (arith, same)) (sym (ap (λ b. b || is_among key names) other) ∙ among))
 
--- under a name that isn't among the first names of a row is what is under it in the fields after those
+-- under a name that isn't among the first names of a row, which are as many as its first fields, is what is under it in the
+-- fields after these
 under_behind : (key : List ℕ) (names fields more others : List (List ℕ)) → length fields ≡ length names → is_among key names ≡ false
     → under key (names ++ more) (fields ++ others) ≡ under key more others
 under_behind key [] [] more others same none = refl
@@ -88,14 +89,14 @@ under_behind key (n ∷ names) (f ∷ fields) more others same none =
     let parts = or_parts (pointwise nat_eq n key) (is_among key names) none in
     ap (λ b. if b then f else under key (names ++ more) (fields ++ others)) parts.0 ∙ under_behind key names fields more others (omega (arith, same)) parts.1
 
--- if no key of a list is missing among the names, each of its keys is among them
+-- if a search finds no key of `keys` that isn't among the names, `IsAmong` holds of each key of `keys`
 none_missing : (names keys : List (List ℕ)) → list_any (λ key. not (is_among key names)) keys ≡ false → AllByRecursion (λ key. IsAmong key names) keys
 none_missing names [] none = tt
 none_missing names (key ∷ keys) none =
     let parts = or_parts (not (is_among key names)) (list_any (λ k. not (is_among k names)) keys) none in
     (not-false (is_among key names) parts.0, none_missing names keys parts.1)
 
--- each name of a quantity is among them
+-- each name of a quantity is among the names of quantities
 all_among : AllByRecursion (λ key. IsAmong key quantity_names) quantity_names
 all_among = none_missing quantity_names quantity_names refl
 
@@ -116,7 +117,7 @@ module _ (when : When) (name : List ℕ) (command : Wish) (end : End) where
   abbrev pub row_at : Bool → List ℕ → List ℕ
   row_at columns field = under field (header columns) (map escaped (row_fields columns when name command end))
 
-  -- under `sent` a row has when the record's request was sent
+  -- under `sent` a row has when the record's request was sent; nothing if it wasn't
   pub under_sent : (columns : Bool) → row_at columns (codes "sent") ≡ moment_text when.stamp.sent
   under_sent false = moment_plain when.stamp.sent
   under_sent true = moment_plain when.stamp.sent
@@ -151,7 +152,7 @@ module _ (when : When) (name : List ℕ) (command : Wish) (end : End) where
   by_line columns line =
       stamp_text when.run ∷ (when_fields when ++ (command_fields command name ++ ((word_of end ∷ fault_field (fault_of end) ∷ reply_fields line) ++ fields_after_ending columns when command.call end)))
 
-  -- in a row without quantities, the word of the quality is under `quality`
+  -- in a row without quantities, the word of the quality, escaped, is under `quality`
   last_alone : (line : Option (List ℕ)) → under (codes "quality") (header false) (map escaped (by_line false line)) ≡ escaped (quality_text (quality_of end))
   last_alone None = refl
   last_alone (Some line) = refl
@@ -162,7 +163,7 @@ module _ (when : When) (name : List ℕ) (command : Wish) (end : End) where
   last_behind None = refl
   last_behind (Some line) = refl
 
-  -- under `quality` a row has the word of the answer's quality
+  -- under `quality` a row has the word of the answer's quality; nothing if the record has no quality
   pub under_quality : (columns : Bool) → row_at columns (codes "quality") ≡ quality_text (quality_of end)
   under_quality false = last_alone (line_of end) ∙ quality_plain (quality_of end)
   under_quality true =
@@ -171,7 +172,7 @@ module _ (when : When) (name : List ℕ) (command : Wish) (end : End) where
       ∙ under_behind (codes "quality") quantity_names (map escaped (quantity_fields command.call end)) last_names (map escaped (last_fields when end)) (filled command.call end) no_quantity_is_quality
       ∙ quality_plain (quality_of end)
 
-  -- in a row without quantities, the attempt is under `attempt`
+  -- in a row without quantities, the attempt, escaped, is under `attempt`
   attempt_alone : (line : Option (List ℕ)) → under (codes "attempt") (header false) (map escaped (by_line false line)) ≡ escaped (decimal when.stamp.turn.attempt)
   attempt_alone None = refl
   attempt_alone (Some line) = refl
@@ -192,17 +193,17 @@ module _ (when : When) (name : List ℕ) (command : Wish) (end : End) where
       ∙ decimal_plain when.stamp.turn.attempt
 
   module _ (line : List ℕ) (is : line_of end ≡ Some line) where
-    -- under `rc_com` a row has the communication code of the line that ended the command
+    -- under `rc_com` a row has the communication code of the line that ended the command, escaped
     pub under_rc_com : (columns : Bool) → row_at columns (codes "rc_com") ≡ escaped (com_of line)
     under_rc_com false = ap (λ (o : Option (List ℕ)). under (codes "rc_com") (header false) (map escaped (by_line false o))) is
     under_rc_com true = ap (λ (o : Option (List ℕ)). under (codes "rc_com") (header true) (map escaped (by_line true o))) is
 
-    -- under `rc` a row has the return code of the line that ended the command
+    -- under `rc` a row has the return code of the line that ended the command, escaped
     pub under_rc : (columns : Bool) → row_at columns (codes "rc") ≡ escaped (code_of line)
     under_rc false = ap (λ (o : Option (List ℕ)). under (codes "rc") (header false) (map escaped (by_line false o))) is
     under_rc true = ap (λ (o : Option (List ℕ)). under (codes "rc") (header true) (map escaped (by_line true o))) is
 
-    -- under `values` a row has the values of the line that ended the command
+    -- under `values` a row has the values of the line that ended the command, escaped
     pub under_values : (columns : Bool) → row_at columns (codes "values") ≡ escaped (values_of line)
     under_values false = ap (λ (o : Option (List ℕ)). under (codes "values") (header false) (map escaped (by_line false o))) is
     under_values true = ap (λ (o : Option (List ℕ)). under (codes "values") (header true) (map escaped (by_line true o))) is
@@ -244,97 +245,99 @@ module _ (when : When) (text : List ℕ) (command : Wish) where
   behind_others Skipped = by_parts (codes "skipped") [] [] [] [] (replicate 24 [] ++ [] ∷ decimal when.stamp.turn.attempt ∷ [])
   behind_others Missed = by_parts (codes "missed") [] [] [] [] (replicate 24 [] ++ [] ∷ decimal when.stamp.turn.attempt ∷ [])
 
--- the texts of an answer in their columns
+-- the texts of an answer's values, in order
 abbrev pub texts_of : Answer → List (List ℕ)
 texts_of answer = map quantity_text (answer_fields answer).values
 
--- where `texts` are put into the columns of quantities from the column `first` on, the field under `name` is the text that
--- is under this name among `names`
-abbrev IsPutUnder : ℕ → List (List ℕ) → List (List ℕ) → List ℕ → Type 0
+-- where `texts` are put into the columns of quantities from the column `first` on, the field under `name` is the text that is
+-- under this name if `texts` stand under `names`, escaped; it is empty if `name` isn't among `names`
+abbrev IsPutUnder : (first : ℕ) (names texts : List (List ℕ)) (name : List ℕ) → Type 0
 IsPutUnder first names texts name = under name quantity_names (map escaped (spread first texts)) ≡ escaped (under name names texts)
 
--- if there are no texts, none are under the names of quantities
+-- if there are no texts, nothing is under any name of a quantity
 none_stand : AllByRecursion (IsPutUnder 0 [] []) quantity_names
 none_stand =
     (refl, (refl, (refl, (refl, (refl, (refl, (refl, (refl, (refl, (refl, (refl, (refl, (refl, (refl, (refl, (refl, (refl, (refl, (refl, (refl, (refl, (refl, (refl, (refl, tt))))))))))))))))))))))))
 
--- two angles are under their names
+-- `IsPutUnder` holds of two angles, from column 0 on, with each name of a quantity
 two_stand : (a b : List ℕ) → AllByRecursion (IsPutUnder 0 (codes "hz_rad" ∷ codes "v_rad" ∷ []) (a ∷ b ∷ [])) quantity_names
 two_stand a b =
     (refl, (refl, (refl, (refl, (refl, (refl, (refl, (refl, (refl, (refl, (refl, (refl, (refl, (refl, (refl, (refl, (refl, (refl, (refl, (refl, (refl, (refl, (refl, (refl, tt))))))))))))))))))))))))
 
--- two angles and a distance are under their names
+-- `IsPutUnder` holds of two angles and a distance, from column 0 on, with each name of a quantity
 three_stand : (a b c : List ℕ) → AllByRecursion (IsPutUnder 0 (codes "hz_rad" ∷ codes "v_rad" ∷ codes "distance_m" ∷ []) (a ∷ b ∷ c ∷ [])) quantity_names
 three_stand a b c =
     (refl, (refl, (refl, (refl, (refl, (refl, (refl, (refl, (refl, (refl, (refl, (refl, (refl, (refl, (refl, (refl, (refl, (refl, (refl, (refl, (refl, (refl, (refl, (refl, tt))))))))))))))))))))))))
 
--- two angles, a distance and a mode are under their names
+-- `IsPutUnder` holds of two angles, a distance and a mode, from column 0 on, with each name of a quantity
 four_stand : (a b c d : List ℕ) → AllByRecursion (IsPutUnder 0 (codes "hz_rad" ∷ codes "v_rad" ∷ codes "distance_m" ∷ codes "mode" ∷ []) (a ∷ b ∷ c ∷ d ∷ [])) quantity_names
 four_stand a b c d =
     (refl, (refl, (refl, (refl, (refl, (refl, (refl, (refl, (refl, (refl, (refl, (refl, (refl, (refl, (refl, (refl, (refl, (refl, (refl, (refl, (refl, (refl, (refl, (refl, tt))))))))))))))))))))))))
 
--- the coordinates of a station and its instrument's height are under their names
+-- `IsPutUnder` holds of the coordinates of a station and its instrument's height, from column 4 on, with each name of a
+-- quantity
 place_stand : (a b c d : List ℕ) → AllByRecursion (IsPutUnder 4 (codes "easting_m" ∷ codes "northing_m" ∷ codes "height_m" ∷ codes "instrument_height_m" ∷ []) (a ∷ b ∷ c ∷ d ∷ [])) quantity_names
 place_stand a b c d =
     (refl, (refl, (refl, (refl, (refl, (refl, (refl, (refl, (refl, (refl, (refl, (refl, (refl, (refl, (refl, (refl, (refl, (refl, (refl, (refl, (refl, (refl, (refl, (refl, tt))))))))))))))))))))))))
 
--- a reflector's height is under its name
+-- `IsPutUnder` holds of a reflector's height, from column 8 on, with each name of a quantity
 reflector_stands : (a : List ℕ) → AllByRecursion (IsPutUnder 8 (codes "reflector_height_m" ∷ []) (a ∷ [])) quantity_names
 reflector_stands a =
     (refl, (refl, (refl, (refl, (refl, (refl, (refl, (refl, (refl, (refl, (refl, (refl, (refl, (refl, (refl, (refl, (refl, (refl, (refl, (refl, (refl, (refl, (refl, (refl, tt))))))))))))))))))))))))
 
--- a face is under its name
+-- `IsPutUnder` holds of a face, from column 9 on, with each name of a quantity
 face_stands : (a : List ℕ) → AllByRecursion (IsPutUnder 9 (codes "face" ∷ []) (a ∷ [])) quantity_names
 face_stands a =
     (refl, (refl, (refl, (refl, (refl, (refl, (refl, (refl, (refl, (refl, (refl, (refl, (refl, (refl, (refl, (refl, (refl, (refl, (refl, (refl, (refl, (refl, (refl, (refl, tt))))))))))))))))))))))))
 
--- a prism type is under its name
+-- `IsPutUnder` holds of a prism type, from column 10 on, with each name of a quantity
 prism_stands : (a : List ℕ) → AllByRecursion (IsPutUnder 10 (codes "prism_type" ∷ []) (a ∷ [])) quantity_names
 prism_stands a =
     (refl, (refl, (refl, (refl, (refl, (refl, (refl, (refl, (refl, (refl, (refl, (refl, (refl, (refl, (refl, (refl, (refl, (refl, (refl, (refl, (refl, (refl, (refl, (refl, tt))))))))))))))))))))))))
 
--- a temperature is under its name
+-- `IsPutUnder` holds of a temperature, from column 11 on, with each name of a quantity
 temperature_stands : (a : List ℕ) → AllByRecursion (IsPutUnder 11 (codes "temperature_c" ∷ []) (a ∷ [])) quantity_names
 temperature_stands a =
     (refl, (refl, (refl, (refl, (refl, (refl, (refl, (refl, (refl, (refl, (refl, (refl, (refl, (refl, (refl, (refl, (refl, (refl, (refl, (refl, (refl, (refl, (refl, (refl, tt))))))))))))))))))))))))
 
--- a number of places is under its name
+-- `IsPutUnder` holds of a number of places, from column 12 on, with each name of a quantity
 places_stand : (a : List ℕ) → AllByRecursion (IsPutUnder 12 (codes "places" ∷ []) (a ∷ [])) quantity_names
 places_stand a =
     (refl, (refl, (refl, (refl, (refl, (refl, (refl, (refl, (refl, (refl, (refl, (refl, (refl, (refl, (refl, (refl, (refl, (refl, (refl, (refl, (refl, (refl, (refl, (refl, tt))))))))))))))))))))))))
 
--- the three numbers of a version are under their names
+-- `IsPutUnder` holds of the three numbers of a version, from column 13 on, with each name of a quantity
 version_stands : (a b c : List ℕ) → AllByRecursion (IsPutUnder 13 (codes "release" ∷ codes "version" ∷ codes "subversion" ∷ []) (a ∷ b ∷ c ∷ [])) quantity_names
 version_stands a b c =
     (refl, (refl, (refl, (refl, (refl, (refl, (refl, (refl, (refl, (refl, (refl, (refl, (refl, (refl, (refl, (refl, (refl, (refl, (refl, (refl, (refl, (refl, (refl, (refl, tt))))))))))))))))))))))))
 
--- a serial number is under its name
+-- `IsPutUnder` holds of a serial number, from column 16 on, with each name of a quantity
 serial_stands : (a : List ℕ) → AllByRecursion (IsPutUnder 16 (codes "serial" ∷ []) (a ∷ [])) quantity_names
 serial_stands a =
     (refl, (refl, (refl, (refl, (refl, (refl, (refl, (refl, (refl, (refl, (refl, (refl, (refl, (refl, (refl, (refl, (refl, (refl, (refl, (refl, (refl, (refl, (refl, (refl, tt))))))))))))))))))))))))
 
--- an instrument's name is under its name
+-- `IsPutUnder` holds of an instrument's name, from column 17 on, with each name of a quantity
 name_stands : (a : List ℕ) → AllByRecursion (IsPutUnder 17 (codes "instrument" ∷ []) (a ∷ [])) quantity_names
 name_stands a =
     (refl, (refl, (refl, (refl, (refl, (refl, (refl, (refl, (refl, (refl, (refl, (refl, (refl, (refl, (refl, (refl, (refl, (refl, (refl, (refl, (refl, (refl, (refl, (refl, tt))))))))))))))))))))))))
 
--- the six parts of a date and time are under their names
+-- `IsPutUnder` holds of the six parts of a date and time, from column 18 on, with each name of a quantity
 date_stands : (a b c d e f : List ℕ)
     → AllByRecursion (IsPutUnder 18 (codes "year" ∷ codes "month" ∷ codes "day" ∷ codes "hour" ∷ codes "minute" ∷ codes "second" ∷ []) (a ∷ b ∷ c ∷ d ∷ e ∷ f ∷ [])) quantity_names
 date_stands a b c d e f =
     (refl, (refl, (refl, (refl, (refl, (refl, (refl, (refl, (refl, (refl, (refl, (refl, (refl, (refl, (refl, (refl, (refl, (refl, (refl, (refl, (refl, (refl, (refl, (refl, tt))))))))))))))))))))))))
 
--- the texts of an answer to this call are under their names
+-- where the texts of an answer to this call are put into the columns of quantities, the field under a name is as `IsPutUnder`
+-- says
 abbrev AreUnderTheirNames : Call → Answer → List ℕ → Type 0
 AreUnderTheirNames call answer = IsPutUnder (column_of call answer) (names_from (column_of call answer) (answer_fields answer).values) (texts_of answer)
 
--- a whole number that answers this call is under the name that it has for the call
+-- `AreUnderTheirNames` holds of a whole number that answers this call, with each name of a quantity
 long_under_its_name : (call : Call) (n : ℤ) → AllByRecursion (AreUnderTheirNames call (Long n)) quantity_names
 long_under_its_name GetFace n = face_stands (quantity_text (value.Long n))
 long_under_its_name GetPrism n = prism_stands (quantity_text (value.Long n))
 long_under_its_name call n = serial_stands (quantity_text (value.Long n))
 
--- the texts of each answer to each call are under their names
+-- `AreUnderTheirNames` holds of each answer to each call, with each name of a quantity
 answer_under_its_names : (call : Call) (answer : Answer) → AllByRecursion (AreUnderTheirNames call answer) quantity_names
 answer_under_its_names call Nothing = none_stand
 answer_under_its_names call (Short n) = places_stand (quantity_text (value.Short n))
@@ -357,7 +360,7 @@ blank : AllByRecursion (λ (name : List ℕ). under name quantity_names (map esc
 blank =
     (refl, (refl, (refl, (refl, (refl, (refl, (refl, (refl, (refl, (refl, (refl, (refl, (refl, (refl, (refl, (refl, (refl, (refl, (refl, (refl, (refl, (refl, (refl, (refl, tt))))))))))))))))))))))))
 
--- the answer is one to what was asked
+-- the answer is one to what was asked; each answer is, where a procedure was asked that isn't in the table
 abbrev pub IsAnswerTo : Asked → Answer → Type 0
 IsAnswerTo (Table call) answer = IsAnswerOf call answer
 IsAnswerTo (Raw raw) answer = Unit {0}
@@ -367,7 +370,7 @@ pub answer_to : (asked : Asked) (fields : ReplyFields) (answer : Answer) → IsA
 answer_to (Table call) fields answer says = says.2.of_call
 answer_to (Raw raw) fields answer says = tt
 
--- the columns of an answer have, under the name of a quantity, the answer's quantity of that name
+-- the columns of an answer to what was asked have, under the name of a quantity, the answer's quantity of that name, escaped
 columns_told : (asked : Asked) (answer : Answer) (name : List ℕ) (k : ℕ) → slice_get quantity_names k ≡ Some name → IsAnswerTo asked answer
     → under name quantity_names (map escaped (answer_columns asked answer)) ≡ escaped (quantity_in asked (Value answer) name)
 columns_told (Table call) answer name k is of =
@@ -388,16 +391,17 @@ module _ (when : When) (text : List ℕ) (command : Wish) (name : List ℕ) (k :
   none : under name quantity_names (map escaped (replicate 24 [])) ≡ []
   none = all_at (λ (n : List ℕ). under n quantity_names (map escaped (replicate 24 [])) ≡ []) quantity_names k name blank is
 
-  -- under the name of a quantity is the answer's quantity of that name
+  -- where `answer` is one to what the command asks (`IsAnswerTo`), the row of the command, answered with it, has under this
+  -- name the answer's quantity of this name, escaped
   pub quantity_stands : (quality : Quality) (answer : Answer) (line : List ℕ) → IsAnswerTo command.call answer
       → row_at when text command (Answered quality (Some answer) line) true name ≡ escaped (quantity_in command.call (Value answer) name)
   quantity_stands quality answer line of = quantities_under (Answered quality (Some answer) line) ∙ columns_told command.call answer name k is of
 
-  -- an answer without values has nothing under the name of a quantity
+  -- the row of a command that was answered without values has nothing under this name of a quantity
   pub none_answered : (quality : Quality) (line : List ℕ) → row_at when text command (Answered quality None line) true name ≡ []
   none_answered quality line = quantities_under (Answered quality None line) ∙ none
 
-  -- a command that isn't answered has nothing under the name of a quantity
+  -- the row of a command that didn't end as `Answered` has nothing under this name of a quantity
   pub none_else : (end : End) → ((quality : Quality) (answer : Option Answer) (line : List ℕ) → end ≡ Answered quality answer line → ⊥) → row_at when text command end true name ≡ []
   none_else (Answered quality answer line) other = absurd (other quality answer line refl)
   none_else (Unreadable line fault) other = quantities_under (Unreadable line fault) ∙ none

@@ -1,6 +1,6 @@
 -- Lines of JSON that a station wrote of a run in the field: their members are their own, that is, what is in the line of an
 -- answer was made by the instrument on executing the very request of the line's cycle and place.
-use Rattle.std.proofs.Common.{◌≡◌, ℕ, ◌<◌, ◌^◌, true, List, [], ◌∷◌, ◌++◌, map, Option, Some, None, Result, if◌then◌else◌, refl, sym, ap, ◌∙◌, subst, append-nil}
+use Rattle.std.proofs.Common.{◌≡◌, ℕ, ◌<◌, true, List, [], ◌∷◌, ◌++◌, map, Option, Some, None, Result, if◌then◌else◌, refl, sym, ap, ◌∙◌, subst, append-nil}
 use Rattle.std.specs.Prelude.{codes, slice_get, All, Bool, false, ◌==◌}
 use Rattle.std.specs.List.{AllByRecursion, flat_map}
 use Rattle.std.proofs.lemmas.Bool.{cond_both}
@@ -16,7 +16,7 @@ use Rattle.gc_catalogue.specs.declared.asked.Asked.{Asked}
 use Rattle.gc_catalogue.proofs.AskedRules.{each_asked_reply}
 use Rattle.gc_instrument.specs.State.{KeptReply}
 use Rattle.gc_texts.specs.Cuts.{Lacks}
-use Rattle.gc_texts.specs.Endings.{End, Answered, Unreadable, Elsewhere, Late, Lost, Skipped, Missed, word_of, quality_of, quality_text}
+use Rattle.gc_texts.specs.Endings.{End, Answered, Unreadable, Elsewhere, Late, Lost, Skipped, Missed, word_of, quality_of, quality_text, line_of}
 use Rattle.gc_texts.specs.Logs.{escaped}
 use Rattle.gc_texts.specs.Names.{name_text}
 use Rattle.gc_texts.specs.Qualities.{quality_word}
@@ -25,7 +25,7 @@ use Rattle.gc_texts.specs.declared.wish.Wish.{Wish}
 use Rattle.gc_texts.specs.declared.name.Name.{Name}
 use Rattle.gc_texts.specs.declared.quality.Quality.{Quality}
 use Rattle.gc_rows.specs.JsonLines.{json_members, members_text, string_text}
-use Rattle.gc_rows.specs.Laws.{IsEndOfBytes, FitsIn64Bits, record_read}
+use Rattle.gc_rows.specs.Laws.{record_read}
 use Rattle.gc_rows.specs.Quantities.{quantity_names}
 use Rattle.gc_rows.specs.Records.{head_text, record_text}
 use Rattle.gc_rows.specs.Rows.{code_of, com_of}
@@ -36,9 +36,8 @@ use Rattle.gc_rows.proofs.Columns.{reply_columns}
 use Rattle.gc_rows.proofs.JsonLines.{front_of, reads_as}
 use Rattle.gc_rows.proofs.Members.{have_plain_members}
 use Rattle.gc_links.specs.Acts.{Act}
-use Rattle.gc_station.specs.Answers.{answer_of, AnswerIsJustified}
-use Rattle.gc_station.specs.Model.{opening}
-use Rattle.gc_station.specs.Parts.{Part, parts_of}
+use Rattle.gc_station.specs.Answers.{AnswerIsJustified}
+use Rattle.gc_station.specs.Parts.{Part}
 use Rattle.gc_station.specs.Qualities.{IsAsListed, IsOfQuality, accepted_at, answer_in}
 use Rattle.gc_station.specs.Records.{Record, texts_of}
 use Rattle.gc_station.specs.Scopes.{AreReadings}
@@ -59,12 +58,12 @@ use Rattle.gc_field.proofs.Joining.{run_faithful}
 use Rattle.std.proofs.lemmas.Option.{same_Some}
 use Rattle.gc_world.proofs.Places.{get_seen}
 use Rattle.gc_promise.specs.Fields.{IsOwn, IsOutcomeOfReply, HasReply, quality_in, quantity_in, quantity_source}
-use Rattle.gc_promise.specs.Objects.{AreOfBytes, AreOwnObjects, IsOwnObject, ObjectsAreTheirOwn, lines_text}
-use Rattle.gc_promise.specs.Tables.{acts_measured, records_in, scope_of}
+use Rattle.gc_promise.specs.Objects.{AreOfBytes, AreOwnObjects, IsOwnObject, IsTyped, ObjectsAreTheirOwn, lines_text}
+use Rattle.gc_promise.specs.Tables.{acts_measured, parts_in, records_in, scope_of}
 use Rattle.gc_promise.proofs.Finding.{at_member, member_attempt, member_cycle, member_outcome, member_place, member_procedure, member_quality, member_quantity, member_rc, member_rc_com, member_sent, member_stands, member_target, member_values, zeros_gone}
 use Rattle.gc_promise.proofs.Judged.{IsJudged, judged, no_value_if_none, value_if_some}
 use Rattle.gc_promise.proofs.Names.{answer_to}
-use Rattle.gc_promise.proofs.Owning.{a_reply, same_line}
+use Rattle.gc_promise.proofs.Owning.{a_reply}
 use Rattle.gc_promise.proofs.Setting.{never_sent, set_to}
 use Rattle.gc_lines.proofs.Lists.{all_front}
 use Rattle.gc_promise.proofs.Tabled.{all_written, is_answered, line_in, nothing_in, without_quality}
@@ -75,7 +74,8 @@ use Rattle.gc_promise.proofs.Unbroken.{line_unbroken}
 
 module _ (when : When) (text : List ℕ) (command : Wish) (name : List ℕ) (k : ℕ) (is : slice_get quantity_names k ≡ Some name) where
   module _ (fields : ReplyFields) (told : Reading) (is_told : IsAskedReading command.call fields told) where
-    -- if the command is answered by this line, the object has the line's quantity of this name
+    -- if the command is answered, with the answer of the reading `told` as its values, the object has the quantity of this name
+    -- of `told`, escaped
     stands : (end : End) (quality : Quality) (values : Option Answer) (line : List ℕ) → end ≡ Answered quality values line → values ≡ answer_in told
         → at_member when text command end name ≡ escaped (quantity_in command.call told name)
     stands end quality values line e has = ap (λ (x : End). at_member when text command x name) e ∙ by_values values has where
@@ -88,7 +88,7 @@ module _ (when : When) (text : List ℕ) (command : Wish) (name : List ℕ) (k :
           ∙ ap (λ (x : Reading). escaped (quantity_in command.call x name)) (sym value)
       by_values None has = member_quantity when text command (Answered quality None line) name k is ∙ sym (nothing_in command.call name told (no_value_if_none told (sym has)))
 
-  -- if the command isn't answered, the object has nothing under the name of a quantity
+  -- if the command didn't end as `Answered`, the object has nothing under this name of a quantity
   none_stands : (end : End) → ((quality : Quality) (answer : Option Answer) (line : List ℕ) → end ≡ Answered quality answer line → ⊥) → at_member when text command end name ≡ []
   none_stands (Answered quality answer line) other = absurd (other quality answer line refl)
   none_stands (Unreadable line fault) other = member_quantity when text command (Unreadable line fault) name k is
@@ -102,7 +102,7 @@ module _ (when : When) (text : List ℕ) (command : Wish) (name : List ℕ) (k :
 
 module _ {State : Type 0} (ends : Ends State) (kept : State → Option KeptReply) (survey : Survey) (reads : Asked → List ℕ → Reading) (are : AreReadings reads)
     (acts : List Act) (ps : List Part) (ss : List (Stretch State)) (r : Record) where
-  -- when the record's command was asked, and where it stands in its run
+  -- the moments, the cycle, the place and the turn of the record
   abbrev when : When
   when = when_of survey.layout.run r
 
@@ -114,11 +114,11 @@ module _ {State : Type 0} (ends : Ends State) (kept : State → Option KeptReply
   abbrev at : List ℕ → List ℕ
   at name = at_member when text r.command r.end name
 
-  -- if a line with the fields of a reply answered the command, the object says what the line says
-  says : (line : List ℕ) → answer_of r.end ≡ Some line → (x : ReplyFields) × IsReply line x → IsAsListed reads survey.tasks r
+  -- if a line with the fields of a reply ended the command in time, and the record's quality and values are as listed
+  -- (`IsAsListed`), the object says what the line says (`HasReply`)
+  says : (line : List ℕ) → line_of r.end ≡ Some line → (x : ReplyFields) × IsReply line x → IsAsListed reads survey.tasks r
       → HasReply true at (accepted_at survey.tasks r.place) r.command.call line
   says line answered reply listed =
-      let same = same_line r.end line answered in
       let said = reply_columns line reply.0 reply.1 in
       let accepted = accepted_at survey.tasks r.place in
       let reading = each_asked_reply r.command.call reply.0 in
@@ -126,14 +126,14 @@ module _ {State : Type 0} (ends : Ends State) (kept : State → Option KeptReply
       let by = judged reads are accepted r.command.call line reply.0 reply.1 reading.0 told.0 reading.1 told.1 in
       let judges : (quality : Quality) (values : Option Answer) (l : List ℕ) → r.end ≡ Answered quality values l
       → IsJudged reads are accepted r.command.call line reply.0 reply.1 reading.0 told.0 reading.1 told.1 quality values =
-      λ quality values l is. by quality values (subst (IsOfQuality reads accepted r.command.call quality values) (same_Some l line (ap answer_of (sym is) ∙ answered)) (listed quality values l is)) in
+      λ quality values l is. by quality values (subst (IsOfQuality reads accepted r.command.call quality values) (same_Some l line (ap line_of (sym is) ∙ answered)) (listed quality values l is)) in
       let word = member_outcome when text r.command r.end in
       record {
         reply = reply.0;
         is_reply = reply.1;
-        rc_com = subst (λ (t : List ℕ). IsNumber t reply.0.rc_com) (sym (member_rc_com when text r.command r.end line same)) (zeros_gone (com_of line) reply.0.rc_com said.rc_com);
-        rc = subst (λ (t : List ℕ). IsNumber t reply.0.rc) (sym (member_rc when text r.command r.end line same)) (zeros_gone (code_of line) reply.0.rc said.rc);
-        values = member_values when text r.command r.end line same ∙ ap escaped said.values;
+        rc_com = subst (λ (t : List ℕ). IsNumber t reply.0.rc_com) (sym (member_rc_com when text r.command r.end line answered)) (zeros_gone (com_of line) reply.0.rc_com said.rc_com);
+        rc = subst (λ (t : List ℕ). IsNumber t reply.0.rc) (sym (member_rc when text r.command r.end line answered)) (zeros_gone (code_of line) reply.0.rc said.rc);
+        values = member_values when text r.command r.end line answered ∙ ap escaped said.values;
         answer_reading = reading.0;
         is_answer_reading = reading.1;
         quality = λ answers.
@@ -146,7 +146,8 @@ module _ {State : Type 0} (ends : Ends State) (kept : State → Option KeptReply
             stands when text r.command name quantity.0 quantity.1 (quantity_source (quality_in accepted reading.0) reply.0) told.0 told.1 r.end e.0 e.1 e.2 e.3 (judges e.0 e.1 e.2 e.3).values_are;
       }
 
-  -- the object of a record is its own, by what is known of the record
+  -- the object of a record is its own (`IsOwn`), if the record's answer is its own (`IsOwnAnswer`) and justified, the record's
+  -- quality is as listed, and the record is of its task
   object_own : IsOwnAnswer ends AnyState kept survey.tasks ps ss r → AnswerIsJustified survey.plan survey.tasks (scope_of survey reads) acts r → IsAsListed reads survey.tasks r
       → IsOfItsTask survey.tasks r
       → IsOwn ends AnyState kept true at survey.tasks ps ss r
@@ -188,7 +189,7 @@ each_line : {X : Type 0} (text line : X → List ℕ) → ((x : X) → text x �
 each_line says_text line one [] = refl
 each_line says_text line one (x ∷ xs) = ap (λ (l : List ℕ). l ++ flat_map says_text xs) (one x) ∙ ap (λ (l : List ℕ). (line x ++ 10 ∷ []) ++ l) (each_line says_text line one xs)
 
--- the name of a target is bytes
+-- where all names are bytes, so is the name of a target, which is empty if it has none
 name_bytes : (target : ℕ) (names : List Name) → AllByRecursion (λ (name : Name). All (λ b. b < 256) name.text.items) names → All (λ b. b < 256) (name_text target names)
 name_bytes target [] are = All-from_recursion (λ (b : ℕ). b < 256) [] tt
 name_bytes target (name ∷ names) are =
@@ -202,14 +203,6 @@ no_front false form is = ap head_text is
 module _ {State : Type 0} (ends : Ends State) (kept : State → Option KeptReply) (is : IsAnInstrument ends AnyState kept) (survey : Survey) (form : survey.layout.form ≡ Json)
     (reads : Asked → List ℕ → Reading) (are : AreReadings reads) (acts : List Act) (u : UnderWay State) (rs : List (field.Run State))
     (there : IsInField ends AnyState kept survey.plan survey.tasks (scope_of survey reads) acts u rs) (small : AreOfBytes survey (records_in survey reads acts)) where
-  -- the parts of the run
-  abbrev parts : List Part
-  parts = parts_of survey.plan survey.tasks (opening survey.plan (scope_of survey reads)) acts
-
-  -- the stretches of the run
-  abbrev all_stretches : List (Stretch State)
-  all_stretches = stretches ends u rs
-
   -- the line of a record in this survey, without its line feed
   abbrev line_in_survey : Record → List ℕ
   line_in_survey r = line_text (when_of survey.layout.run r) (name_text r.command.target survey.names) r.command r.end
@@ -223,20 +216,20 @@ module _ {State : Type 0} (ends : Ends State) (kept : State → Option KeptReply
 
   -- the line of each record that was written whole is its own object
   each_own : (written others : List Record) → records_in survey reads acts ≡ written ++ others → (n : ℕ) (r : Record) → slice_get written n ≡ Some r
-      → IsOwnObject ends AnyState kept (line_in_survey r) survey.tasks parts all_stretches r
+      → IsOwnObject ends AnyState kept (line_in_survey r) survey.tasks (parts_in survey reads acts) (stretches ends u rs) r
   each_own written others order n r got =
       let faithful = run_faithful ends AnyState kept is survey.plan survey.tasks (scope_of survey reads) acts u rs there in
       let when = when_of survey.layout.run r in
       let text = name_text r.command.target survey.names in
-      let bounds = all_written (λ (x : Record). FitsIn64Bits (when_of survey.layout.run x) × (x.command.target < 2 ^ 64) × IsEndOfBytes x.end) (records_in survey reads acts) written others order
+      let bounds = all_written (IsTyped survey.layout.run) (records_in survey reads acts) written others order
       small.each n r got in
       let members = have_plain_members when text r.command r.end bounds.0 (name_bytes r.command.target survey.names small.names) bounds.1 bounds.2 in
       record {
         members = record_read when.run (json_members when text r.command r.end);
         reads_as = reads_as when.run (json_members when text r.command r.end) small.run members;
         own =
-            object_own ends kept survey reads are acts parts all_stretches r
-            (all_written (IsOwnAnswer ends AnyState kept survey.tasks parts all_stretches) (records_in survey reads acts) written others order faithful.own n r got)
+            object_own ends kept survey reads are acts (parts_in survey reads acts) (stretches ends u rs) r
+            (all_written (IsOwnAnswer ends AnyState kept survey.tasks (parts_in survey reads acts) (stretches ends u rs)) (records_in survey reads acts) written others order faithful.own n r got)
             (all_written (AnswerIsJustified survey.plan survey.tasks (scope_of survey reads) acts) (records_in survey reads acts) written others order
             (answers_true survey.plan survey.tasks (scope_of survey reads) acts there.runs) n r got)
             (all_written (λ (x : Record). IsAsListed reads survey.tasks x) (records_in survey reads acts) written others order
@@ -245,7 +238,7 @@ module _ {State : Type 0} (ends : Ends State) (kept : State → Option KeptReply
       }
 
   -- the lines of records in the types of the program have no line feed
-  all_unbroken : (rs : List Record) → AllByRecursion (λ (x : Record). FitsIn64Bits (when_of survey.layout.run x) × (x.command.target < 2 ^ 64) × IsEndOfBytes x.end) rs
+  all_unbroken : (rs : List Record) → AllByRecursion (IsTyped survey.layout.run) rs
       → AllByRecursion (Lacks 10) (map line_in_survey rs)
   all_unbroken [] bounds = tt
   all_unbroken (r ∷ rs) bounds =
@@ -254,10 +247,10 @@ module _ {State : Type 0} (ends : Ends State) (kept : State → Option KeptReply
       let members = have_plain_members when text r.command r.end bounds.0.0 (name_bytes r.command.target survey.names small.names) bounds.0.1 bounds.0.2 in
       (line_unbroken when text r.command r.end bounds.0.2 members, all_unbroken rs bounds.1)
 
-  -- what a sink took of the run, after what it had, are the run's own objects
+  -- where a sink took the run's records (`Took`), what it took after what it had are the run's own objects
   objected : (result : Result Tally Stop) (had : List ℕ) (has : Option (List ℕ))
       → Took (text_in survey.layout survey.names) (records_in survey reads acts) result (had ++ front_text survey.layout) has
-      → AreOwnObjects ends AnyState kept survey reads acts parts all_stretches result had has
+      → AreOwnObjects ends AnyState kept survey reads acts (parts_in survey reads acts) (stretches ends u rs) result had has
   objected result had has took =
       let written = took.are.written in
       let nothing_first : had ++ front_text survey.layout ≡ had = ap (λ (l : List ℕ). had ++ l) (no_front survey.layout.headed survey.layout.form form) ∙ append-nil had in
@@ -269,14 +262,15 @@ module _ {State : Type 0} (ends : Ends State) (kept : State → Option KeptReply
         are = took.are;
         unbroken =
             all_unbroken written
-            (all_front (λ (x : Record). FitsIn64Bits (when_of survey.layout.run x) × (x.command.target < 2 ^ 64) × IsEndOfBytes x.end) written took.are.unwritten
-            (subst (AllByRecursion (λ (x : Record). FitsIn64Bits (when_of survey.layout.run x) × (x.command.target < 2 ^ 64) × IsEndOfBytes x.end)) took.are.order small.each));
+            (all_front (IsTyped survey.layout.run) written took.are.unwritten
+            (subst (AllByRecursion (IsTyped survey.layout.run)) took.are.order small.each));
         as_many = length-map written line_in_survey;
         each = λ n line e.
             let x = get_seen line_in_survey written n line e in (
               x.0,
               x.1,
-              subst (λ (l : List ℕ). IsOwnObject ends AnyState kept l survey.tasks parts all_stretches x.0) x.2 (each_own written took.are.unwritten took.are.order n x.0 x.1),
+              subst (λ (l : List ℕ). IsOwnObject ends AnyState kept l survey.tasks (parts_in survey reads acts) (stretches ends u rs) x.0) x.2
+                  (each_own written took.are.unwritten took.are.order n x.0 x.1),
             );
       }
 

@@ -9,7 +9,7 @@ use Rattle.gc_lines.specs.declared.fault.LineFault.{LineFault}
 use Rattle.gc_lines.proofs.Replies.{reply_found}
 use Rattle.gc_client.specs.Rule.{heard, id_in}
 use Rattle.gc_instrument.specs.State.{KeptReply}
-use Rattle.gc_texts.specs.Endings.{End, Answered, Unreadable, Elsewhere, Late, Lost, Skipped, Missed, line_of}
+use Rattle.gc_texts.specs.Endings.{End, line_of}
 use Rattle.gc_texts.specs.Names.{name_text}
 use Rattle.gc_texts.specs.declared.wish.Wish.{Wish}
 use Rattle.gc_texts.specs.declared.name.Name.{Name}
@@ -20,7 +20,7 @@ use Rattle.gc_rows.specs.declared.when.When.{When}
 use Rattle.gc_rows.proofs.Columns.{reply_columns}
 use Rattle.gc_rows.proofs.Rows.{read_back}
 use Rattle.gc_links.specs.Acts.{Act}
-use Rattle.gc_station.specs.Answers.{answer_of, AnswerIsJustified}
+use Rattle.gc_station.specs.Answers.{AnswerIsJustified}
 use Rattle.gc_station.specs.Parts.{Part}
 use Rattle.gc_station.specs.Records.{Record}
 use Rattle.gc_station.specs.Scopes.{Scope}
@@ -37,23 +37,13 @@ use Rattle.gc_promise.specs.Rows.{column, FieldsSay, IsOwnIfAnswered, RowsAreThe
 use Rattle.gc_promise.specs.Tables.{table_form}
 use Rattle.gc_promise.proofs.Names.{by_line}
 
--- a line with an id is a reply
+-- a line from which an id is heard (`heard`) reads as a reply
 pub a_reply : (line : List ℕ) (id : ℕ) → heard line ≡ Some id → (r : ReplyFields) × IsReply line r
 a_reply line id h = by_read (reply_at line) refl where
   -- the lemma above, by what the line reads as
   by_read : (read : Result ReplyFields LineFault) → reply_at line ≡ read → (r : ReplyFields) × IsReply line r
   by_read (Ok r) e = (r, reply_found line r e)
   by_read (Err f) e = let none = ap id_in e in absurd (cc)
-
--- the line that answered a command is the line that its row shows
-pub same_line : (end : End) (line : List ℕ) → answer_of end ≡ Some line → line_of end ≡ Some line
-same_line (Answered quality answer l) line e = e
-same_line (Unreadable l fault) line e = e
-same_line (Elsewhere l) line e = e
-same_line Late line e = absurd (cc)
-same_line Lost line e = absurd (cc)
-same_line Skipped line e = absurd (cc)
-same_line Missed line e = absurd (cc)
 
 module _ (columns : Bool) (when : When) (name : List ℕ) (command : Wish) (end : End) where
   -- a row has more than one field
@@ -82,13 +72,13 @@ in_table true when name command end = refl
 abbrev pub fields_of : Layout → Bool → List Name → Record → List (List ℕ)
 fields_of layout columns names r = row_fields columns (when_of layout.run r) (name_text r.command.target names) r.command r.end
 
--- the fields of an answer's row say what the record and the line that answered it say
-says : (layout : Layout) (columns : Bool) (names : List Name) (r : Record) (line : List ℕ) → answer_of r.end ≡ Some line
+-- if this line, a reply, ended the record's command in time, the fields of the record's row say what the record and the line
+-- say
+says : (layout : Layout) (columns : Bool) (names : List Name) (r : Record) (line : List ℕ) → line_of r.end ≡ Some line
     → (reply : ReplyFields) × IsReply line reply → FieldsSay (fields_of layout columns names r) r line
 says layout columns names r line answered reply =
     let when = when_of layout.run r in
     let name = name_text r.command.target names in
-    let same = same_line r.end line answered in
     let said = reply_columns line reply.0 reply.1 in
     record {
       sent = refl;
@@ -99,16 +89,16 @@ says layout columns names r line answered reply =
       outcome = refl;
       reply = reply.0;
       is_reply = reply.1;
-      rc_com = rw (under_rc_com columns when name r.command r.end line same) said.rc_com;
-      rc = rw (under_rc columns when name r.command r.end line same) said.rc;
-      values = under_values columns when name r.command r.end line same ∙ said.values;
+      rc_com = rw (under_rc_com columns when name r.command r.end line answered) said.rc_com;
+      rc = rw (under_rc columns when name r.command r.end line answered) said.rc;
+      values = under_values columns when name r.command r.end line answered ∙ said.values;
     }
 
 module _ {State : Type 0} (ends : Ends State) (kept : State → Option KeptReply) (layout : Layout) (columns : Bool) (names : List Name) (form : layout.form ≡ table_form columns)
     (plan : Plan) (commands : List Task) (scope : Scope) (acts : List Act) (ps : List Part) (ss : List (Stretch State)) where
-  -- if a reply in time ended a record's command, its row is its own
-  one : (r : Record) → IsOwnAnswer ends AnyState kept commands ps ss r → AnswerIsJustified plan commands scope acts r → IsOwnIfAnswered ends AnyState kept layout names commands ps ss r
-  one r own came line answered =
+  -- if a record's answer is its own (`IsOwnAnswer`) and justified, and a reply in time ended its command, its row is its own
+  one_own : (r : Record) → IsOwnAnswer ends AnyState kept commands ps ss r → AnswerIsJustified plan commands scope acts r → IsOwnIfAnswered ends AnyState kept layout names commands ps ss r
+  one_own r own came line answered =
       let justified = came line answered in
       let fields = fields_of layout columns names r in
       let row : text_in layout names r ≡ row_of fields =
@@ -122,14 +112,15 @@ module _ {State : Type 0} (ends : Ends State) (kept : State → Option KeptReply
         own = own line answered;
       }
 
-  -- the row of each of these records whose command a reply in time ended is its own
-  each : (records : List Record) → AllByRecursion (IsOwnAnswer ends AnyState kept commands ps ss) records → AllByRecursion (AnswerIsJustified plan commands scope acts) records
+  -- if the answers of these records are their own (`IsOwnAnswer`) and justified, the row of each of them whose command a reply in
+  -- time ended is its own
+  each_own : (records : List Record) → AllByRecursion (IsOwnAnswer ends AnyState kept commands ps ss) records → AllByRecursion (AnswerIsJustified plan commands scope acts) records
       → AllByRecursion (IsOwnIfAnswered ends AnyState kept layout names commands ps ss) records
-  each [] own came = tt
-  each (r ∷ records) own came = (one r own.0 came.0, each records own.1 came.1)
+  each_own [] own came = tt
+  each_own (r ∷ records) own came = (one_own r own.0 came.0, each_own records own.1 came.1)
 
--- the row of each record whose command a reply in time ended is its own
+-- in a run in the field, the row of each record whose command a reply in time ended is its own
 pub rows_own : {State : Type 0} → RowsAreTheirOwn State
 rows_own ends kept is layout columns names form plan commands scope acts u rs field =
     let faithful = run_faithful ends AnyState kept is plan commands scope acts u rs field in
-    each ends kept layout columns names form plan commands scope acts _ _ _ faithful.own (answers_true plan commands scope acts field.runs)
+    each_own ends kept layout columns names form plan commands scope acts _ _ _ faithful.own (answers_true plan commands scope acts field.runs)

@@ -42,7 +42,7 @@ tail_whole b bs is = elim (cases_Bool (has_feed (b ∷ bs))) [
   | inr none ↦ absurd (cons_not_nil b bs (sym is ∙ whole_none (b ∷ bs) none))
 ]
 
--- where bytes end in a line feed, so does each tail of them, unless it is empty
+-- where bytes are whole, so is each tail of them
 pub whole_rest : (xs ys : List ℕ) → whole (xs ++ ys) ≡ xs ++ ys → whole ys ≡ ys
 whole_rest [] ys is = is
 whole_rest (b ∷ xs) ys is = whole_rest xs ys (tail_whole b (xs ++ ys) is).1
@@ -75,7 +75,8 @@ onto_lines : (b : ℕ) (rows : List (List ℕ)) → IsOneOrMore rows → lines (
 onto_lines b [] some = let wrong : [] ≡ some.row ∷ some.others = some.is in cc
 onto_lines b (row ∷ rows) some = refl
 
--- if there is a line, to put a byte before these lines and others after them is to put it before these
+-- if there is a line in `rows`, to put a byte before the first of the lines `rows` and `others` together is to put it before the
+-- first of `rows`, and `others` after these
 onto_two : (b : ℕ) (rows others : List (List ℕ)) → IsOneOrMore rows → onto b (rows ++ others) ≡ onto b rows ++ others
 onto_two b [] others some = let wrong : [] ≡ some.row ∷ some.others = some.is in cc
 onto_two b (row ∷ rows) others some = refl
@@ -85,7 +86,7 @@ onto_length : (b : ℕ) (rows : List (List ℕ)) → IsOneOrMore rows → length
 onto_length b [] some = let wrong : [] ≡ some.row ∷ some.others = some.is in cc
 onto_length b (row ∷ rows) some = refl
 
--- the pieces of bytes that end in a line feed, each with its line feed, are these bytes
+-- the pieces of whole bytes, each with a line feed after it, are these bytes
 pub pieces_whole : (xs : List ℕ) → whole xs ≡ xs → lines (pieces xs) ≡ xs
 pieces_whole [] is = refl
 pieces_whole (b ∷ bs) is =
@@ -99,7 +100,7 @@ pieces_whole (b ∷ bs) is =
     ten_of : (b : ℕ) → (b == 10) ≡ true → b ≡ 10
     ten_of b is = eqb-true b 10 is
 
--- the pieces of bytes that end in a line feed, and of others after them, are those of the first and then those of the others
+-- the pieces of whole bytes `xs` and of `ys` after them are those of `xs` and then those of `ys`
 pub pieces_two : (xs ys : List ℕ) → whole xs ≡ xs → pieces (xs ++ ys) ≡ pieces xs ++ pieces ys
 pieces_two [] ys is = refl
 pieces_two (b ∷ bs) ys is =
@@ -109,7 +110,7 @@ pieces_two (b ∷ bs) ys is =
       | inr isnt ↦ rw (isnt) (ap (onto b) (pieces_two bs ys t.1) ∙ onto_two b (pieces bs) (pieces ys) (some_piece bs (feed_behind_first b bs isnt t.0)))
     ]
 
--- bytes that end in a line feed have as many pieces as line feeds
+-- whole bytes have as many pieces as line feeds
 pub pieces_count : (xs : List ℕ) → whole xs ≡ xs → length (pieces xs) ≡ feeds xs
 pieces_count [] is = refl
 pieces_count (b ∷ bs) is =
@@ -119,7 +120,7 @@ pieces_count (b ∷ bs) is =
       | inr isnt ↦ rw (isnt) (omega (arith, onto_length b (pieces bs) (some_piece bs (feed_behind_first b bs isnt t.0)), pieces_count bs t.1))
     ]
 
--- the lines of two lists, one after the other, are those of the first and then those of the second
+-- the bytes of two lists of lines, one after the other, are those of the first and then those of the second
 pub lines_two : (xs ys : List (List ℕ)) → lines (xs ++ ys) ≡ lines xs ++ lines ys
 lines_two [] ys = refl
 lines_two (row ∷ xs) ys = ap (λ (l : List ℕ). line row ++ l) (lines_two xs ys) ∙ sym (append_assoc (line row) (lines xs) (lines ys))
@@ -148,7 +149,7 @@ rows_left taken rest n taken_whole rest_whole least =
       };
     }
 
--- a whole front has no more lines than all bytes have
+-- the whole front `taken` has no more line feeds than all bytes have pieces
 pub pieces_fit : (taken rest : List ℕ) → whole taken ≡ taken → feeds taken ≤ length (pieces (taken ++ rest))
 pieces_fit taken rest is = omega (arith, pieces_count taken is, ap length (pieces_two taken rest is), length-append (pieces taken) (pieces rest))
 

@@ -57,17 +57,17 @@ decimal_plain n = digits_plain (decimal n) (decimal_digits n)
 pub plain_both : (xs ys : List ℕ) → escaped xs ≡ xs → escaped ys ≡ ys → escaped (xs ++ ys) ≡ xs ++ ys
 plain_both xs ys x y = flat_map-append escape xs ys ∙ ap (λ (l : List ℕ). l ++ escaped ys) x ∙ ap (λ (l : List ℕ). xs ++ l) y
 
--- two digits appear unchanged in a field
+-- the two digits of a number below 100 appear unchanged in a field
 two_plain : (n : ℕ) → n < 100 → escaped (two_digits n) ≡ two_digits n
 two_plain n few = digits_plain (two_digits n) ((omega arith, omega (arith, few, div-add-mod n 10)), ((omega arith, omega arith), tt))
 
--- three digits appear unchanged in a field
+-- the three digits of a number below 1000 appear unchanged in a field
 three_plain : (n : ℕ) → n < 1000 → escaped (three_digits n) ≡ three_digits n
 three_plain n few =
     digits_plain (three_digits n)
     ((omega arith, omega (arith, few, div-add-mod n 100)), ((omega arith, omega (arith, div-add-mod (n % 100) 10)), ((omega arith, omega arith), tt)))
 
--- a date appears unchanged in a field
+-- a date whose month is at most 12, and whose day at most 31, appears unchanged in a field
 date_plain : (year month day : ℕ) → month ≤ 12 → day ≤ 31
     → escaped (decimal year ++ codes "-" ++ two_digits month ++ codes "-" ++ two_digits day) ≡ decimal year ++ codes "-" ++ two_digits month ++ codes "-" ++ two_digits day
 date_plain year month day m d =
@@ -76,7 +76,7 @@ date_plain year month day m d =
     (plain_both (decimal year ++ codes "-") (two_digits month) (plain_both (decimal year) (codes "-") (decimal_plain year) refl) (two_plain month (omega (arith, m)))) refl)
     (two_plain day (omega (arith, d)))
 
--- a time of day appears unchanged in a field
+-- a time of day, in milliseconds below those of 24 hours, appears unchanged in a field
 time_plain : (millis : ℕ) → millis < 86400000 → escaped (time_text millis) ≡ time_text millis
 time_plain millis few =
     let hours = two_digits (millis / 3_600_000) in

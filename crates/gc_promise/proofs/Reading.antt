@@ -22,8 +22,8 @@ use Rattle.gc_values.specs.Boolean.{number_of}
 
 -- Each read of a record leaves fewer reads.
 
--- a step of the reader leads to a state, and has an action. If the action ends a record, then in that state the end of the
--- input doesn't end another record
+-- x is a step of the reader: the state to which it leads, and its action. If the action ends a record, the reader is between
+-- records in that state: the end of the input doesn't end another one
 abbrev IsBetween : State × Action → Type 0
 IsBetween x = is_end x.1 ≡ true → ends_at_end x.0 ≡ false
 
@@ -86,7 +86,7 @@ takes_some cfg s fields field (c ∷ rest) p = at_byte (is_end (step cfg s c).1)
   goes_on : State × Action → Option Read
   goes_on x = next_record cfg x.0 (fields_after x.1 fields field) (field_after x.1 c field) rest
 
-  -- the lemma above at a byte, by whether that ends the record (`b`)
+  -- the lemma above at a byte, by whether that ends the record (`b`), if the lemma holds of the read after the byte
   at_byte : (b : Bool) → is_end (step cfg s c).1 ≡ b
       → (next_record cfg (step cfg s c).0 (fields_after (step cfg s c).1 fields field) (field_after (step cfg s c).1 c field) rest ≡ Some p → reads_left p.1 p.2 < reads_left (step cfg s c).0 rest)
       → cond b (Some (fields_after (step cfg s c).1 fields field, (step cfg s c).0, rest)) (goes_on (step cfg s c)) ≡ Some p
@@ -102,7 +102,7 @@ unfolding records_from
 enough cfg zero n s xs few many = absurd (omega (arith, few))
 enough cfg (suc m) zero s xs few many = absurd (omega (arith, many))
 enough cfg (suc m) (suc n) s xs few many = by_read (enough cfg m n) (next_record cfg s [] [] xs) refl where
-  -- the lemma above, by the first read
+  -- the lemma above with m + 1 and n + 1, by the first read, if the lemma holds with m and n
   by_read : ((t : State) (ys : List ℕ) → reads_left t ys < m → reads_left t ys < n → records_from cfg m t ys ≡ records_from cfg n t ys)
       → (o : Option Read) → next_record cfg s [] [] xs ≡ o → records_next (records_from cfg m) o ≡ records_next (records_from cfg n) o
   by_read more None e = refl
@@ -110,7 +110,8 @@ enough cfg (suc m) (suc n) s xs few many = by_read (enough cfg m n) (next_record
 
 -- Texts that are read.
 
--- if a first record is read, the records are that one and those of what comes after it
+-- if a first record is read, after which the reader is at the start of a record, the records of a text are that one and those
+-- of what comes after it
 one_read : (xs behind : List ℕ) (row : List (List ℕ)) → next_record default_config st.StartRecord [] [] xs ≡ Some (row, st.StartRecord, behind)
     → records default_config xs ≡ row ∷ records default_config behind
 unfolding records_from
@@ -121,7 +122,7 @@ one_read xs behind row e =
     ∙ ap (λ o. records_next (records_from default_config (length xs)) o) e
     ∙ ap (λ l. row ∷ l) (enough default_config (length xs) (length behind + 1) st.StartRecord behind (omega (arith, less)) (omega arith))
 
--- a row of more than one field is read as its fields
+-- a row of more than one field is read as its fields, `escaped`
 pub row_reads : (fields : List (List ℕ)) → 1 < length fields → AreReadAs (row_of fields) (map escaped fields ∷ [])
 row_reads fields many behind = one_read (row_of fields ++ behind) behind (map escaped fields) (read_back.row fields behind many)
 

@@ -18,7 +18,8 @@ use Rattle.std.proofs.lemmas.Grind.{flat_map-append}
 
 -- Texts.
 
--- if the text of each record ends in a line feed, so do the texts of all of them, unless they are none
+-- if the text of each record ends in a line feed or is empty (`whole` leaves it as it is), so do the texts of all of them
+-- together
 pub texts_whole : (text : Record → List ℕ) → ((r : Record) → whole (text r) ≡ text r) → (rs : List Record) → whole (texts_of text rs) ≡ texts_of text rs
 texts_whole text each [] = refl
 texts_whole text each (r ∷ rs) = whole_more (text r) (texts_of text rs) (each r) ∙ ap (λ (l : List ℕ). text r ++ l) (texts_whole text each rs)
@@ -49,7 +50,7 @@ module _ (plan : Plan) (commands : List Task) (scope : Scope) (text : Record →
       subst (λ (t : Option (List ℕ)). Appends (Some []) t (texts_of text (state_after plan commands scope front).records)) taken kept.took in
       took ∙ ap (λ (acts : List Act). texts_of text (state_after plan commands scope acts).records) (sym is)
 
-  -- what the book took is a front of the texts of what acts of the run settled
+  -- what the book took is a front of the texts of what the first ones of the acts `told` settled, maybe all of them
   pub record Fronted (told : List Act) (bytes : List ℕ) : Type 0 where
     pub acts : List Act
     pub others : List Act
@@ -73,7 +74,7 @@ module _ (plan : Plan) (commands : List Task) (scope : Scope) (text : Record →
             ∙ ap (λ (l : List ℕ). l ++ (drop w.part (text w.next) ++ texts_of text w.later)) (sym w.took);
       }
 
-  -- a run with these acts, from none on, whose book took these bytes, and which ended so
+  -- a run with these acts, from none on, whose book took these bytes, and which ended with this result
   abbrev RanSo : List Act → List ℕ → Result Tally RunFault → Type 0
   RanSo told bytes end = Ran plan commands scope text (Some []) (Some told) (Some []) (Some bytes) end
 

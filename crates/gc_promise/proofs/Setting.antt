@@ -15,12 +15,13 @@ use Rattle.gc_station.specs.Tasked.{IsOfItsTask}
 use Rattle.std.proofs.lemmas.Option.{same_Some}
 use Rattle.gc_promise.specs.Fields.{IsSetTo}
 
--- what is asked at a moment, if the clock is set to it
+-- a command that sets the clock (`now`), sent at the moment `utc`, asks for the date and time of that moment
 set_at : (task : Task) (utc : ℕ) → task.now ≡ true → (command_sent (Some utc) task).call ≡ Table (SetDate (date_time utc))
 set_at task utc is = ap (λ (b : Bool). if b then Table (SetDate (date_time utc)) else task.command.call) is
 
 module _ (at : List ℕ → List ℕ) (commands : List Task) (r : Record) (of : IsOfItsTask commands r) (stands : at (codes "sent") ≡ moment_text r.sent) where
-  -- if the record's command sets the clock and its request was sent, that asked for the moment under `sent`
+  -- if the record's command sets the clock, and the command's request was sent, the request asked for the moment that is under
+  -- `sent` (`IsSetTo`)
   pub set_to : (task : Task) → slice_get commands r.place ≡ Some task → task.now ≡ true → went_out r.end ≡ true → IsSetTo at r
   set_to task listed now out = by_moment r.sent refl (of.sent ∙ out) where
     -- if the record's moment of sending is o, and there is one, the request asked for that moment

@@ -48,8 +48,8 @@ synced_more (Append bytes ∷ xs) ys = elim (cases_Bool (has_sync xs)) [
 synced_more (Cut size ∷ xs) ys = synced_more xs ys
 synced_more (Sync ∷ xs) ys = synced_more xs ys
 
--- if there is a sync among the later steps `ys`, what is synced by the steps `xs` and `ys` is all that `xs` appended, and then what
--- `ys` sync
+-- if there is a sync among the later steps `ys`, what is synced by the steps `xs` and `ys` is all that `xs` appended, and then
+-- what `ys` sync
 synced_behind : (xs ys : List Step) → has_sync ys ≡ true → synced (xs ++ ys) ≡ appended xs ++ synced ys
 synced_behind [] ys some = refl
 synced_behind (Append bytes ∷ xs) ys some =
@@ -69,13 +69,13 @@ cuts_first (Cut size ∷ xs) ys none = let wrong : false ≡ true = none in cc
 -- a run of the file. `steps` are those of its opening, and `calls` those after that. `all` are all rows that it may append; of
 -- these the rows of `taken`, which it had appended by a sync, count as kept. `left` is what a crash leaves of the file, if
 -- there is one
-abbrev pub run_by : List Step → List Step → List ℕ → List ℕ → Option (List ℕ) → Run
+abbrev pub run_by : (steps calls : List Step) (taken all : List ℕ) (left : Option (List ℕ)) → Run
 run_by steps calls taken all left = record { rows = pieces all; steps = steps ++ calls; kept = feeds taken; left = left }
 
 module _ (head held : List ℕ) (steps was since : List Step) (rest : List ℕ) (opened : opening.MendedAndPut held steps (start_of head held))
     (kept : synced was ≡ appended was) (is_whole : whole (appended was) ≡ appended was) where
-  -- if a sync is among the calls `was`, what was at the start and all that these calls appended is synced, whatever calls
-  -- follow
+  -- if a sync is among the calls `was`, what was at the start and all that these calls appended is a front of what is synced,
+  -- whatever calls follow
   synced_all : has_sync was ≡ true → IsFront (start_of head held ++ appended was) (synced (steps ++ (was ++ since)))
   synced_all some =
       let all : synced (steps ++ (was ++ since)) ≡ start_of head held ++ synced (was ++ since) =
@@ -93,7 +93,8 @@ module _ (head held : List ℕ) (steps was since : List Step) (rest : List ℕ) 
     | inr isnt ↦ inl (ap feeds (sym kept ∙ no_sync was isnt))
   ]
 
-  -- these steps are those of a run of the file; the rows that the calls `was` appended count as kept
+  -- if the rows that may follow (`rest`) are whole, no call cuts the file, and what the calls appended is a front of all rows,
+  -- these steps are those of a run of the file (`run_by`), in which the rows that the calls `was` appended count as kept
   pub is_run : (left : Option (List ℕ)) → whole rest ≡ rest → cuts_none (was ++ since) ≡ true → IsFront (appended (was ++ since)) (appended was ++ rest)
       → IsRun head held (run_by steps (was ++ since) (appended was) (appended was ++ rest) left)
   is_run left rest_whole none front =
@@ -115,8 +116,8 @@ pub life_two : (life : Life) (xs ys : List Run) → life_after life (xs ++ ys) �
 life_two life [] ys = refl
 life_two life (run ∷ xs) ys = life_two (life_once_ended life run run.left) xs ys
 
--- a table with the rows of runs, split at one of them: rows of the earlier runs, the first of its own rows, at least those that it
--- kept, and rows of the later runs
+-- a table with the rows of runs, split at one of them: what was there before all runs (`before`), and rows of the earlier ones;
+-- the first of its own rows, at least those that it kept; and rows of the later runs
 pub record SplitsAtRun (head before found : List ℕ) (earlier later : List Run) (run : Run) : Type 0 where
   pub counts : List ℕ
   pub first : AreRowCounts earlier counts

@@ -14,22 +14,21 @@ use Rattle.gc_catalogue.specs.declared.answer.Reading.TheVariants as reading
 use Rattle.gc_catalogue.specs.declared.asked.Asked.{Asked}
 use Rattle.gc_catalogue.proofs.AskedRules.{each_asked_reply}
 use Rattle.gc_instrument.specs.State.{KeptReply}
-use Rattle.gc_texts.specs.Endings.{End, Answered, Unreadable, Elsewhere, Late, Lost, Skipped, Missed, word_of, quality_of, quality_text}
+use Rattle.gc_texts.specs.Endings.{End, Answered, Unreadable, Elsewhere, Late, Lost, Skipped, Missed, word_of, quality_of, quality_text, line_of}
 use Rattle.gc_texts.specs.Logs.{escaped}
 use Rattle.gc_texts.specs.Names.{name_text}
 use Rattle.gc_texts.specs.Qualities.{quality_word}
 use Rattle.gc_texts.specs.declared.wish.Wish.{Wish}
 use Rattle.gc_texts.specs.declared.quality.Quality.{Quality}
 use Rattle.gc_rows.specs.Quantities.{quantity_names}
-use Rattle.gc_rows.specs.Records.{head_text, last_names, names, record_text}
+use Rattle.gc_rows.specs.Records.{first_names, head_text, last_names, record_text}
 use Rattle.gc_rows.specs.Rows.{code_of, com_of, row_of}
 use Rattle.gc_rows.specs.declared.record.Form.{Form}
 use Rattle.gc_rows.specs.declared.when.When.{When}
 use Rattle.gc_rows.proofs.Columns.{reply_columns}
 use Rattle.gc_links.specs.Acts.{Act}
-use Rattle.gc_station.specs.Answers.{answer_of, AnswerIsJustified}
-use Rattle.gc_station.specs.Model.{opening}
-use Rattle.gc_station.specs.Parts.{Part, parts_of}
+use Rattle.gc_station.specs.Answers.{AnswerIsJustified}
+use Rattle.gc_station.specs.Parts.{Part}
 use Rattle.gc_station.specs.Qualities.{IsAsListed, IsOfQuality, accepted_at, answer_in}
 use Rattle.gc_station.specs.Records.{Record, texts_of}
 use Rattle.gc_station.specs.Scopes.{AreReadings}
@@ -52,10 +51,10 @@ use Rattle.gc_field.proofs.Joining.{run_faithful}
 use Rattle.std.proofs.lemmas.Option.{same_Some}
 use Rattle.gc_world.proofs.Places.{get_seen}
 use Rattle.gc_promise.specs.Fields.{IsOwn, IsQuantity, IsOutcomeOfReply, HasReply, quality_in, quantity_in, quantity_source, under}
-use Rattle.gc_promise.specs.Tables.{AreReadAs, IsOwnTable, TablesAreTheirOwn, acts_measured, head_rows, header, records_in, scope_of, table_form}
+use Rattle.gc_promise.specs.Tables.{AreReadAs, IsOwnTable, TablesAreTheirOwn, acts_measured, head_rows, header, parts_in, records_in, scope_of, table_form}
 use Rattle.gc_promise.proofs.Judged.{IsJudged, judged, no_value_if_none, value_if_some}
 use Rattle.gc_promise.proofs.Names.{answer_to, none_answered, none_else, quantity_stands, under_attempt, under_cycle, under_outcome, under_place, under_procedure, under_quality, under_rc, under_rc_com, under_sent, under_target, under_values, row_at}
-use Rattle.gc_promise.proofs.Owning.{a_reply, fields_of, in_table, same_line, two_fields}
+use Rattle.gc_promise.proofs.Owning.{a_reply, fields_of, in_table, two_fields}
 use Rattle.gc_promise.proofs.Plain.{number_plain}
 use Rattle.gc_promise.proofs.Reading.{both_read, each_reads, none_read, row_reads}
 use Rattle.gc_promise.proofs.Setting.{never_sent, set_to}
@@ -73,8 +72,8 @@ no_reply word a u e (inl is) = a (ap first_of is)
 no_reply word a u e (inr (inl is)) = u (ap first_of is)
 no_reply word a u e (inr (inr is)) = e (ap first_of is)
 
--- if the outcome is that of a reply, a line answered the command
-pub line_in : (end : End) → IsOutcomeOfReply (word_of end) → (line : List ℕ) × (answer_of end ≡ Some line)
+-- if the outcome is that of a reply, a reply in time ended the command
+pub line_in : (end : End) → IsOutcomeOfReply (word_of end) → (line : List ℕ) × (line_of end ≡ Some line)
 line_in (Answered quality answer line) is = (line, refl)
 line_in (Unreadable line fault) is = (line, refl)
 line_in (Elsewhere line) is = (line, refl)
@@ -96,7 +95,7 @@ nothing_in call name (reading.Refused code) none = refl
 nothing_in call name (reading.ComFault code) none = refl
 nothing_in call name (reading.Unreadable fault) none = refl
 
--- a command whose outcome is `answered` has an answer
+-- a command whose outcome is `answered` ended as `Answered`, with a quality and maybe with values
 pub is_answered : (end : End) → word_of end ≡ codes "answered" → (quality : Quality) × (values : Option Answer) × (line : List ℕ) × (end ≡ Answered quality values line)
 is_answered (Answered quality values line) word = (quality, values, line, refl)
 is_answered (Unreadable l fault) word = absurd (not_answered (codes "unreadable") (λ e. omega (arith, e)) word)
@@ -118,7 +117,8 @@ without_quality Missed other = refl
 
 module _ (when : When) (text : List ℕ) (command : Wish) (name : List ℕ) (k : ℕ) (is : slice_get quantity_names k ≡ Some name) (fields : ReplyFields) (told : Reading)
     (is_told : IsAskedReading command.call fields told) where
-  -- if the command is answered by this line, the row has the line's quantity of this name
+  -- if the command is answered, with the answer of the reading `told` as its values, the row has the quantity of this name of
+  -- `told`, escaped
   stands : (quality : Quality) (values : Option Answer) (line : List ℕ) → values ≡ answer_in told
       → row_at when text command (Answered quality values line) true name ≡ escaped (quantity_in command.call told name)
   stands quality (Some answer) line has =
@@ -129,7 +129,7 @@ module _ (when : When) (text : List ℕ) (command : Wish) (name : List ℕ) (k :
 
 -- Lists.
 
--- what holds of all records holds of the one at a place among those that were written
+-- what holds of all elements of `xs` holds of the one at a place among the first of them (`written`)
 pub all_written : {X : Type 0} (P : X → Type 0) (xs written others : List X) → xs ≡ written ++ others → AllByRecursion P xs → (n : ℕ) (x : X) → slice_get written n ≡ Some x → P x
 all_written P xs written others order all n x is = all_at P written n x (all_front P written others (subst (AllByRecursion P) order all)) is
 
@@ -146,7 +146,7 @@ module _ {State : Type 0} (ends : Ends State) (kept : State → Option KeptReply
   at r name = under name (header columns) (map escaped (fields r))
 
   module _ (r : Record) where
-    -- when the record's command was asked, and where it stands in its run
+    -- the moments, the cycle, the place and the turn of the record
     abbrev when : When
     when = when_of survey.layout.run r
 
@@ -154,8 +154,8 @@ module _ {State : Type 0} (ends : Ends State) (kept : State → Option KeptReply
     abbrev text : List ℕ
     text = name_text r.command.target survey.names
 
-    -- if the command is answered by a line, a row with columns of quantities (`b`) has the line's quantity under each name of
-    -- one
+    -- if the command is answered, with the answer of the reading `told` as its values, a row with columns of quantities (`b`) has
+    -- the quantity of `told`, escaped, under each name of one
     quantity_at : (b : Bool) → b ≡ true → (fields : ReplyFields) (told : Reading) → IsAskedReading r.command.call fields told → (quality : Quality) (values : Option Answer) (line : List ℕ)
         → r.end ≡ Answered quality values line → values ≡ answer_in told → (name : List ℕ) → IsQuantity name
         → row_at when text r.command r.end b name ≡ escaped (quantity_in r.command.call told name)
@@ -170,11 +170,11 @@ module _ {State : Type 0} (ends : Ends State) (kept : State → Option KeptReply
     no_quantity_at true shows other name quantity = none_else when text r.command name quantity.0 quantity.1 r.end (λ quality answer line e. other (ap word_of e))
     no_quantity_at false shows other name quantity = absurd (false≢true shows)
 
-    -- if a line with the fields of a reply answered the command, the row says what the line says
-    says : (line : List ℕ) → answer_of r.end ≡ Some line → (x : ReplyFields) × IsReply line x → IsAsListed reads survey.tasks r
+    -- if a line with the fields of a reply ended the command in time, and the record's quality and values are as listed
+    -- (`IsAsListed`), the row says what the line says (`HasReply`)
+    says : (line : List ℕ) → line_of r.end ≡ Some line → (x : ReplyFields) × IsReply line x → IsAsListed reads survey.tasks r
         → HasReply columns (at r) (accepted_at survey.tasks r.place) r.command.call line
     says line answered reply listed =
-        let same = same_line r.end line answered in
         let said = reply_columns line reply.0 reply.1 in
         let accepted = accepted_at survey.tasks r.place in
         let reading = each_asked_reply r.command.call reply.0 in
@@ -183,15 +183,15 @@ module _ {State : Type 0} (ends : Ends State) (kept : State → Option KeptReply
         let by = judged reads are accepted r.command.call line reply.0 reply.1 reading.0 told.0 reading.1 told.1 in
         let judges : (quality : Quality) (values : Option Answer) (l : List ℕ) → r.end ≡ Answered quality values l
         → IsJudged reads are accepted r.command.call line reply.0 reply.1 reading.0 told.0 reading.1 told.1 quality values =
-        λ quality values l is. by quality values (subst (IsOfQuality reads accepted r.command.call quality values) (same_Some l line (ap answer_of (sym is) ∙ answered))
+        λ quality values l is. by quality values (subst (IsOfQuality reads accepted r.command.call quality values) (same_Some l line (ap line_of (sym is) ∙ answered))
         (listed quality values l is)) in
         record {
           reply = reply.0;
           is_reply = reply.1;
           rc_com =
-              subst (λ (t : List ℕ). IsNumber t reply.0.rc_com) (sym (under_rc_com when text r.command r.end line same columns ∙ number_plain (com_of line) said.rc_com.digits)) said.rc_com;
-          rc = subst (λ (t : List ℕ). IsNumber t reply.0.rc) (sym (under_rc when text r.command r.end line same columns ∙ number_plain (code_of line) said.rc.digits)) said.rc;
-          values = under_values when text r.command r.end line same columns ∙ ap escaped said.values;
+              subst (λ (t : List ℕ). IsNumber t reply.0.rc_com) (sym (under_rc_com when text r.command r.end line answered columns ∙ number_plain (com_of line) said.rc_com.digits)) said.rc_com;
+          rc = subst (λ (t : List ℕ). IsNumber t reply.0.rc) (sym (under_rc when text r.command r.end line answered columns ∙ number_plain (code_of line) said.rc.digits)) said.rc;
+          values = under_values when text r.command r.end line answered columns ∙ ap escaped said.values;
           answer_reading = reading.0;
           is_answer_reading = reading.1;
           quality = λ answers.
@@ -204,7 +204,8 @@ module _ {State : Type 0} (ends : Ends State) (kept : State → Option KeptReply
               quantity_at columns shows (quantity_source (quality_in accepted reading.0) reply.0) told.0 told.1 e.0 e.1 e.2 e.3 (judges e.0 e.1 e.2 e.3).values_are name quantity;
         }
 
-    -- the row of a record is its own, by what is known of the record
+    -- the row of a record is its own (`IsOwn`), if the record's answer is its own (`IsOwnAnswer`) and justified, the record's
+    -- quality is as listed, and the record is of its task
     row_own : IsOwnAnswer ends AnyState kept survey.tasks ps ss r → AnswerIsJustified survey.plan survey.tasks (scope_of survey reads) acts r → IsAsListed reads survey.tasks r
         → IsOfItsTask survey.tasks r
         → IsOwn ends AnyState kept columns (at r) survey.tasks ps ss r
@@ -232,26 +233,18 @@ module _ {State : Type 0} (ends : Ends State) (kept : State → Option KeptReply
 
 -- A table.
 
--- the header reads as the names of the columns
+-- the header, unless it is there already (`headed`), reads as one row: the names of the columns
 head_reads : (headed columns : Bool) (form : Form) → form ≡ table_form columns → AreReadAs (if headed then [] else head_text form) (if headed then [] else header columns ∷ [])
 head_reads true columns form is = none_read
 head_reads false columns form is = subst (λ (f : Form). AreReadAs (head_text f) (header columns ∷ [])) (sym is) (names_read columns) where
-  -- the header of a table with quantities (`true`) or without (`false`) reads as the names of its columns
+  -- the header of a table with quantities (`true`) or without (`false`) reads as one row: the names of its columns
   names_read : (b : Bool) → AreReadAs (head_text (table_form b)) (header b ∷ [])
-  names_read false = row_reads (names ++ last_names) (omega arith)
-  names_read true = row_reads (names ++ (quantity_names ++ last_names)) (omega arith)
+  names_read false = row_reads (first_names ++ last_names) (omega arith)
+  names_read true = row_reads (first_names ++ (quantity_names ++ last_names)) (omega arith)
 
 module _ {State : Type 0} (ends : Ends State) (kept : State → Option KeptReply) (is : IsAnInstrument ends AnyState kept) (survey : Survey) (columns : Bool)
     (form : survey.layout.form ≡ table_form columns) (reads : Asked → List ℕ → Reading) (are : AreReadings reads) (acts : List Act) (u : UnderWay State) (rs : List (field.Run State))
     (there : IsInField ends AnyState kept survey.plan survey.tasks (scope_of survey reads) acts u rs) where
-  -- the parts of the run
-  abbrev parts : List Part
-  parts = parts_of survey.plan survey.tasks (opening survey.plan (scope_of survey reads)) acts
-
-  -- the stretches of the run
-  abbrev all_stretches : List (Stretch State)
-  all_stretches = stretches ends u rs
-
   -- the row of a record, as a reader gives it
   abbrev row : Record → List (List ℕ)
   row r = map escaped (fields_of survey.layout columns survey.names r)
@@ -267,21 +260,21 @@ module _ {State : Type 0} (ends : Ends State) (kept : State → Option KeptReply
 
   -- the row of each record that was written whole is its own
   each_own : (written others : List Record) → records_in survey reads acts ≡ written ++ others → (n : ℕ) (r : Record) → slice_get written n ≡ Some r
-      → IsOwn ends AnyState kept columns (λ name. under name (header columns) (row r)) survey.tasks parts all_stretches r
+      → IsOwn ends AnyState kept columns (λ name. under name (header columns) (row r)) survey.tasks (parts_in survey reads acts) (stretches ends u rs) r
   each_own written others order n r at =
       let faithful = run_faithful ends AnyState kept is survey.plan survey.tasks (scope_of survey reads) acts u rs there in
-      row_own ends kept survey reads are acts parts all_stretches columns r
-      (all_written (IsOwnAnswer ends AnyState kept survey.tasks parts all_stretches) (records_in survey reads acts) written others order faithful.own n r at)
+      row_own ends kept survey reads are acts (parts_in survey reads acts) (stretches ends u rs) columns r
+      (all_written (IsOwnAnswer ends AnyState kept survey.tasks (parts_in survey reads acts) (stretches ends u rs)) (records_in survey reads acts) written others order faithful.own n r at)
       (all_written (AnswerIsJustified survey.plan survey.tasks (scope_of survey reads) acts) (records_in survey reads acts) written others order
       (answers_true survey.plan survey.tasks (scope_of survey reads) acts there.runs) n r at)
       (all_written (λ (x : Record). IsAsListed reads survey.tasks x) (records_in survey reads acts) written others order
       (as_listed survey.plan survey.tasks (scope_of survey reads) acts) n r at)
       (all_written (IsOfItsTask survey.tasks) (records_in survey reads acts) written others order (of_tasks survey.plan survey.tasks (scope_of survey reads) acts) n r at)
 
-  -- what a sink took of the run, after what it had, is the run's own table
+  -- where a sink took the run's records (`Took`), what it took after what it had is the run's own table
   tabled : (result : Result Tally Stop) (had : List ℕ) (has : Option (List ℕ))
       → Took (text_in survey.layout survey.names) (records_in survey reads acts) result (had ++ front_text survey.layout) has
-      → IsOwnTable ends AnyState kept survey columns reads acts parts all_stretches result had has
+      → IsOwnTable ends AnyState kept survey columns reads acts (parts_in survey reads acts) (stretches ends u rs) result had has
   tabled result had has took =
       let front = front_text survey.layout in
       let written = took.are.written in
@@ -302,7 +295,7 @@ module _ {State : Type 0} (ends : Ends State) (kept : State → Option KeptReply
             let x = get_seen row written n fields e in (
               x.0,
               x.1,
-              subst (λ (f : List (List ℕ)). IsOwn ends AnyState kept columns (λ name. under name (header columns) f) survey.tasks parts all_stretches x.0) x.2
+              subst (λ (f : List (List ℕ)). IsOwn ends AnyState kept columns (λ name. under name (header columns) f) survey.tasks (parts_in survey reads acts) (stretches ends u rs) x.0) x.2
                   (each_own written took.are.unwritten took.are.order n x.0 x.1),
             );
       }

@@ -1,5 +1,5 @@
--- What the replies of the eventful run say. A function that gives what each reply says is the same as `patched`, which gives it for these
--- five without looking at their bytes: so the run can be computed with that one.
+-- What the replies of the eventful run say. A function that gives what each reply says is the same as `patched`, which gives it
+-- for these five without looking at their bytes: so the run can be computed with that one.
 use Rattle.std.proofs.Common.{◌≡◌, ℕ, Bool, true, false, List, [], ◌∷◌, Some, Ok, refl, sym, ap, ◌∙◌, arith}
 use Rattle.std.proofs.Math.Path.{fun_ext}
 use Rattle.std.proofs.lemmas.Int.{ints}
@@ -42,35 +42,36 @@ abbrev pub replied : ℕ → List ℕ → ReplyFields
 replied id params = record { rc_com = 0; id = Some id; rc = 0; params = params }
 
 module _ (call : Call) where
-  -- a line that reads as such a reply says this answer, if the parameters are the answer's values
+  -- a line that reads as the reply with an id and parameters says this answer, if the call has answers of its form, and the
+  -- parameters are the answer's values
   value_says : (line params : List ℕ) (id : ℕ) (answer : Answer) → reply_at line ≡ Ok (replied id params) → (call_fields call).answer ≡ (answer_fields answer).shape
       → AreParams params (answer_fields answer).values → ReadsBy IsAskedReading (Table call) line (Value answer)
   value_says line params id answer reads of_call values =
       record { reply = replied id params; is_reply = reply_found line (replied id params) reads; is_reading = (refl, refl, record { of_call = sym of_call; values = values }) }
 
-  -- the reply to command 0 says nothing but that its call was carried out
+  -- of a call with no values in its answers, the reply to command 0 says nothing but that the call was carried out
   pointed_says : (call_fields call).answer ≡ shape.Nothing → ReadsBy IsAskedReading (Table call) pointed (Value Nothing)
   unfolding header_at reply_at digits
   pointed_says of_call = value_says pointed [] 0 Nothing refl of_call (no_params [] [] refl refl)
 
-  -- the reply to command 1 says angles and a distance at target 7
+  -- of a call that asks for angles and a distance, the reply to command 1 says those at target 7
   measured_says : (call_fields call).answer ≡ shape.Measured → ReadsBy IsAskedReading (Table call) measured (Value at_target)
   unfolding header_at reply_at digits rounded
   measured_says of_call =
       value_says measured (codes "2.25,1.625,110.0625") 1 at_target refl of_call (written_reads (answer_fields at_target).values (tt, (tt, (tt, tt))))
 
-  -- the reply to command 2 says angles and a distance away from target 8
+  -- of a call that asks for angles and a distance, the reply to command 2 says those of `away`, where target 8 doesn't stand
   elsewhere_says : (call_fields call).answer ≡ shape.Measured → ReadsBy IsAskedReading (Table call) elsewhere (Value away)
   unfolding header_at reply_at digits rounded
   elsewhere_says of_call = value_says elsewhere (codes "0.5,1.5,87.25") 2 away refl of_call (written_reads (answer_fields away).values (tt, (tt, (tt, tt))))
 
-  -- the reply to command 3 says the number 31
+  -- of a call that asks for a whole number, the reply to command 3 says the number 31
   numbered_says : (call_fields call).answer ≡ shape.Long → ReadsBy IsAskedReading (Table call) numbered (Value (Long (pos 31)))
   unfolding header_at reply_at digits
   numbered_says of_call =
       value_says numbered (codes "31") 3 (Long (pos 31)) refl of_call (written_reads (value.Long (pos 31) ∷ []) ((omega (arith, ints), omega (arith, ints)), tt))
 
-  -- the reply to command 4 doesn't read: it has too few values
+  -- of a call that asks for a whole number, the reply to command 4 doesn't read: it has too few values
   empty_says : (call_fields call).answer ≡ shape.Long → ReadsBy IsAskedReading (Table call) empty (Unreadable Count)
   unfolding header_at reply_at digits
   empty_says of_call =
@@ -81,7 +82,7 @@ module _ (call : Call) where
       }
 
 -- the function that gives this reading of this line, and of any other line what `says` gives
-abbrev saying : List ℕ → Reading → (List ℕ → Reading) → List ℕ → Reading
+abbrev saying : (line : List ℕ) → Reading → (says : List ℕ → Reading) (x : List ℕ) → Reading
 saying line reading says x = if pointwise nat_eq line x then reading else says x
 
 -- the function with these readings put before it, for the calls that have them
@@ -100,7 +101,8 @@ said_so line reading says e = fun_ext (λ x. by_test x (pointwise nat_eq line x)
   by_test x false t = refl
 
 module _ (reads : Asked → List ℕ → Reading) (are : AreReadings reads) where
-  -- for each call `patched` gives what the function gives, which has these readings of the five replies by the grammar
+  -- for each call, `patched` of a function that gives what replies say is what that function gives: it has the readings of the
+  -- five replies already, by the grammar
   of_call : (call : Asked) → patched reads call ≡ reads call
   of_call (Table (Position hz v pos_mode atr_mode dummy)) =
       let call = Table (Position hz v pos_mode atr_mode dummy) in
@@ -114,6 +116,6 @@ module _ (reads : Asked → List ℕ → Reading) (are : AreReadings reads) wher
       ∙ said_so numbered (Value (Long (pos 31))) (reads (Table InstrumentNo)) (are (Table InstrumentNo) numbered (Value (Long (pos 31))) (numbered_says InstrumentNo refl))
   of_call call = refl
 
-  -- `patched` of a function is the function itself
+  -- `patched` of a function that gives what replies say is the function itself
   pub patched_same : patched reads ≡ reads
   patched_same = fun_ext of_call

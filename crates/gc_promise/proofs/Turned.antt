@@ -25,12 +25,13 @@ after_more s (d ∷ done) act = after_more (after plan commands s d) done act
 
 module _ (text : Record → List ℕ) where
   -- what is seen at each of these acts, from this model on, after the acts that were done
-  abbrev turns_from : Model → List Act → List Act → List Snapshot
+  abbrev turns_from : Model → (done acts : List Act) → List Snapshot
   turns_from s done [] = []
   turns_from s done (act ∷ acts) =
       record { acts = Some done; taken = Some (texts_of text s.records); lasts = true } ∷ turns_from (after plan commands s act) (done ++ act ∷ []) acts
 
-  -- with these turns, at each act all that the acts before it settled is kept
+  -- where s is the model after the acts `done`, `AreKept` holds of the turns from s on: at each act, all that the acts before
+  -- it settled is kept
   kept_from : (reads : Asked → List ℕ → Reading) (s : Model) (done acts : List Act) → s ≡ state_after plan commands (scope reads) done
       → AreKept plan commands (scope reads) text (Some []) (Some []) done acts (turns_from s done acts)
   kept_from reads s done [] is = tt
@@ -40,18 +41,18 @@ module _ (text : Record → List ℕ) where
         (ap (λ (m : Model). after plan commands m act) is ∙ sym (after_more (opening plan (scope reads)) done act)),
   )
 
-  -- what is seen at the acts of the run
+  -- what is seen at the acts of the run, with `reads` as `patched` makes it
   abbrev turns_by : (Asked → List ℕ → Reading) → List Snapshot
   turns_by reads = turns_from (opening plan (scope (patched reads))) [] acts
 
-  -- a function that says nothing true of any reply. It may stand for every other one, because `patched` gives itself what the
+  -- a function that says nothing true of any reply. It may stand for every other one, because `patched` itself gives what the
   -- run's replies say
-  abbrev any : Asked → List ℕ → Reading
-  any call line = ComFault 0
+  abbrev placeholder : Asked → List ℕ → Reading
+  placeholder call line = ComFault 0
 
   -- what is seen at the acts of the run, whatever function says what replies say
   abbrev pub turns : List Snapshot
-  turns = turns_by any
+  turns = turns_by placeholder
 
   -- what is seen at the acts is the same with each function that says what replies say
   same_turns : (reads : Asked → List ℕ → Reading) → turns_by reads ≡ turns

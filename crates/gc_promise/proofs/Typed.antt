@@ -9,12 +9,11 @@ use Rattle.std.specs.Option.{IfSome}
 use Rattle.std.specs.Prelude.{codes, nat_lt, ◌&&◌}
 use Rattle.gc_lines.proofs.Replies.{reply_found}
 use Rattle.gc_lines.specs.Readers.{header_at, reply_at}
-use Rattle.gc_rows.specs.Laws.{IsEndOfBytes, IsReplyOfBytes, FitsIn64Bits}
+use Rattle.gc_rows.specs.Laws.{IsEndOfBytes, IsReplyOfBytes}
 use Rattle.gc_rows.specs.declared.record.Form.TheVariants.{Json}
 use Rattle.gc_station.specs.Records.{Record}
-use Rattle.gc_measuring.specs.Measuring.{when_of}
 use Rattle.gc_promise.specs.Eventful.{chained_record, elsewhere, empty, measured, number_record, numbered, pointed, points_record, records}
-use Rattle.gc_promise.specs.Objects.{AreOfBytes}
+use Rattle.gc_promise.specs.Objects.{AreOfBytes, IsTyped}
 use Rattle.gc_promise.specs.Witness.{survey}
 use Rattle.gc_promise.proofs.TrueReadings.{replied}
 
@@ -48,19 +47,19 @@ empty_is : IsReplyOfBytes empty
 unfolding header_at reply_at digits
 empty_is = of_bytes empty [] 4 refl refl
 
--- the line in the ending of command 0 is of bytes
+-- the ending of command 0 is of bytes (`IsEndOfBytes`)
 points_end : IsEndOfBytes points_record.end
 points_end = (pointed_is, tt)
 
--- the line in the ending of command 1 is of bytes
+-- the ending of command 1 is of bytes
 chained_end : IsEndOfBytes chained_record.end
 chained_end = (measured_is, (tt, (tt, (tt, tt))))
 
--- the line in the ending of command 3 is of bytes
+-- the ending of command 3 is of bytes
 number_end : IsEndOfBytes number_record.end
 number_end = (numbered_is, ((omega (arith, ints), omega (arith, ints)), tt))
 
--- the lines in the endings of all records of this run are of bytes
+-- the endings of all records of this run are of bytes
 ends : AllByRecursion (λ (r : Record). IsEndOfBytes r.end) records
 ends = (tt, (tt, (tt, (tt, (tt, (tt, (tt, (tt, (tt, (tt, (tt, (tt, (tt, (tt, (points_end, (chained_end, (elsewhere_is, (number_end, (empty_is, (tt, (tt, tt)))))))))))))))))))))
 
@@ -73,7 +72,7 @@ abbrev sent_is_small : Option ℕ → Bool
 sent_is_small None = true
 sent_is_small (Some utc) = is_small utc
 
--- whether all numbers of records are below 2^64
+-- whether all numbers that are written of these records are below 2^64
 abbrev are_small : List Record → Bool
 are_small [] = true
 are_small (r ∷ rs) = (sent_is_small r.sent && (is_small r.utc && (is_small r.cycle && (is_small r.turn.place && (is_small r.turn.attempt && is_small r.command.target))))) && are_small rs
@@ -83,12 +82,8 @@ sent_below : (sent : Option ℕ) → sent_is_small sent ≡ true → IfSome sent
 sent_below None e = tt
 sent_below (Some utc) e = ltb-true utc (2 ^ 64) e
 
--- records whose numbers are below 2^64, and whose ends are of bytes, lie in the types of the program
-abbrev IsTyped : Record → Type 0
-IsTyped r = FitsIn64Bits (when_of 0 r) × (r.command.target < 2 ^ 64) × IsEndOfBytes r.end
-
--- records are typed where their numbers are small and their ends are of bytes
-typed : (rs : List Record) → are_small rs ≡ true → AllByRecursion (λ (r : Record). IsEndOfBytes r.end) rs → AllByRecursion IsTyped rs
+-- records of a run that began at moment 0 are `IsTyped` where their numbers are small and their ends are of bytes
+typed : (rs : List Record) → are_small rs ≡ true → AllByRecursion (λ (r : Record). IsEndOfBytes r.end) rs → AllByRecursion (IsTyped 0) rs
 typed [] e h = tt
 typed (r ∷ rs) e h =
     let target = is_small r.command.target in

@@ -94,19 +94,19 @@ name_lacks (b ∷ bs) is = ((λ e. let low = is.0.0 in omega (arith, e, low)), n
 
 -- Members.
 
--- the digits of a member that is a number are unchanged
+-- escaping changes nothing in the digits of a member that is a number; other members have no digits
 abbrev HasPlainDigits : Member → Type 0
 HasPlainDigits (Text name bytes) = Unit {0}
 HasPlainDigits (Number name digits) = IsPlain digits
 HasPlainDigits (Texts name texts) = Unit {0}
 
--- a name with its quotes and comma has no line feed
+-- a plain name with the comma and the quotes around it, and a colon after these, has no line feed
 named_lacks : (name : List ℕ) → IsPlainName name → Lacks 10 ((codes ",\"" ++ name) ++ codes "\":")
 named_lacks name is =
     lacks_both 10 (codes ",\"" ++ name) (codes "\":") (lacks_both 10 (codes ",\"") name ((λ e. omega (arith, e)), ((λ e. omega (arith, e)), tt)) (name_lacks name is))
     ((λ e. omega (arith, e)), ((λ e. omega (arith, e)), tt))
 
--- members have no line feed
+-- plain members with plain digits have no line feed in their text
 members_lack : (members : List Member) → AllByRecursion IsPlainMember members → AllByRecursion HasPlainDigits members → Lacks 10 (members_text members)
 members_lack [] are plain = tt
 members_lack (Text name bytes ∷ ms) are plain =
@@ -129,9 +129,9 @@ when_plain : (when : When) → AllByRecursion HasPlainDigits (when_members when)
 when_plain when = all_append HasPlainDigits (sent_members when.stamp.sent) _ (sent_plain when.stamp.sent) (tt, (decimal_plain when.stamp.cycle, (decimal_plain when.stamp.turn.place, tt)))
 
 -- the members on a command have plain digits
-what_plain : (command : Wish) (name : List ℕ) → AllByRecursion HasPlainDigits (command_members command name)
-what_plain command [] = (decimal_plain command.target, (decimal_plain (procedure_of command.call), tt))
-what_plain command (b ∷ bs) = (decimal_plain command.target, (tt, (decimal_plain (procedure_of command.call), tt)))
+command_members_plain : (command : Wish) (name : List ℕ) → AllByRecursion HasPlainDigits (command_members command name)
+command_members_plain command [] = (decimal_plain command.target, (decimal_plain (procedure_of command.call), tt))
+command_members_plain command (b ∷ bs) = (decimal_plain command.target, (tt, (decimal_plain (procedure_of command.call), tt)))
 
 -- the members on a reply of bytes have plain digits
 reply_plain : (line : List ℕ) → IsReplyOfBytes line → AllByRecursion HasPlainDigits (reply_members (Some line))
@@ -189,25 +189,26 @@ quantities_plain call (Answered quality (Some answer) line) = columns_plain call
 quantities_plain call end = tt
 
 -- a member for a quality has no digits
-worded_plain : (word : List ℕ) → AllByRecursion HasPlainDigits (quality_members word)
-worded_plain [] = tt
-worded_plain (b ∷ bs) = (tt, tt)
+quality_member_plain : (word : List ℕ) → AllByRecursion HasPlainDigits (quality_members word)
+quality_member_plain [] = tt
+quality_member_plain (b ∷ bs) = (tt, tt)
 
 -- the members after all others have plain digits
 last_plain : (when : When) (end : End) → AllByRecursion HasPlainDigits (last_members when end)
 last_plain when end =
-    all_append HasPlainDigits (quality_members (quality_text (quality_of end))) (attempt_members when) (worded_plain (quality_text (quality_of end))) (decimal_plain when.stamp.turn.attempt, tt)
+    all_append HasPlainDigits (quality_members (quality_text (quality_of end))) (attempt_members when) (quality_member_plain (quality_text (quality_of end)))
+    (decimal_plain when.stamp.turn.attempt, tt)
 
--- the digits of all members of a record are unchanged
+-- all members of a record have plain digits, if its ending is of bytes
 members_plain : (when : When) (name : List ℕ) (command : Wish) (end : End) → IsEndOfBytes end → AllByRecursion HasPlainDigits (json_members when name command end)
 members_plain when name command end is =
     let rest = ending_members end ++ members_after_ending when command.call end in
     all_append HasPlainDigits (when_members when) (command_members command name ++ rest) (when_plain when)
-    (all_append HasPlainDigits (command_members command name) rest (what_plain command name)
+    (all_append HasPlainDigits (command_members command name) rest (command_members_plain command name)
     (all_append HasPlainDigits (ending_members end) (members_after_ending when command.call end) (ending_plain end is)
     (all_append HasPlainDigits (quantity_members command.call end) (last_members when end) (quantities_plain command.call end) (last_plain when end))))
 
--- the line of a record, without its line feed, has none
+-- if a record's ending is of bytes, and its members are plain, its line, without the line feed at its end, has no line feed
 pub line_unbroken : (when : When) (name : List ℕ) (command : Wish) (end : End) → IsEndOfBytes end → AllByRecursion IsPlainMember (json_members when name command end)
     → Lacks 10 ((codes "{\"run\":" ++ string_text (stamp_text when.run)) ++ (members_text (json_members when name command end) ++ codes "}"))
 line_unbroken when name command end is are =

@@ -34,7 +34,7 @@ use Rattle.gc_promise.specs.Objects.{AreOfBytes}
 abbrev HaveOwnRows : (Asked → List ℕ → Reading) → List Record → Type 0
 HaveOwnRows reads = AllByRecursion (IsOwnIfAnswered reporting AnyState nothing in_a_table [] commands (parts_of plan commands (opening plan (scope reads)) acts) (stretches reporting at_start runs))
 
--- what is seen at each of its acts, where its records are written in this form
+-- what is seen at each act of the eventful run, where its records are written in this form
 abbrev turns_in : Form → List Snapshot
 turns_in form = turns (text_in (layout_in form) [])
 

@@ -40,14 +40,14 @@ use Rattle.gc_field.specs.World.{Ends, Up_deliver, Up_lose, Up_repeat, Down_lose
 use Rattle.gc_field.specs.Begin as turn
 use Rattle.gc_field.specs.Begin.{Turn, Asks, Reaches, UnderWay, begins, leaves, turned}
 use Rattle.gc_field.specs.Beginnings.{Run, left_by_run}
-use Rattle.gc_field.specs.BeginsAnew.{put_all}
+use Rattle.gc_field.specs.BeginsAnew.{put_all, send_all}
 use Rattle.gc_field.specs.Begun.{WasMadeOn}
-use Rattle.gc_field.specs.ChainWitness.{hz, v, points, reads_all}
+use Rattle.gc_field.specs.ChainWitness.{hz, v, points, reads_all, first_reply}
 use Rattle.gc_field.specs.Field.{Move, Sends, Tells, Comes, Foreign, OnLine, Anew, Changes}
 use Rattle.gc_field.specs.Instrument.{IsAnInstrument, AnyState, nothing}
 use Rattle.gc_field.specs.Runs.{IsInField, world}
 use Rattle.gc_field.specs.Shown.{Stretch}
-use Rattle.gc_field.specs.Witness.{null_lines, at, eight_answered, exchanged, replies}
+use Rattle.gc_field.specs.Witness.{null_lines, at, eight_answered, exchanged, replies, run_and_end}
 
 -- The instrument.
 
@@ -75,7 +75,7 @@ abbrev pub turn_at : ℕ → Bool → command.Turn
 turn_at place chained = record { place = place; attempt = 1; link = if chained then 1 else 0 }
 
 -- a command with a deadline of 50 ms, whose chain isn't sent again: its place, its target, what it asks, whether it is chained to the
--- one before it, and where its target is
+-- one before it, and where its target is, if its answer is compared with that
 abbrev pub task : (place target : ℕ) → Asked → Bool → Option Near → Task
 task place target call chained near =
     record {
@@ -123,9 +123,9 @@ last_line = codes "%R1Q,5003,6:"
 abbrev pub null_line : ℕ → List ℕ
 null_line id = codes "%R1Q,0," ++ (48 + id) ∷ codes ":"
 
--- the reply to command 0 in the third cycle, without parameters
+-- the reply to command 0 in the third cycle, `%R1P,0,0:0`: without parameters, as the simulator's to its first command
 abbrev pub pointed : List ℕ
-pointed = codes "%R1P,0,0:0"
+pointed = first_reply
 
 -- the reply to command 1 in the third cycle: angles and distance, where target 7 stands
 abbrev pub measured : List ℕ
@@ -164,7 +164,7 @@ connects_again now later = Closed ∷ Told (at now) ∷ Silent (at later) ∷ Op
 -- the moves by which a request for the instrument's number is sent for each of these targets, at the first of these moments;
 -- the second is its deadline
 abbrev pub sends_all : (now deadline : ℕ) → List ℕ → List (Move (List ℕ))
-sends_all now deadline targets = flat_map (λ target. Sends target (Table InstrumentNo) deadline ∷ Tells now ∷ []) targets
+sends_all now deadline targets = send_all now deadline targets []
 
 -- The synchronization.
 
@@ -188,8 +188,8 @@ begins_acts =
     ∷ connects_again 15 35
     ++ exchanged 40 null_lines replies []
 
--- the line repeats the old request: one copy reaches the instrument, and the other is lost. It repeats the reply to that, and
--- both copies are lost; so is the reply to the first null procedure. The instrument starts again
+-- the line repeats the old request: one copy reaches the instrument, and the other is lost. The line repeats the reply to the
+-- first copy, and both replies are lost; so is the reply to the first null procedure. The instrument starts again
 abbrev pub begins_turns : List (Turn (List ℕ))
 begins_turns =
     Asks
@@ -383,7 +383,7 @@ first_run = record { turns = begins_turns; moves = breaks_moves }
 
 -- the run as two: until the station resynchronizes, and from there on; and what is after its end, where nothing happens
 abbrev pub runs : List (Run (List ℕ))
-runs = first_run ∷ record { turns = anew_turns; moves = chain_moves } ∷ record { turns = []; moves = [] } ∷ []
+runs = first_run ∷ run_and_end anew_turns chain_moves
 
 -- what is in flight when the station resynchronizes
 abbrev pub left_by_first : UnderWay (List ℕ)
@@ -393,14 +393,14 @@ left_by_first = left_by_run WINDOW reporting at_start first_run
 abbrev pub first_stretch : Stretch (List ℕ)
 first_stretch = record { from = leaves (turned reporting begins_turns (begins at_start)); moves = breaks_moves }
 
--- the stretch of the third cycle
+-- the stretch of the second cycle, which is missed, and of the third
 abbrev pub last_stretch : Stretch (List ℕ)
 last_stretch = record { from = leaves (turned reporting anew_turns (begins left_by_first)); moves = chain_moves }
 
 -- The records of the run.
 
 -- the record of a command of this cycle and place, for this target and with this call: it was sent at the moment `sent`, if it
--- was, and ended at the moment `utc`
+-- was, and ended at the moment `utc`, which for a missed command is when its cycle was due
 abbrev pub record_of : Option ℕ → (utc cycle place target : ℕ) → Asked → End → Record
 record_of sent utc cycle place target call end =
     record {

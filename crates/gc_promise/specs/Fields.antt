@@ -78,8 +78,9 @@ abbrev pub quantity_in : Asked → Reading → List ℕ → List ℕ
 quantity_in asked (reading.Value answer) name = quantity_of asked answer name
 quantity_in asked _ name = []
 
--- the quality of an answer whose reply says this, if these return codes are accepted: fine if both codes are 0, a warning if
--- the return code is an accepted one, and else refused. (Where the values don't read, the command isn't answered.)
+-- the quality of an answer whose reply says this, if these return codes are accepted: fine if it says values, a warning if its
+-- communication code is 0 and its return code an accepted one, otherwise refused. (Where the values don't read, the command isn't
+-- answered, and its row has no quality.)
 abbrev pub quality_in : Codes → Reading → Quality
 quality_in accepted (reading.Value answer) = Fine
 quality_in accepted (reading.Refused code) = if lists_code accepted code then Warning else Refused

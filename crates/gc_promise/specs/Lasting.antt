@@ -17,13 +17,13 @@ use Rattle.gc_messages.specs.declared.following.Followed.{Followed}
 use Rattle.gc_messages.specs.declared.streams.Streams.{Streams}
 use Rattle.gc_station.specs.Keeping.{Snapshot}
 use Rattle.gc_station.specs.Records.{texts_of}
-use Rattle.gc_station.specs.Runs.{state_after}
 use Rattle.gc_station.specs.Scopes.{AreReadings}
 use Rattle.gc_station.specs.declared.tally.Tally.{Tally}
 use Rattle.gc_measuring.specs.Measuring.{PortsSeen, Survey, text_in, RunsAfterFront}
 use Rattle.gc_measuring.specs.Telling.{ReportsAppended}
 use Rattle.gc_measuring.specs.declared.stop.Stop.{Stop}
 use Rattle.gc_words.specs.declared.settings.Settings.{Settings}
+use Rattle.gc_promise.specs.Tables.{records_in}
 
 -- a run that appends to a file: what it measures, what was seen at its start and at its end, how it ended, the acts that its
 -- link recorded, and the file that it left
@@ -95,8 +95,7 @@ pub record IsRunMoment {R : Type 0} (m : RunMoment R) : Type 0 where
 
 -- the rows of all records that these acts settle, in order, as the run writes them
 abbrev pub rows_by : Survey → (Asked → List ℕ → Reading) → List Act → List ℕ
-rows_by survey reads acts =
-    texts_of (text_in survey.layout survey.names) (state_after survey.plan survey.tasks (record { turns = survey.max_turns; reads = reads }) acts).records
+rows_by survey reads acts = texts_of (text_in survey.layout survey.names) (records_in survey reads acts)
 
 -- `left` has the rows that are left of a run, after a moment. `settled`: the rows that the run had written by the moment's act,
 -- into this file and into others before it, are those of all records that the acts of `done` settled. `has`: all that this file
@@ -110,8 +109,8 @@ pub record AreLeft {R : Type 0} (m : RunMoment R) (reads : Asked → List ℕ �
   pub all : m.run.recorded ≡ acts ++ others
   pub own : IsFront (bytes_in m.was ++ more) (rows_by m.run.survey reads acts)
 
--- the calls of an opening of a file that held these bytes: a torn row was cut off, and a head was written if no whole row was
--- left
+-- the calls of an opening of a file that held these bytes: a torn row, if there was one, was cut off, and the head was written if
+-- there was no whole row
 abbrev pub OpensFile : (head held : List ℕ) → List Step → Type 0
 OpensFile head held steps = opening.MendedAndPut held steps (start_of head held)
 
@@ -119,9 +118,10 @@ OpensFile head held steps = opening.MendedAndPut held steps (start_of head held)
 abbrev pub MayBeLeft : Life → List Step → List ℕ → Type 0
 MayBeLeft life steps left = MayLeave life.start (life.steps ++ steps) left
 
--- a run that appends to a file which syncs (`IsRunMoment`) is killed at any moment, or the machine crashes, and earlier runs may have ended
--- so, too. Whatever that leaves of the file, the next start makes of it the table that was there at first, after it rows of the earlier
--- runs, and then the rows that are left of this run
+-- a run that appends to a file which syncs (`IsRunMoment`) is killed at any moment, or the machine crashes, and earlier runs may
+-- have ended so, too. Whatever that leaves of the file (`found`), the next start makes of it the table that was there at first,
+-- after it rows of the earlier runs, and then the rows that are left of this run: for every head of a table (`IsHead`), where
+-- `reads` gives what replies say of their calls (`AreReadings`)
 abbrev pub RowsOutlastCrashes : Type 0 → Type 0
 RowsOutlastCrashes R = (m : RunMoment R) → IsRunMoment m → (reads : Asked → List ℕ → Reading) → AreReadings reads
     → (head first : List ℕ) → IsHead head → (earlier : List Run) → Happen head (settled first) earlier
@@ -169,10 +169,11 @@ doubt_of (Unsynced read disk) = true
 abbrev pub sides_from : List ℕ → List Event → Sides
 sides_from first events = sides_after (same_sides (settled first)) events
 
--- after events, in a file that isn't in doubt, a run that syncs (`IsRunMoment`) ends at any moment, by a kill or by a sync that fails, and
--- other events follow. Any may come before and after, but no run goes on in a file in doubt (`IsTrusted`). Whatever is found then, the next
--- start makes of it the table that was there at first, rows of the earlier runs, the rows that are left of this run, and rows of the later
--- ones
+-- after events, in a file that isn't in doubt, a run that syncs (`IsRunMoment`) ends at any moment, by a kill or by a sync that
+-- fails, and other events follow. Any may come before and after, but no run goes on in a file in doubt (`IsTrusted`). Whatever is
+-- found then, the next start makes of it the table that was there at first, rows of the earlier runs, the rows that are left of
+-- this run, and rows of the later ones: for every head of a table (`IsHead`), where `reads` gives what replies say of their calls
+-- (`AreReadings`)
 abbrev pub RowsOutlastFailures : Type 0 → Type 0
 RowsOutlastFailures R = (m : RunMoment R) → IsRunMoment m → (reads : Asked → List ℕ → Reading) → AreReadings reads
     → (head first : List ℕ) → IsHead head → (earlier : List Event) → Occur IsTrusted head (same_sides (settled first)) false earlier → doubted_by false earlier ≡ false

@@ -15,8 +15,7 @@ use Rattle.gc_texts.specs.declared.tasks.Task.{Task}
 use Rattle.gc_rows.specs.Laws.{IsEndOfBytes, FitsIn64Bits}
 use Rattle.gc_rows.specs.declared.record.Form.TheVariants.{Json}
 use Rattle.gc_links.specs.Acts.{Act}
-use Rattle.gc_station.specs.Model.{opening}
-use Rattle.gc_station.specs.Parts.{Part, parts_of}
+use Rattle.gc_station.specs.Parts.{Part}
 use Rattle.gc_station.specs.Records.{Record}
 use Rattle.gc_station.specs.Scopes.{AreReadings}
 use Rattle.gc_station.specs.declared.tally.Tally.{Tally}
@@ -29,13 +28,18 @@ use Rattle.gc_field.specs.Instrument.{IsAnInstrument, AnyState}
 use Rattle.gc_field.specs.Runs.{IsInField}
 use Rattle.gc_field.specs.Shown.{Stretch, stretches}
 use Rattle.gc_promise.specs.Fields.{IsOwn}
-use Rattle.gc_promise.specs.Tables.{AreWritten, acts_measured, records_in, scope_of}
+use Rattle.gc_promise.specs.Tables.{AreWritten, acts_measured, parts_in, records_in, scope_of}
 
--- the records of a run, in the types of the program: their numbers have 64 bits, and their texts are bytes
+-- the record, of a run that began at the moment `run`, is in the types of the program: the numbers that are written of it have 64
+-- bits, and its texts are bytes
+abbrev pub IsTyped : (run : ℕ) → Record → Type 0
+IsTyped run r = FitsIn64Bits (when_of run r) × (r.command.target < 2 ^ 64) × IsEndOfBytes r.end
+
+-- the records of a run of this survey are in the types of the program (`IsTyped`), and so are the run's beginning and its names
 pub record AreOfBytes (survey : Survey) (records : List Record) : Type 0 where
   pub run : survey.layout.run < 2 ^ 64
   pub names : AllByRecursion (λ (name : Name). All (λ b. b < 256) name.text.items) survey.names
-  pub each : AllByRecursion (λ (r : Record). FitsIn64Bits (when_of survey.layout.run r) × (r.command.target < 2 ^ 64) × IsEndOfBytes r.end) records
+  pub each : AllByRecursion (IsTyped survey.layout.run) records
 
 -- the digits of a number or the bytes of a string; empty if there is neither
 abbrev pub text_of : Option json.Json → List ℕ
@@ -55,7 +59,8 @@ module _ {State : Type 0} (ends : Ends State) (Good : State → Type 0) (kept : 
     pub own : IsOwn ends Good kept true (λ name. text_of (get_member name members)) commands ps ss r
 
   -- what a sink took of a run, after what it had: lines, in none of which is a line feed, and which are the run's records, one
-  -- for one and in order, each its own. If the output failed, a part of one more line may come after them
+  -- for one and in order, each its own: all of them, or, if the output failed, maybe only the first ones, and then a part of the
+  -- next one
   pub record AreOwnObjects (survey : Survey) (reads : Asked → List ℕ → Reading) (acts : List Act) (ps : List Part) (ss : List (Stretch State))
       (result : Result Tally Stop) (had : List ℕ) (has : Option (List ℕ)) : Type 0 where
     pub lines : List (List ℕ)
@@ -66,8 +71,10 @@ module _ {State : Type 0} (ends : Ends State) (Good : State → Type 0) (kept : 
     pub as_many : length lines ≡ length are.written
     pub each : (n : ℕ) (line : List ℕ) → slice_get lines n ≡ Some line → (r : Record) × (slice_get are.written n ≡ Some r) × IsOwnObject line survey.tasks ps ss r
 
--- what a sink took of a run are its own objects: for any instrument, all that a station measures and writes as lines of JSON, and all that
--- the line and the instrument may do meanwhile
+-- what a sink took of a run in the field (`IsInField`) are the run's own objects, if its records are in the types of the program
+-- (`AreOfBytes`), and its link had recorded no act before: where `reads` gives what replies say of their calls (`AreReadings`),
+-- for any instrument, all that a station measures and writes as lines of JSON, and all that the line and the instrument may do
+-- meanwhile
 abbrev pub ObjectsAreTheirOwn : Type 0 → Type 0
 ObjectsAreTheirOwn State =
     (ends : Ends State) (kept : State → Option KeptReply) → IsAnInstrument ends AnyState kept →
@@ -77,5 +84,5 @@ ObjectsAreTheirOwn State =
     (reads : Asked → List ℕ → Reading) → AreReadings reads → (u : UnderWay State) (rs : List (field.Run State)) →
     IsInField ends AnyState kept survey.plan survey.tasks (scope_of survey reads) (acts_measured result recorded) u rs →
     AreOfBytes survey (records_in survey reads (acts_measured result recorded)) →
-    AreOwnObjects ends AnyState kept survey reads (acts_measured result recorded) (parts_of survey.plan survey.tasks (opening survey.plan (scope_of survey reads)) (acts_measured result recorded))
-    (stretches ends u rs) result had new.taken
+    AreOwnObjects ends AnyState kept survey reads (acts_measured result recorded) (parts_in survey reads (acts_measured result recorded)) (stretches ends u rs)
+    result had new.taken

@@ -10,7 +10,7 @@ use Rattle.csv.specs.declared.parser.State.TheVariants.{StartRecord}
 use Rattle.gc_lines.specs.Numbers.{IsNumber}
 use Rattle.gc_lines.specs.Replies.{ReplyFields, IsReply}
 use Rattle.gc_instrument.specs.State.{KeptReply}
-use Rattle.gc_texts.specs.Endings.{word_of}
+use Rattle.gc_texts.specs.Endings.{word_of, line_of}
 use Rattle.gc_texts.specs.Logs.{escaped}
 use Rattle.gc_texts.specs.declared.name.Name.{Name}
 use Rattle.gc_texts.specs.declared.tasks.Task.{Task}
@@ -18,7 +18,6 @@ use Rattle.gc_rows.specs.Rows.{moment_text, procedure_of}
 use Rattle.gc_rows.specs.Records as rows
 use Rattle.gc_rows.specs.Rows.{row_of}
 use Rattle.gc_links.specs.Acts.{Act}
-use Rattle.gc_station.specs.Answers.{answer_of}
 use Rattle.gc_station.specs.Model.{opening}
 use Rattle.gc_station.specs.Parts.{Part, parts_of}
 use Rattle.gc_station.specs.Records.{Record}
@@ -38,7 +37,7 @@ use Rattle.gc_promise.specs.Tables.{table_form}
 
 -- the field in the column of this name, of a row with these fields; `name` is that of one of the first thirteen columns
 abbrev pub column : List ℕ → List (List ℕ) → List ℕ
-column name fields = under name rows.names fields
+column name fields = under name rows.first_names fields
 
 -- the fields of a row say when the record's request was sent, its cycle, the place of its turn, its target, procedure and
 -- outcome, and the codes and parameters of the line of its reply
@@ -66,12 +65,13 @@ module _ {State : Type 0} (ends : Ends State) (Good : State → Type 0) (kept : 
     pub says : FieldsSay fields r line
     pub own : IsItsOwn ends Good kept commands ps ss r line
 
-  -- if a reply in time ended the record's command (`answer_of`), its row is its own
+  -- if a reply in time ended the record's command (`line_of`), its row is its own
   abbrev pub IsOwnIfAnswered : Layout → List Name → List Task → List Part → List (Stretch State) → Record → Type 0
-  IsOwnIfAnswered layout names commands ps ss r = (line : List ℕ) → answer_of r.end ≡ Some line → IsRowOfLine layout names commands ps ss r line
+  IsOwnIfAnswered layout names commands ps ss r = (line : List ℕ) → line_of r.end ≡ Some line → IsRowOfLine layout names commands ps ss r line
 
--- the row of each record whose command a reply in time ended is its own: for any instrument, every layout of a table, all names of
--- targets, every plan, all commands, every run of the station, and all that the line and the instrument may do meanwhile
+-- the row of each record whose command a reply in time ended is its own: for any instrument, every layout of a table, all names
+-- of targets, every plan, all commands, every run of the station in the field (`IsInField`), and all that the line and the
+-- instrument may do meanwhile
 abbrev pub RowsAreTheirOwn : Type 0 → Type 0
 RowsAreTheirOwn State =
     (ends : Ends State) (kept : State → Option KeptReply) → IsAnInstrument ends AnyState kept →

@@ -46,6 +46,10 @@ acts_measured _ recorded = recorded
 abbrev pub records_in : Survey → (Asked → List ℕ → Reading) → List Act → List Record
 records_in survey reads acts = (state_after survey.plan survey.tasks (scope_of survey reads) acts).records
 
+-- the parts of a run by these acts
+abbrev pub parts_in : Survey → (Asked → List ℕ → Reading) → List Act → List Part
+parts_in survey reads acts = parts_of survey.plan survey.tasks (opening survey.plan (scope_of survey reads)) acts
+
 -- What a sink took.
 
 -- these bytes are a front of the text of the first of these records, maybe empty, but not all of the text; if there is no record,
@@ -72,8 +76,8 @@ table_form true = Columns
 
 -- the names of the columns of a table, with those of the quantities (true) or without (false)
 abbrev pub header : Bool → List (List ℕ)
-header false = rows.names ++ rows.last_names
-header true = rows.names ++ (quantity_names ++ rows.last_names)
+header false = rows.first_names ++ rows.last_names
+header true = rows.first_names ++ (quantity_names ++ rows.last_names)
 
 -- the rows that the header is: one; or none if the output has its header already (`headed`)
 abbrev pub head_rows : Layout → Bool → List (List (List ℕ))
@@ -85,9 +89,10 @@ abbrev pub AreReadAs : List ℕ → List (List (List ℕ)) → Type 0
 AreReadAs bytes rows = (behind : List ℕ) → records default_config (bytes ++ behind) ≡ rows ++ records default_config behind
 
 module _ {State : Type 0} (ends : Ends State) (Good : State → Type 0) (kept : State → Option KeptReply) where
-  -- what a sink took of a run, after what it had: a table, whose rows are the run's records, one for one and in order, each its
-  -- own. If the output failed, a part of one more row may come after them. `behind` is said of the file of --append: after
-  -- earlier bytes, which a reader takes for `earlier`, the reader goes on with these rows
+  -- what a sink took of a run, after what it had: a table, whose rows after the header are the run's records, one for one and in
+  -- order, each its own: all of them, or, if the output failed, maybe only the first ones, and then a part of the next one.
+  -- `behind` is said of the file of --append: after earlier bytes, which a reader takes for `earlier`, the reader goes on with
+  -- the table's rows
   pub record IsOwnTable (survey : Survey) (columns : Bool) (reads : Asked → List ℕ → Reading) (acts : List Act) (ps : List Part) (ss : List (Stretch State))
       (result : Result Tally Stop) (had : List ℕ) (has : Option (List ℕ)) : Type 0 where
     pub bytes : List ℕ
@@ -101,8 +106,9 @@ module _ {State : Type 0} (ends : Ends State) (Good : State → Type 0) (kept : 
     pub each : (n : ℕ) (row : List (List ℕ)) → slice_get rows n ≡ Some row
         → (r : Record) × (slice_get are.written n ≡ Some r) × IsOwn ends Good kept columns (λ name. under name (header columns) row) survey.tasks ps ss r
 
--- what a sink took of a run is its own table: for any instrument, all that a station measures and writes as a table, and all that the line
--- and the instrument may do meanwhile
+-- what a sink took of a run in the field (`IsInField`), whose link had recorded no act before, is the run's own table: where
+-- `reads` gives what replies say of their calls (`AreReadings`), for any instrument, all that a station measures and writes as a
+-- table, and all that the line and the instrument may do meanwhile
 abbrev pub TablesAreTheirOwn : Type 0 → Type 0
 TablesAreTheirOwn State =
     (ends : Ends State) (kept : State → Option KeptReply) → IsAnInstrument ends AnyState kept →
@@ -111,5 +117,5 @@ TablesAreTheirOwn State =
     (recorded : List Act) (had : List ℕ) → old.acts ≡ Some [] → new.acts ≡ Some recorded → old.taken ≡ Some had →
     (reads : Asked → List ℕ → Reading) → AreReadings reads → (u : UnderWay State) (rs : List (field.Run State)) →
     IsInField ends AnyState kept survey.plan survey.tasks (scope_of survey reads) (acts_measured result recorded) u rs →
-    IsOwnTable ends AnyState kept survey columns reads (acts_measured result recorded) (parts_of survey.plan survey.tasks (opening survey.plan (scope_of survey reads)) (acts_measured result recorded))
-    (stretches ends u rs) result had new.taken
+    IsOwnTable ends AnyState kept survey columns reads (acts_measured result recorded) (parts_in survey reads (acts_measured result recorded)) (stretches ends u rs)
+    result had new.taken

@@ -11,15 +11,18 @@ use gc_messages::Followed;
 use std::fs::File;
 use std::rt::Files;
 
-/// For any instrument, and every run of a station in the field: what the station writes reads back as its header and its
-/// records, one row or object each, in order. The row of a command that a reply in time ended has in its columns what that
-/// reply's line says, and the instrument made that line on executing the request of that row's very cycle and place.
+/// For any instrument, and every run of a station in the field: what the station writes reads back as its records, one row or
+/// object each, in order, in a table after the header. The row of a command that a reply in time ended has in its columns what
+/// that reply's line says, and the instrument made that line on executing the request of that row's very cycle and place.
 pub fn rows_are_their_own<State>()
     // Of the bytes that a sink took of a run, as `measure_at` and `append_at` have it: a reader of comma-separated values gives
-    // the header, and the run's records as rows, one for one and in order. Under the names of the header each row has when its
-    // record's request was sent, if it was, the cycle, place, attempt, target, procedure and outcome. If its command sets the
-    // clock and the request was sent, that asked for this very moment, cut to seconds. If the outcome is that of a reply, it
-    // has the codes, the values and the quantities of such a line.
+    // the header, unless the output had it already, and the run's records as rows, one for one and in order: all; or, if the
+    // output failed, maybe only the first ones, and then a part of the next one's row. Under the names of the header each row has
+    // when its record's request was sent, if it was, the cycle, place, attempt, target, procedure and outcome. If the command
+    // sets the clock and its request was sent, the request asked for the moment at which it was sent, cut to seconds. If the
+    // outcome is that of a reply, the row has the codes and values of a line that the instrument made on executing the request of
+    // this cycle and place; and if the outcome is `answered`, the quality of the answer, and, in a table with columns for them,
+    // its quantities.
     ensures tables { TablesAreTheirOwn State }
 
     // The same of lines of JSON, where texts are bytes and numbers have 64 bits: a reader of JSON gives each line as an object,
@@ -27,8 +30,8 @@ pub fn rows_are_their_own<State>()
     ensures objects { ObjectsAreTheirOwn State }
 
     // Of each record of a run whose command a reply in time ended, however much of it was written: its row in a table reads back
-    // as fields, under whose names stand when its request was sent, the record's cycle, place, target, procedure and outcome, and
-    // the codes and values of such a line.
+    // as fields, which have under the names of the header when the record's request was sent, its cycle, place, target, procedure
+    // and outcome, and the codes and values of that reply's line, which the instrument made on executing this very request.
     ensures records { RowsAreTheirOwn State }
 {}
 
@@ -44,7 +47,8 @@ pub fn some_row_is_its_own()
 {}
 
 /// What clause `told` of `append_at` says of the file that it returns comes to this: either no act was made, or the file, the
-/// acts and what was seen at each of them are a run of a file (`RunOfFile`), of which the next two theorems speak.
+/// acts and what was seen at each of them are a run of a file (`RunOfFile`), of which `rows_outlast_crashes` and
+/// `rows_outlast_failures` speak.
 pub fn appends_are_runs_of_files<'a, S: Source, K, E, R: Files<File = File> + 'a>()
     ensures { AppendsAreRuns S.Source ⟦<Followed<'a, R> as Sink>⟧ K E }
 {}
@@ -56,9 +60,10 @@ pub fn rows_outlast_crashes<R>()
     ensures { RowsOutlastCrashes R }
 {}
 
-/// What `rows_outlast_crashes` says also holds if a sync of the run fails, in a file that wasn't in doubt before, and whatever
-/// happens to the file before and after that, as long as no run goes on in a file in doubt. A failed sync puts a file in doubt,
-/// until a copy has taken its name, or the machine crashes.
+/// What `rows_outlast_crashes` says also holds if a sync of the run fails, and whatever happens to the file before and after the
+/// run, if the file wasn't in doubt when the run began, and as long as no run goes on in a file in doubt. Rows of later runs then
+/// follow this run's. A failed sync puts a file in doubt, and so does a copy whose name isn't on the disk; a copy whose name is
+/// there, or a crash of the machine, ends the doubt.
 pub fn rows_outlast_failures<R>()
     ensures { RowsOutlastFailures R }
 {}

@@ -1,4 +1,5 @@
--- The events on a line, and one more.
+-- The events on a line, and one more. That acts have come to lines (`HasComeTo`) says that they are the acts of events which lead to these
+-- lines.
 use Rattle.std.proofs.Common.{◌≡◌, ◌⊎◌, inl, inr, ℕ, ◌≤◌, List, [], ◌∷◌, ◌++◌, length, map, Option, Some, None, refl, sym, ◌∙◌, ap, subst}
 use Rattle.std.proofs.lemmas.List.{map-append, append-nil}
 use Rattle.gc_lines.specs.Lines.{IsPlain, with_end}
@@ -28,11 +29,13 @@ acts_on (Loses_down ∷ hs) h = acts_on hs h
 acts_on (Loses_front ∷ hs) h = acts_on hs h
 
 -- these lines in flight, up and down, and the instrument in this state
-abbrev pub lines : List (List ℕ) → List (List ℕ) → SceneState → Lines
+abbrev pub lines : (up down : List (List ℕ)) → SceneState → Lines
 lines up down state = record { up = up; down = down; state = state }
 
--- with one more event, the acts are those before and then that of the event, if it is an act
-one_more_happened : (acts : List Act) (h : Happening) (l m : Lines) → HasComeTo acts l → Leads l h m → HasComeTo (acts ++ acts_of (h ∷ [])) m
+-- where acts have come to the lines `l`, and one more event leads from these to `m`, the acts, and after them that event if it is an act,
+-- have come to `m`
+one_more_happened : (acts : List Act) (h : Happening) (l m : Lines)
+    → HasComeTo acts l → Leads l h m → HasComeTo (acts ++ acts_of (h ∷ [])) m
 one_more_happened acts h l m c one = record {
   start = c.start;
   happened = c.happened ++ h ∷ [];
@@ -41,11 +44,12 @@ one_more_happened acts h l m c one = record {
   leads = lead_on c.happened h (lines [] [] c.start) l m c.leads one;
 }
 
--- with one more event that is no act, the acts are the same
-one_more_unseen : (acts : List Act) (h : Happening) (l m : Lines) → acts_of (h ∷ []) ≡ [] → HasComeTo acts l → Leads l h m → HasComeTo acts m
+-- where acts have come to the lines `l`, and one more event, which is no act, leads from these to `m`, the same acts have come to `m`
+one_more_unseen : (acts : List Act) (h : Happening) (l m : Lines)
+    → acts_of (h ∷ []) ≡ [] → HasComeTo acts l → Leads l h m → HasComeTo acts m
 one_more_unseen acts h l m none c one = subst (λ x. HasComeTo x m) (ap (λ x. acts ++ x) none ∙ append-nil acts) (one_more_happened acts h l m c one)
 
--- before any event there are no acts, and no lines are in flight
+-- where the instrument stores no reply, the empty list of acts has come to the lines with nothing in flight and this instrument
 pub nothing_happened : (state : SceneState) → state.base.kept ≡ None → HasComeTo [] (lines [] [] state)
 nothing_happened state none = record { start = state; happened = []; none = none; acts_are = refl; leads = refl }
 
@@ -55,11 +59,11 @@ quiet_does (Put bytes) l q = absurd q
 quiet_does (Gave bytes moment) l q = absurd q
 quiet_does act l q = refl
 
--- with one more quiet act, the lines are the same
+-- where acts have come to the lines `l`, these acts, and a quiet one after them, have come to `l`
 pub noted : (acts : List Act) (act : Act) (l : Lines) → IsQuiet act → HasComeTo acts l → HasComeTo (acts ++ act ∷ []) l
 noted acts act l q c = one_more_happened acts (Call act) l l c (quiet_does act l q)
 
--- with one more write whose bytes don't arrive, the lines are the same
+-- where acts have come to the lines `l`, these acts, and a write after them whose bytes don't arrive, have come to `l`
 pub put_lost : (acts : List Act) (bytes : List ℕ) (l : Lines) → HasComeTo acts l → HasComeTo (acts ++ Put bytes ∷ []) l
 put_lost acts bytes l c = one_more_happened acts (Call (Put bytes)) l l c (inl refl)
 
@@ -67,8 +71,10 @@ put_lost acts bytes l c = one_more_happened acts (Call (Put bytes)) l l c (inl r
 pub texts_on : (flights : List Flight) (flight : Flight) → texts (flights ++ flight ∷ []) ≡ texts flights ++ flight.line.items ∷ []
 texts_on flights flight = map-append (λ (f : Flight). f.line.items) flights (flight ∷ [])
 
--- with one more write, whose bytes are lost or are a line at the back of the queue up, the acts are still those of a line
-pub put_may : (acts : List Act) (bytes : List ℕ) (up up' : List Flight) (down : List (List ℕ)) (state : SceneState) → MayAddLine up bytes up'
+-- where acts have come to lines, and the queue up is then the same, or has at its back the line that these bytes are, the acts and a write
+-- of these bytes have come to the lines then
+pub put_may : (acts : List Act) (bytes : List ℕ) (up up' : List Flight) (down : List (List ℕ)) (state : SceneState)
+    → MayAddLine up bytes up'
     → HasComeTo acts (lines (texts up) down state) → HasComeTo (acts ++ Put bytes ∷ []) (lines (texts up') down state)
 put_may acts bytes up up' down state (inl same) c =
     subst (λ x. HasComeTo (acts ++ Put bytes ∷ []) (lines (texts x) down state)) (sym same) (put_lost acts bytes (lines (texts up) down state) c)
@@ -77,36 +83,45 @@ put_may acts bytes up up' down state (inr x) c =
     let new = ap texts x.2 ∙ texts_on up x.0 in
     one_more_happened acts (Call (Put bytes)) l (lines (texts up') down state) c (inr (x.0.line.items, x.1, ap (λ q. lines q down state) new))
 
--- where the last request may come twice, the acts are still those of a line
+-- acts that have come to lines have also come to those in which the last request may be there twice
 pub repeats_up : (acts : List Act) (up up' : List Flight) (down : List (List ℕ)) (state : SceneState) → MayRepeat up up'
     → HasComeTo acts (lines (texts up) down state) → HasComeTo acts (lines (texts up') down state)
 repeats_up acts up up' down state (inl same) c = subst (λ x. HasComeTo acts (lines (texts x) down state)) (sym same) c
-repeats_up acts up up' down state (inr x) c = one_more_unseen acts Repeats_up (lines (texts up) down state) (lines (texts up') down state) refl c (texts up', x, refl)
+repeats_up acts up up' down state (inr x) c =
+    one_more_unseen acts Repeats_up (lines (texts up) down state) (lines (texts up') down state) refl c (texts up', x, refl)
 
--- where the last reply may come twice, the acts are still those of a line
+-- acts that have come to lines have also come to those in which the last reply may be there twice
 pub repeats_down : (acts : List Act) (up : List (List ℕ)) (down down' : List Flight) (state : SceneState) → MayRepeat down down'
     → HasComeTo acts (lines up (texts down) state) → HasComeTo acts (lines up (texts down') state)
 repeats_down acts up down down' state (inl same) c = subst (λ x. HasComeTo acts (lines up (texts x) state)) (sym same) c
-repeats_down acts up down down' state (inr x) c = one_more_unseen acts Repeats_down (lines up (texts down) state) (lines up (texts down') state) refl c (texts down', x, refl)
+repeats_down acts up down down' state (inr x) c =
+    one_more_unseen acts Repeats_down (lines up (texts down) state) (lines up (texts down') state) refl c (texts down', x, refl)
 
--- where all requests are lost, the acts are still those of a line
-pub loses_up : (acts : List Act) (up up' : List (List ℕ)) (down : List (List ℕ)) (state : SceneState) → up' ≡ [] → HasComeTo acts (lines up down state) → HasComeTo acts (lines up' down state)
-loses_up acts up up' down state none c = one_more_unseen acts Loses_up (lines up down state) (lines up' down state) refl c (ap (λ q. lines q down state) none)
+-- acts that have come to lines have also come to those without the requests in flight
+pub loses_up : (acts : List Act) (up up' : List (List ℕ)) (down : List (List ℕ)) (state : SceneState)
+    → up' ≡ [] → HasComeTo acts (lines up down state) → HasComeTo acts (lines up' down state)
+loses_up acts up up' down state none c =
+    one_more_unseen acts Loses_up (lines up down state) (lines up' down state) refl c (ap (λ q. lines q down state) none)
 
--- where all replies are lost, the acts are still those of a line
-pub loses_down : (acts : List Act) (up down down' : List (List ℕ)) (state : SceneState) → down' ≡ [] → HasComeTo acts (lines up down state) → HasComeTo acts (lines up down' state)
-loses_down acts up down down' state none c = one_more_unseen acts Loses_down (lines up down state) (lines up down' state) refl c (ap (λ q. lines up q state) none)
+-- acts that have come to lines have also come to those without the replies in flight
+pub loses_down : (acts : List Act) (up down down' : List (List ℕ)) (state : SceneState)
+    → down' ≡ [] → HasComeTo acts (lines up down state) → HasComeTo acts (lines up down' state)
+loses_down acts up down down' state none c =
+    one_more_unseen acts Loses_down (lines up down state) (lines up down' state) refl c (ap (λ q. lines up q state) none)
 
--- where the instrument restarts, the acts are still those of a line
-pub restarts : (acts : List Act) (up down : List (List ℕ)) (state state' : SceneState) → state' ≡ scene_restarted state → HasComeTo acts (lines up down state) → HasComeTo acts (lines up down state')
-restarts acts up down state state' is c = one_more_unseen acts Restarts (lines up down state) (lines up down state') refl c (ap (λ s. lines up down s) is)
+-- acts that have come to lines have also come to those with the instrument restarted
+pub restarts : (acts : List Act) (up down : List (List ℕ)) (state state' : SceneState)
+    → state' ≡ scene_restarted state → HasComeTo acts (lines up down state) → HasComeTo acts (lines up down state')
+restarts acts up down state state' is c =
+    one_more_unseen acts Restarts (lines up down state) (lines up down state') refl c (ap (λ s. lines up down s) is)
 
--- where the instrument's clock is set to a moment, the acts are still those of a line
+-- acts that have come to lines have also come to those with the instrument's clock set to a moment
 pub passes : (acts : List Act) (moment : ℕ) (up down : List (List ℕ)) (state state' : SceneState) → state' ≡ at_moment moment state
     → HasComeTo acts (lines up down state) → HasComeTo acts (lines up down state')
-passes acts moment up down state state' is c = one_more_unseen acts (Passes moment) (lines up down state) (lines up down state') refl c (ap (λ s. lines up down s) is)
+passes acts moment up down state state' is c =
+    one_more_unseen acts (Passes moment) (lines up down state) (lines up down state') refl c (ap (λ s. lines up down s) is)
 
--- where the request in front is handed to the instrument, or nothing changes, the acts are still those of a line
+-- acts that have come to lines have also come to those in which the request in front may have been handed to the instrument (`Answers`)
 pub reaches : (acts : List Act) (up down up' down' : List Flight) (state state' : SceneState) → Answers state up down state' up' down'
     → HasComeTo acts (lines (texts up) (texts down) state) → HasComeTo acts (lines (texts up') (texts down') state')
 reaches acts up down up' down' state state' (inl same) c =
@@ -116,14 +131,17 @@ reaches acts up down up' down' state state' (inr x) c =
     one_more_unseen acts Reaches (lines (texts up) (texts down) state) (lines (texts up') (texts down') state') refl c
     (record { line = x.0.line.items; reply = x.2.reply; front = ap texts x.1; played = x.2.played; sends = x.2.sends })
 
--- where the reply in front is lost, the acts are still those of a line
+-- acts that have come to lines have also come to those without the reply in front
 pub loses_front : (acts : List Act) (up : List (List ℕ)) (down down' : List Flight) (flight : Flight) (state : SceneState) → down ≡ flight ∷ down'
     → HasComeTo acts (lines up (texts down) state) → HasComeTo acts (lines up (texts down') state)
 loses_front acts up down down' flight state front c =
     one_more_unseen acts Loses_front (lines up (texts down) state) (lines up (texts down') state) refl c (flight.line.items, ap texts front, refl)
 
--- with one more read, which gave the reply in front whole, the acts are still those of a line
-pub gives : (acts : List Act) (bytes : List ℕ) (moment : Moment) (up : List (List ℕ)) (down down' : List Flight) (flight : Flight) (state : SceneState) → down ≡ flight ∷ down'
-    → bytes ≡ with_end flight.line.items → HasComeTo acts (lines up (texts down) state) → HasComeTo (acts ++ Gave bytes moment ∷ []) (lines up (texts down') state)
+-- where acts have come to lines, the acts and a read of the reply in front, whole with its CR LF, have come to the lines without that reply
+pub gives : (acts : List Act) (bytes : List ℕ) (moment : Moment)
+    (up : List (List ℕ)) (down down' : List Flight) (flight : Flight) (state : SceneState)
+    → down ≡ flight ∷ down' → bytes ≡ with_end flight.line.items
+    → HasComeTo acts (lines up (texts down) state) → HasComeTo (acts ++ Gave bytes moment ∷ []) (lines up (texts down') state)
 gives acts bytes moment up down down' flight state front is c =
-    one_more_happened acts (Call (Gave bytes moment)) (lines up (texts down) state) (lines up (texts down') state) c (flight.line.items, texts down', ap texts front, is, refl)
+    one_more_happened acts (Call (Gave bytes moment)) (lines up (texts down) state) (lines up (texts down') state) c
+    (flight.line.items, texts down', ap texts front, is, refl)

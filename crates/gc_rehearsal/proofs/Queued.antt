@@ -9,20 +9,24 @@ use Rattle.gc_rehearsal.specs.declared.flight.Flight.{Flight}
 use Rattle.gc_rehearsal.proofs.Happened.{texts_on}
 
 -- bytes that end in CR LF are the line before these two bytes, with its CR LF
-pub line_found : (bytes line : List ℕ) → pointwise nat_eq (drop (length bytes - 2) bytes) (13 ∷ 10 ∷ []) ≡ true → line ≡ take (length bytes - 2) bytes → bytes ≡ with_end line
+pub line_found : (bytes line : List ℕ)
+    → pointwise nat_eq (drop (length bytes - 2) bytes) (13 ∷ 10 ∷ []) ≡ true → line ≡ take (length bytes - 2) bytes → bytes ≡ with_end line
 line_found bytes line ends is =
     let n = length bytes - 2 in
     sym (take-append-drop n bytes) ∙ ap (λ d. take n bytes ++ d) (same_text (drop n bytes) (13 ∷ 10 ∷ []) (sym ends)) ∙ ap (λ l. l ++ 13 ∷ 10 ∷ []) (sym is)
 
 -- a queue that isn't empty is what is before its last line, and that line
-last_of : (flights : List Flight) (last : Flight) → 0 < length flights → last ≡ get_or flights (length flights - 1) last → flights ≡ take (length flights - 1) flights ++ last ∷ []
+last_of : (flights : List Flight) (last : Flight) → 0 < length flights → last ≡ get_or flights (length flights - 1) last
+    → flights ≡ take (length flights - 1) flights ++ last ∷ []
 last_of flights last some is =
     let n = length flights - 1 in
     let all : suc n ≡ length flights = omega (arith, some) in
     sym (take-length flights) ∙ ap (λ k. take k flights) (sym all) ∙ take-suc flights n last (omega (arith, some)) ∙ ap (λ x. take n flights ++ x ∷ []) (sym is)
 
--- where a copy of the last line of a queue may have been put at its back, the queue is the same, or has its last line twice
-pub repeated : (old new : List Flight) (last again : Flight) → 0 < length old → last ≡ get_or old (length old - 1) last → again.line.items ≡ last.line.items → MayAdd old again new
+-- where a copy of the last line of a queue that isn't empty may have been put at its back, the queue is the same, or has its last
+-- line twice
+pub repeated : (old new : List Flight) (last again : Flight) → 0 < length old → last ≡ get_or old (length old - 1) last
+    → again.line.items ≡ last.line.items → MayAdd old again new
     → MayRepeat old new
 repeated old new last again some is same (inl none) = inl none
 repeated old new last again some is same (inr more) =

@@ -34,12 +34,13 @@ pub data Happening : Type 0 where
 
 -- a write of these bytes leads from the lines `l` to the lines `m`: nothing of them arrives, or they are a line with its CR LF, which is
 -- sent up
-abbrev pub IsPut : (l : Lines) → List ℕ → (m : Lines) → Type 0
+abbrev pub IsPut : (l : Lines) → (bytes : List ℕ) → (m : Lines) → Type 0
 IsPut l bytes m = (m ≡ l) ⊎ ((line : List ℕ) × (bytes ≡ with_end line) × (m ≡ record l { up = l.up ++ line ∷ [] }))
 
 -- a read of these bytes leads from the lines `l` to the lines `m`: they are the reply in front, whole, with its CR LF
-abbrev pub IsGiven : (l : Lines) → List ℕ → (m : Lines) → Type 0
-IsGiven l bytes m = (line : List ℕ) × (rest : List (List ℕ)) × (l.down ≡ line ∷ rest) × (bytes ≡ with_end line) × (m ≡ record l { down = rest })
+abbrev pub IsGiven : (l : Lines) → (bytes : List ℕ) → (m : Lines) → Type 0
+IsGiven l bytes m =
+    (line : List ℕ) × (rest : List (List ℕ)) × (l.down ≡ line ∷ rest) × (bytes ≡ with_end line) × (m ≡ record l { down = rest })
 
 -- an act of the link leads from the lines `l` to the lines `m`: a whole write by `IsPut`, a read of bytes by `IsGiven`, and any other act
 -- changes nothing
@@ -76,7 +77,7 @@ abbrev pub MaySendOut : (down : List (List ℕ)) → Option (List ℕ) → (new 
 MaySendOut down None new = new ≡ down
 MaySendOut down (Some line) new = (new ≡ down) ⊎ (IsPlain line × (length line ≤ 512) × (new ≡ down ++ line ∷ []))
 
--- the request in front reached the instrument, which executed it; the reply, if it made one, was sent or lost
+-- the request in front reached the instrument, which played it (`IsPlayed`); the reply, if it made one, was sent or lost
 pub record HasReached (l m : Lines) : Type 0 where
   pub line : List ℕ
   pub reply : Option (List ℕ)

@@ -15,7 +15,7 @@ abbrev pub MayAdd : (old : List Flight) → Flight → (new : List Flight) → T
 MayAdd old flight new = (new ≡ old) ⊎ (new ≡ old ++ flight ∷ [])
 
 -- the queue is the same, or has one more line at its back, and these bytes are that line with its CR LF
-abbrev pub MayAddLine : (old : List Flight) → List ℕ → (new : List Flight) → Type 0
+abbrev pub MayAddLine : (old : List Flight) → (bytes : List ℕ) → (new : List Flight) → Type 0
 MayAddLine old bytes new = (new ≡ old) ⊎ ((flight : Flight) × (bytes ≡ with_end flight.line.items) × (new ≡ old ++ flight ∷ []))
 
 -- the queue is the same, or has its last line twice
@@ -23,7 +23,7 @@ abbrev pub MayRepeat : (old new : List Flight) → Type 0
 MayRepeat old new = (new ≡ old) ⊎ IsRepeated (texts old) (texts new)
 
 -- the lines of the queue are the same, or have this reply at their back, if it is one line of at most 512 bytes
-abbrev pub Sends : (old : List Flight) → List ℕ → (new : List Flight) → Type 0
+abbrev pub Sends : (old : List Flight) → (reply : List ℕ) → (new : List Flight) → Type 0
 Sends old reply new = MaySendOut (texts old) (Some reply) (texts new)
 
 -- this request was handed to the instrument, whose state was `state` and is now `state'`. Its reply, if there is one, was put at the back
@@ -33,7 +33,8 @@ pub record IsHandedOver (request : Flight) (state : SceneState) (down : List Fli
   pub played : IsPlayed state request.line.items state' reply
   pub sends : MaySendOut (texts down) reply (texts down')
 
--- nothing changes; or the request in front of the queue up is taken from it, and handed to the instrument
+-- nothing changes; or the request in front of the queue up is taken from it, and handed to the instrument (`IsHandedOver`). The instrument
+-- and both queues were `state`, `up` and `down`, and are now `state'`, `up'` and `down'`
 abbrev pub Answers : (state : SceneState) → (up down : List Flight) → (state' : SceneState) → (up' down' : List Flight) → Type 0
 Answers state up down state' up' down' =
     ((state' ≡ state) × (up' ≡ up) × (down' ≡ down))

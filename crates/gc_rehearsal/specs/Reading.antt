@@ -9,6 +9,6 @@ pub record Reads (old new : List Act) (came : Came) (buf : List ℕ) : Type 0 wh
   pub within : IsWithin came buf
 
 -- a read is over, with the result in `Some`; or it goes on (`None`), and has added no act yet
-abbrev pub MayRead : (old new : List Act) → Option Came → List ℕ → Type 0
+abbrev pub MayRead : (old new : List Act) → Option Came → (buf : List ℕ) → Type 0
 MayRead old new None buf = new ≡ old
 MayRead old new (Some came) buf = Reads old new came buf

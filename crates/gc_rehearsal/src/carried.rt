@@ -6,10 +6,8 @@ ghost use Rattle.gc_links.specs.Noted.{act_of};
 ghost use Rattle.gc_rehearsal.specs.Carrying.{IsOfLine, IsQuiet};
 ghost use Rattle.gc_rehearsal.specs.Queues.{Answers, Sends};
 
-use crate::flight::{
-    Flight, Origin, add, add_request, copied, due, len_with_end, repeat_last, write_into,
-};
-use gc_lines::{Line, is_plain, read_request};
+use crate::flight::{Flight, Origin, add, add_request, due, len_with_end, repeat_last, write_into};
+use gc_lines::{Line, is_plain, line_from, read_request};
 use gc_links::{History, Moment, Note};
 use gc_scenes::SceneInstrument;
 use std::alloc::Global;
@@ -23,7 +21,8 @@ pub(crate) struct Carried {
     instrument: SceneInstrument,
     up: VecDeque<Flight>,
     down: VecDeque<Flight>,
-    // The last reply that the instrument stored, empty if it has stored none since its restart, and the request that it answered.
+    // The last reply that the instrument stored, and the request that this reply answered. Empty if the instrument has stored
+    // none since its restart: then `origin` says nothing.
     made: Line,
     origin: Origin,
     history: History,
@@ -98,8 +97,9 @@ impl Carried {
         self.history = self.history.then(&Note::Put(bytes));
     }
 
-    /// Adds the act of a write of these bytes at the moment `sent`. If they are a line with its CR LF, it is the request with the number
-    /// `request`, and arrives at the moment `arrives`, unless memory is refused for it.
+    /// Adds the act of a write of these bytes at the moment `sent`. If they are a line with its CR LF, and it has at most 512
+    /// bytes without that, it is the request with the number `request`, and arrives at the moment `arrives`, unless memory is
+    /// refused for it.
     pub fn put(&mut self, bytes: &[u8], arrives: u64, request: u64, sent: u64)
         ensures { self.new ≡ self.old ++ Put bytes.now ∷ [] }
     {
@@ -107,14 +107,16 @@ impl Carried {
         self.history = self.history.then(&Note::Put(bytes));
     }
 
-    /// Lets the request that was sent last arrive twice, the second time directly after the first.
+    /// Lets the request in flight that was sent last arrive twice, the second time directly after the first. Nothing happens if none is in
+    /// flight, or if memory is refused.
     pub fn repeat_request(&mut self)
         ensures { self.new ≡ self.old }
     {
         repeat_last(&mut self.up);
     }
 
-    /// Lets the reply that was sent last arrive twice, the second time directly after the first.
+    /// Lets the reply in flight that was sent last arrive twice, the second time directly after the first. Nothing happens if none is in
+    /// flight, or if memory is refused.
     pub fn repeat_reply(&mut self)
         ensures { self.new ≡ self.old }
     {
@@ -135,7 +137,7 @@ impl Carried {
         self.down.clear();
     }
 
-    /// Restarts the instrument.
+    /// Restarts the instrument, which has stored no reply then. The lines in flight stay.
     pub fn restart(&mut self)
         ensures { self.new ≡ self.old }
     {
@@ -150,9 +152,9 @@ impl Carried {
         self.instrument.set_moment(moment);
     }
 
-    /// Hands the next request to the instrument. Its reply, if it makes one, is sent, and arrives at the moment `arrives`, in milliseconds
-    /// since the line was made, unless `lost`, or it is no line, or memory is refused for it. Returns whether a reply was made, arrived or
-    /// not; `false` if no request is in flight.
+    /// Hands the next request to the instrument. Its reply, if it makes one, is sent, and arrives at the moment `arrives`, in
+    /// milliseconds since the line was made. The reply is lost if `lost`, if there is a CR or an LF in it, or if memory is
+    /// refused for it. Returns whether the instrument made a reply, also one that is lost; `false` if no request is in flight.
     pub fn reach(&mut self, lost: bool, arrives: u64) -> bool
         ensures { self.new ≡ self.old }
     {
@@ -167,8 +169,8 @@ impl Carried {
         )
     }
 
-    /// Reads the next reply, whole and with its CR LF, into the front of `buf`, at this moment, and returns it. `None`: no reply is in
-    /// flight, or `buf` has no room for it, and it is lost.
+    /// Reads the next reply, whole and with its CR LF, into the front of `buf`, at this moment, and returns it. `None`: no reply
+    /// is in flight; or `buf` has no room for the next one, which is lost then.
     pub fn give(&mut self, buf: &mut [u8], moment: Moment) -> Option<Flight>
         ensures gave { MatchOption result (self.new ≡ self.old)
             (λ flight. self.new ≡ self.old ++ Gave (take (length flight.line.items + 2) buf.new) moment ∷ []) }
@@ -185,9 +187,9 @@ impl Carried {
     }
 }
 
-// Hands the first request of the queue `up` to the instrument. Its reply, if it makes one, goes to the back of the queue `down`, and
-// arrives at the moment `arrives`, unless `lost`. `made` and `origin` are the stored reply and its request (`note_origin`). Returns whether
-// the instrument made a reply; `false` if `up` is empty.
+// Takes the first request from the queue `up`, and hands it to the instrument. Its reply, if it makes one, is put at the back of
+// the queue `down` or is lost, as `send` does it. `made` and `origin` are the stored reply and its request (`note_origin`).
+// Returns whether the instrument made a reply, also one that is lost; `false` if `up` is empty.
 fn answer(
     instrument: &mut SceneInstrument,
     up: &mut VecDeque<Flight>,
@@ -230,9 +232,11 @@ fn has_stored(instrument: &SceneInstrument, id: Option<u8>) -> bool {
     }
 }
 
-// Returns the request that a reply answers. If a reply with the id of `request` was stored when that request arrived, and the reply is
-// the stored line `made`, it is that one sent again, and answers the request `origin` as it did then; otherwise it answers `request`. A
-// reply that is stored now and wasn't before becomes `made`, and its request `origin`.
+// Returns the request that `reply` answers; the instrument has just sent `reply` on `request`. `was_stored` says whether the
+// instrument had stored a reply with the id of `request` before, and `is_stored` whether it has now. If it had, and `reply` is
+// the stored line (`made`), the stored reply was sent again, and answers the request that it was made on (`origin`). Otherwise
+// `reply` answers `request`; and if a reply with this id is stored now, and none was before, `reply` becomes `made`, and
+// `request` becomes `origin`.
 fn note_origin(
     made: &mut Line,
     origin: &mut Origin,
@@ -246,14 +250,14 @@ fn note_origin(
             return origin.copy();
         }
     } else if is_stored {
-        *made = copied(reply.as_slice());
+        *made = line_from(reply.as_slice());
         *origin = request.copy();
     }
     request
 }
 
-// Puts a reply to the request `origin`, which arrives at the moment `arrives`, at the back of the queue `down`, unless `lost`. A reply with
-// a CR or an LF in it is no line, and is lost.
+// Puts a reply to the request `origin`, which arrives at the moment `arrives`, at the back of the queue `down`. The reply is lost
+// if `lost`, if it is no line because there is a CR or an LF in it, or if memory is refused for it.
 fn send(down: &mut VecDeque<Flight>, reply: Line, lost: bool, arrives: u64, origin: &Origin)
     ensures { Sends down.old.items reply.items down.new.items }
 {

@@ -3,17 +3,20 @@
 /// What happens to a line that is sent: to a request when it is written, or to a reply when the instrument has made it.
 #[derive(Clone, Copy, Debug, PartialEq, Eq)]
 pub struct Fate {
-    /// Whether it doesn't arrive.
+    /// Whether it is lost, and doesn't arrive. If not, it may be lost all the same: by a cut or a close, or where memory is
+    /// refused.
     pub lost: bool,
-    /// Whether it arrives twice, the second time directly after the first. Without effect on a line that is lost or cut.
+    /// Whether it arrives twice, the second time directly after the first, unless memory is refused for the second copy. Without
+    /// effect on a line that is lost or cut: `lost` and a request's `closes` decide first.
     pub repeated: bool,
     /// How long it is in flight, in milliseconds. It takes longer if an earlier line of its direction arrives later than that, or if lines
     /// are held up (`hold`).
     pub delay: u64,
-    /// For how many milliseconds no line that is sent from now on, this one included, arrives, in either direction. 0: no line is held up.
+    /// For how many milliseconds no line that is sent from now on, this one included, arrives, in either direction. 0: it holds
+    /// no line up. An earlier hold that lasts longer stays. Without effect at a request that is cut.
     pub hold: u64,
-    /// Whether the connection closes. A request is cut, and doesn't arrive; at a reply the other end closes when the reply would have
-    /// arrived.
+    /// Whether the connection closes. A request is cut, and doesn't arrive; at a reply the other end closes when the reply would
+    /// have arrived. Without effect at a reply that is sent while the station has no connection.
     pub closes: bool,
 }
 
@@ -26,8 +29,8 @@ pub trait Chance {
     /// How many bytes of a request are sent before the connection closes. As many as the request has, or more, count as all but one.
     fn cut(&mut self) -> usize;
 
-    /// Whether the lines in flight in one direction outlive a close and arrive later; else all of them are lost. Called twice at each
-    /// close: for the requests, and then for the replies.
+    /// Whether the lines in flight in one direction outlive a close and arrive later; else all of them are lost. Called twice
+    /// each time the station closes the link: for the requests, and then for the replies.
     fn keeps(&mut self) -> bool;
 
     /// For how many milliseconds from now on no connection can be made. Called when a connection is wanted and no earlier refusal lasts.

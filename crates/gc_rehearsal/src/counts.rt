@@ -5,20 +5,19 @@
 pub struct Counts {
     /// Requests that were written whole.
     pub requests: u64,
-    /// Requests of which only a part was sent.
-    pub cut: u64,
-    /// Requests that reached the instrument. One that arrives twice counts twice.
-    pub executed: u64,
     /// Replies that reads gave.
     pub replies: u64,
-    /// Fates that lost a line, in either direction, also a reply that the instrument didn't make, and replies for which a reader had no
-    /// room. Lines that a close loses aren't counted.
+    /// Fates that lost a line, in either direction, also a reply that the instrument didn't make, and replies for which a reader
+    /// had no room. A request that is cut, and lines that are lost otherwise, as by a close or where memory is refused, aren't
+    /// counted.
     pub lost: u64,
-    /// Fates by which a line arrives twice, in either direction, also a reply that the instrument didn't make.
+    /// Fates that let a line arrive twice and don't lose it, in either direction, also of a reply that the instrument didn't
+    /// make, and also if memory is refused for the second copy; but not of a request that is cut.
     pub repeated: u64,
-    /// How often the line held up the lines after one.
+    /// Fates with a hold, in either direction, also of a reply that the instrument didn't make; but not of a request that is cut.
     pub holds: u64,
-    /// Fates by which the other end closes the connection, at once or at a later moment, also if it is closed before that.
+    /// Fates by which the other end closes the connection, at once or at a later moment, also if it is closed before that. One that comes
+    /// without a connection isn't counted.
     pub closes: u64,
     /// How often the line began to refuse connections.
     pub refusals: u64,
@@ -31,8 +30,6 @@ impl Counts {
     pub(crate) fn new() -> Counts {
         Counts {
             requests: 0,
-            cut: 0,
-            executed: 0,
             replies: 0,
             lost: 0,
             repeated: 0,

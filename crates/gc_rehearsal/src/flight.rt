@@ -4,7 +4,7 @@ ghost use Rattle.std.specs.Prelude.{◌≡◌, ◌≤◌, ◌<◌, ◌+◌, [], 
 ghost use Rattle.gc_lines.specs.Lines.{with_end};
 ghost use Rattle.gc_rehearsal.specs.Queues.{MayAdd, MayAddLine, MayRepeat};
 
-use gc_lines::{Line, append};
+use gc_lines::{Line, line_from};
 use std::collections::VecDeque;
 
 /// The request that a line in flight comes from: of a request in flight that request itself, and of a reply the request that it answers.
@@ -24,7 +24,7 @@ impl Origin {
         Origin {
             request: self.request,
             sent: self.sent,
-            asked: copied(self.asked.as_slice()),
+            asked: line_from(self.asked.as_slice()),
         }
     }
 }
@@ -38,16 +38,6 @@ pub(crate) struct Flight {
     pub arrives: u64,
     // The request that it is, or answers.
     pub origin: Origin,
-}
-
-/// A line with these bytes, at most 512.
-pub(crate) fn copied(bytes: &[u8]) -> Line
-    requires { length bytes.now ≤ 512 }
-    ensures { result.items ≡ bytes.now }
-{
-    let mut line = Line::new();
-    append(&mut line, bytes);
-    line
 }
 
 /// The line in these bytes, without its CR LF. `None`: the bytes don't end in CR LF, or the line has more than 512 bytes.
@@ -81,12 +71,12 @@ pub(crate) fn add_request(
         return;
     };
     let flight = Flight {
-        line: copied(line),
+        line: line_from(line),
         arrives,
         origin: Origin {
             request,
             sent,
-            asked: copied(line),
+            asked: line_from(line),
         },
     };
     add(queue, flight);
@@ -100,7 +90,7 @@ pub(crate) fn repeat_last(queue: &mut VecDeque<Flight>)
         return;
     };
     let again = Flight {
-        line: copied(last.line.as_slice()),
+        line: line_from(last.line.as_slice()),
         arrives: last.arrives,
         origin: last.origin.copy(),
     };

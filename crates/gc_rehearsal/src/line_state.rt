@@ -27,9 +27,9 @@ pub(crate) struct LineState {
     pub now: u64,
     // Milliseconds between 1970 and the moment 0.
     start: u64,
-    // When the present run began: its moments count from there.
+    // When the present run began: the `elapsed` of its moments counts from there.
     began: u64,
-    // Whether the station has a connection.
+    // Whether the station has a connection, also one that the other end has closed.
     is_open: bool,
     // When the other end closes the connection, if it does.
     ends: Option<u64>,
@@ -37,13 +37,13 @@ pub(crate) struct LineState {
     refused: u64,
     // Until when no line arrives that is sent now.
     held: u64,
-    // When the last request arrives that wasn't lost.
+    // For when the last request was scheduled that was written whole and that its fate didn't lose; 0 before the first.
     last_request: u64,
-    // When the last reply arrives that wasn't lost.
+    // For when the last reply was scheduled that its fate didn't lose, also if the instrument made none; 0 before the first.
     last_reply: u64,
     // How often each event happened.
     pub counts: Counts,
-    // The truths of the replies that reads gave in the present run.
+    // The truths of the replies that reads gave in the present run, but for those that are missing.
     pub truths: Vec<Truth>,
     // How many truths are missing since the moment 0, because memory was refused for them.
     pub missing_truths: u64,
@@ -68,13 +68,14 @@ impl LineState {
         }
     }
 
-    /// Begins a run: its moments (`moment`) count from now, and the truths so far are dropped. The count of missing ones stays.
+    /// Begins a run: the `elapsed` of its moments (`moment`) counts from now, and the truths so far are dropped. The count of
+    /// missing ones stays.
     pub fn begin(&mut self) {
         self.began = self.now;
         self.truths.clear();
     }
 
-    /// The present moment, since the beginning of the run and since 1970.
+    /// The present moment, since the beginning of the run and since 1970. Nobody asks for the end of the run.
     pub fn moment(&self) -> Moment {
         Moment {
             elapsed: self.now.saturating_sub(self.began),
@@ -88,7 +89,7 @@ impl LineState {
         self.now.saturating_add(millis)
     }
 
-    /// Sets the clock to this moment, unless it is later already.
+    /// Sets the clock forward to this moment. If that is past, the clock stays.
     pub fn come_to(&mut self, moment: u64) {
         self.now = self.now.max(moment);
     }
@@ -101,9 +102,9 @@ impl LineState {
         }
     }
 
-    /// The next event up to the moment `limit`, if the next request and the next reply arrive at these moments (`None`: none is in flight).
-    /// Of events at the same moment a request is first, then the end, and then a reply. Replies and the end come only while there is a
-    /// connection.
+    /// The next event up to the moment `limit`, that moment included, if the next request and the next reply arrive at these
+    /// moments (`None`: none is in flight). Of events at the same moment a request is first, then the end, and then a reply.
+    /// Replies and the end come only on a connection that the station hasn't closed.
     pub fn next(&self, request: Option<u64>, reply: Option<u64>, limit: u64) -> Next {
         let mut at = limit;
         let mut next = Next::Nothing;
@@ -129,8 +130,9 @@ impl LineState {
         next
     }
 
-    // Schedules a line that is sent now with this fate: returns the moment at which it arrives, which isn't before `last`, the one at which
-    // the line before it arrives. Counts the hold, the loss and the repetition of the fate.
+    // Schedules a line that is sent now with this fate: returns the moment at which it arrives, unless it is lost. The moment
+    // isn't before `last`, for which the line before was scheduled, nor before a hold ends. Counts the hold of the fate, if it
+    // has one, and either the loss or, if the line isn't lost, the repetition.
     fn schedule(&mut self, fate: Fate, last: u64) -> u64 {
         if fate.hold > 0 {
             self.counts.holds = self.counts.holds.saturating_add(1);
@@ -144,8 +146,8 @@ impl LineState {
         self.from_now(fate.delay).max(last).max(self.held)
     }
 
-    /// Schedules a request that is sent now with this fate: returns the moment at which it arrives, and counts the request as written
-    /// whole, and its fate.
+    /// Schedules a request that is sent now with this fate: returns the moment at which it arrives, unless it is lost, and counts
+    /// the request as written whole, and its fate.
     pub fn schedule_request(&mut self, fate: Fate) -> u64 {
         let arrives = self.schedule(fate, self.last_request);
         if !fate.lost {
@@ -155,9 +157,9 @@ impl LineState {
         arrives
     }
 
-    /// Schedules a reply that is sent now with this fate: returns the moment at which it arrives, and counts its request as executed, and
-    /// its fate. If the fate closes the connection, the other end closes it at that moment. It is called for each request that reaches the
-    /// instrument, also if that makes no reply.
+    /// Schedules a reply that is sent now with this fate: returns the moment at which it arrives, unless it is lost, and counts
+    /// its fate. If the fate closes the connection, the other end closes it at that moment, unless it is to close it earlier or
+    /// there is no connection. It is called for each request that reaches the instrument, also if the instrument makes no reply.
     pub fn schedule_reply(&mut self, fate: Fate) -> u64 {
         let arrives = self.schedule(fate, self.last_reply);
         if !fate.lost {
@@ -166,18 +168,17 @@ impl LineState {
         if fate.closes {
             self.end_at(arrives);
         }
-        self.counts.executed = self.counts.executed.saturating_add(1);
         arrives
     }
 
-    /// Lets the other end close the connection now, in the middle of a request, and counts that request as cut.
+    /// Lets the other end close the connection now, in the middle of a request, and counts the close. Without a connection
+    /// nothing happens.
     pub fn cut(&mut self) {
-        self.counts.cut = self.counts.cut.saturating_add(1);
         self.end_at(self.now);
     }
 
-    // Lets the other end close the connection at this moment, or earlier if it does so already, and counts the close. Nothing happens
-    // without a connection.
+    // Lets the other end close the connection at this moment, unless it is to close it earlier; counts the close in either case.
+    // Without a connection nothing happens.
     fn end_at(&mut self, moment: u64) {
         if !self.is_open {
             return;
@@ -189,7 +190,7 @@ impl LineState {
         };
     }
 
-    /// Makes a connection. A close by the other end that was still to come is dropped.
+    /// Makes a connection, which the other end doesn't close until a fate says so.
     pub fn open(&mut self) {
         self.is_open = true;
         self.ends = None;
@@ -206,7 +207,8 @@ impl LineState {
         self.now < self.refused
     }
 
-    /// Refuses connections for this many milliseconds from now on, and counts that as one refusal.
+    /// Refuses connections for this many milliseconds from now on, in place of an earlier refusal, and counts that as one
+    /// refusal.
     pub fn refuse(&mut self, millis: u64) {
         self.refused = self.from_now(millis);
         self.counts.refusals = self.counts.refusals.saturating_add(1);

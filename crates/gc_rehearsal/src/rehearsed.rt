@@ -18,8 +18,8 @@ use std::alloc::Global;
 /// A link in memory, in simulated time, at whose other end the instrument of a scene is. Its chance decides what happens to
 /// each line. It has no clock of the system and no socket: time goes by in reads alone, and in [`Rehearsed::wait`].
 ///
-/// A read gives one line with its CR LF. A line that the reader's buffer has no room for is lost whole, and so is one of more than
-/// 512 bytes.
+/// A read gives one line with its CR LF. A line that the reader's buffer has no room for is lost whole, and so is one of more
+/// than 512 bytes without its CR LF, one for which memory is refused, and a reply that has a CR or an LF in it.
 #[derive(Drop)]
 pub struct Rehearsed<C> {
     /// Decides what happens to each line.
@@ -54,17 +54,17 @@ impl<C> Rehearsed<C> {
         self.state.now
     }
 
-    /// How often each event happened.
+    /// How often each event happened since the start.
     pub fn counts(&self) -> Counts {
         self.state.counts
     }
 
-    /// The truth of each reply that reads gave since the run began, in their order.
+    /// The truth of each reply that reads gave since the present run began, in their order, but for those that are missing.
     pub fn truths(&self) -> &[Truth] {
         self.state.truths.as_slice()
     }
 
-    /// Begins a run: its moments count from now, and the truths so far are dropped.
+    /// Begins a run: the `elapsed` of its moments counts from now, and the truths so far are dropped.
     pub fn begin(&mut self)
         ensures { self.new.carried ≡ self.old.carried }
     {
@@ -95,8 +95,8 @@ impl<C> Rehearsed<C> {
         Came::Silence(moment)
     }
 
-    // A read during which the other end closes the connection at this moment: sets the clock to it, and returns the end. `buf` is there for
-    // the clause alone.
+    // A read during which, or before which, the other end closes the connection at this moment: sets the clock forward to it,
+    // unless it is past, and returns the end. `buf` is there for the clause alone.
     fn end(&mut self, moment: u64, buf: &[u8]) -> Came
         ensures { Reads self.old.carried self.new.carried result buf.now }
     {
@@ -106,7 +106,8 @@ impl<C> Rehearsed<C> {
         Came::End
     }
 
-    // Gives the next reply, which arrives at this moment, and sets the clock to it. `None`: `buf` has no room for the reply, which is lost.
+    // Gives the next reply, which is in flight and arrives at this moment, and sets the clock forward to the moment, unless it is
+    // past. `None`: `buf` has no room for the reply, which is lost, and is counted as lost.
     fn give(&mut self, moment: u64, buf: &mut [u8]) -> Option<Came>
         ensures { MayRead self.old.carried self.new.carried result buf.new }
     {
@@ -123,12 +124,13 @@ impl<C> Rehearsed<C> {
 }
 
 impl<C: Chance> Rehearsed<C> {
-    /// Lets this many milliseconds go by, as while no station runs. Requests in flight reach the instrument meanwhile, and nothing is
-    /// read. The loop has a bound, so that it ends whatever the queue does.
+    /// Lets this many milliseconds go by, as while no station runs. Requests in flight reach the instrument meanwhile, and
+    /// nothing is read.
     pub fn wait(&mut self, millis: u64)
         ensures { self.new.carried ≡ self.old.carried }
     {
         let limit = self.state.from_now(millis);
+        // The bound is there so that the loop ends whatever the queue does.
         for _ in 0..u64::MAX {
             match self.carried.request_due() {
                 Some(moment) if moment <= limit => self.reach(moment),
@@ -138,7 +140,7 @@ impl<C: Chance> Rehearsed<C> {
         self.state.come_to(limit);
     }
 
-    // Restarts the instrument, if the chance says so.
+    // Restarts the instrument, and counts that, if the chance says so.
     fn restart_by_chance(&mut self)
         ensures { self.new.carried ≡ self.old.carried }
     {
@@ -148,8 +150,10 @@ impl<C: Chance> Rehearsed<C> {
         }
     }
 
-    // Hands the next request to the instrument at this moment, or now if that is later, and sends its reply with a fate of the chance. The
-    // instrument is restarted before that, if the chance says so.
+    // Hands the next request to the instrument at this moment, or now if that is later, and sends its reply with a fate of the
+    // chance, which is taken and counted also if the instrument makes none. The instrument is restarted before the request
+    // reaches it, if the chance says so. Of a reply that isn't lost by its fate but can't be sent (`Carried::reach`) a repetition
+    // applies to the last reply that is in flight, if there is one.
     fn reach(&mut self, moment: u64)
         ensures { self.new.carried ≡ self.old.carried }
     {
@@ -179,8 +183,10 @@ impl<C: Chance> Rehearsed<C> {
         }
     }
 
-    // Sends a whole request, which is lost, or arrives at the moment `arrives`, twice if `repeated`. Bytes that aren't a line of at most
-    // 512 bytes with its CR LF are lost, too.
+    // Sends a whole request. If `lost`, nothing arrives. Otherwise it arrives at the moment `arrives`, and if `repeated` a second
+    // time directly after that, unless memory is refused for the second one. Bytes that aren't a line with its CR LF don't
+    // arrive, nor does a line of more than 512 bytes without that, or one for which memory is refused; `repeated` then applies to
+    // the last request that is in flight, if there is one.
     fn send(&mut self, bytes: &[u8], lost: bool, repeated: bool, arrives: u64)
         ensures { self.new.carried ≡ self.old.carried ++ Put bytes.now ∷ [] }
     {
@@ -223,8 +229,8 @@ impl<C: Chance> Rehearsed<C> {
         Ok(())
     }
 
-    // Decides whether a connection is refused now, and returns it: an earlier refusal still lasts, or the chance decides on a new one,
-    // which is counted.
+    // Decides and returns whether a connection is refused now: because an earlier refusal still lasts, or because the chance
+    // decides on a new one, which is counted.
     fn decide_refusal(&mut self) -> bool
         ensures { self.new.carried ≡ self.old.carried }
     {
@@ -264,8 +270,8 @@ impl<C: Chance> Link for Rehearsed<C> {
         Ok(moment)
     }
 
-    // Returns the next reply, whole, or the end of the connection, or silence once `millis` milliseconds, but at least one, have gone by.
-    // Without a connection it only waits.
+    // Returns the next reply, whole, or the end of the connection, or silence once `millis` milliseconds, but at least one, have
+    // gone by. Without a connection there is only silence. Requests in flight reach the instrument meanwhile.
     fn read(&mut self, buf: &mut [u8], millis: u64) -> Came {
         let limit = self.state.from_now(millis.max(1));
         for _ in 0..u64::MAX {
@@ -277,8 +283,8 @@ impl<C: Chance> Link for Rehearsed<C> {
         self.be_silent(limit, buf)
     }
 
-    // Sends a request, which a close may cut; nothing is sent without a connection. A line feed alone clears the instrument's receiver,
-    // and is no request.
+    // Sends a request, which a close may cut. Nothing is sent without a connection, or once the other end has closed it. A line
+    // feed alone clears the instrument's receiver, and is no request.
     fn put(&mut self, bytes: &[u8]) -> Result<(), usize> {
         if !self.state.is_up() {
             self.carried.note(&Note::Cut(bytes, 0));
@@ -291,7 +297,7 @@ impl<C: Chance> Link for Rehearsed<C> {
         self.put_request(bytes)
     }
 
-    // Closes the connection. The lines in flight are lost, or arrive later, as the chance decides.
+    // Closes the connection. The lines in flight are lost, or arrive later, as the chance decides for each direction.
     fn close(&mut self) {
         self.state.close();
         self.lose_by_chance();

@@ -1,9 +1,9 @@
-//! The truth of a reply: the request on whose execution it was made.
+//! The truth of a reply: the request on which the instrument made it.
 
 use gc_lines::Line;
 
-/// A reply that a read gave, and the request on whose execution the instrument made it. If the instrument sent an older reply again, it is
-/// the request that this reply was made on. Times are in milliseconds since the line was made.
+/// A reply that a read gave, and the request on which the instrument made it. If the instrument sent a stored reply again, the
+/// request is the one on which it first sent that reply. Times are in milliseconds since the line was made.
 #[derive(Debug, Drop)]
 pub struct Truth {
     /// Which request it was: its number among all that were written whole, from 0.

@@ -18,13 +18,13 @@ use Rattle.gc_client.specs.Rule.{ById, heard, hears, sends}
 use Rattle.gc_links.specs.declared.link.Moment.{Moment}
 use Rattle.gc_links.specs.Acts.{Act, Told, Untold, Put, Cut, Gave, Silent, Ended, Broke, Closed, Opened, Unopened}
 use Rattle.gc_scenes.specs.SceneState.{SceneState}
-use Rattle.gc_station.proofs.Booking.{client_after, course_at, sending_of, sends_with_room}
+use Rattle.gc_station.proofs.Booking.{sending_of, sends_with_room}
 use Rattle.gc_station.proofs.Lists.{cons_head, cons_tail}
 use Rattle.gc_station.specs.Beginnings.{unanswered_after}
 use Rattle.gc_station.specs.Begun.{heard_in}
 use Rattle.gc_station.specs.Model.{lines_completed, null_text}
 use Rattle.gc_station.specs.Parts as part
-use Rattle.gc_station.specs.Parts.{Part}
+use Rattle.gc_station.specs.Parts.{Part, client_after, course_at}
 use Rattle.gc_world.specs.Clients.{by_ids}
 use Rattle.gc_world.specs.Order.{Each}
 use Rattle.gc_field.specs.Asking.{IsAskedFor, IsTaken, MeansTurns}
@@ -65,7 +65,7 @@ same_line line other e = append_cancel_right line other (13 ∷ 10 ∷ []) e
 
 -- While the station synchronizes.
 
--- the ids that lines leave unanswered are below 8, if all were
+-- where all ids of a word are below 8, so are those that lines leave unanswered
 pub ids_left : (word : List ℕ) (lines : List (List ℕ)) → IsSmall word → IsSmall (unanswered_after word lines)
 ids_left word [] ids = ids
 ids_left word (line ∷ others) ids = ids_left (left_by word (heard line)) others (small_left word (heard line) ids)
@@ -89,7 +89,8 @@ asked_next id = record { id = id; call = Table NullProc }
 abbrev once_asked : Model SceneState → ℕ → Model SceneState
 once_asked b id = record b { up = b.up ++ record { old = false; line = asked_next id } ∷ [] }
 
--- an act that sends the null procedure of the first id comes to the turn `Asks`, and one more if the request is lost
+-- where all unanswered ids are below 8, an act that sends the null procedure of the first of them comes to the turn `Asks`,
+-- whether the line loses the request or not
 turns_asks : (b : Model SceneState) (asked : ℕ) (rest : List ℕ) (line : List ℕ) (l n : Lines) → b.left ≡ asked ∷ rest → IsSmall (asked ∷ rest)
     → line ≡ request_line (Some asked) NullProc → Holds (leaves b) l → (n ≡ l) ⊎ (n ≡ record l { up = l.up ++ line ∷ [] }) → TurnsTo b (part.Asks ∷ []) (asked ∷ rest) n
 turns_asks b asked rest line l n left ids is holds came show steps others m done on =
@@ -124,7 +125,7 @@ turns_asks b asked rest line l n left ids is holds came show steps others m done
             good = holds.good;
           })) left
 
--- an act that puts bytes, whole or in part, while the station synchronizes comes to the turns that it means
+-- an act that puts bytes, whole or in part, while the station synchronizes comes to the turns that the act means (`IsAskedFor`)
 turns_put : (b : Model SceneState) (word : List ℕ) (bytes : List ℕ) (ts : List part.Turn) (l n : Lines) → b.left ≡ word → IsSmall word → Holds (leaves b) l
     → IsAskedFor word bytes ts → IsPut l bytes n → (word ≡ [] → ⊥) → TurnsTo b ts word n
 turns_put b word bytes ts l n left ids holds (inl feed) (inl same) some = subst (λ (t : List part.Turn). TurnsTo b t word n) (sym feed.1) (turns_none b word l n left holds same)
@@ -191,7 +192,8 @@ turns_drops b word line rest l n left holds front new show steps others m done o
     steps_turn (Lose_down zero ∷ []) b show steps others m done (tt, tt)
     (λ c e k. on c (subst (λ u. Holds u n) (sym e) (subst (Holds (stepped (leaves b) (Lose_down zero))) (sym new) (dropped (leaves b) l line rest holds front))) (k ∙ left))
 
--- a read that gave bytes while the station synchronizes comes to the turns that it means
+-- a read that gave bytes while the station synchronizes leaves no bytes of an unfinished line if there were none, and comes to
+-- the turns that the read means (`IsTaken`)
 turns_gave : (b : Model SceneState) (word : List ℕ) (piece : List ℕ) (ts : List part.Turn) (behind : List ℕ) (l n : Lines) → b.left ≡ word → Holds (leaves b) l
     → IsTaken [] piece ts behind → IsGiven l piece n → (behind ≡ []) × TurnsTo b ts (unanswered_after word (heard_in ts)) n
 turns_gave b word piece ts behind l n left holds (inl taken) given =
@@ -202,18 +204,20 @@ turns_gave b word piece ts behind l n left holds (inl taken) given =
 turns_gave b word piece ts behind l n left holds (inr taken) given =
     (taken.1, subst (λ (t : List part.Turn). TurnsTo b t (unanswered_after word (heard_in t)) n) (sym taken.0) (turns_drops b word given.0 given.1 l n left holds given.2 given.4))
 
--- an act that leaves the line as it is, and is no turn, comes to no turns
+-- an act that means no turn, and leaves the line as it is, comes to no turns; it leaves no bytes of an unfinished line if there
+-- were none
 turns_quiet : (b : Model SceneState) (word : List ℕ) (ts : List part.Turn) (behind rest : List ℕ) (l n : Lines) → b.left ≡ word → Holds (leaves b) l
     → (ts ≡ []) × (behind ≡ rest) → rest ≡ [] → n ≡ l → (behind ≡ []) × TurnsTo b ts (unanswered_after word (heard_in ts)) n
 turns_quiet b word ts behind rest l n left holds means empty same =
     (means.1 ∙ empty, subst (λ (t : List part.Turn). TurnsTo b t (unanswered_after word (heard_in t)) n) (sym means.0) (turns_none b word l n left holds same))
 
--- bytes that are put leave all ids of the word
+-- bytes that are put leave all ids of the word unanswered
 put_left : (word bytes : List ℕ) (ts : List part.Turn) → IsAskedFor word bytes ts → unanswered_after word (heard_in ts) ≡ word
 put_left word bytes ts (inl feed) = ap (λ (t : List part.Turn). unanswered_after word (heard_in t)) feed.1
 put_left word bytes ts (inr asks) = ap (λ (t : List part.Turn). unanswered_after word (heard_in t)) asks.1
 
--- an act while the station synchronizes comes to the turns that it means
+-- an act while the station synchronizes leaves no bytes of an unfinished line if there were none, and comes to the turns that
+-- the act means (`MeansTurns`)
 pub turns_act : (b : Model SceneState) (word : List ℕ) (act : Act) (ts : List part.Turn) (behind : List ℕ) (l n : Lines) → b.left ≡ word → IsSmall word → Holds (leaves b) l
     → (word ≡ [] → ⊥) → MeansTurns word [] act ts behind → Does l act n → (behind ≡ []) × TurnsTo b ts (unanswered_after word (heard_in ts)) n
 turns_act b word (Put bytes) ts behind l n left ids holds some means does =
@@ -310,7 +314,8 @@ moves_drops w c line rest l n is holds front new steps others m done on =
     steps_move (Lose_down zero ∷ []) w steps others m done (tt, tt)
     (λ v e k. on v (subst (λ u. Holds u n) (sym e) (subst (Holds (stepped (on_line w.wire) (Lose_down zero))) (sym new) (dropped (on_line w.wire) l line rest holds front))) (k ∙ is))
 
--- a read that gave bytes comes to the steps that it means
+-- a read that gave bytes, of which the client hears the lines or which the station discards, leaves no bytes of an unfinished
+-- line if there were none, and comes to the steps that the read means
 pub moves_gave : (w : World7) (c : ById Asked) (piece : List ℕ) (moment : Moment) (ss : List (client.Step Asked)) (behind : List ℕ) (l n : Lines) → w.client ≡ c → Holds (on_line w.wire) l
     → IsHeard [] piece moment ss behind ⊎ IsDiscarded [] moment ss behind → IsGiven l piece n → (behind ≡ []) × MovesTo w ss (client_after c ss) n
 moves_gave w c piece moment ss behind l n is holds (inl heard) given =
@@ -336,12 +341,13 @@ abbrev sent_next : World7 → ById Asked → Asked → Numbered Request
 sent_next w c call = record { number = length w.wire.sent; line = record { id = c.next; call = call } }
 
 -- the world once its client has sent that request
-abbrev once_sent : World7 → ById Asked → ℕ → Asked → ℕ → World7
+abbrev once_sent : World7 → ById Asked → (target : ℕ) → Asked → (deadline : ℕ) → World7
 once_sent w c target call deadline = requested w target call (Some (sending_of c target call deadline))
 
--- an act that sends a request comes to the step that sends it; and the line loses the request if it is lost
-pub moves_sends : (w : World7) (c : ById Asked) (target : ℕ) (call : Asked) (deadline : ℕ) (line : List ℕ) (l n : Lines) → w.client ≡ c → length c.waiting < 7
-    → c.next < 8 → IsAskedFitting call → line ≡ asked_line (Some c.next) call → Holds (on_line w.wire) l → (n ≡ l) ⊎ (n ≡ record l { up = l.up ++ line ∷ [] })
+-- an act that sends a request that is allowed, while the client's window has room and its next id is below 8, comes to the step
+-- that sends it, whether the line loses the request or not
+pub moves_sends : (w : World7) (c : ById Asked) (target : ℕ) (call : Asked) (deadline : ℕ) (line : List ℕ) (l n : Lines) → w.client ≡ c → (room : length c.waiting < 7)
+    → (digit : c.next < 8) → IsAskedFitting call → line ≡ asked_line (Some c.next) call → Holds (on_line w.wire) l → (n ≡ l) ⊎ (n ≡ record l { up = l.up ++ line ∷ [] })
     → MovesTo w (client.Send target call deadline ∷ []) (client_after c (client.Send target call deadline ∷ [])) n
 moves_sends w c target call deadline line l n is room digit fits text holds came steps others m done on =
     move_first w (field.Sends target call deadline) steps others m done tt (subst (λ (v : World7). FromClient v steps others m done) (sym out) (by_came came)) where

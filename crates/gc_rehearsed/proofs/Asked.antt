@@ -1,4 +1,5 @@
--- What commands ask: their numbers lie in their types, and so do those of the date that a clock is set to, whatever the moment is.
+-- What commands ask: their numbers lie in their types, and so do those of the date that a clock is set to, whatever the moment
+-- is.
 use Rattle.std.proofs.Common.{◌≡◌, ℕ, zero, suc, ◌+◌, ◌<◌, ◌≤◌, ◌/◌, ◌%◌, ◌==◌, ◌||◌, Bool, true, List, [], ◌∷◌, ◌++◌, length, take, get_or, subst, sym, ap, ◌∙◌, min, arith}
 use Rattle.std.proofs.lemmas.Bool.{cond_both}
 use Rattle.std.proofs.lemmas.List.{take_more, take_all}
@@ -23,7 +24,7 @@ date_fits utc =
     let year : min (date_of (utc / 86_400_000)).year 32767 ≤ 32767 = grind arith in
     ((grind arith, grind arith), (omega (arith, month), (omega (arith, day), (omega arith, (omega arith, (omega arith, tt))))))
 
--- a command whose own numbers lie in their types can be asked at any moment
+-- a command whose own call is allowed (`IsAskedFitting`) is `IsAskable`
 pub askable_at : (task : Task) → IsAskedFitting task.command.call → IsAskable task
 askable_at task fits utc = cond_both task.now (Table (SetDate (date_time utc))) task.command.call IsAskedFitting (λ _. date_fits utc) (λ _. fits)
 

@@ -12,11 +12,11 @@ use Rattle.gc_station.specs.Parts.{Part, nothing}
 use Rattle.gc_world.specs.Clients.{by_ids}
 use Rattle.gc_field.specs.Begin as begin
 use Rattle.gc_field.specs.Begin.{AreTurns, IsTurn, Model, UnderWay, begins, leaves, turned, turns}
-use Rattle.gc_field.specs.Beginnings.{ArePossibleIf, AreRuns, Run, killed_if, left_by_run, left_if, on_line}
+use Rattle.gc_field.specs.Beginnings.{ArePossibleIf, AreRuns, Run, killed_if, left_by_run, left_by_runs, left_if, on_line}
 use Rattle.gc_field.specs.Begun.{ids_begun}
 use Rattle.gc_field.specs.Field as field
 use Rattle.gc_field.specs.Field.{Move, ArePossible, IsPossible, moved, moves, seen}
-use Rattle.gc_field.specs.InARow.{AreFewKilledWithTurns, killed_by, killed_over, left_over}
+use Rattle.gc_field.specs.InARow.{AreFewKilledWithTurns, killed_by, killed_over}
 use Rattle.gc_rehearsed.specs.Rehearsals.{unbegun}
 use Rattle.gc_field.specs.SceneField.{RetainedReads, scene_ends, scene_kept}
 use Rattle.gc_field.specs.Shown.{AreShownAs, shown, shows}
@@ -39,24 +39,25 @@ move7 w m = moves scene_ends (by_ids WINDOW scene_ends) w m
 abbrev pub moved7 : List (Move SceneState) → World7 → World7
 moved7 ms w = moved scene_ends (by_ids WINDOW scene_ends) ms w
 
--- runs over what is in flight show these parts, are possible, and lead to these lines; at most five in a row are killed while they
--- synchronize. At the end of the last one the station has synchronized (`done`), or is killed while it synchronizes, and counts as one
--- more
+-- runs over what is in flight show these parts, are possible, and lead to these lines; at most five in a row are killed while
+-- they synchronize. At their end none counts as killed in a row if the station has synchronized then (`done`), and else at most
+-- one
 pub record Later (u : UnderWay SceneState) (rs : List (Run SceneState)) (ps : List Part) (m : Lines) (done : Bool) : Type 0 where
   pub show : AreShownAs scene_ends u rs ps
   pub may : AreRuns WINDOW scene_ends RetainedReads scene_kept u rs
-  pub holds : Holds (left_over scene_ends u rs) m
+  pub holds : Holds (left_by_runs WINDOW scene_ends u rs) m
   pub few : AreFewKilledWithTurns scene_ends 0 u rs
   pub ends : killed_over scene_ends 0 u rs ≤ unbegun 0 done
 
--- if some ids of a run's synchronization aren't answered, no other run (`rs`) follows, and the station hasn't synchronized at the end
--- (`done`)
+-- if some ids of a run's synchronization aren't answered, no other run (`rs`) follows, and the station hasn't synchronized at
+-- the end (`done`)
 abbrev pub IsLastUnlessBegun : List ℕ → Bool → List (Run SceneState) → Type 0
 IsLastUnlessBegun [] done rs = Unit {0}
 IsLastUnlessBegun (asked ∷ word) done rs = (rs ≡ []) × (done ≡ false)
 
--- from the state b of a synchronization on: its turns show `turns`, and the moves after it `steps`; later runs show the other parts,
--- and lead to the lines m. `done` says, as in `Later`, whether the station has synchronized at the end
+-- from the state b of a synchronization on: possible turns show `turns`, and possible moves after them `steps`; later runs show
+-- the other parts, and lead to the lines m, and there are none if the turns leave ids unanswered. `done` says, as in `Later`,
+-- whether the station has synchronized at the end
 pub record FromBegin (b : Model SceneState) (turns : List part.Turn) (steps : List (client.Step Asked)) (others : List Part) (m : Lines) (done : Bool) : Type 0 where
   pub ts : List (begin.Turn SceneState)
   pub ms : List (Move SceneState)
@@ -68,8 +69,8 @@ pub record FromBegin (b : Model SceneState) (turns : List part.Turn) (steps : Li
   pub later : Later (left_if WINDOW scene_ends (turned scene_ends ts b).left (turned scene_ends ts b) ms) rs others m done
   pub rest : IsLastUnlessBegun (turned scene_ends ts b).left done rs
 
--- from the world w of a client on: its moves show `steps`; later runs show the other parts, and lead to the lines m, with `done` as
--- in `Later`
+-- from the world w of a client on: possible moves show `steps`; later runs show the other parts, and lead to the lines m, with
+-- `done` as in `Later`
 pub record FromClient (w : World7) (steps : List (client.Step Asked)) (others : List Part) (m : Lines) (done : Bool) : Type 0 where
   pub ms : List (Move SceneState)
   pub rs : List (Run SceneState)
@@ -79,7 +80,8 @@ pub record FromClient (w : World7) (steps : List (client.Step Asked)) (others : 
 
 -- One thing more before what follows.
 
--- `FromBegin` is preserved if a possible turn t is put before it: what t shows comes before the other turns
+-- if t is a possible turn in the state b, and `FromBegin` holds from the state after t, it holds from b, with what t shows
+-- before the turns `xs`
 pub turn_first : (b : Model SceneState) (t : begin.Turn SceneState) (xs : List part.Turn) (steps : List (client.Step Asked)) (others : List Part) (m : Lines) (done : Bool)
     → IsTurn RetainedReads scene_kept b t → FromBegin (turns scene_ends b t) xs steps others m done → FromBegin b (shows b t ++ xs) steps others m done
 turn_first b t xs steps others m done is f = record {
@@ -95,7 +97,8 @@ turn_first b t xs steps others m done is f = record {
   rest = f.rest;
 }
 
--- `FromBegin` is preserved if possible steps of the line are put before it, in which the client has no part: they show nothing
+-- if `xs` are possible steps from what b has in flight, and `FromBegin` holds from each state with what they leave in flight
+-- and with the unanswered ids of b, it holds from b: the steps show nothing
 pub steps_turn : (xs : List Step) (b : Model SceneState) (show : List part.Turn) (steps : List (client.Step Asked)) (others : List Part) (m : Lines) (done : Bool) → AreSteps xs (leaves b)
     → ((c : Model SceneState) → leaves c ≡ all_stepped xs (leaves b) → c.left ≡ b.left → FromBegin c show steps others m done) → FromBegin b show steps others m done
 steps_turn [] b show steps others m done are on = on b refl refl
@@ -117,12 +120,14 @@ seen_first field.Anew ms = refl
 seen_first (field.Changes state) ms = refl
 seen_first (field.Joins line) ms = refl
 
--- `FromClient` is preserved if a possible move x is put before it: what the client sees of x comes before the other steps
+-- if x is a possible move in the world w, and `FromClient` holds from the world after x, it holds from w, with what the client
+-- sees of x before the other steps
 pub move_first : (w : World7) (x : Move SceneState) (steps : List (client.Step Asked)) (others : List Part) (m : Lines) (done : Bool) → IsPossible RetainedReads scene_kept w x
     → FromClient (move7 w x) steps others m done → FromClient w (seen (x ∷ []) ++ steps) others m done
 move_first w x steps others m done is f = record { ms = x ∷ f.ms; rs = f.rs; see = seen_first x f.ms ∙ ap (λ l. seen (x ∷ []) ++ l) f.see; may = (is, f.may); later = f.later }
 
--- `FromClient` is preserved if possible steps of the line are put before it: the client sees nothing of them
+-- if `xs` are possible steps from what w has in flight, and `FromClient` holds from each world with what they leave in flight
+-- and with the client of w, it holds from w: the client sees nothing of the steps
 pub steps_move : (xs : List Step) (w : World7) (steps : List (client.Step Asked)) (others : List Part) (m : Lines) (done : Bool) → AreSteps xs (on_line w.wire)
     → ((v : World7) → on_line v.wire ≡ all_stepped xs (on_line w.wire) → v.client ≡ w.client → FromClient v steps others m done) → FromClient w steps others m done
 steps_move [] w steps others m done are on = on w refl refl
@@ -163,8 +168,8 @@ begun_from b show steps others m done none quiet f = record {
   rest = subst (λ left. IsLastUnlessBegun left done f.rs) (sym none) tt;
 }
 
--- how many are killed in a row once the run r has followed `n` that were: none, if it has synchronized (no id is left); else at most
--- n + 1, and no run follows it, and the station hasn't synchronized at the end (`done`)
+-- how many are killed in a row once the run r has followed `n` that were: none, if it has synchronized (no id is left); else at
+-- most n + 1, and no run follows it, and the station hasn't synchronized at the end (`done`)
 killed_first : (n : ℕ) (u : UnderWay SceneState) (r : Run SceneState) (left : List ℕ) (ts : List (begin.Turn SceneState)) (done : Bool) (rs : List (Run SceneState))
     → (turned scene_ends ts (begins u)).left ≡ left → r.turns ≡ ts → IsLastUnlessBegun left done rs
     → ((left ≡ []) × (killed_by scene_ends n u r ts ≡ 0)) ⊎ ((rs ≡ []) × (done ≡ false) × (killed_by scene_ends n u r ts ≤ n + 1))
@@ -175,18 +180,17 @@ killed_first n u r (asked ∷ word) (t ∷ ts) done rs e same rest =
     let one : killed_by scene_ends n u r (t ∷ ts) ≡ n + 1 = ap (λ l. killed_if l n) (ap (λ xs. (turned scene_ends xs (begins u)).left) same ∙ e) in
     inr (rest.0, rest.1, omega (arith, one))
 
--- if `n` stations in a row, and the next one too where it hasn't synchronized at its end (`done` is false), are at most five, at most
--- five in a row are killed while they synchronize in the runs from a synchronization on
+-- if `unbegun n done` is at most five, then in the runs from a synchronization on, before which `n` in a row were killed while
+-- they synchronized, at most five in a row are killed so, counted with those `n`, and at the end at most `unbegun n done`
 pub few_from : (n : ℕ) (u : UnderWay SceneState) (show : List part.Turn) (steps : List (client.Step Asked)) (others : List Part) (m : Lines) (done : Bool)
     → (f : FromBegin (begins u) show steps others m done) → unbegun n done ≤ 5
     → AreFewKilledWithTurns scene_ends n u (run f.ts f.ms ∷ f.rs) × (killed_over scene_ends n u (run f.ts f.ms ∷ f.rs) ≤ unbegun n done)
 few_from n u show steps others m done f small = by_end (killed_first n u (run f.ts f.ms) (turned scene_ends f.ts (begins u)).left f.ts done f.rs refl refl f.rest) where
-  -- no killed station is at most five
+  -- if no run counts as killed in a row after the first run, at most five do
   none_killed : killed_by scene_ends n u (run f.ts f.ms) f.ts ≡ 0 → killed_by scene_ends n u (run f.ts f.ms) f.ts ≤ 5
   none_killed none = omega (arith, none)
 
-  -- where at most as many are killed in a row as the last station makes of 0, at most as many are as it makes of `n`, whether it
-  -- has synchronized at its end (`d`) or not
+  -- if at the end at most `unbegun 0 d` in a row are killed, at most `unbegun n d` are
   by_done : (d : Bool) → killed_over scene_ends 0 (left_by_run WINDOW scene_ends u (run f.ts f.ms)) f.rs ≤ unbegun 0 d
       → killed_over scene_ends 0 (left_by_run WINDOW scene_ends u (run f.ts f.ms)) f.rs ≤ unbegun n d
   by_done true h = h
@@ -214,8 +218,8 @@ one_few : (done : Bool) → unbegun 0 done ≤ 5
 one_few true = omega arith
 one_few false = omega arith
 
--- `FromBegin` of a synchronization over what is in flight in this world, which shows the part p, gives `FromClient`, which shows p and the
--- parts after it as other parts
+-- `FromBegin` of a synchronization over what is in flight in the world w, which shows the part p and then `others`, gives
+-- `FromClient` from w, with no steps, and with p and then `others` as other parts
 pub ended_from : (w : World7) (p : Part) (others : List Part) (m : Lines) (done : Bool) → FromBegin (begins (on_line w.wire)) p.turns p.steps others m done → FromClient w [] (p ∷ others) m done
 ended_from w p others m done f =
     let few = few_from 0 (on_line w.wire) p.turns p.steps others m done f (one_few done) in
@@ -232,7 +236,7 @@ none_below : (done : Bool) → 0 ≤ unbegun 0 done
 none_below true = omega arith
 none_below false = omega arith
 
--- at the end of a run that has synchronized and is over, nothing more happens
+-- where the lines m are in flight, `FromClient` holds with no steps and one further part, in which nothing happens
 pub ended_over : (w : World7) (m : Lines) (done : Bool) → Holds (on_line w.wire) m → FromClient w [] (nothing ∷ []) m done
 ended_over w m done holds =
     record {
@@ -249,11 +253,12 @@ ended_over w m done holds =
       };
     }
 
--- with no steps and no further parts, nothing more happens to a client
+-- where the lines m are in flight, `FromClient` holds with no steps and no further parts
 pub ends_client : (w : World7) (m : Lines) (done : Bool) → Holds (on_line w.wire) m → FromClient w [] [] m done
 ends_client w m done holds = record { ms = []; rs = []; see = refl; may = tt; later = record { show = tt; may = tt; holds = holds; few = tt; ends = none_below done } }
 
--- with no turns and no further parts, nothing more happens in a synchronization
+-- where some ids aren't answered, and the lines m are in flight, `FromBegin` holds with no turns, no steps and no further parts,
+-- and with a station that hasn't synchronized at the end
 pub ends_begin : (b : Model SceneState) (m : Lines) → (b.left ≡ [] → ⊥) → Holds (leaves b) m → FromBegin b [] [] [] m false
 ends_begin b m some holds = by_left b.left refl where
   -- the lemma above, by the ids that are left

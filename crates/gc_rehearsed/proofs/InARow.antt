@@ -4,6 +4,7 @@ use Rattle.std.specs.List.{AllByRecursion}
 use Rattle.gc_catalogue.specs.declared.asked.Asked.{Asked}
 use Rattle.gc_client.specs.Beginning.{the_word}
 use Rattle.gc_client.specs.OneForOne as client
+use Rattle.gc_client.specs.declared.window.TheConstants.{WINDOW}
 use Rattle.gc_links.specs.Acts.{Act, Put, Gave}
 use Rattle.gc_scenes.specs.SceneState.{SceneState}
 use Rattle.gc_station.proofs.EachRun.{invariant_opening}
@@ -14,8 +15,8 @@ use Rattle.gc_station.specs.Parts as part
 use Rattle.gc_station.specs.Parts.{Part, parts_of}
 use Rattle.gc_field.specs.Begin as begin
 use Rattle.gc_field.specs.Begin.{UnderWay, begins, leaves, none_under_way}
-use Rattle.gc_field.specs.Beginnings.{HasRisingIds, Run}
-use Rattle.gc_field.specs.InARow.{AreFewKilledWithTurns, AreInARow, killed_over, left_over}
+use Rattle.gc_field.specs.Beginnings.{HasRisingIds, Run, left_by_runs}
+use Rattle.gc_field.specs.InARow.{AreFewKilledWithTurns, AreInARow, killed_over}
 use Rattle.gc_field.specs.SceneField.{RetainedReads, scene_ends, scene_kept}
 use Rattle.gc_field.specs.Shown.{AreShownAs}
 use Rattle.gc_field.proofs.InARow.{in_a_row, run}
@@ -31,7 +32,7 @@ use Rattle.gc_field.proofs.BeginWords.{cons_not_nil}
 -- Cutting what happened.
 
 -- what happened on a line, cut in two: what happened up to the end of the acts `xs`, and what happened after that
-record Cut (hs : List Happening) (xs ys : List Act) (l m : Lines) : Type 0 where
+record CutHappenings (hs : List Happening) (xs ys : List Act) (l m : Lines) : Type 0 where
   front : List Happening
   back : List Happening
   middle : Lines
@@ -41,7 +42,7 @@ record Cut (hs : List Happening) (xs ys : List Act) (l m : Lines) : Type 0 where
   later : LeadAll middle back m
 
 -- what happened can be cut after its first acts
-cut : (hs : List Happening) (xs ys : List Act) (l m : Lines) → acts_of hs ≡ xs ++ ys → LeadAll l hs m → Cut hs xs ys l m
+cut : (hs : List Happening) (xs ys : List Act) (l m : Lines) → acts_of hs ≡ xs ++ ys → LeadAll l hs m → CutHappenings hs xs ys l m
 cut hs [] ys l m e all = record { front = []; back = hs; middle = l; fronts = refl; backs = e; leads = refl; later = all }
 cut [] (x ∷ xs) ys l m e all = absurd (cons_not_nil x (xs ++ ys) (sym e))
 cut (Call act ∷ hs) (x ∷ xs) ys l m e all =
@@ -67,7 +68,8 @@ quiet_same (Put bytes) l n quiet does = absurd quiet
 quiet_same (Gave bytes moment) l n quiet does = absurd quiet
 quiet_same act l n quiet does = does
 
--- `FromBegin` is preserved if what happens on the line between two stations, where all acts are quiet, is put before it
+-- if all acts of what happens on the line between two stations are quiet, and `FromBegin` holds from each state with the lines
+-- that this leads to in flight and with the unanswered ids of b, it holds from b
 idle_first : (hs : List Happening) (b : begin.Model SceneState) (l n : Lines) (show : List part.Turn) (steps : List (client.Step Asked)) (more : List Part) (m : Lines) (done : Bool)
     → AllByRecursion IsQuiet (acts_of hs) → Holds (leaves b) l → LeadAll l hs n
     → ((c : begin.Model SceneState) → Holds (leaves c) n → c.left ≡ b.left → FromBegin c show steps more m done) → FromBegin b show steps more m done
@@ -87,17 +89,20 @@ record AreInTheField (n : ℕ) (u : UnderWay SceneState) (xs : List Station) : T
   each : length runs ≡ length xs
   field : AreInARow scene_ends RetainedReads scene_kept n u (programs xs runs)
 
--- few stations in a row end while they synchronize, also if fewer were killed before the first
+-- if `FewEndUnbegun` holds of stations before which `n` in a row ended while they synchronized, it holds with k in place of n,
+-- where k is at most n
 fewer : (k n : ℕ) (xs : List Station) → k ≤ n → FewEndUnbegun n xs → FewEndUnbegun k xs
 fewer k n [] less few = tt
 fewer k n (x ∷ xs) less few = let one = fewer_one (has_begun_at_its_end x) in
     ((let f = few.0 in omega (arith, one, f)), fewer (unbegun k (has_begun_at_its_end x)) (unbegun n (has_begun_at_its_end x)) xs one few.1) where
-      -- one station more counts for at most as many after the lower number
+      -- after k stations in a row that ended while they synchronized, one station more makes at most as many in a row as after
+      -- n
       fewer_one : (b : Bool) → unbegun k b ≤ unbegun n b
       fewer_one true = omega arith
       fewer_one false = omega (arith, less)
 
--- stations one after the other over a rehearsed line are in the field (`AreInTheField`), over what is in flight
+-- stations one after the other over a rehearsed line, after acts `before` that are quiet, are in the field (`AreInTheField`),
+-- over what is in flight, if each of them is `RunsAndStops`, and `FewEndUnbegun` holds of them with n
 goes_in_a_row : (n : ℕ) (xs : List Station) (hs : List Happening) (before : List Act) (u : UnderWay SceneState) (l m : Lines) → AllByRecursion IsQuiet before → Holds u l → LeadAll l hs m
     → acts_of hs ≡ before ++ acts_of_all xs → AllByRecursion RunsAndStops xs → FewEndUnbegun n xs → AreInTheField n u xs
 goes_in_a_row n [] hs before u l m quiet holds all told lives few = record { runs = []; each = refl; field = tt }
@@ -115,7 +120,7 @@ goes_in_a_row n (x ∷ xs) hs before u l m quiet holds all told lives few =
     word_small h two.leads (subst (Runs x.plan x.commands s) (sym two.fronts) lives.0.runs))) in
     let rs = run f.ts f.ms ∷ f.rs in
     let killed = few_from n u (first_part ps).turns (first_part ps).steps (other_parts ps) two.middle done f few.0 in
-    let rest = goes_in_a_row (killed_over scene_ends n u rs) xs two.back x.after_run (left_over scene_ends u rs) two.middle m lives.0.quiet f.later.holds two.later two.backs lives.1
+    let rest = goes_in_a_row (killed_over scene_ends n u rs) xs two.back x.after_run (left_by_runs WINDOW scene_ends u rs) two.middle m lives.0.quiet f.later.holds two.later two.backs lives.1
     (fewer (killed_over scene_ends n u rs) (unbegun n done) xs killed.1 few.1) in
     record {
       runs = rs ∷ rest.runs;
@@ -135,7 +140,7 @@ goes_in_a_row n (x ∷ xs) hs before u l m quiet holds all told lives few =
 none_rising : (state : SceneState) → HasRisingIds (none_under_way state)
 none_rising state = record { low = 1; numbers = []; some = omega arith; rising = tt; few = tt; ids = refl }
 
--- stations in a row over a rehearsed line are stations in a row in the field
+-- stations in a row over a rehearsed line, as the law has them, are stations in a row in the field, and each is faithful
 pub stations_are_faithful : RehearsalsInARowAreFaithful
 stations_are_faithful xs of_line lives few =
     let c = of_line.1 in

@@ -18,11 +18,11 @@ use Rattle.gc_station.specs.Beginnings.{unanswered_after}
 use Rattle.gc_station.specs.Begun.{heard_in}
 use Rattle.gc_station.specs.Deciding.{has_begun, is_none_left}
 use Rattle.gc_station.specs.Model.{Model, Performs, Runs, action_at, after, after_all, losing, moved, opening, waiting_of, with_progress}
-use Rattle.gc_station.specs.Parts.{MarksAsk, MarkAsks, Part, part_of_act, sync_part, client_part, ends_part, in_front, joined, nothing, parts_of, put_part}
+use Rattle.gc_station.specs.Parts.{MarksAsk, MarkAsks, Part, part_of_act, sync_part, client_part, ends_part, in_front, joined, nothing, parts_of, put_part, client_after, course_at}
 use Rattle.gc_station.specs.Progressing.{is_over, loses_all, turned}
 use Rattle.gc_station.specs.Scopes.{Scope}
 use Rattle.gc_station.proofs.Asked.{FirstHasNoTurns, goes_begun, no_turns, word_of}
-use Rattle.gc_station.proofs.Booking.{client_after, course_at, sends_with_room, sent_by}
+use Rattle.gc_station.proofs.Booking.{sends_with_room, sent_by}
 use Rattle.gc_station.proofs.EachRun.{invariant_after, invariant_opening}
 use Rattle.gc_station.proofs.Facts.{action_for}
 use Rattle.gc_station.proofs.Invariant.{Invariant}
@@ -40,7 +40,7 @@ use Rattle.gc_field.specs.Begun.{ids_begun}
 use Rattle.gc_field.specs.Runs.{IsInField, IsMeant, IsRunFaithful}
 use Rattle.gc_field.specs.Meaning.{IsHeard, IsDiscarded}
 use Rattle.gc_field.specs.SceneField.{RetainedReads, scene_ends, scene_kept}
-use Rattle.gc_field.specs.SceneField as scene
+use Rattle.gc_world.specs.Exchange.{ReadsWithItsId}
 use Rattle.gc_field.specs.Shown.{AreShownAs}
 use Rattle.gc_field.proofs.Joining.{run_faithful}
 use Rattle.gc_field.proofs.Meant.{is_meant}
@@ -82,56 +82,59 @@ some_front p true ps = tt
 some_front p false [] = tt
 some_front p false (q ∷ ps) = tt
 
--- acts have a part
+-- acts have a part, even if there are none
 pub some_parts : (plan : Plan) (commands : List Task) (s : Model) (acts : List Act) → HasSome (parts_of plan commands s acts)
 some_parts plan commands s [] = tt
 some_parts plan commands s (act ∷ acts) =
     some_front (part_of_act plan commands s (action_at plan s) act) (ends_part plan commands s act) (parts_of plan commands (after plan commands s act) acts)
 
--- what follows a synchronization shows these parts
+-- `FromBegin` by parts: from the state b of a synchronization on, its run shows the first part, and later runs the others
 abbrev pub OnBegin : begin.Model SceneState → Lines → List Part → Bool → Type 0
 OnBegin b m ps done = FromBegin b (first_part ps).turns (first_part ps).steps (other_parts ps) m done
 
--- what follows a client shows these parts
+-- `FromClient` by parts: from the world w on, its client's run shows the steps of the first part, and later runs the others
 abbrev pub OnClient : World7 → Lines → List Part → Bool → Type 0
 OnClient w m ps done = FromClient w (first_part ps).steps (other_parts ps) m done
 
--- `OnBegin` of an act's part and the later parts, of which the first goes on that part, if the act comes to its turns (`TurnsTo`),
--- and the later parts are `OnBegin` from there
+-- if an act comes to the turns of its part p (`TurnsTo`), which has no steps, and `OnBegin` holds of the later parts from each
+-- state that these turns may lead to, it holds from b of the parts with p in front, of which the first goes on p
 begin_first : (b : begin.Model SceneState) (p : Part) (word : List ℕ) (n m : Lines) (ps : List Part) (done : Bool) → HasSome ps → p.steps ≡ [] → TurnsTo b p.turns word n
     → ((c : begin.Model SceneState) → Holds (leaves c) n → c.left ≡ word → OnBegin c m ps done) → OnBegin b m (in_front p false ps) done
 begin_first b p word n m [] done some none to on = absurd some
 begin_first b p word n m (q ∷ ps) done some none to on =
     subst (λ (ss : List (client.Step Asked)). FromBegin b (p.turns ++ q.turns) (ss ++ q.steps) ps m done) (sym none) (to q.turns q.steps ps m done on)
 
--- `OnClient` of an act's part and the later parts, of which the first goes on that part, if the act comes to its steps (`MovesTo`),
--- and the later parts are `OnClient` from there
+-- if an act comes to the steps of its part p (`MovesTo`), and `OnClient` holds of the later parts from each world that these
+-- steps may lead to, it holds from w of the parts with p in front, of which the first goes on p
 client_first : (w : World7) (p : Part) (c : ById Asked) (n m : Lines) (ps : List Part) (done : Bool) → HasSome ps → MovesTo w p.steps c n
     → ((v : World7) → Holds (on_line v.wire) n → v.client ≡ c → OnClient v m ps done) → OnClient w m (in_front p false ps) done
 client_first w p c n m [] done some to on = absurd some
 client_first w p c n m (q ∷ ps) done some to on = to q.steps ps m done on
 
--- `OnClient` of an act's part, which ends with the act, and the later parts, if the act comes to its steps (`MovesTo`), and the
--- later parts are the other parts of `FromClient` from there
+-- if an act comes to the steps of its part p (`MovesTo`), and `FromClient` holds, with no steps and the later parts as other
+-- parts, from each world that these steps may lead to, `OnClient` holds from w of p, which ends with the act, and the later
+-- parts
 client_last : (w : World7) (p : Part) (c : ById Asked) (n m : Lines) (ps : List Part) (done : Bool) → MovesTo w p.steps c n
     → ((v : World7) → Holds (on_line v.wire) n → FromClient v [] ps m done) → OnClient w m (in_front p true ps) done
 client_last w p c n m ps done to on =
     subst (λ (ss : List (client.Step Asked)). FromClient w ss ps m done) (append-nil p.steps) (to [] ps m done (λ v holds is. on v holds))
 
--- where a part has ended, `OnBegin` of the parts of the next synchronization gives `FromClient`, of which they are the other parts
+-- where a part has ended, `OnBegin` of the parts of the next synchronization gives `FromClient`, of which they are the other
+-- parts
 client_anew : (v : World7) (m : Lines) (ps : List Part) (done : Bool) → HasSome ps → OnBegin (begins (on_line v.wire)) m ps done → FromClient v [] ps m done
 client_anew v m [] done some f = absurd some
 client_anew v m (q ∷ ps) done some f = ended_from v q ps m done f
 
 -- What commands ask.
 
--- what a request asks that is of its mark's command, or a null procedure, has numbers that lie in their types
+-- where the commands are `IsAskable`, what a request asks, by its mark's command or as a null procedure, is allowed
+-- (`IsAskedFitting`)
 asked_fits : (commands : List Task) (mark : Option _) (a : Wanted Asked) → AreAskable commands → MarkAsks commands mark a → IsAskedFitting a.call
 asked_fits commands None a askable is = subst (λ (x : Wanted Asked). IsAskedFitting x.call) (sym is) tt
 asked_fits commands (Some mark) a askable is =
     subst (λ (x : Wanted Asked). IsAskedFitting x.call) (sym is.2) (all_at (λ (task : Task). (utc : ℕ) → IsAskedFitting (call_at task utc)) commands mark.place is.0 askable is.1 mark.sent)
 
--- what a client sends by one send, if its window has room
+-- by one send a client sends just that request, if its window has room
 sent_one : (c : ById Asked) (target : ℕ) (call : Asked) (deadline : ℕ) → length c.waiting < 7
     → sent_by c (client.Send target call deadline ∷ []) ≡ record { target = target; call = call } ∷ []
 sent_one c target call deadline room = ap (λ o. (client.sent_on (course_at c) target call o).sent ++ []) (sends_with_room c target call deadline room)
@@ -142,15 +145,15 @@ losing_loses true t = refl
 losing_loses false t = refl
 
 module _ (plan : Plan) (commands : List Task) (askable : AreAskable commands) where
-  -- an act that puts bytes, once the station has synchronized, comes to the steps that it means
-  moves_put : (s : Model) (act : Act) (bytes : List ℕ) (w : World7) (l n : Lines) → Invariant plan commands s → w.client ≡ s.client → Holds (on_line w.wire) l
+  -- an act that puts bytes, whole or in part, once the station has synchronized, comes to the steps that it means
+  moves_put : (s : Model) (bytes : List ℕ) (w : World7) (l n : Lines) → Invariant plan commands s → w.client ≡ s.client → Holds (on_line w.wire) l
       → (let p = put_part plan commands s (action_at plan s) in MarksAsk commands p.marks (sent_by s.client p.steps))
       → meant.IsPut s bytes (put_part plan commands s (action_at plan s)) → (n ≡ l) ⊎ ((line : List ℕ) × (bytes ≡ with_end line) × (n ≡ record l { up = l.up ++ line ∷ [] }))
       → MovesTo w (put_part plan commands s (action_at plan s)).steps (client_after s.client (put_part plan commands s (action_at plan s)).steps) n
-  moves_put s act bytes w l n fine is holds of (inl feed) (inl same) =
+  moves_put s bytes w l n fine is holds of (inl feed) (inl same) =
       subst (λ (p : Part). MovesTo w p.steps (client_after s.client p.steps) n) (sym feed.1) (moves_none w s.client l n is holds same)
-  moves_put s act bytes w l n fine is holds of (inl feed) (inr sent) = absurd (feed_no_line sent.0 (sym feed.0 ∙ sent.1))
-  moves_put s act bytes w l n fine is holds of (inr x) came =
+  moves_put s bytes w l n fine is holds of (inl feed) (inr sent) = absurd (feed_no_line sent.0 (sym feed.0 ∙ sent.1))
+  moves_put s bytes w l n fine is holds of (inr x) came =
       let one = subst (λ (p : Part). MarksAsk commands p.marks (sent_by s.client p.steps)) x.part of in
       let fits = asked_fits commands x.mark (record { target = x.target; call = x.call }) askable
       (subst (MarksAsk commands (x.mark ∷ [])) (sent_one s.client x.target x.call x.deadline x.room) one).0 in
@@ -173,18 +176,19 @@ module _ (plan : Plan) (commands : List Task) (askable : AreAskable commands) wh
       (sent_by s.client (if b then client_part plan commands s o act else sync_part s o act).steps))
       begun books.wrote.sent
 
-  -- an act once the station has synchronized comes to the steps that it means
-  moves_act : (s : Model) (act : Act) (w : World7) (l n : Lines) → Invariant plan commands s → Performs commands s (action_at plan s) act → has_begun s.progress ≡ true → s.rest ≡ []
-      → w.client ≡ s.client → Holds (on_line w.wire) l → Does l act n
+  -- an act once the station has synchronized leaves no bytes of an unfinished line if there were none, and comes to the steps
+  -- of the act's part
+  moves_act : (s : Model) (act : Act) (w : World7) (l n : Lines) → Invariant plan commands s → Performs commands s (action_at plan s) act
+      → (begun : has_begun s.progress ≡ true) → (empty : s.rest ≡ []) → w.client ≡ s.client → Holds (on_line w.wire) l → Does l act n
       → ((after plan commands s act).rest ≡ [])
       × MovesTo w (client_part plan commands s (action_at plan s) act).steps (client_after s.client (client_part plan commands s (action_at plan s) act).steps) n
   moves_act s (Put bytes) w l n fine obeys begun rest is holds does = (
     (is_meant plan commands s (Put bytes) true begun fine obeys).1.1 ∙ rest,
-    moves_put s (Put bytes) bytes w l n fine is holds (sends_of s (Put bytes) fine obeys begun) (put_is plan commands s (Put bytes) bytes fine obeys refl begun) does,
+    moves_put s bytes w l n fine is holds (sends_of s (Put bytes) fine obeys begun) (put_is plan commands s (Put bytes) bytes fine obeys refl begun) does,
   )
   moves_act s (Cut bytes count) w l n fine obeys begun rest is holds does = (
     (is_meant plan commands s (Cut bytes count) true begun fine obeys).1.1 ∙ rest,
-    moves_put s (Cut bytes count) bytes w l n fine is holds (sends_of s (Cut bytes count) fine obeys begun) (put_is plan commands s (Cut bytes count) bytes fine obeys refl begun) (inl does),
+    moves_put s bytes w l n fine is holds (sends_of s (Cut bytes count) fine obeys begun) (put_is plan commands s (Cut bytes count) bytes fine obeys refl begun) (inl does),
   )
   moves_act s (Gave piece moment) w l n fine obeys begun rest is holds does =
       let p = client_part plan commands s (action_at plan s) (Gave piece moment) in
@@ -208,7 +212,7 @@ module _ (plan : Plan) (commands : List Task) (askable : AreAskable commands) wh
 
   -- Whole runs.
 
-  -- if nothing is lost, the client is the one after the steps of the act
+  -- once the station has synchronized, the client after an act at which not all is lost is the one after the act's steps
   client_on : (s : Model) (act : Act) → Invariant plan commands s → Performs commands s (action_at plan s) act → has_begun s.progress ≡ true
       → loses_all (after plan commands s act).progress ≡ false → (after plan commands s act).client ≡ client_after s.client (client_part plan commands s (action_at plan s) act).steps
   client_on s act fine obeys begun keeps =
@@ -240,7 +244,8 @@ module _ (plan : Plan) (commands : List Task) (askable : AreAskable commands) wh
   some_left [] e none = cc
   some_left (asked ∷ rest) e none = cc
 
-  -- `FromClient` is preserved if what happens on the line without an act is put before it
+  -- if what happens on the line has no acts, and `FromClient` holds from each world with the lines that this leads to in flight
+  -- and with the client of w, it holds from w
   goes_idly : (hs : List Happening) (w : World7) (l m : Lines) (steps : List (client.Step Asked)) (more : List Part) (done : Bool) → acts_of hs ≡ [] → Holds (on_line w.wire) l → LeadAll l hs m
       → ((v : World7) → Holds (on_line v.wire) m → FromClient v steps more m done) → FromClient w steps more m done
   goes_idly [] w l m steps more done none holds all on = on w (subst (Holds (on_line w.wire)) (sym all) holds)
@@ -260,7 +265,7 @@ module _ (plan : Plan) (commands : List Task) (askable : AreAskable commands) wh
   first_none [] none = refl
   first_none (p ∷ ps) none = none
 
-  -- if the run is over no act is left
+  -- acts that are a run from a model t in which the run is over are none
   none_over : (t : Model) (acts : List Act) → is_over t.progress ≡ true → Runs plan commands t acts → acts ≡ []
   none_over t [] over runs = refl
   none_over t (act ∷ acts) over runs = absurd (over_stays plan commands t act over runs.0)
@@ -273,8 +278,8 @@ module _ (plan : Plan) (commands : List Task) (askable : AreAskable commands) wh
       → IsSmall s.progress.word → Holds (leaves b) l → LeadAll l hs m → Runs plan commands s (acts_of hs)
       → OnBegin b m (parts_of plan commands s (acts_of hs)) (has_begun (after_all plan commands s (acts_of hs)).progress)
 
-  -- from each world w of a client on that agrees with the station's model s, which has synchronized, and with the line: what happens on the
-  -- line shows the parts of the station's run by these acts
+  -- from each world w of a client on that agrees with the station's model s, which has synchronized, and with the line: what
+  -- happens on the line shows the parts of the station's run by these acts
   abbrev FromClientOf : List Happening → Lines → Type 0
   FromClientOf hs m =
       (s : Model) (w : World7) (l : Lines) → Invariant plan commands s → s.rest ≡ [] → has_begun s.progress ≡ true → w.client ≡ s.client
@@ -333,7 +338,8 @@ module _ (plan : Plan) (commands : List Task) (askable : AreAskable commands) wh
             → is_over (after plan commands s act).progress ≡ true
         over_of e f = subst (λ y. (not y || is_over (after plan commands s act).progress) ≡ true) e f
 
-        -- what happens later, where the part has ended, by whether the station has synchronized after the act (`x`): then the run is over
+        -- what happens later, where the part has ended, by whether the station has synchronized after the act (`x`); if it has,
+        -- the run is over
         anew : (v : World7) → Holds (on_line v.wire) all.0 → loses_all (after plan commands s act).progress ≡ true → (x : Bool) → has_begun (after plan commands s act).progress ≡ x
             → FromClient v [] (parts_of plan commands (after plan commands s act) (acts_of hs)) m (has_begun (after_all plan commands (after plan commands s act) (acts_of hs)).progress)
         anew v h lost false e =
@@ -358,7 +364,7 @@ module _ (plan : Plan) (commands : List Task) (askable : AreAskable commands) wh
             let p = client_part plan commands s (action_at plan s) act in
             client_first w p (client_after s.client p.steps) all.0 m (parts_of plan commands u (acts_of hs)) (has_begun (after_all plan commands u (acts_of hs)).progress)
             (some_parts plan commands u (acts_of hs)) to.1
-            (λ v h k. later_client u v all.0 (invariant_after plan commands s act fine) to.0 (goes_begun plan commands u e) (k ∙ sym (client_on s act fine runs.0 begun e)) h all.2 runs.1)
+            (λ v h k. later_client u v all.0 (invariant_after plan commands s act fine) to.0 (goes_begun u e) (k ∙ sym (client_on s act fine runs.0 begun e)) h all.2 runs.1)
         by_loss true e =
             let u = after plan commands s act in
             let p = client_part plan commands s (action_at plan s) act in
@@ -385,7 +391,7 @@ module _ (plan : Plan) (commands : List Task) (askable : AreAskable commands) wh
 
 -- if the instrument retains no reply, its state is a good one (`RetainedReads`)
 pub none_kept : (state : SceneState) → state.base.kept ≡ None → RetainedReads state
-none_kept state none = subst scene.ReadsWithItsId (sym none) tt
+none_kept state none = subst ReadsWithItsId (sym none) tt
 
 -- a run over a rehearsed line is one in the field, and faithful
 pub rehearsed : RehearsalsAreFaithful

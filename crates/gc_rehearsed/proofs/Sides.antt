@@ -34,7 +34,7 @@ turn_of (Repeat_down k) = begin.Down_repeat k
 turn_of Start = begin.Anew
 turn_of (Change state) = begin.Changes state
 
--- what a request that reaches the instrument leaves
+-- what a synchronization leaves in flight once the front request, if there is one, reached the instrument, by `reached`
 leaves_reach : (b : Model SceneState) (q : List (InFlight Request)) → leaves (begin.reaches scene_ends b q) ≡ reached (leaves b) (map (λ x. x.line) q)
 leaves_reach b [] = refl
 leaves_reach b (x ∷ rest) =
@@ -94,7 +94,7 @@ move_of (Repeat_down k) = field.OnLine (world.Down_repeat k)
 move_of Start = field.Anew
 move_of (Change state) = field.Changes state
 
--- what a request that reaches the instrument leaves
+-- what is in flight once the front request, if there is one, reached the instrument, by `reached`
 line_reach : (w : Wire SceneState) (q : List (Numbered Request)) → on_line (up_delivered scene_ends w q) ≡ reached (on_line w) (map (λ x. x.line) q)
 line_reach w [] = refl
 line_reach w (x ∷ rest) =
@@ -102,12 +102,14 @@ line_reach w (x ∷ rest) =
     let reply : Numbered (List ℕ) = record { number = x.number; line = h.reply } in
     ap (λ d. flow (map (λ y. y.line) rest) d h.state) (map-append (λ (y : Numbered (List ℕ)). y.line) w.down (reply ∷ []))
 
--- what is in flight after a change of the requests (q); if it isn't possible (b is false), it changes nothing
+-- after a change of the requests, which are q then, q is in flight, with the replies and the state as before; q must be the old
+-- requests if the change isn't possible (b is false)
 line_up : (w : Wire SceneState) (q : List (Numbered Request)) (b : Bool) → (b ≡ false → q ≡ w.up) → on_line (with_up w q b) ≡ flow (map (λ x. x.line) q) (on_line w).down w.state
 line_up w q true same = refl
 line_up w q false same = ap (λ (l : List (Numbered Request)). flow (map (λ x. x.line) l) (on_line w).down w.state) (sym (same refl))
 
--- what is in flight after a change of the replies (q); if it isn't possible (b is false), it changes nothing
+-- after a change of the replies, which are q then, q is in flight, with the requests and the state as before; q must be the old
+-- replies if the change isn't possible (b is false)
 line_down : (w : Wire SceneState) (q : List (Numbered (List ℕ))) (b : Bool) → (b ≡ false → q ≡ w.down) → on_line (with_down w q b) ≡ flow (on_line w).up (map (λ x. x.line) q) w.state
 line_down w q true same = refl
 line_down w q false same = ap (λ (l : List (Numbered (List ℕ))). flow (on_line w).up (map (λ x. x.line) l) w.state) (sym (same refl))
@@ -134,7 +136,7 @@ line_move w (Repeat_down k) =
 line_move w Start = refl
 line_move w (Change state) = refl
 
--- the move of a step leaves the client
+-- the move of a step leaves the client as it is
 pub client_move : (w : World (ById Asked) SceneState) (x : Step) → (moves scene_ends (by_ids WINDOW scene_ends) w (move_of x)).client ≡ w.client
 client_move w Reach = refl
 client_move w (Lose_up k) = refl

@@ -18,7 +18,7 @@ use Rattle.gc_field.specs.SceneField.{RetainedReads, scene_handed, scene_kept}
 use Rattle.gc_field.specs.World.{Request, without, doubled}
 use Rattle.gc_field.proofs.SceneField.{scene_is_an_instrument}
 use Rattle.gc_rehearsal.specs.Carrying.{Lines, Happening, Call, Reaches, Restarts, Passes, Repeats_up, Repeats_down, Loses_up, Loses_down, Loses_front, HasReached, IsRepeated, Leads, MaySendOut}
-use Rattle.gc_field.proofs.BeginLists.{each_back}
+use Rattle.gc_lines.proofs.Lists.{all_behind}
 
 -- What is in flight.
 
@@ -42,7 +42,8 @@ IsOne line = IsPlain line × (length line ≤ 512)
 abbrev pub flow : List Request → List (List ℕ) → SceneState → UnderWay SceneState
 flow up down state = record { up = up; down = down; state = state }
 
--- what is in flight in the field is what is in flight on the line
+-- what is in flight in the field is what is in flight on the line, with the instrument in the same state; each reply is one
+-- line, and what the instrument retains reads with its id
 pub record Holds (u : UnderWay SceneState) (l : Lines) : Type 0 where
   pub up : AreLinesOf u.up l.up
   pub down : u.down ≡ l.down
@@ -122,7 +123,8 @@ lines_on [] (x ∷ lines) r line all one = absurd all
 lines_on (s ∷ rs) [] r line all one = absurd all
 lines_on (s ∷ rs) (x ∷ lines) r line all one = (all.0, lines_on rs lines r line all.1 one)
 
--- if the last of these lines comes twice, so does the last request
+-- where `front` and then `line` are the lines of the requests `rs`, these lines and then `line` once more are those of `rs`
+-- with the request at some place k doubled
 pub lines_twice : (rs : List Request) (front : List (List ℕ)) (line : List ℕ) → AreLinesOf rs (front ++ line ∷ [])
     → (k : ℕ) × AreLinesOf (doubled k rs) ((front ++ line ∷ []) ++ line ∷ [])
 lines_twice [] [] line all = absurd all
@@ -141,22 +143,24 @@ played_as s r line is = subst (λ x. IsPlayed s x (scene_handed s r.id r.call).s
 
 -- What happens.
 
--- steps lose all requests, one after the other
+-- there are possible steps that lose all requests, and leave the replies and the state as they are
 lose_all_up : (rs : List Request) (down : List (List ℕ)) (state : SceneState) → (xs : List Step) × AreSteps xs (flow rs down state) × (all_stepped xs (flow rs down state) ≡ flow [] down state)
 lose_all_up [] down state = ([], tt, refl)
 lose_all_up (r ∷ rs) down state = let rest = lose_all_up rs down state in (Lose_up zero ∷ rest.0, (tt, rest.1), rest.2)
 
--- steps lose all replies, one after the other
+-- there are possible steps that lose all replies, and leave the requests and the state as they are
 lose_all_down : (up : List Request) (down : List (List ℕ)) (state : SceneState) → (xs : List Step) × AreSteps xs (flow up down state) × (all_stepped xs (flow up down state) ≡ flow up [] state)
 lose_all_down up [] state = ([], tt, refl)
 lose_all_down up (x ∷ down) state = let rest = lose_all_down up down state in (Lose_down zero ∷ rest.0, (tt, rest.1), rest.2)
 
--- a reply is sent on its way, or is lost at once, by steps
-sends_out : (rs : List Request) (down : List (List ℕ)) (s t : SceneState) (reply : List ℕ) (r : Request) (up' down' : List (List ℕ)) (t' : SceneState)
+-- if `reply` and `t'` are the reply and the state that the instrument makes of the front request r, the state is a good one
+-- (`RetainedReads`), `up'` are the lines of the requests `rs` behind r, each reply of `down` is one line, and `down'` is `down`
+-- once `reply` was sent on its way or lost at once (`MaySendOut`), steps lead to `up'`, `down'` and `t'`
+sends_out : (rs : List Request) (down : List (List ℕ)) (s : SceneState) (reply : List ℕ) (r : Request) (up' down' : List (List ℕ)) (t' : SceneState)
     → reply ≡ (scene_handed s r.id r.call).reply → t' ≡ (scene_handed s r.id r.call).state → RetainedReads (scene_handed s r.id r.call).state
     → AreLinesOf rs up' → Each IsOne down → MaySendOut down (Some reply) down'
     → Steps (flow (r ∷ rs) down s) (record { up = up'; down = down'; state = t' })
-sends_out rs down s t reply r up' down' t' is state good lines one (inl lost) =
+sends_out rs down s reply r up' down' t' is state good lines one (inl lost) =
     let h = scene_handed s r.id r.call in
     record {
       steps = Reach ∷ Lose_down (length down) ∷ [];
@@ -169,7 +173,7 @@ sends_out rs down s t reply r up' down' t' is state good lines one (inl lost) =
         good = good;
       };
     }
-sends_out rs down s t reply r up' down' t' is state good lines one (inr out) =
+sends_out rs down s reply r up' down' t' is state good lines one (inr out) =
     let h = scene_handed s r.id r.call in
     record {
       steps = Reach ∷ [];
@@ -183,7 +187,8 @@ sends_out rs down s t reply r up' down' t' is state good lines one (inr out) =
       };
     }
 
--- the front request reaches the instrument by steps
+-- where the front line reaches the instrument (`HasReached`), steps of what is in flight in the field lead to the lines after
+-- that
 reaches : (rs : List Request) (down : List (List ℕ)) (s : SceneState) (l m : Lines) → Holds (flow rs down s) l → HasReached l m → Steps (flow rs down s) m
 reaches [] down s l m holds h = absurd (subst (AreLinesOf []) h.front holds.up)
 reaches (r ∷ rs) down s l m holds h = by_reply h.reply refl where
@@ -203,7 +208,7 @@ reaches (r ∷ rs) down s l m holds h = by_reply h.reply refl where
   by_reply : (o : Option (List ℕ)) → h.reply ≡ o → Steps (flow (r ∷ rs) down s) m
   by_reply None e = let some = same.1 in let wrong : ⊥ = cc in absurd wrong
   by_reply (Some reply) e =
-      sends_out rs down s s reply r m.up m.down m.state (same_Some reply (scene_handed s r.id r.call).reply (sym e ∙ same.1)) same.0
+      sends_out rs down s reply r m.up m.down m.state (same_Some reply (scene_handed s r.id r.call).reply (sym e ∙ same.1)) same.0
       (scene_is_an_instrument.instrument.stays_good s r.id r.call holds.good lines.0.id) lines.1 (subst (Each IsOne) (sym holds.down) holds.one)
       (subst (λ x. MaySendOut x (Some reply) m.down) (sym holds.down) (subst (λ x. MaySendOut l.down x m.down) e h.sends))
 
@@ -259,7 +264,7 @@ happens u l m Repeats_down never holds leads =
         up = holds.up;
         down = new;
         one = subst (Each IsOne) (ap (λ q. q ++ twice.1 ∷ []) (sym twice.2) ∙ sym twice.3)
-            (each_append IsOne (twice.0 ++ twice.1 ∷ []) (twice.1 ∷ []) ones ((each_back IsOne twice.0 (twice.1 ∷ []) ones).0, tt));
+            (each_append IsOne (twice.0 ++ twice.1 ∷ []) (twice.1 ∷ []) ones ((all_behind IsOne twice.0 (twice.1 ∷ []) ones).0, tt));
         state = holds.state;
         good = holds.good;
       });

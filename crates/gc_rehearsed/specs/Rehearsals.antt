@@ -59,7 +59,7 @@ abbrev pub acts_of_all : List Station → List Act
 acts_of_all [] = []
 acts_of_all (x ∷ xs) = x.acts ++ (x.after_run ++ acts_of_all xs)
 
--- a station's commands are `IsAskable`, its acts are a run of it, and after them nothing was sent and nothing came
+-- a station's commands are `IsAskable`, its acts are a run of it, and after them nothing was sent whole and nothing came (`IsQuiet`)
 pub record RunsAndStops (x : Station) : Type 0 where
   pub askable : AreAskable x.commands
   pub runs : Runs x.plan x.commands (opening x.plan x.scope) x.acts
@@ -70,8 +70,8 @@ abbrev pub programs : List Station → List (List (Run SceneState)) → List (Pr
 programs (x ∷ xs) (rs ∷ rss) = record { plan = x.plan; commands = x.commands; scope = x.scope; acts = x.acts; runs = rs } ∷ programs xs rss
 programs _ _ = []
 
--- how many stations in a row were killed while they synchronized, counted after one that had synchronized at its end (`true`) or
--- hadn't, where `n` were killed before it
+-- how many stations in a row ended while they synchronized, counted after one that had synchronized at its end (`true`) or hadn't
+-- (`false`), where `n` in a row had ended so directly before it
 abbrev pub unbegun : ℕ → Bool → ℕ
 unbegun n true = 0
 unbegun n false = n + 1
@@ -80,7 +80,7 @@ unbegun n false = n + 1
 abbrev pub has_begun_at_its_end : Station → Bool
 has_begun_at_its_end x = has_begun (state_after x.plan x.commands x.scope x.acts).progress
 
--- fewer than six of these stations in a row end while they synchronize, counted with the `n` before the first
+-- fewer than six of these stations in a row end while they synchronize, counted with the `n` that ended so directly before the first
 abbrev pub FewEndUnbegun : ℕ → List Station → Type 0
 FewEndUnbegun n [] = Unit {0}
 FewEndUnbegun n (x ∷ xs) = (unbegun n (has_begun_at_its_end x) ≤ 5) × FewEndUnbegun (unbegun n (has_begun_at_its_end x)) xs
@@ -94,8 +94,9 @@ pub record AreRehearsed (xs : List Station) : Type 0 where
   pub field : AreInARow scene_ends RetainedReads scene_kept 0 (none_under_way start) (programs xs runs)
   pub faithful : AreFaithful scene_ends RetainedReads scene_kept (none_under_way start) (programs xs runs)
 
--- stations that run one after the other over a rehearsed line, which keeps what it likes of what is in flight at a close, are
--- stations in a row in the field, and so each is faithful, as long as fewer than six in a row end while they synchronize. Their
--- commands are `IsAskable`, and between two of them nothing is sent and nothing comes (`RunsAndStops`)
+-- stations that run one after the other over a rehearsed line, on which nothing was in flight before the first (`IsOfLine`), and
+-- which keeps what it likes of what is in flight at a close, are stations in a row in the field, and so each is faithful, as long
+-- as fewer than six in a row end while they synchronize. Their commands are `IsAskable`, and between two of them nothing is sent
+-- whole and nothing comes (`RunsAndStops`)
 abbrev pub RehearsalsInARowAreFaithful : Type 0
 RehearsalsInARowAreFaithful = (xs : List Station) → IsOfLine (acts_of_all xs) → AllByRecursion RunsAndStops xs → FewEndUnbegun 0 xs → AreRehearsed xs

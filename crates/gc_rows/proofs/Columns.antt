@@ -15,7 +15,7 @@ use Rattle.gc_rows.specs.Laws.{ColumnsAreFields}
 use Rattle.gc_texts.specs.Cuts.{before, behind}
 use Rattle.gc_rows.specs.Rows.{com_of}
 
--- no digit (bytes 48 to 57) is a mark that isn't a digit
+-- a byte d from 48 to 57, the digits, isn't equal to a mark below 48 or above 57
 no_digit : (d mark : ℕ) → d ≡ mark → IsInRange 48 57 d → mark < 48 ⊎ 57 < mark → ⊥
 no_digit d mark e range (inl low) = omega (arith, e, range.0, low)
 no_digit d mark e range (inr high) = omega (arith, e, range.1, high)
@@ -30,19 +30,20 @@ pub lacks_both : (mark : ℕ) (xs ys : List ℕ) → Lacks mark xs → Lacks mar
 lacks_both mark [] ys lx ly = ly
 lacks_both mark (x ∷ xs) ys lx ly = (lx.0, lacks_both mark xs ys lx.1 ly)
 
--- an id lacks a colon
+-- the text of an id lacks a colon: it is a comma and an id below 8, or nothing if there is no id
 id_lacks : (id : Option ℕ) → IfSome id (λ i. i < 8) → Lacks 58 (id_text id)
 id_lacks None small = tt
 id_lacks (Some i) small = ((λ e. absurd (omega (arith, e))), ((λ e. absurd (omega (arith, e, small))), tt))
 
--- `id_text` is an id after a comma, or nothing if there is no id. In digits with it after them, the digits are what comes
--- before the first comma
+-- where `ds` lack a comma, `ds` are what comes before the first comma in `ds` and the text of an id after them; without an id
+-- there is no comma, and `ds` are all
 number_first : (ds : List ℕ) (id : Option ℕ) → Lacks 44 ds → before 44 (ds ++ id_text id) ≡ ds
 number_first ds None lacks = ap (before 44) (append-nil ds) ∙ before_none 44 ds lacks
 number_first ds (Some i) lacks = before_mark 44 ds ((48 + i) ∷ []) lacks
 
--- where digits of a code end with nothing or with a comma and parameters (`EndsCode`), the digits are what comes before the
--- first comma, and the parameters what comes after it
+-- where `ds` lack a comma, and `tail` is nothing, with no parameters, or a comma and the parameters (`EndsCode`), then in `ds`
+-- and `tail` after them, `ds` are what comes before the first comma, and the parameters what comes after it; without a comma,
+-- `ds` are all, and nothing comes after
 code_first : (ds tail params : List ℕ) → Lacks 44 ds → EndsCode tail params → (before 44 (ds ++ tail) ≡ ds) × (behind 44 (ds ++ tail) ≡ params)
 code_first ds tail params lacks (inl none) =
     let whole : ds ++ tail ≡ ds = ap (λ l. ds ++ l) none.0 ∙ append-nil ds in

@@ -1,41 +1,27 @@
 -- The items of a reply's values are those of the grammar: a text that is parameters joined by commas, with any spaces round each, has these
 -- parameters as its items.
-use Rattle.std.proofs.Common.{◌≡◌, ◌<◌, ◌≤◌, ◌+◌, ◌%◌, ◌==◌, ◌⊎◌, inl, inr, ℕ, zero, suc, List, [], ◌∷◌, ◌++◌, length, get_or, take, map, replicate, Bool, true, false, cond, eqb, Option, Some, None, refl, sym, ap, ◌∙◌, subst, arith, append_assoc, append-nil, length-append}
+use Rattle.std.proofs.Common.{◌≡◌, ◌<◌, ◌≤◌, ◌+◌, ◌%◌, ◌==◌, ◌⊎◌, inl, inr, ℕ, zero, suc, List, [], ◌∷◌, ◌++◌, length, get_or, take, map, replicate, Bool, true, false, cond, eqb, Option, Some, None, refl, sym, ap, ◌∙◌, subst, arith, append_assoc, append-nil}
 use Rattle.std.specs.Prelude.{not, nat_lt, ◌&&◌}
-use Rattle.std.specs.List.{AllByRecursion, flat_map}
+use Rattle.std.specs.List.{AllByRecursion}
 use Rattle.std.proofs.lemmas.Bool.{cases_eq, ne_eqb, eqb-true, eq-eqb, cond_both, and_from, lt-ltb, ltb-true, false≢true}
-use Rattle.gc_values.specs.Params.{quotes, AreSpaces, HasCommasInQuotes, IsParam, IsPadded, ArePieces, joined, IsParams}
+use Rattle.gc_values.specs.Params.{quotes, AreSpaces, HasCommasInQuotes, IsParam, IsPadded, ArePieces, joined, IsParams, bytes_in}
 use Rattle.gc_values.specs.declared.fault.ValueFault.{ValueFault}
 use Rattle.gc_values.specs.declared.fault.ValueFault.TheVariants.{OpenQuote, TooMany}
+use Rattle.gc_values.proofs.ItemBytes.{bytes_in_next}
 use Rattle.gc_values.proofs.ParamLists.{IsPiece, pieces_of, params_even}
 use Rattle.gc_values.proofs.Quotes.{quotes-append, quotes-cons}
-use Rattle.gc_values.proofs.Trimming.{front_off, kept_front, back_off, param_is_trimmed, trimmed_is}
-use Rattle.gc_rows.specs.Items.{without_front_spaces, put_before, without_end_spaces, trimmed, onto, quoted_after, pieces, is_blank, items_of, split_items, bytes_in}
+use Rattle.gc_values.proofs.Trimming.{param_is_trimmed, trimmed_is}
+use Rattle.gc_values.specs.Pieces.{without_front_spaces, put_before, without_end_spaces}
+use Rattle.gc_rows.specs.Items.{trimmed, onto, quoted_after, pieces, is_blank, items_of, split_items}
 use Rattle.gc_rows.specs.Laws.{ItemsAreTheGrammars}
 
 -- Spaces at the ends.
 
--- `without_front_spaces` is `front_off` of gc_values
-same_front : (text : List ℕ) → without_front_spaces text ≡ front_off text
-same_front [] = refl
-same_front (b ∷ bs) = ap (λ t. cond (b == 32) t (b ∷ bs)) (same_front bs)
-
--- `put_before` is `kept_front` of gc_values
-same_before : (b : ℕ) (text : List ℕ) → put_before b text ≡ kept_front b text
-same_before b [] = refl
-same_before b (x ∷ xs) = refl
-
--- `without_end_spaces` is `back_off` of gc_values
-same_end : (text : List ℕ) → without_end_spaces text ≡ back_off text
-same_end [] = refl
-same_end (b ∷ bs) = same_before b (without_end_spaces bs) ∙ ap (kept_front b) (same_end bs)
-
 -- a parameter with any spaces round it is trimmed to that parameter
 item_is : (piece item : List ℕ) → IsPadded piece item → IsParam item → trimmed piece ≡ item
-item_is piece item padded param =
-    same_end (without_front_spaces piece) ∙ ap back_off (same_front piece) ∙ sym (trimmed_is piece item (param_is_trimmed piece item padded param))
+item_is piece item padded param = sym (trimmed_is piece item (param_is_trimmed piece item padded param))
 
--- padded parameters are trimmed to these
+-- pieces that are parameters with any spaces round each are trimmed to these parameters
 items_are : (ps is : List (List ℕ)) → ArePieces ps is → map trimmed ps ≡ is
 items_are [] [] are = refl
 items_are [] (i ∷ is) are = absurd are
@@ -48,7 +34,7 @@ items_are (p ∷ ps) (i ∷ is) are = ap (λ t. t ∷ map trimmed ps) (item_is p
 blank_spaces : (text : List ℕ) → is_blank text ≡ true → AreSpaces text
 blank_spaces [] blank = (0, refl)
 blank_spaces (b ∷ bs) blank = by_first (b == 32) refl blank (λ all. blank_spaces bs all) where
-  -- the lemma above for the text `b ∷ bs`, by whether its first byte is a space (`z`)
+  -- the lemma above for the text `b ∷ bs`, by whether b is a space (`z`), if the lemma is true of `bs`
   by_first : (z : Bool) → (b == 32) ≡ z → (z && is_blank bs) ≡ true → (is_blank bs ≡ true → AreSpaces bs) → AreSpaces (b ∷ bs)
   by_first true is all others = let rest = others all in (suc rest.0, ap (λ x. x ∷ bs) (eqb-true b 32 is) ∙ ap (λ xs. 32 ∷ xs) rest.1)
   by_first false is all others = absurd (false≢true all)
@@ -69,21 +55,21 @@ not_blank text some = by_test (is_blank text) refl where
 -- Commas outside double quotes.
 
 -- no comma of a text is outside double quotes; `quoted` says whether a double quote is open before the text
-abbrev HasNoOpenComma : Bool → List ℕ → Type 0
+abbrev HasNoOpenComma : (quoted : Bool) → List ℕ → Type 0
 HasNoOpenComma quoted [] = Unit {0}
 HasNoOpenComma quoted (b ∷ bs) = (b ≡ 44 → quoted ≡ true) × HasNoOpenComma (quoted_after b quoted) bs
 
 -- whether a double quote is open after a text; `quoted` says whether one is open before it
-abbrev is_open_after : Bool → List ℕ → Bool
+abbrev is_open_after : (quoted : Bool) → List ℕ → Bool
 is_open_after quoted [] = quoted
 is_open_after quoted (b ∷ bs) = is_open_after (quoted_after b quoted) bs
 
--- a number of double quotes is odd (`true`) or even (`false`)
-abbrev IsOdd : Bool → ℕ → Type 0
-IsOdd true n = n % 2 ≡ 1
-IsOdd false n = n % 2 ≡ 0
+-- `odd` says whether a number is odd
+abbrev SaysOdd : (odd : Bool) → ℕ → Type 0
+SaysOdd true n = n % 2 ≡ 1
+SaysOdd false n = n % 2 ≡ 0
 
--- these pieces, with a text put in front of the first one
+-- these pieces, with a text put in front of the first one; no pieces stay none
 abbrev before_first : List ℕ → List (List ℕ) → List (List ℕ)
 before_first [] ps = ps
 before_first (b ∷ bs) ps = onto b (before_first bs ps)
@@ -96,45 +82,49 @@ no_end b quoted keeps = by_test (b == 44) refl where
   by_test true comma = ap not (keeps (eqb-true b 44 comma))
   by_test false comma = refl
 
--- the bytes of a text without a comma outside double quotes are in the first piece
-walked : (quoted : Bool) (piece rest : List ℕ) → HasNoOpenComma quoted piece → pieces quoted (piece ++ rest) ≡ before_first piece (pieces (is_open_after quoted piece) rest)
+-- a text `piece` without a comma outside double quotes, and `rest` after it, are cut as `rest` is, with `piece` in front of the
+-- first of its pieces; `quoted` says whether a double quote is open before `piece`
+walked : (quoted : Bool) (piece rest : List ℕ) → HasNoOpenComma quoted piece
+    → pieces quoted (piece ++ rest) ≡ before_first piece (pieces (is_open_after quoted piece) rest)
 walked quoted [] rest keeps = refl
 walked quoted (b ∷ bs) rest keeps =
     ap (λ z. cond z ([] ∷ pieces false (bs ++ rest)) (onto b (pieces (quoted_after b quoted) (bs ++ rest)))) (no_end b quoted keeps.0)
     ∙ ap (onto b) (walked (quoted_after b quoted) bs rest keeps.1)
 
 -- one more byte changes whether the number of double quotes is odd exactly as `quoted_after` says
-odd_more : (quoted : Bool) (front : List ℕ) (b : ℕ) → IsOdd quoted (quotes front) → IsOdd (quoted_after b quoted) (quotes (front ++ b ∷ []))
+odd_more : (quoted : Bool) (front : List ℕ) (b : ℕ) → SaysOdd quoted (quotes front) → SaysOdd (quoted_after b quoted) (quotes (front ++ b ∷ []))
 odd_more quoted front b odd = by_test quoted (b == 34) odd (quotes-append front (b ∷ []) ∙ ap (λ n. quotes front + n) (quotes-cons b [])) where
   -- the lemma above, by whether the byte is a double quote (`z`)
-  by_test : (quoted z : Bool) → IsOdd quoted (quotes front) → quotes (front ++ b ∷ []) ≡ quotes front + (cond z 1 0 + quotes [])
-      → IsOdd (cond z (not quoted) quoted) (quotes (front ++ b ∷ []))
+  by_test : (quoted z : Bool) → SaysOdd quoted (quotes front) → quotes (front ++ b ∷ []) ≡ quotes front + (cond z 1 0 + quotes [])
+      → SaysOdd (cond z (not quoted) quoted) (quotes (front ++ b ∷ []))
   by_test true true odd more = omega (arith, odd, more)
   by_test true false odd more = omega (arith, odd, more)
   by_test false true odd more = omega (arith, odd, more)
   by_test false false odd more = omega (arith, odd, more)
 
 -- if `quoted` says whether a number is odd, and the number is odd, `quoted` is true
-open_where : (quoted : Bool) (n : ℕ) → IsOdd quoted n → n % 2 ≡ 1 → quoted ≡ true
+open_where : (quoted : Bool) (n : ℕ) → SaysOdd quoted n → n % 2 ≡ 1 → quoted ≡ true
 open_where true n odd one = refl
 open_where false n odd one = absurd (omega (arith, odd, one))
 
--- a text whose commas are each after an odd number of double quotes has none outside them; `front` is what comes before `piece`
-keeps_from : (quoted : Bool) (front piece : List ℕ) → HasCommasInQuotes (front ++ piece) → IsOdd quoted (quotes front) → HasNoOpenComma quoted piece
+-- where each comma of `front` and `piece` together is after an odd number of double quotes, and `quoted` says whether `front` has
+-- an odd number of them, no comma of `piece` is outside double quotes
+keeps_from : (quoted : Bool) (front piece : List ℕ) → HasCommasInQuotes (front ++ piece) → SaysOdd quoted (quotes front) → HasNoOpenComma quoted piece
 keeps_from quoted front [] keeps odd = tt
 keeps_from quoted front (b ∷ bs) keeps odd = (
   λ comma. open_where quoted (quotes front) odd (keeps front bs (ap (λ x. front ++ x ∷ bs) comma)),
   keeps_from (quoted_after b quoted) (front ++ b ∷ []) bs (subst HasCommasInQuotes (sym (append_assoc front (b ∷ []) bs)) keeps) (odd_more quoted front b odd),
 )
 
--- whether a double quote is open after a text says whether the number of double quotes is odd
-odd_behind : (quoted : Bool) (front piece : List ℕ) → IsOdd quoted (quotes front) → IsOdd (is_open_after quoted piece) (quotes (front ++ piece))
-odd_behind quoted front [] odd = subst (λ t. IsOdd quoted (quotes t)) (sym (append-nil front)) odd
+-- where `quoted` says whether `front` has an odd number of double quotes, `is_open_after quoted piece` says whether `front` and
+-- `piece` together have an odd number of them
+odd_behind : (quoted : Bool) (front piece : List ℕ) → SaysOdd quoted (quotes front) → SaysOdd (is_open_after quoted piece) (quotes (front ++ piece))
+odd_behind quoted front [] odd = subst (λ t. SaysOdd quoted (quotes t)) (sym (append-nil front)) odd
 odd_behind quoted front (b ∷ bs) odd =
-    subst (λ t. IsOdd (is_open_after (quoted_after b quoted) bs) (quotes t)) (append_assoc front (b ∷ []) bs) (odd_behind (quoted_after b quoted) (front ++ b ∷ []) bs (odd_more quoted front b odd))
+    subst (λ t. SaysOdd (is_open_after (quoted_after b quoted) bs) (quotes t)) (append_assoc front (b ∷ []) bs) (odd_behind (quoted_after b quoted) (front ++ b ∷ []) bs (odd_more quoted front b odd))
 
 -- if `quoted` says whether a number is odd, and the number is even, `quoted` is false
-closed_where : (quoted : Bool) (n : ℕ) → IsOdd quoted n → n % 2 ≡ 0 → quoted ≡ false
+closed_where : (quoted : Bool) (n : ℕ) → SaysOdd quoted n → n % 2 ≡ 0 → quoted ≡ false
 closed_where true n odd even = absurd (omega (arith, odd, even))
 closed_where false n odd even = refl
 
@@ -143,19 +133,20 @@ first_is : (piece : List ℕ) (ps : List (List ℕ)) → before_first piece ([] 
 first_is [] ps = refl
 first_is (b ∷ bs) ps = ap (onto b) (first_is bs ps)
 
--- a piece, and a text after it, are cut after the piece
+-- a piece and a text after it are cut as the text is, with the piece in front of the first of the text's pieces
 cut_behind : (piece rest : List ℕ) → IsPiece piece → pieces false (piece ++ rest) ≡ before_first piece (pieces false rest)
 cut_behind piece rest is =
     walked false piece rest (keeps_from false [] piece is.keeps refl)
     ∙ ap (λ quoted. before_first piece (pieces quoted rest)) (closed_where (is_open_after false piece) (quotes piece) (odd_behind false [] piece refl) is.even)
 
--- pieces joined by commas are cut into these pieces
+-- one piece or more, joined by commas, are cut into these pieces
 pieces_are : (p : List ℕ) (ps : List (List ℕ)) → AllByRecursion IsPiece (p ∷ ps) → pieces false (joined (p ∷ ps)) ≡ p ∷ ps
 pieces_are p [] are = cut_behind p [] are.0 ∙ first_is p []
 pieces_are p (q ∷ qs) are =
     cut_behind p (44 ∷ joined (q ∷ qs)) are.0 ∙ ap (λ l. before_first p ([] ∷ l)) (pieces_are q qs are.1) ∙ first_is p (q ∷ qs)
 
--- padded parameters, joined by commas, have these parameters as their pieces, trimmed
+-- where `ps` are the parameters `i ∷ is` with any spaces round each, the pieces of `ps`, joined by commas, are these parameters
+-- once they are trimmed
 joined_items : (ps is : List (List ℕ)) (i : List ℕ) → ArePieces ps (i ∷ is) → map trimmed (pieces false (joined ps)) ≡ i ∷ is
 joined_items [] is i are = absurd are
 joined_items (p ∷ ps) is i are = ap (map trimmed) (pieces_are p ps (pieces_of (p ∷ ps) (i ∷ is) are)) ∙ items_are (p ∷ ps) (i ∷ is) are
@@ -169,7 +160,7 @@ items_are_the_grammars text (item ∷ items) are =
 
 -- Whether a text splits.
 
--- at most 16 items of a text are what it splits into
+-- a text that is parameters of the grammar, at most 16, splits into these
 pub splits : (text : List ℕ) (items : List (List ℕ)) → IsParams text items → length items ≤ 16 → split_items text ≡ Some items
 splits text items are few =
     let same = items_are_the_grammars text items are in
@@ -196,45 +187,6 @@ many_are_none text items are many =
     ap (λ z. cond (z && not (nat_lt 16 (length (items_of text)))) (Some (items_of text)) None) (eq-eqb (quotes text % 2) 0 (params_even text items are))
     ∙ ap (λ is. cond (not (nat_lt 16 (length is))) (Some is) None) same ∙ ap (λ z. cond (not z) (Some items) None) (lt-ltb 16 (length items) many)
 
--- The bytes of items.
-
--- parameters have together at most as many bytes as they have with the spaces round them
-items_short : (ps is : List (List ℕ)) → ArePieces ps is → bytes_in is ≤ bytes_in ps
-items_short [] [] are = omega arith
-items_short [] (i ∷ is) are = absurd are
-items_short (p ∷ ps) [] are = absurd are
-items_short (p ∷ ps) (i ∷ is) are =
-    let whole = ap length are.0.piece_is in
-    let front = length-append (replicate are.0.before 32) (i ++ replicate are.0.behind 32) in
-    let behind = length-append i (replicate are.0.behind 32) in
-    let rest = items_short ps is are.2 in
-    omega (arith, whole, front, behind, rest)
-
--- texts, each after a comma, have together at least as many bytes as the texts alone
-after_commas_long : (ts : List (List ℕ)) → bytes_in ts ≤ length (flat_map (λ u. 44 ∷ u) ts)
-after_commas_long [] = omega arith
-after_commas_long (t ∷ ts) =
-    let both = length-append (44 ∷ t) (flat_map (λ u. 44 ∷ u) ts) in
-    let rest = after_commas_long ts in
-    omega (arith, both, rest)
-
--- texts joined by commas have at least as many bytes as the texts
-joined_long : (ts : List (List ℕ)) → bytes_in ts ≤ length (joined ts)
-joined_long [] = omega arith
-joined_long (t ∷ ts) =
-    let both = length-append t (flat_map (λ u. 44 ∷ u) ts) in
-    let rest = after_commas_long ts in
-    omega (arith, both, rest)
-
--- the items of a text have together at most as many bytes as the text
-pub items_fit : (text : List ℕ) (items : List (List ℕ)) → IsParams text items → bytes_in items ≤ length text
-items_fit text [] are = omega arith
-items_fit text (item ∷ items) are =
-    let whole = ap length are.bytes_are in
-    let long = joined_long are.pieces in
-    let short = items_short are.pieces (item ∷ items) are.pieces_are in
-    omega (arith, whole, long, short)
-
 -- Items of bytes.
 
 -- a text of bytes is of bytes without the spaces at its front
@@ -256,7 +208,7 @@ end_bytes (b ∷ bs) are = put_before_bytes b (without_end_spaces bs) are.0 (end
 abbrev pub AreOfBytes : List (List ℕ) → Type 0
 AreOfBytes texts = AllByRecursion (λ text. AllByRecursion (λ b. b < 256) text) texts
 
--- a byte at the front of the first text of bytes makes a text of bytes
+-- texts of bytes stay so with a byte put in front of the first
 onto_bytes : (b : ℕ) (texts : List (List ℕ)) → b < 256 → AreOfBytes texts → AreOfBytes (onto b texts)
 onto_bytes b [] is are = tt
 onto_bytes b (t ∷ ts) is are = ((is, are.0), are.1)
@@ -281,12 +233,9 @@ items_bytes text are = cond_both (is_blank text) [] (map trimmed (pieces false t
 
 -- the first k + 1 texts have together the bytes of the first k and of the next one
 pub bytes_more : (texts : List (List ℕ)) (k : ℕ) → k < length texts → bytes_in (take (k + 1) texts) ≡ bytes_in (take k texts) + length (get_or texts k [])
-bytes_more [] k lt = absurd (omega (arith, lt))
-bytes_more (t ∷ ts) zero lt = omega arith
-bytes_more (t ∷ ts) (suc k) lt =
-    let on : suc k + 1 ≡ suc (k + 1) = omega arith in
-    let rest = bytes_more ts k (omega (arith, lt)) in
-    ap (λ n. bytes_in (take n (t ∷ ts))) on ∙ omega (arith, rest)
+bytes_more texts k lt =
+    let on : k + 1 ≡ suc k = omega arith in
+    ap (λ n. bytes_in (take n texts)) on ∙ bytes_in_next texts k lt
 
 -- the first k texts, and the next one, have together at most the bytes of all
 pub bytes_below : (texts : List (List ℕ)) (k : ℕ) → k < length texts → bytes_in (take k texts) + length (get_or texts k []) ≤ bytes_in texts
@@ -294,7 +243,8 @@ bytes_below [] k lt = absurd (omega (arith, lt))
 bytes_below (t ∷ ts) zero lt = omega arith
 bytes_below (t ∷ ts) (suc k) lt = let rest = bytes_below ts k (omega (arith, lt)) in omega (arith, rest)
 
--- if a text is refused for its double quotes, or for its many items, it doesn't split
+-- if a text has an odd number of double quotes where e is `OpenQuote`, and more than 16 items where e is `TooMany`, and e is one
+-- of these two, the text doesn't split
 pub refused_is_none : (text : List ℕ) (e : ValueFault) → (e ≡ OpenQuote) ⊎ (e ≡ TooMany) → (e ≡ OpenQuote → quotes text % 2 ≡ 1)
     → (e ≡ TooMany → (items : List (List ℕ)) × IsParams text items × (16 < length items)) → split_items text ≡ None
 refused_is_none text e (inl quoted) odd many = open_is_none text (odd quoted)

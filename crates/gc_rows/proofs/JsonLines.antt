@@ -17,11 +17,12 @@ use Rattle.json.proofs.Printed.Strings.{escape_byte_plain}
 use Rattle.json.proofs.Printed.Trees.{document-print}
 use Rattle.gc_rows.specs.JsonLines.{Member, Text, Number, Texts, behind_backslash, string_text, number_member, comma_where, strings_text, list_text, member_text, members_text}
 use Rattle.gc_rows.specs.Laws.{IsPlainName, IsPlainMember, texts_read, members_read, record_read, JsonLinesReadBack}
-use Rattle.gc_texts.specs.Logs.{escaped}
+use Rattle.gc_texts.specs.Logs.{escaped, IsPrintableByte}
 use Rattle.gc_texts.specs.Stamps.{stamp_text}
-use Rattle.gc_texts.proofs.LogStamps.{IsPrintableByte, escaped_prints, stamp_prints}
+use Rattle.gc_texts.proofs.LogStamps.{escaped_prints, stamp_prints}
 
--- the target, the name and the procedure, appended one after the other, are the members of a command
+-- the target, the members of the name and the procedure, appended to `old` one after the other, are `old` and then the members of
+-- a command
 pub command_text : (old target procedure : List ℕ) (name : List Member)
     → ((old ++ number_member (codes "target") target) ++ members_text name) ++ number_member (codes "procedure") procedure
     ≡ old ++ members_text (Number (codes "target") target ∷ (name ++ Number (codes "procedure") procedure ∷ []))
@@ -33,7 +34,8 @@ command_text old target procedure name =
     flat_map-append member_text name (Number (codes "procedure") procedure ∷ []) ∙ ap (λ l. n ++ l) (append-nil p) in
     append_assoc (old ++ t) n p ∙ append_assoc old t (n ++ p) ∙ ap (λ l. old ++ (t ++ l)) (sym last)
 
--- the quality and the attempt, appended one after the other, are the members after all others
+-- the members of the quality and the attempt, appended to `old` one after the other, are `old` and then the members after all
+-- others
 pub last_text : (old attempt : List ℕ) (quality : List Member)
     → (old ++ members_text quality) ++ number_member (codes "attempt") attempt ≡ old ++ members_text (quality ++ Number (codes "attempt") attempt ∷ [])
 last_text old attempt quality =
@@ -58,7 +60,7 @@ all_members front ws hs es qs =
     append_assoc ((front ++ w) ++ h) e q ∙ append_assoc (front ++ w) h (e ++ q) ∙ append_assoc front w (h ++ (e ++ q)) in
     ap (λ l. l ++ codes "}\n") (grouped ∙ ap (λ l. front ++ l) (sym joined))
 
--- three texts that are appended one after the other to `old` are one text after it
+-- a, b and c, appended one after the other to `old`, are `old` and then one text, which is a, b and c with nothing after them
 pub three_members : (old a b c : List ℕ) → ((old ++ a) ++ b) ++ c ≡ old ++ (a ++ (b ++ (c ++ [])))
 three_members old a b c =
     append_assoc (old ++ a) b c ∙ append_assoc old a (b ++ c) ∙ ap (λ l. old ++ (a ++ (b ++ l))) (sym (append-nil c))
@@ -87,7 +89,7 @@ escapes_as (b ∷ bs) shown = ap (λ l. l ++ flat_map behind_backslash bs) (esca
 string_as : (bytes : List ℕ) → All (λ b. b < 256) bytes → flat_map behind_backslash (escaped bytes) ≡ escape (escaped bytes)
 string_as bytes are = escapes_as (escaped bytes) (recursion_from_All IsPrintableByte (escaped bytes) (escaped_prints bytes (recursion_from_All (λ b. b < 256) bytes are)))
 
--- a plain name has no byte that a writer of JSON escapes
+-- a writer of JSON leaves a plain name unchanged
 name_as : (name : List ℕ) → IsPlainName name → name ≡ escape name
 name_as [] plain = refl
 name_as (b ∷ bs) plain = ap (λ l. b ∷ l) (name_as bs plain.1) ∙ ap (λ l. l ++ escape bs) (sym (escape_byte_plain b plain.0.1.0 plain.0.1.1 plain.0.0))
@@ -101,7 +103,8 @@ regroup name text others close =
     let k = 44 ∷ 34 ∷ (name ++ 34 ∷ 58 ∷ []) in
     append_assoc (k ++ text) others close ∙ append_assoc k text (others ++ close) ∙ ap (λ l. 44 ∷ 34 ∷ (l ++ (text ++ (others ++ close)))) (sym front)
 
--- the bracket after the texts of a list, and what follows, are written as a writer of JSON does it
+-- the bracket after the texts of a list, and what follows, are written as a writer of JSON does it; `behind` says whether a text
+-- stands before the bracket
 closed_as : (behind : Bool) (others : List Token) → codes "]" ++ print_from true others ≡ print_from behind (end_array ∷ others)
 unfolding print_from
 closed_as true others = refl
@@ -109,12 +112,14 @@ closed_as false others = refl
 
 -- a text of a list, with what comes after it, is written as a writer of JSON does it; `behind` says whether another stands
 -- before it
-text_as : (behind : Bool) (text : List ℕ) (others : List Token) → comma_where behind ++ ((34 ∷ (escape text ++ 34 ∷ [])) ++ print_from true others) ≡ print_from behind (Token.string text ∷ others)
+text_as : (behind : Bool) (text : List ℕ) (others : List Token)
+    → comma_where behind ++ ((34 ∷ (escape text ++ 34 ∷ [])) ++ print_from true others) ≡ print_from behind (Token.string text ∷ others)
 unfolding print_from
 text_as true text others = refl
 text_as false text others = refl
 
--- texts of a list, its bracket and what follows are written as a writer of JSON does it
+-- texts of bytes in a list, its closing bracket and what follows are written as a writer of JSON does it; `behind` says whether
+-- another text stands before these
 texts_as : (behind : Bool) (texts : List (List ℕ)) (others : List Token) → AllByRecursion (λ text. All (λ b. b < 256) text) texts
     → strings_text behind texts ++ (codes "]" ++ print_from true others) ≡ print_from behind (items_tokens (texts_read texts) ++ others)
 texts_as behind [] others are = closed_as behind others
@@ -126,14 +131,15 @@ texts_as behind (text ∷ texts) others are =
     ∙ ap (λ l. (34 ∷ (l ++ 34 ∷ [])) ++ print_from true (items_tokens (texts_read texts) ++ others)) (string_as text are.0))
     ∙ text_as behind (escaped text) (items_tokens (texts_read texts) ++ others)
 
--- a list, and what follows, are written as a writer of JSON does it
+-- a list of texts of bytes, and what follows, are written as a writer of JSON does it
 list_as : (texts : List (List ℕ)) (others : List Token) → AllByRecursion (λ text. All (λ b. b < 256) text) texts
     → list_text texts ++ print_from true others ≡ print_from false (Token.begin_array ∷ (items_tokens (texts_read texts) ++ others))
 unfolding print_from
 list_as texts others are = ap (λ l. 91 ∷ l) (append_assoc (strings_text false texts) (codes "]") (print_from true others) ∙ texts_as false texts others are)
 
--- members and the closing brace are written as a writer of JSON does it
-members_as : (members : List Member) → AllByRecursion IsPlainMember members → members_text members ++ codes "}" ≡ print_from true (members_tokens (members_read members))
+-- plain members (`IsPlainMember`) and the closing brace are written as a writer of JSON does it
+members_as : (members : List Member) → AllByRecursion IsPlainMember members
+    → members_text members ++ codes "}" ≡ print_from true (members_tokens (members_read members))
 unfolding print_from
 members_as [] are = refl
 members_as (Text name bytes ∷ ms) are =
@@ -156,7 +162,7 @@ texts_have_numbers : (texts : List (List ℕ)) → ItemsHaveNumbers (texts_read 
 texts_have_numbers [] = tt
 texts_have_numbers (text ∷ texts) = (tt, texts_have_numbers texts)
 
--- the numbers among members are numbers of JSON
+-- the numbers among plain members (`IsPlainMember`) are numbers of JSON
 have_numbers : (members : List Member) → AllByRecursion IsPlainMember members → MembersHaveNumbers (members_read members)
 have_numbers [] are = tt
 have_numbers (Text name bytes ∷ ms) are = (tt, have_numbers ms are.1)
@@ -168,7 +174,7 @@ flat_texts : (texts : List (List ℕ)) → items_depth (texts_read texts) ≡ 0
 flat_texts [] = refl
 flat_texts (text ∷ texts) = ap (max 0) (flat_texts texts) ∙ zero-max 0
 
--- 1 is the greater of 1 and a number up to 1
+-- the greater of 1 and n, where n is at most 1, is at most 1
 one_most : (n : ℕ) → n ≤ 1 → max 1 n ≤ 1
 one_most zero few = omega arith
 one_most (suc zero) few = omega arith
@@ -186,19 +192,20 @@ pub printable_are_bytes : (text : List ℕ) → AllByRecursion IsPrintableByte t
 printable_are_bytes [] shown = tt
 printable_are_bytes (b ∷ bs) shown = (omega (arith, shown.0.1), printable_are_bytes bs shown.1)
 
--- the moment of a run is written as a writer of JSON does it
+-- the moment of a run, of at most 64 bits, is escaped as a writer of JSON does it
 started_as : (run : ℕ) → run < 2 ^ 64 → flat_map behind_backslash (escaped (stamp_text run)) ≡ escape (escaped (stamp_text run))
 started_as run below =
     let text = stamp_text run in
     let bytes = printable_are_bytes text (recursion_from_All IsPrintableByte text (stamp_prints run below)) in
     escapes_as (escaped text) (recursion_from_All IsPrintableByte (escaped text) (escaped_prints text bytes))
 
--- a line that ends in a brace and a line feed is the line up to its brace, and the line feed
+-- a and m, and then a brace and a line feed, are the text of a, m and the brace, and then the line feed
 pub front_of : (a m : List ℕ) → (a ++ m) ++ codes "}\n" ≡ (a ++ (m ++ codes "}")) ++ codes "\n"
 front_of a m =
     append_assoc a m (codes "}\n") ∙ ap (λ l. a ++ l) (sym (append_assoc m (codes "}") (codes "\n"))) ∙ sym (append_assoc a (m ++ codes "}") (codes "\n"))
 
--- a line of JSON without its line feed is what the writer of JSON writes of its members
+-- a line of JSON, whose run's moment has at most 64 bits and whose members are plain, without its line feed is what the writer of
+-- JSON writes of the object of that moment and these members
 whole_as : (run : ℕ) (members : List Member) → run < 2 ^ 64 → AllByRecursion IsPlainMember members
     → (codes "{\"run\":" ++ string_text (stamp_text run)) ++ (members_text members ++ codes "}") ≡ print (json_tokens (json.object (record_read run members)))
 unfolding print_from escape_byte
@@ -206,7 +213,8 @@ whole_as run members below are =
     ap (λ l. (codes "{\"run\":" ++ (34 ∷ (l ++ 34 ∷ []))) ++ (members_text members ++ codes "}")) (started_as run below)
     ∙ ap (λ l. (codes "{\"run\":" ++ (34 ∷ (escape (escaped (stamp_text run)) ++ 34 ∷ []))) ++ l) (members_as members are)
 
--- a line of JSON without its line feed reads as the object of its members
+-- a line of JSON, whose run's moment has at most 64 bits and whose members are plain, without its line feed reads as the object
+-- of that moment and these members
 pub reads_as : (run : ℕ) (members : List Member) → run < 2 ^ 64 → AllByRecursion IsPlainMember members
     → document ((codes "{\"run\":" ++ string_text (stamp_text run)) ++ (members_text members ++ codes "}")) ≡ Some (json.object (record_read run members))
 reads_as run members below are =
@@ -214,7 +222,7 @@ reads_as run members below are =
     let shallow = flat members in
     ap document (whole_as run members below are) ∙ document-print (json.object (record_read run members)) (tt, have_numbers members are) (omega (arith, same, shallow))
 
--- the law: a line of JSON reads back as its members
+-- the law: a line of JSON, whose run's moment has at most 64 bits and whose members are plain, reads back
 pub read_back : JsonLinesReadBack
 read_back run members below are = (
   (codes "{\"run\":" ++ string_text (stamp_text run)) ++ (members_text members ++ codes "}"),
@@ -222,9 +230,10 @@ read_back run members below are = (
   reads_as run members below are,
 )
 
--- where the strings of the texts from place k on, after `mid`, make `old`, so do, after `mid`, the comma and the string of text k, and
--- then the strings of the texts from place k + 1 on; `behind` and `next` say whether a comma is before text k and before text k + 1
-pub strings_next : (old mid : List ℕ) (texts : List (List ℕ)) (k : ℕ) (behind next : Bool) → k < length texts → next ≡ true → mid ++ strings_text behind (drop k texts) ≡ old
+-- if `mid` and then the strings of the texts from place k on are `old`, so are `mid`, the comma before text k if there is one (`behind`),
+-- the string of text k, and then the strings of the texts from place k + 1 on, each with a comma before it (`next`)
+pub strings_next : (old mid : List ℕ) (texts : List (List ℕ)) (k : ℕ) (behind next : Bool) → k < length texts → next ≡ true
+    → mid ++ strings_text behind (drop k texts) ≡ old
     → ((mid ++ comma_where behind) ++ string_text (get_or texts k [])) ++ strings_text next (drop (k + 1) texts) ≡ old
 strings_next old mid texts k behind next lt more so =
     let text = string_text (get_or texts k []) in

@@ -6,7 +6,7 @@ use Rattle.std.specs.Char.{is_ascii_digit}
 use Rattle.std.specs.Fmt.{decimal}
 use Rattle.std.specs.List.{All, AllByRecursion, prefix_len}
 use Rattle.std.specs.Str.Parse.{AllDigits}
-use Rattle.std.proofs.lemmas.Bool.{cond_both, ltb-true, eqb-true, eq-eqb, ne_eqb, false≢true, le-leb, and_from, and_parts}
+use Rattle.std.proofs.lemmas.Bool.{cond_both, ltb-true, eqb-true, eqb-false, not-true, eq-eqb, ne_eqb, false≢true, le-leb, and_from, and_parts}
 use Rattle.std.proofs.lemmas.List.{drop_at}
 use Rattle.std.proofs.lemmas.List.Elements.{recursion_from_All, All-from_recursion}
 use Rattle.std.proofs.lemmas.Str.Parse.{digit_from_value}
@@ -31,6 +31,7 @@ use Rattle.gc_values.specs.declared.fault.ValueFault.TheVariants.{Spelling, Rang
 use Rattle.gc_values.specs.declared.value.Value.{Value}
 use Rattle.gc_values.specs.declared.value.Value.TheVariants as value
 use Rattle.gc_values.proofs.OneText.{whole_text_once, decimal_text_once}
+use Rattle.gc_texts.specs.Logs.{IsPrintableByte}
 use Rattle.gc_texts.specs.Endings.{End, Answered, Unreadable, Elsewhere, Late, Lost, Skipped, Missed, quality_of, quality_text}
 use Rattle.gc_rows.specs.JsonLines.{Text, Number, without_zeros, sent_members, when_members, name_members, command_members, reply_members, ending_members, value_members, values_members, item_members, answer_members, quantity_members, quality_members, attempt_members, last_members, members_after_ending}
 use Rattle.gc_rows.specs.Laws.{IsPlainName, IsPlainMember, IsReplyOfBytes, IsAnswerOfBytes, IsEndOfBytes, FitsIn64Bits, ColumnsGiveReply, RecordsHavePlainMembers}
@@ -46,7 +47,7 @@ use Rattle.gc_rows.specs.Items.{items_of, split_items}
 use Rattle.gc_rows.proofs.Columns.{reply_columns}
 use Rattle.gc_rows.proofs.Items.{AreOfBytes, items_bytes}
 use Rattle.gc_rows.proofs.JsonLines.{printable_are_bytes}
-use Rattle.gc_texts.proofs.LogStamps.{IsPrintableByte, stamp_prints}
+use Rattle.gc_texts.proofs.LogStamps.{stamp_prints}
 
 -- whether a byte may occur in a plain name: printable ASCII other than the double quote and the backslash
 abbrev is_fit : ℕ → Bool
@@ -57,10 +58,6 @@ abbrev are_fit : List ℕ → Bool
 are_fit [] = true
 are_fit (b ∷ bs) = is_fit b && are_fit bs
 
--- a byte that tests as unequal to a mark isn't the mark
-not_the_mark : (b mark : ℕ) → not (b == mark) ≡ true → b ≢ mark
-not_the_mark b mark e is = let bad : not (mark == mark) ≡ true = subst (λ x. not (x == mark) ≡ true) is e in absurd (false≢true (ap not (sym (eq-eqb mark mark refl)) ∙ bad))
-
 -- a name that passes the test `are_fit` is plain
 plain_name : (name : List ℕ) → are_fit name ≡ true → IsPlainName name
 plain_name [] e = tt
@@ -69,7 +66,13 @@ plain_name (b ∷ bs) e =
     let shown = (and_parts (nat_lt 31 b && nat_lt b 127) (not (b == 34) && not (b == 92)) one).0 in
     let marks = (and_parts (nat_lt 31 b && nat_lt b 127) (not (b == 34) && not (b == 92)) one).1 in
     let above = ltb-true 31 b (and_parts (nat_lt 31 b) (nat_lt b 127) shown).0 in (
-      (omega (arith, above), (not_the_mark b 34 (and_parts (not (b == 34)) (not (b == 92)) marks).0, not_the_mark b 92 (and_parts (not (b == 34)) (not (b == 92)) marks).1)),
+      (
+        omega (arith, above),
+        (
+          eqb-false b 34 (not-true (b == 34) (and_parts (not (b == 34)) (not (b == 92)) marks).0),
+          eqb-false b 92 (not-true (b == 92) (and_parts (not (b == 34)) (not (b == 92)) marks).1),
+        ),
+      ),
       plain_name bs (and_parts (is_fit b) (are_fit bs) e).1,
     )
 
@@ -87,7 +90,7 @@ abbrev all_fit : List (List ℕ) → Bool
 all_fit [] = true
 all_fit (name ∷ names) = are_fit name && all_fit names
 
--- if each of these names passes the test `are_fit`, the one at place n does
+-- if each of these names passes the test `are_fit`, so does the one at place n, and, where there is none, the empty name
 name_fits : (names : List (List ℕ)) (n : ℕ) → all_fit names ≡ true → are_fit (get_or names n []) ≡ true
 name_fits [] n e = refl
 name_fits (name ∷ names) zero e = (and_parts (are_fit name) (all_fit names) e).0
@@ -101,16 +104,16 @@ quantity_named column = plain_name (quantity_name column) (name_fits quantity_na
 text_named : (name : List ℕ) → IsPlainName name → IsPlainName (name ++ codes "_text")
 text_named name is = all_append (λ b. (32 ≤ b) × ((b ≢ 34) × (b ≢ 92))) name (codes "_text") is (plain_name (codes "_text") refl)
 
--- the text of a stamp is of bytes
+-- the text of a moment of at most 64 bits is of bytes
 stamp_bytes : (utc : ℕ) → utc < 2 ^ 64 → All (λ b. b < 256) (stamp_text utc)
 stamp_bytes utc h = All-from_recursion (λ b. b < 256) (stamp_text utc) (printable_are_bytes (stamp_text utc) (recursion_from_All IsPrintableByte (stamp_text utc) (stamp_prints utc h)))
 
--- what comes before the first mark of bytes is of bytes
+-- what comes before the first mark in a text of bytes is of bytes
 before_bytes : (mark : ℕ) (bs : List ℕ) → AllByRecursion (λ b. b < 256) bs → AllByRecursion (λ b. b < 256) (before mark bs)
 before_bytes mark [] h = tt
 before_bytes mark (b ∷ bs) h = cond_both (b == mark) [] (b ∷ before mark bs) (AllByRecursion (λ b. b < 256)) (λ _. tt) (λ _. (h.0, before_bytes mark bs h.1))
 
--- what comes after the first mark of bytes is of bytes
+-- what comes after the first mark in a text of bytes is of bytes
 behind_bytes : (mark : ℕ) (bs : List ℕ) → AllByRecursion (λ b. b < 256) bs → AllByRecursion (λ b. b < 256) (behind mark bs)
 behind_bytes mark [] h = tt
 behind_bytes mark (b ∷ bs) h = cond_both (b == mark) bs (behind mark bs) (AllByRecursion (λ b. b < 256)) (λ _. h.1) (λ _. behind_bytes mark bs h.1)
@@ -126,15 +129,16 @@ digits_run (d ∷ ds) rest h none =
     let more = digits_run ds rest h.1 none in
     ap (λ b. cond b (1 + prefix_len is_ascii_digit (ds ++ rest)) 0) (and_from _ _ (le-leb 48 d h.0.0) (le-leb d 57 h.0.1)) ∙ omega (arith, more)
 
--- if no digit follows `ds`, which are digits, the library's reader of digits takes `ds` and leaves `rest`
+-- if no digit follows `ds`, which are one digit or more, the library's reader of digits takes `ds` and leaves `rest`
 digits_then : (ds rest : List ℕ) → AreDigits ds → 0 < length ds → prefix_len is_ascii_digit rest ≡ 0 → after_digits (ds ++ rest) ≡ Some rest
 digits_then ds rest h some none =
     ap (λ n. cond (n == 0) None (Some (drop n (ds ++ rest)))) (digits_run ds rest h none)
     ∙ ap (λ b. cond b None (Some (drop (length ds) (ds ++ rest)))) (ne_eqb (length ds) 0 (λ e. omega (arith, some, e))) ∙ ap Some (drop_at ds rest _ refl)
 
--- a reader that takes a leading zero alone, and else all digits, leaves `rest` after digits of which a leading zero stands
--- alone; `z` is whether the first digit is a zero
-first_digit : (z : Bool) (d : ℕ) (ds rest : List ℕ) → (z ≡ true → ds ≡ []) → after_digits (d ∷ ds ++ rest) ≡ Some rest → cond z (Some (ds ++ rest)) (after_digits (d ∷ ds ++ rest)) ≡ Some rest
+-- where `ds` is empty if `z` is true, and the library's reader of digits leaves `rest` of d, `ds` and `rest`, then taking d alone
+-- if `z` is true, and else all digits, leaves `rest`, too; `z` stands for whether d is a zero
+first_digit : (z : Bool) (d : ℕ) (ds rest : List ℕ) → (z ≡ true → ds ≡ []) → after_digits (d ∷ ds ++ rest) ≡ Some rest
+    → cond z (Some (ds ++ rest)) (after_digits (d ∷ ds ++ rest)) ≡ Some rest
 first_digit true d ds rest alone more = ap (λ l. Some (l ++ rest)) (alone refl)
 first_digit false d ds rest alone more = more
 
@@ -147,8 +151,8 @@ whole_then (d ∷ ds) rest is none = (
   ne_eqb d 45 (λ e. let digit = is.are_digits.0 in omega (arith, e, digit)),
 )
 
--- a minus or none, a whole part, and a rest that the reader takes to its end as a fraction and an exponent, are together a
--- number of JSON
+-- a minus or none, a whole part, and a rest that begins with no digit and that the reader takes to its end as a fraction and an
+-- exponent, are together a number of JSON
 signed_then : (negative : Bool) (ds rest : List ℕ) → IsWholePart ds → prefix_len is_ascii_digit rest ≡ 0
     → option_and_then after_exponent (after_fraction rest) ≡ Some [] → IsNumber (minus_where negative ++ (ds ++ rest))
 unfolding after_number
@@ -162,7 +166,7 @@ signed_then false ds rest is none ends =
 whole_number : (negative : Bool) (ds : List ℕ) → IsWholePart ds → IsNumber (minus_where negative ++ ds)
 whole_number negative ds is = subst (λ l. IsNumber (minus_where negative ++ l)) (append-nil ds) (signed_then negative ds [] is refl refl)
 
--- a point and digits are taken to their end as a fraction, with no exponent
+-- a point and one digit or more are taken to their end as a fraction, with no exponent
 fraction_ends : (ds : List ℕ) → AreDigits ds → 0 < length ds → option_and_then after_exponent (after_fraction (46 ∷ ds)) ≡ Some []
 fraction_ends ds digits some = ap (λ l. option_and_then after_exponent (after_digits l)) (sym (append-nil ds)) ∙ ap (option_and_then after_exponent) (digits_then ds [] digits some refl)
 
@@ -180,7 +184,7 @@ pub digits_are : (ds : List ℕ) → AllDigits 10 ds → AreDigits ds
 digits_are [] h = tt
 digits_are (d ∷ ds) h = (digit_from_value d h.0, digits_are ds h.1)
 
--- digits without the zeros before them are a whole part
+-- one digit or more, without leading zeros (of zeros alone the last stays), are a whole part
 behind_zeros : (ds : List ℕ) → AreDigits ds → 0 < length ds → IsWholePart (without_zeros ds)
 behind_zeros [] digits some = absurd (omega (arith, some))
 behind_zeros (b ∷ []) digits some = record { are_digits = digits; some = some; no_zero_in_front = λ rest e. sym (ap (drop 1) e) }
@@ -188,7 +192,7 @@ behind_zeros (b ∷ c ∷ ds) digits some =
     cond_both (b == 48) (without_zeros (c ∷ ds)) (b ∷ c ∷ ds) IsWholePart (λ _. behind_zeros (c ∷ ds) digits.1 (omega arith))
     (λ none. record { are_digits = digits; some = some; no_zero_in_front = λ rest e. absurd (false≢true (sym none ∙ eq-eqb b 48 (ap (λ l. get_or l 0 0) e))) })
 
--- a code without the zeros before it is a number of JSON
+-- a code, which is one digit or more, is a number of JSON without its leading zeros (of zeros alone the last stays)
 code_number : (ds : List ℕ) → AllDigits 10 ds → 0 < length ds → IsNumber (without_zeros ds)
 code_number ds digits some = whole_number false (without_zeros ds) (behind_zeros ds (digits_are ds digits) some)
 
@@ -200,12 +204,13 @@ fault_fits OpenQuote = omega arith
 fault_fits TooMany = omega arith
 fault_fits Count = omega arith
 
--- the member that says when a command was sent is one that reads back (`IsPlainMember`)
+-- the member that says when a command was sent, at a moment of at most 64 bits, reads back (`IsPlainMember`); if it wasn't sent,
+-- there is no such member
 sent_are : (sent : Option ℕ) → IfSome sent (λ utc. utc < 2 ^ 64) → AllByRecursion IsPlainMember (sent_members sent)
 sent_are None h = tt
 sent_are (Some utc) h = ((plain_name (codes "sent") refl, stamp_bytes utc h), tt)
 
--- the members that say when a command was sent and ended, and which one it was, read back
+-- the members that say when a command was sent and ended, and which one it was, read back, if their numbers have at most 64 bits
 when_are : (when : When) → FitsIn64Bits when → AllByRecursion IsPlainMember (when_members when)
 when_are when is =
     all_append IsPlainMember (sent_members when.stamp.sent) (Text (codes "time") (stamp_text when.stamp.utc) ∷ Number (codes "cycle")
@@ -215,7 +220,7 @@ when_are when is =
       ((plain_name (codes "cycle") refl, IsNumber-decimal when.stamp.cycle is.cycle), ((plain_name (codes "place") refl, IsNumber-decimal when.stamp.turn.place is.place), tt)),
     )
 
--- the member of a name reads back
+-- the member of a name of bytes reads back
 name_are : (name : List ℕ) → All (λ b. b < 256) name → AllByRecursion IsPlainMember (name_members name)
 name_are [] h = tt
 name_are (b ∷ bs) h = ((plain_name (codes "name") refl, h), tt)
@@ -225,7 +230,7 @@ procedure_fits : (asked : Asked) → procedure_of asked < 2 ^ 64
 procedure_fits (Table call) = omega (arith, number_fits call)
 procedure_fits (Raw raw) = omega (arith, raw.is.bound)
 
--- the members of a command's target, its name and the procedure read back
+-- the members of a command's target, its name and the procedure read back, if the name is of bytes and the target has at most 64 bits
 command_are : (command : Wish) (name : List ℕ) → All (λ b. b < 256) name → command.target < 2 ^ 64 → AllByRecursion IsPlainMember (command_members command name)
 command_are command name bytes target = (
   (plain_name (codes "target") refl, IsNumber-decimal command.target target),
@@ -233,11 +238,11 @@ command_are command name bytes target = (
       ((plain_name (codes "procedure") refl, IsNumber-decimal (procedure_of command.call) (procedure_fits command.call)), tt),
 )
 
--- the member of an outcome reads back
-outcome_is : (text : List ℕ) → are_fit text ≡ true → IsPlainMember (Text (codes "outcome") text)
-outcome_is text fit = (plain_name (codes "outcome") refl, All-from_recursion (λ b. b < 256) text (plain_bytes text fit))
+-- a member whose name and text pass the test `are_fit` reads back
+word_is : (name text : List ℕ) → are_fit name ≡ true → are_fit text ≡ true → IsPlainMember (Text name text)
+word_is name text named fit = (plain_name name named, All-from_recursion (λ b. b < 256) text (plain_bytes text fit))
 
--- the members of a reply's line read back
+-- the members of a reply's line of bytes read back
 reply_are : (line : List ℕ) → IsReplyOfBytes line → AllByRecursion IsPlainMember (reply_members (Some line))
 reply_are line is =
     let say : ColumnsGiveReply line is.0 = reply_columns line is.0 is.1 in (
@@ -248,19 +253,19 @@ reply_are line is =
       ),
     )
 
--- the members that say how a command ended read back
+-- the members that say how a command ended read back, if its line and answer are of bytes (`IsEndOfBytes`)
 ending_are : (end : End) → IsEndOfBytes end → AllByRecursion IsPlainMember (ending_members end)
-ending_are (Answered quality (Some answer) line) is = (outcome_is (codes "answered") refl, reply_are line is.0)
-ending_are (Answered quality None line) is = (outcome_is (codes "answered") refl, reply_are line is)
+ending_are (Answered quality (Some answer) line) is = (word_is (codes "outcome") (codes "answered") refl refl, reply_are line is.0)
+ending_are (Answered quality None line) is = (word_is (codes "outcome") (codes "answered") refl refl, reply_are line is)
 ending_are (Unreadable line fault) is =
-    (outcome_is (codes "unreadable") refl, ((plain_name (codes "fault") refl, IsNumber-decimal (fault_number fault) (fault_fits fault)), reply_are line is))
-ending_are (Elsewhere line) is = (outcome_is (codes "elsewhere") refl, reply_are line is)
-ending_are Late is = (outcome_is (codes "late") refl, tt)
-ending_are Lost is = (outcome_is (codes "lost") refl, tt)
-ending_are Skipped is = (outcome_is (codes "skipped") refl, tt)
-ending_are Missed is = (outcome_is (codes "missed") refl, tt)
+    (word_is (codes "outcome") (codes "unreadable") refl refl, ((plain_name (codes "fault") refl, IsNumber-decimal (fault_number fault) (fault_fits fault)), reply_are line is))
+ending_are (Elsewhere line) is = (word_is (codes "outcome") (codes "elsewhere") refl refl, reply_are line is)
+ending_are Late is = (word_is (codes "outcome") (codes "late") refl refl, tt)
+ending_are Lost is = (word_is (codes "outcome") (codes "lost") refl refl, tt)
+ending_are Skipped is = (word_is (codes "outcome") (codes "skipped") refl refl, tt)
+ending_are Missed is = (word_is (codes "outcome") (codes "missed") refl refl, tt)
 
--- a value whose members read back: of a byte that it is below 256, and of a text that its bytes are; of other values nothing is
+-- what a value's members need to read back: a byte is below 256, and so is each byte of a text; of any other value nothing is
 -- asked
 abbrev HoldsBytes : Value → Type 0
 HoldsBytes (value.Double d) = Unit {0}
@@ -270,7 +275,7 @@ HoldsBytes (value.Byte n) = n < 256
 HoldsBytes (value.Bool b) = Unit {0}
 HoldsBytes (value.Text bytes) = All (λ b. b < 256) bytes
 
--- the members of a number, in its one written form and as it came, read back
+-- the members of a number of JSON, as `digits` and as it came, read back, if their name is plain and what came is of bytes
 number_are : (name digits came : List ℕ) → IsPlainName name → IsNumber digits → AllByRecursion (λ b. b < 256) came
     → AllByRecursion IsPlainMember (Number name digits ∷ Text (name ++ codes "_text") came ∷ [])
 number_are name digits came named number bytes = ((named, number), ((text_named name named, All-from_recursion (λ b. b < 256) came bytes), tt))
@@ -281,8 +286,9 @@ unfolding after_number
 boolean_number false = refl
 boolean_number true = refl
 
--- the members of a value read back
-value_are : (name : List ℕ) (v : Value) (came : List ℕ) → IsPlainName name → HoldsBytes v → AllByRecursion (λ b. b < 256) came → AllByRecursion IsPlainMember (value_members name v came)
+-- the members of a value read back, if their name is plain, and the value (`HoldsBytes`) and its text as it came are of bytes
+value_are : (name : List ℕ) (v : Value) (came : List ℕ) → IsPlainName name → HoldsBytes v → AllByRecursion (λ b. b < 256) came
+    → AllByRecursion IsPlainMember (value_members name v came)
 value_are name (value.Double d) came named is bytes =
     number_are name (written d.digits d.scale) came named (decimal_form_number (written d.digits d.scale) ((decimal_text_once d (written d.digits d.scale)).0 refl).0) bytes
 value_are name (value.Long z) came named is bytes = number_are name (signed_text z) came named (whole_form_number (signed_text z) ((whole_text_once z (signed_text z)).0 refl).0) bytes
@@ -291,8 +297,9 @@ value_are name (value.Byte n) came named is bytes = number_are name (decimal n) 
 value_are name (value.Bool b) came named is bytes = number_are name (boolean_text b) came named (boolean_number b) bytes
 value_are name (value.Text text) came named is bytes = ((named, is), tt)
 
--- the members of values read back
-values_are : (column : ℕ) (vs : List Value) (came : List ℕ) → AllByRecursion HoldsBytes vs → AllByRecursion (λ b. b < 256) came → AllByRecursion IsPlainMember (values_members column vs came)
+-- the members of values read back, if the values (`HoldsBytes`) and their text as it came are of bytes
+values_are : (column : ℕ) (vs : List Value) (came : List ℕ) → AllByRecursion HoldsBytes vs → AllByRecursion (λ b. b < 256) came
+    → AllByRecursion IsPlainMember (values_members column vs came)
 values_are column [] came hold bytes = tt
 values_are column (v ∷ vs) came hold bytes =
     all_append IsPlainMember (value_members (quantity_name column) v (before 44 came)) (values_members (column + 1) vs (behind 44 came))
@@ -319,43 +326,42 @@ all_texts : (texts : List (List ℕ)) → AreOfBytes texts → AllByRecursion (�
 all_texts [] are = tt
 all_texts (text ∷ texts) are = (All-from_recursion (λ b. b < 256) text are.0, all_texts texts are.1)
 
--- the member of a text's items, if it splits, reads back; `z` is whether it does
+-- where the items are of bytes, their member, which is there only if `z` is true, reads back
 items_where : (z : Bool) (items : List (List ℕ)) → AreOfBytes items → AllByRecursion IsPlainMember (item_members (cond z (Some items) None))
 items_where true items are = ((plain_name (codes "items") refl, all_texts items are), tt)
 items_where false items are = tt
 
--- the member of a text's items reads back
+-- the member of the items of a text of bytes reads back
 items_are : (text : List ℕ) → AllByRecursion (λ b. b < 256) text → AllByRecursion IsPlainMember (item_members (split_items text))
 items_are text are = items_where ((quotes text % 2 == 0) && not (nat_lt 16 (length (items_of text)))) (items_of text) (items_bytes text are)
 
--- the members of an answer's quantities read back
-columns_are : (asked : Asked) (answer : Answer) (line : List ℕ) → IsReplyOfBytes line → IsAnswerOfBytes answer → AllByRecursion IsPlainMember (answer_members asked answer line)
-columns_are (Table call) answer line is fits = values_are (column_of call answer) (answer_fields answer).values (values_of line) (answer_holds answer fits) (values_bytes line is.2)
-columns_are (Raw raw) answer line is fits = items_are (values_of line) (values_bytes line is.2)
+-- the members of an answer's quantities or items read back, if its line reads as a reply and is of bytes (`IsReplyOfBytes`), and
+-- the answer is as `IsAnswerOfBytes` has it
+answer_members_are : (asked : Asked) (answer : Answer) (line : List ℕ) → IsReplyOfBytes line → IsAnswerOfBytes answer
+    → AllByRecursion IsPlainMember (answer_members asked answer line)
+answer_members_are (Table call) answer line is fits = values_are (column_of call answer) (answer_fields answer).values (values_of line) (answer_holds answer fits) (values_bytes line is.2)
+answer_members_are (Raw raw) answer line is fits = items_are (values_of line) (values_bytes line is.2)
 
--- the members of a command's quantities read back
+-- the members of a command's quantities or items read back, if its line and answer are of bytes (`IsEndOfBytes`)
 quantities_are : (asked : Asked) (end : End) → IsEndOfBytes end → AllByRecursion IsPlainMember (quantity_members asked end)
-quantities_are asked (Answered quality (Some answer) line) is = columns_are asked answer line is.0 is.1
+quantities_are asked (Answered quality (Some answer) line) is = answer_members_are asked answer line is.0 is.1
 quantities_are asked end is = tt
-
--- the member of a quality reads back
-quality_is : (text : List ℕ) → are_fit text ≡ true → IsPlainMember (Text (codes "quality") text)
-quality_is text fit = (plain_name (codes "quality") refl, All-from_recursion (λ b. b < 256) text (plain_bytes text fit))
 
 -- the member of the quality of a command's answer reads back
 quality_members_are : (end : End) → AllByRecursion IsPlainMember (quality_members (quality_text (quality_of end)))
-quality_members_are (Answered Fine answer line) = (quality_is (codes "ok") refl, tt)
-quality_members_are (Answered Warning answer line) = (quality_is (codes "warning") refl, tt)
-quality_members_are (Answered Refused answer line) = (quality_is (codes "refused") refl, tt)
+quality_members_are (Answered Fine answer line) = (word_is (codes "quality") (codes "ok") refl refl, tt)
+quality_members_are (Answered Warning answer line) = (word_is (codes "quality") (codes "warning") refl refl, tt)
+quality_members_are (Answered Refused answer line) = (word_is (codes "quality") (codes "refused") refl refl, tt)
 quality_members_are end = tt
 
--- the members after all others read back
+-- the members after all others read back, if the record's numbers have at most 64 bits (`FitsIn64Bits`)
 last_are : (when : When) (end : End) → FitsIn64Bits when → AllByRecursion IsPlainMember (last_members when end)
 last_are when end is =
     all_append IsPlainMember (quality_members (quality_text (quality_of end))) (attempt_members when) (quality_members_are end)
     ((plain_name (codes "attempt") refl, IsNumber-decimal when.stamp.turn.attempt is.attempt), tt)
 
--- the law: all members of a record's line read back
+-- the law: each member of a record's line after the first reads back, if the record's numbers have at most 64 bits and its texts
+-- are of bytes
 pub have_plain_members : RecordsHavePlainMembers
 have_plain_members when name command end is bytes target ended =
     let ws = when_members when in

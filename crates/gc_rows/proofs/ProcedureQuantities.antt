@@ -11,7 +11,7 @@ use Rattle.gc_catalogue.specs.declared.call.Call.{Call}
 use Rattle.gc_catalogue.specs.declared.call.Call.TheVariants.{NullProc, SetPrecision, GetPrecision, ComVersion, InstrumentNo, InstrumentName, SetDate, GetDate, IntTemp, CsvVersion, DoMeasure, GetStation, SetStation, GetHeight, SetHeight, GetFace, GetAngle, SimpleMea, QuickDist, SetPrism, GetPrism, MeasDistance, Position, ChangeFace, FineAdjust}
 use Rattle.gc_texts.specs.Endings.{End, Answered}
 use Rattle.gc_rows.specs.Quantities.{column_of, column_of_long, quantity_names, quantity_text}
-use Rattle.gc_rows.specs.Records.{names, last_names}
+use Rattle.gc_rows.specs.Records.{first_names, last_names}
 use Rattle.gc_rows.specs.Rows.{spread, answer_columns, quantity_fields, last_fields, row_fields}
 use Rattle.gc_rows.specs.ProcedureQuantities.{QuantitiesHaveTheirNames, RowsFillTheirColumns}
 use Rattle.gc_texts.specs.declared.wish.Wish.{Wish}
@@ -67,7 +67,7 @@ answer_fits call (Angles hz v) = omega arith
 answer_fits call (Measured hz v distance) = omega arith
 answer_fits call (MeasuredMode hz v distance mode) = omega arith
 
--- values and empty fields fill the 24 columns
+-- texts that fit the 24 columns from column `first` on fill them together with the empty fields
 spread_fills : (first : ℕ) (texts : List (List ℕ)) → first + length texts ≤ 24 → length (spread first texts) ≡ 24
 spread_fills first texts fits =
     let none : List ℕ = [] in
@@ -96,12 +96,13 @@ more_fill : (when : When) (asked : Asked) (end : End) → length (quantity_field
 more_fill when asked end = length-append (quantity_fields asked end) (last_fields when end) ∙ ap (λ n. n + 2) (quantities_fill asked end)
 
 -- a row without quantities has a field for each name of its header
-csv_fills : (when : When) (name : List ℕ) (command : Wish) (end : End) → length (row_fields false when name command end) ≡ length (names ++ last_names)
+csv_fills : (when : When) (name : List ℕ) (command : Wish) (end : End) → length (row_fields false when name command end) ≡ length (first_names ++ last_names)
 csv_fills when name command (Answered quality answer line) = refl
 csv_fills when name command end = refl
 
 -- a row with quantities has a field for each name of its header
-columns_fill : (when : When) (name : List ℕ) (command : Wish) (end : End) → length (row_fields true when name command end) ≡ length (names ++ (quantity_names ++ last_names))
+columns_fill : (when : When) (name : List ℕ) (command : Wish) (end : End)
+    → length (row_fields true when name command end) ≡ length (first_names ++ (quantity_names ++ last_names))
 columns_fill when name command (Answered quality answer line) =
     ap (λ n. suc (suc (suc (suc (suc (suc (suc (suc (suc (suc (suc (suc (suc n))))))))))))) (more_fill when command.call (Answered quality answer line))
 columns_fill when name command end = refl

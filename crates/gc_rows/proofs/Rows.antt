@@ -14,17 +14,18 @@ use Rattle.csv.specs.Writing.{default_writer, fields_text, is_blank, needs_byte,
 use Rattle.csv.specs.declared.parser.State.TheVariants.{StartRecord}
 use Rattle.csv.proofs.RoundTrip.{read-write-many}
 use Rattle.gc_rows.specs.Laws.{RowsReadBack, RowsArePrintable}
-use Rattle.gc_texts.specs.Logs.{escaped}
+use Rattle.gc_texts.specs.Logs.{escaped, IsPrintable, IsPrintableByte}
 use Rattle.gc_rows.specs.Quantities.{quantity_text}
 use Rattle.gc_rows.specs.Rows.{is_special, within_quotes, csv_field, field_text, behind_comma, behind_commas, row_of, spread, value_text}
 use Rattle.gc_values.specs.declared.value.Value.{Value}
-use Rattle.gc_texts.proofs.LogStamps.{IsPrintableByte, escaped_prints}
+use Rattle.gc_texts.proofs.LogStamps.{escaped_prints}
 use Rattle.gc_texts.proofs.Logs.{escaped_injective}
 
 -- the field of the run and four lists of fields, each field after a comma, and then a line feed, are one row of all these
 -- fields
 pub all_fields : (run : List ℕ) (ws hs es qs : List (List ℕ))
-    → (((((field_text run) ++ behind_commas ws) ++ behind_commas hs) ++ behind_commas es) ++ behind_commas qs) ++ codes "\n" ≡ row_of (run ∷ (ws ++ (hs ++ (es ++ qs))))
+    → (((((field_text run) ++ behind_commas ws) ++ behind_commas hs) ++ behind_commas es) ++ behind_commas qs) ++ codes "\n"
+    ≡ row_of (run ∷ (ws ++ (hs ++ (es ++ qs))))
 all_fields run ws hs es qs =
     let a = field_text run in
     let w = behind_commas ws in
@@ -43,7 +44,7 @@ blanks_text : (n : ℕ) → behind_commas (replicate n []) ≡ replicate n 44
 blanks_text zero = refl
 blanks_text (suc n) = ap (λ l. 44 ∷ l) (blanks_text n)
 
--- values, each as a quantity after a comma, are their texts after commas
+-- the texts of values as `value_text` has them are the fields of the values' quantities, each after a comma
 values_text : (values : List Value) → flat_map value_text values ≡ behind_commas (map quantity_text values)
 values_text [] = refl
 values_text (v ∷ vs) = ap (λ l. value_text v ++ l) (values_text vs)
@@ -51,7 +52,8 @@ values_text (v ∷ vs) = ap (λ l. value_text v ++ l) (values_text vs)
 -- after any bytes: `first` commas, the values as quantities, and a comma for each further column are the values in their
 -- columns
 pub spread_text : (old : List ℕ) (first : ℕ) (values : List Value)
-    → ((old ++ replicate first 44) ++ flat_map value_text values) ++ replicate (24 - first - length values) 44 ≡ old ++ behind_commas (spread first (map quantity_text values))
+    → ((old ++ replicate first 44) ++ flat_map value_text values) ++ replicate (24 - first - length values) 44
+    ≡ old ++ behind_commas (spread first (map quantity_text values))
 spread_text old first values =
     let texts = map quantity_text values in
     let front : List (List ℕ) = replicate first [] in
@@ -99,27 +101,28 @@ same_field text = elim (cases_Bool (list_any is_special text)) [
   | inr plain ↦ rw (plain, sym (same_any text) ∙ plain) refl
 ]
 
--- fields, each after a comma, are what the writer of comma-separated values writes of them
+-- fields, each after a comma, are what the writer of comma-separated values writes of their bytes, escaped
 same_fields : (fields : List (List ℕ)) → behind_commas fields ≡ fields_text default_writer (map escaped fields)
 unfolding fields_text
 same_fields [] = refl
 same_fields (f ∷ fs) = ap (λ l. 44 ∷ (l ++ behind_commas fs)) (same_field (escaped f)) ∙ ap (λ l. 44 ∷ (csv.field_text default_writer (escaped f) ++ l)) (same_fields fs)
 
--- a row is what the writer of comma-separated values writes
+-- a row of two fields or more is what the writer of comma-separated values writes of these fields' bytes, escaped
 same_row : (first second : List ℕ) (others : List (List ℕ)) → row_of (first ∷ second ∷ others) ≡ row_text default_writer (map escaped (first ∷ second ∷ others))
 unfolding is_blank
 same_row first second others =
     ap (λ l. (l ++ behind_commas (second ∷ others)) ++ 10 ∷ []) (same_field (escaped first))
     ∙ ap (λ l. (csv.field_text default_writer (escaped first) ++ l) ++ 10 ∷ []) (same_fields (second ∷ others))
 
--- a row of two fields or more reads back as its fields
-row_back : (fields : List (List ℕ)) (behind : List ℕ) → 1 < length fields → next_record default_config StartRecord [] [] (row_of fields ++ behind) ≡ Some (map escaped fields, StartRecord, behind)
+-- a row of two fields or more reads back as its fields, escaped, and the reader goes on with what is behind the row
+row_back : (fields : List (List ℕ)) (behind : List ℕ) → 1 < length fields
+    → next_record default_config StartRecord [] [] (row_of fields ++ behind) ≡ Some (map escaped fields, StartRecord, behind)
 row_back [] behind many = absurd (omega (arith, many))
 row_back (first ∷ []) behind many = absurd (omega (arith, many))
 row_back (first ∷ second ∷ others) behind many =
     ap (λ l. next_record default_config StartRecord [] [] (l ++ behind)) (same_row first second others) ∙ read-write-many (escaped first) (escaped second) (map escaped others) behind
 
--- rows of two fields or more read back as a table
+-- rows of two fields or more read back as a table of their fields, escaped
 table_back : (rows : List (List (List ℕ))) → AllByRecursion (λ fields. 1 < length fields) rows
     → records_from default_config (length rows) StartRecord (flat_map row_of rows) ≡ map (map escaped) rows
 unfolding records_from
@@ -136,11 +139,11 @@ read_back = record {
 }
 
 -- a list of one printable byte is printable
-one_prints : (b : ℕ) → IsPrintableByte b → All IsPrintableByte (b ∷ [])
+one_prints : (b : ℕ) → IsPrintableByte b → IsPrintable (b ∷ [])
 one_prints b h = All-from_recursion IsPrintableByte (b ∷ []) (h, tt)
 
--- what is printable stays so within quotes
-doubled_prints : (text : List ℕ) → AllByRecursion IsPrintableByte text → All IsPrintableByte (flat_map within_quotes text)
+-- what is printable stays so with its double quotes doubled
+doubled_prints : (text : List ℕ) → AllByRecursion IsPrintableByte text → IsPrintable (flat_map within_quotes text)
 doubled_prints [] h = All-from_recursion IsPrintableByte [] tt
 doubled_prints (b ∷ bs) h =
     All-append IsPrintableByte (within_quotes b) (flat_map within_quotes bs)
@@ -149,7 +152,7 @@ doubled_prints (b ∷ bs) h =
     (doubled_prints bs h.1)
 
 -- the field of any bytes is printable
-field_prints : (bytes : List ℕ) → All (λ b. b < 256) bytes → All IsPrintableByte (field_text bytes)
+field_prints : (bytes : List ℕ) → All (λ b. b < 256) bytes → IsPrintable (field_text bytes)
 field_prints bytes are =
     let text = escaped bytes in
     let shown = escaped_prints bytes (recursion_from_All (λ b. b < 256) bytes are) in
@@ -160,7 +163,7 @@ field_prints bytes are =
     (λ _. shown)
 
 -- fields of any bytes, each after a comma, are printable
-fields_print : (fields : List (List ℕ)) → AllByRecursion (All (λ b. b < 256)) fields → All IsPrintableByte (behind_commas fields)
+fields_print : (fields : List (List ℕ)) → AllByRecursion (All (λ b. b < 256)) fields → IsPrintable (behind_commas fields)
 fields_print [] are = All-from_recursion IsPrintableByte [] tt
 fields_print (f ∷ fs) are =
     All-append IsPrintableByte (44 ∷ field_text f) (behind_commas fs)

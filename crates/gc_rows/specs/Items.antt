@@ -1,23 +1,9 @@
 -- The items of a reply's values: what lies between the commas, if these aren't within double quotes, without the spaces round
 -- it. Commas and strings in double quotes are those of the GeoCOM manual's chapter on the ASCII protocol; the spaces and the
 -- limit of 16 are this project's own.
-use Rattle.std.specs.Prelude.{ℕ, ◌+◌, ◌%◌, ◌==◌, ◌&&◌, Bool, true, false, not, nat_lt, List, [], ◌∷◌, length, map, Option, Some, None, if◌then◌else◌}
+use Rattle.std.specs.Prelude.{ℕ, ◌%◌, ◌==◌, ◌&&◌, Bool, true, false, not, nat_lt, List, [], ◌∷◌, length, map, Option, Some, None, if◌then◌else◌}
 use Rattle.gc_values.specs.Params.{quotes}
-
--- a text without the spaces at its front
-abbrev pub without_front_spaces : List ℕ → List ℕ
-without_front_spaces [] = []
-without_front_spaces (b ∷ bs) = if b == 32 then without_front_spaces bs else b ∷ bs
-
--- a byte in front of a text; a space in front of an empty text is left out
-abbrev pub put_before : ℕ → List ℕ → List ℕ
-put_before b [] = if b == 32 then [] else b ∷ []
-put_before b (x ∷ xs) = b ∷ x ∷ xs
-
--- a text without the spaces at its end
-abbrev pub without_end_spaces : List ℕ → List ℕ
-without_end_spaces [] = []
-without_end_spaces (b ∷ bs) = put_before b (without_end_spaces bs)
+use Rattle.gc_values.specs.Pieces.{without_front_spaces, without_end_spaces}
 
 -- a text without the spaces at both ends
 abbrev pub trimmed : List ℕ → List ℕ
@@ -29,12 +15,12 @@ onto b [] = []
 onto b (piece ∷ pieces) = (b ∷ piece) ∷ pieces
 
 -- whether a double quote is open after a byte; `quoted` says whether one is open before that byte
-abbrev pub quoted_after : ℕ → Bool → Bool
+abbrev pub quoted_after : ℕ → (quoted : Bool) → Bool
 quoted_after b quoted = if b == 34 then not quoted else quoted
 
 -- the pieces of a text, which is cut at each comma outside double quotes; `quoted` says whether a double quote is open before
 -- the text
-abbrev pub pieces : Bool → List ℕ → List (List ℕ)
+abbrev pub pieces : (quoted : Bool) → List ℕ → List (List ℕ)
 pieces quoted [] = [] ∷ []
 pieces quoted (b ∷ bs) = if (b == 44) && not quoted then [] ∷ pieces false bs else onto b (pieces (quoted_after b quoted) bs)
 
@@ -47,11 +33,6 @@ is_blank (b ∷ bs) = (b == 32) && is_blank bs
 abbrev pub items_of : List ℕ → List (List ℕ)
 items_of text = if is_blank text then [] else map trimmed (pieces false text)
 
--- the items of a text; none if its double quotes aren't in pairs, or it has more than 16 items
+-- the items of a text; `None` if its double quotes aren't in pairs, or it has more than 16 items
 abbrev pub split_items : List ℕ → Option (List (List ℕ))
 split_items text = if (quotes text % 2 == 0) && not (nat_lt 16 (length (items_of text))) then Some (items_of text) else None
-
--- how many bytes texts have together
-abbrev pub bytes_in : List (List ℕ) → ℕ
-bytes_in [] = 0
-bytes_in (text ∷ texts) = length text + bytes_in texts

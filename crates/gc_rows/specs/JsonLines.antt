@@ -30,7 +30,7 @@ behind_backslash b = if (b == 34) || (b == 92) then 92 ∷ b ∷ [] else b ∷ [
 abbrev pub in_quotes : List ℕ → List ℕ
 in_quotes text = codes "\"" ++ flat_map behind_backslash text ++ codes "\""
 
--- a string of JSON that holds these bytes, each escaped as in a log line if it isn't printable
+-- a string of JSON that holds these bytes, escaped first as in a log line
 abbrev pub string_text : List ℕ → List ℕ
 string_text bytes = in_quotes (escaped bytes)
 
@@ -46,20 +46,20 @@ abbrev pub named : List ℕ → List ℕ
 named name = codes ",\"" ++ name ++ codes "\":"
 
 -- a member that is a string of these bytes, as it is written
-abbrev pub text_member : List ℕ → List ℕ → List ℕ
+abbrev pub text_member : (name bytes : List ℕ) → List ℕ
 text_member name bytes = named name ++ string_text bytes
 
 -- a member that is a number with these digits, as it is written
-abbrev pub number_member : List ℕ → List ℕ → List ℕ
+abbrev pub number_member : (name digits : List ℕ) → List ℕ
 number_member name digits = named name ++ digits
 
--- the comma before an item of a list, if the argument says that another item is before it; else nothing
-abbrev pub comma_where : Bool → List ℕ
+-- the comma before an item of a list, if another item is before it (`after_another`); else nothing
+abbrev pub comma_where : (after_another : Bool) → List ℕ
 comma_where true = codes ","
 comma_where false = []
 
 -- strings that hold these bytes, with commas between them, and one before the first if another string is before it (`after_another`)
-abbrev pub strings_text : Bool → List (List ℕ) → List ℕ
+abbrev pub strings_text : (after_another : Bool) → List (List ℕ) → List ℕ
 strings_text after_another [] = []
 strings_text after_another (bytes ∷ others) = comma_where after_another ++ (string_text bytes ++ strings_text true others)
 
@@ -68,7 +68,7 @@ abbrev pub list_text : List (List ℕ) → List ℕ
 list_text texts = codes "[" ++ (strings_text false texts ++ codes "]")
 
 -- a member that is a list of strings of these bytes, as it is written
-abbrev pub texts_member : List ℕ → List (List ℕ) → List ℕ
+abbrev pub texts_member : (name : List ℕ) → (texts : List (List ℕ)) → List ℕ
 texts_member name texts = named name ++ list_text texts
 
 -- the member `items`, a list of strings of these bytes, as it is written
@@ -104,7 +104,10 @@ sent_members (Some utc) = Text (codes "sent") (stamp_text utc) ∷ []
 abbrev pub when_members : When → List Member
 when_members when =
     sent_members when.stamp.sent
-    ++ (Text (codes "time") (stamp_text when.stamp.utc) ∷ Number (codes "cycle") (decimal when.stamp.cycle) ∷ Number (codes "place") (decimal when.stamp.turn.place) ∷ [])
+    ++ (Text (codes "time") (stamp_text when.stamp.utc)
+    ∷ Number (codes "cycle") (decimal when.stamp.cycle)
+    ∷ Number (codes "place") (decimal when.stamp.turn.place)
+    ∷ [])
 
 -- the member of a target's name; none if the name is empty
 abbrev pub name_members : List ℕ → List Member
@@ -121,27 +124,31 @@ abbrev pub fault_members : Option ValueFault → List Member
 fault_members None = []
 fault_members (Some fault) = Number (codes "fault") (decimal (fault_number fault)) ∷ []
 
--- the members of a reply's line: its communication code, its return code, and its values; none if there is no reply
+-- the members of a reply's line: its communication code, its return code, and its values; none if there is no line
 abbrev pub reply_members : Option (List ℕ) → List Member
 reply_members None = []
 reply_members (Some line) =
-    Number (codes "rc_com") (without_zeros (com_of line)) ∷ Number (codes "rc") (without_zeros (code_of line)) ∷ Text (codes "values") (values_of line) ∷ []
+    Number (codes "rc_com") (without_zeros (com_of line))
+    ∷ Number (codes "rc") (without_zeros (code_of line))
+    ∷ Text (codes "values") (values_of line)
+    ∷ []
 
 -- the members that say how a command ended: its word, its fault, and those of the reply's line
 abbrev pub ending_members : End → List Member
 ending_members end = Text (codes "outcome") (word_of end) ∷ (fault_members (fault_of end) ++ reply_members (line_of end))
 
--- the members of a value under this name. A text gives one, its bytes. A number gives two: the number in its one written form,
--- and, under the name with `_text`, the number as the reply's line wrote it (`came`)
-abbrev pub value_members : List ℕ → Value → List ℕ → List Member
+-- the members of a value under this name. A text gives one, its bytes. Any other value gives two: the number that it is as a
+-- quantity (`quantity_text`), and, under the name with `_text`, the value as the reply's line wrote it (`came`)
+abbrev pub value_members : (name : List ℕ) → Value → (came : List ℕ) → List Member
 value_members name (value.Text bytes) came = Text name bytes ∷ []
 value_members name v came = Number name (quantity_text v) ∷ Text (name ++ codes "_text") came ∷ []
 
 -- the members of values, the first of which has the name of this column, and each other that of the next; `came` are the same
 -- values as the reply's line wrote them, with commas between them
-abbrev pub values_members : ℕ → List Value → List ℕ → List Member
+abbrev pub values_members : (column : ℕ) → List Value → (came : List ℕ) → List Member
 values_members column [] came = []
-values_members column (v ∷ vs) came = value_members (quantity_name column) v (before 44 came) ++ values_members (column + 1) vs (behind 44 came)
+values_members column (v ∷ vs) came =
+    value_members (quantity_name column) v (before 44 came) ++ values_members (column + 1) vs (behind 44 came)
 
 -- the member of the items into which a reply's values split; none if they don't split
 abbrev pub item_members : Option (List (List ℕ)) → List Member
@@ -154,7 +161,8 @@ abbrev pub answer_members : Asked → Answer → List ℕ → List Member
 answer_members (Table call) answer line = values_members (column_of call answer) (answer_fields answer).values (values_of line)
 answer_members (Raw raw) answer line = item_members (split_items (values_of line))
 
--- the members of a command's answer: its quantities or its items; none if the command ended without one
+-- the members of the answer that an ending has: its quantities or its items; none if the ending isn't `Answered`, or has no
+-- answer (`None`)
 abbrev pub quantity_members : Asked → End → List Member
 quantity_members asked (Answered quality (Some answer) line) = answer_members asked answer line
 quantity_members asked _ = []
@@ -164,11 +172,12 @@ abbrev pub quality_members : List ℕ → List Member
 quality_members [] = []
 quality_members (b ∷ bs) = Text (codes "quality") (b ∷ bs) ∷ []
 
--- the member of the attempt of a command's chain
+-- the member of the attempt: of a command's chain or, for a command of the setup, of the setup
 abbrev pub attempt_members : When → List Member
 attempt_members when = Number (codes "attempt") (decimal when.stamp.turn.attempt) ∷ []
 
--- the members after all others: the quality of the command's answer, if it was answered, and the attempt of its chain
+-- the members after all others: the quality of the command's answer, if the ending is `Answered`, and the attempt
+-- (`attempt_members`)
 abbrev pub last_members : When → End → List Member
 last_members when end = quality_members (quality_text (quality_of end)) ++ attempt_members when
 
@@ -178,4 +187,5 @@ members_after_ending when asked end = quantity_members asked end ++ last_members
 
 -- the members of a record's object after the first, which is `run`
 abbrev pub json_members : When → List ℕ → Wish → End → List Member
-json_members when name command end = when_members when ++ (command_members command name ++ (ending_members end ++ members_after_ending when command.call end))
+json_members when name command end =
+    when_members when ++ (command_members command name ++ (ending_members end ++ members_after_ending when command.call end))

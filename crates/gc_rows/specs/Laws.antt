@@ -15,7 +15,7 @@ use Rattle.gc_lines.specs.Numbers as numbers
 use Rattle.gc_values.specs.Params.{IsParams}
 use Rattle.gc_lines.specs.Replies.{ReplyFields, IsReply}
 use Rattle.gc_rows.specs.Quantities.{quantity_names}
-use Rattle.gc_rows.specs.Records.{names, last_names, head_text}
+use Rattle.gc_rows.specs.Records.{first_names, last_names, head_text}
 use Rattle.gc_rows.specs.Items.{items_of}
 use Rattle.gc_rows.specs.JsonLines.{Member, Text, Number, Texts, json_line, json_members}
 use Rattle.gc_rows.specs.Rows.{com_of, code_of, values_of, row_of}
@@ -36,20 +36,20 @@ pub record ColumnsGiveReply (line : List ℕ) (r : ReplyFields) : Type 0 where
 abbrev pub ColumnsAreFields : Type 0
 ColumnsAreFields = (line : List ℕ) (r : ReplyFields) → IsReply line r → ColumnsGiveReply line r
 
--- if a reply's values are parameters of the grammar, these are their items (`items_of`), which an object has if they are 16 at most
+-- if a text is a list of parameters by the grammar, its items (`items_of`) are these parameters, however many they are
 abbrev pub ItemsAreTheGrammars : Type 0
 ItemsAreTheGrammars = (text : List ℕ) (items : List (List ℕ)) → IsParams text items → items_of text ≡ items
 
 -- rows read back by a reader of comma-separated values, whatever bytes their fields hold. `row`: a row of two fields or more
--- gives its fields, and the reader goes on after the row. `table`: rows of two fields or more give a table of their fields.
--- `names`: what comes before all records is the row of the columns' names. `once`: no two lists of bytes have one escaped form,
--- in which a field is read back
+-- gives its fields, escaped, and the reader goes on after the row. `table`: rows of two fields or more give a table of their
+-- fields, escaped. `names`: what comes before all records is the row of the columns' names. `once`: no two lists of bytes have
+-- one escaped form, in which a field is read back
 pub record RowsReadBack : Type 0 where
   pub row : (fields : List (List ℕ)) (behind : List ℕ) → 1 < length fields
       → next_record default_config StartRecord [] [] (row_of fields ++ behind) ≡ Some (map escaped fields, StartRecord, behind)
   pub table : (rows : List (List (List ℕ))) → AllByRecursion (λ fields. 1 < length fields) rows
       → records_from default_config (length rows) StartRecord (flat_map row_of rows) ≡ map (map escaped) rows
-  pub names : (head_text Csv ≡ row_of (names ++ last_names)) × (head_text Columns ≡ row_of (names ++ (quantity_names ++ last_names)))
+  pub names : (head_text Csv ≡ row_of (first_names ++ last_names)) × (head_text Columns ≡ row_of (first_names ++ (quantity_names ++ last_names)))
   pub once : (xs ys : List ℕ) → All (λ b. b < 256) xs → All (λ b. b < 256) ys → escaped xs ≡ escaped ys → xs ≡ ys
 
 -- a row whose fields hold bytes is printable, before its line feed
@@ -57,7 +57,7 @@ abbrev pub RowsArePrintable : Type 0
 RowsArePrintable =
     (fields : List (List ℕ)) → AllByRecursion (All (λ b. b < 256)) fields → (text : List ℕ) × (row_of fields ≡ text ++ codes "\n") × IsPrintable text
 
--- a name that appears unchanged in a string: printable ASCII without a double quote and a backslash
+-- a name that appears unchanged in a string: it has no byte below 32, no double quote and no backslash
 abbrev pub IsPlainName : List ℕ → Type 0
 IsPlainName name = AllByRecursion (λ b. (32 ≤ b) × ((b ≢ 34) × (b ≢ 92))) name
 
@@ -84,8 +84,8 @@ members_read (Texts name texts ∷ members) = json.member name (json.array (text
 abbrev pub record_read : ℕ → List Member → json.Members
 record_read run members = json.member (codes "run") (json.string (escaped (stamp_text run))) (members_read members)
 
--- a line of JSON whose members are `IsPlainMember`, without its line feed, reads as an object of the run's moment and these members,
--- in their order
+-- a line of JSON whose run's moment has at most 64 bits and whose members are `IsPlainMember`, without its line feed, reads as an
+-- object of that moment and these members, in their order
 abbrev pub JsonLinesReadBack : Type 0
 JsonLinesReadBack =
     (run : ℕ) (members : List Member) → run < 2 ^ 64 → AllByRecursion IsPlainMember members
@@ -112,7 +112,7 @@ IsEndOfBytes Lost = Unit {0}
 IsEndOfBytes Skipped = Unit {0}
 IsEndOfBytes Missed = Unit {0}
 
--- the moments, the cycle, the place and the attempt of a record have at most 64 bits each
+-- the moments at which a record's command was sent and ended, its cycle, its place and its attempt have at most 64 bits each
 pub record FitsIn64Bits (when : When) : Type 0 where
   pub sent : IfSome when.stamp.sent (λ utc. utc < 2 ^ 64)
   pub utc : when.stamp.utc < 2 ^ 64
@@ -120,8 +120,10 @@ pub record FitsIn64Bits (when : When) : Type 0 where
   pub place : when.stamp.turn.place < 2 ^ 64
   pub attempt : when.stamp.turn.attempt < 2 ^ 64
 
--- each member of a record's line has a plain name, and holds bytes, a number of JSON or a list of bytes (`IsPlainMember`), so that the
--- line reads back by `JsonLinesReadBack`
+-- if a record's numbers fit in 64 bits (`FitsIn64Bits`, and its target), its target's name is of bytes, and its ending is as
+-- `IsEndOfBytes` has it, each member of its line after the first has a plain name, and holds bytes, a number of JSON or texts
+-- of bytes (`IsPlainMember`). So, if the moment at which its run began has at most 64 bits, too, the line reads back by
+-- `JsonLinesReadBack`
 abbrev pub RecordsHavePlainMembers : Type 0
 RecordsHavePlainMembers =
     (when : When) (name : List ℕ) (command : Wish) (end : End)

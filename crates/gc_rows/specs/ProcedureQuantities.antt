@@ -8,7 +8,7 @@ use Rattle.gc_catalogue.specs.declared.call.Call.{Call}
 use Rattle.gc_values.specs.declared.value.Value.{Value}
 use Rattle.gc_texts.specs.Endings.{End}
 use Rattle.gc_rows.specs.Quantities.{column_of, quantity_name, quantity_names}
-use Rattle.gc_rows.specs.Records.{names, last_names}
+use Rattle.gc_rows.specs.Records.{first_names, last_names}
 use Rattle.gc_rows.specs.Rows.{row_fields}
 use Rattle.gc_texts.specs.declared.wish.Wish.{Wish}
 use Rattle.gc_rows.specs.declared.when.When.{When}
@@ -54,16 +54,19 @@ quantities_returned rpc =
     else []
 
 -- the names of the columns from number `column` on, one for each of these values
-abbrev pub names_from : ℕ → List Value → List (List ℕ)
+abbrev pub names_from : (column : ℕ) → List Value → List (List ℕ)
 names_from column [] = []
 names_from column (v ∷ vs) = quantity_name column ∷ names_from (column + 1) vs
 
 -- the values of an answer are under the names of the quantities that its procedure returns, in that order
 abbrev pub QuantitiesHaveTheirNames : Type 0
 QuantitiesHaveTheirNames =
-    (call : Call) (answer : Answer) → IsAnswerOf call answer → names_from (column_of call answer) (answer_fields answer).values ≡ quantities_returned (call_fields call).number
+    (call : Call) (answer : Answer) → IsAnswerOf call answer
+    → names_from (column_of call answer) (answer_fields answer).values ≡ quantities_returned (call_fields call).number
 
 -- however a command ended, its row has a field for each name of the header, and no other
 pub record RowsFillTheirColumns : Type 0 where
-  pub csv : (when : When) (name : List ℕ) (command : Wish) (end : End) → length (row_fields false when name command end) ≡ length (names ++ last_names)
-  pub columns : (when : When) (name : List ℕ) (command : Wish) (end : End) → length (row_fields true when name command end) ≡ length (names ++ (quantity_names ++ last_names))
+  pub csv : (when : When) (name : List ℕ) (command : Wish) (end : End)
+      → length (row_fields false when name command end) ≡ length (first_names ++ last_names)
+  pub columns : (when : When) (name : List ℕ) (command : Wish) (end : End)
+      → length (row_fields true when name command end) ≡ length (first_names ++ (quantity_names ++ last_names))

@@ -20,7 +20,7 @@ abbrev pub spaced_fault : Option ValueFault → List ℕ
 spaced_fault None = []
 spaced_fault (Some fault) = codes " " ++ decimal (fault_number fault)
 
--- a space and the line of a reply, escaped as in a row; empty if there is no reply
+-- a space and the line of a reply, escaped as in a row; empty if there is no line
 abbrev pub spaced_line : Option (List ℕ) → List ℕ
 spaced_line None = []
 spaced_line (Some line) = codes " " ++ escaped line
@@ -35,7 +35,8 @@ abbrev pub record_line : When → Wish → End → List ℕ
 record_line when command end =
     stamp_text when.stamp.utc ++ codes " " ++ decimal when.stamp.turn.place ++ codes " " ++ decimal command.target ++ ending_text end ++ codes "\n"
 
--- a record in its form: its moments, the target's name, the command, and how it ended
+-- a record in this form, by its moments, the target's name, the command, and how that ended. In the form `Lines` there is neither
+-- the name nor the moment at which the command was sent
 abbrev pub record_text : Form → When → List ℕ → Wish → End → List ℕ
 record_text Lines when name command end = record_line when command end
 record_text Csv when name command end = row_of (row_fields false when name command end)
@@ -43,8 +44,8 @@ record_text Columns when name command end = row_of (row_fields true when name co
 record_text Json when name command end = json_line when.run (json_members when name command end)
 
 -- the names of the columns before the quantities
-abbrev pub names : List (List ℕ)
-names =
+abbrev pub first_names : List (List ℕ)
+first_names =
     codes "run" ∷ codes "sent" ∷ codes "time" ∷ codes "cycle" ∷ codes "place" ∷ codes "target" ∷ codes "name" ∷ codes "procedure"
     ∷ codes "outcome" ∷ codes "fault" ∷ codes "rc_com" ∷ codes "rc" ∷ codes "values" ∷ []
 
@@ -56,11 +57,11 @@ last_names = codes "quality" ∷ codes "attempt" ∷ []
 abbrev pub head_text : Form → List ℕ
 head_text Lines = []
 head_text Json = []
-head_text Csv = row_of (names ++ last_names)
-head_text Columns = row_of (names ++ (quantity_names ++ last_names))
+head_text Csv = row_of (first_names ++ last_names)
+head_text Columns = row_of (first_names ++ (quantity_names ++ last_names))
 
--- the bytes that a file of records begins with: what comes before all records, or, in a file of JSON, which nothing precedes,
--- the bytes that each line begins with
+-- the bytes that a file of records begins with: what comes before all records, which is nothing in the form `Lines`; or, in the form
+-- `Json`, the bytes that each line begins with
 abbrev pub sign_text : Form → List ℕ
 sign_text Json = codes "{\"run\":\""
 sign_text Lines = head_text Lines

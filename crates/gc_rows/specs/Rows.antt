@@ -47,7 +47,7 @@ within_quotes b = if b == 34 then 34 ∷ 34 ∷ [] else b ∷ []
 abbrev pub csv_field : List ℕ → List ℕ
 csv_field text = if list_any is_special text then codes "\"" ++ flat_map within_quotes text ++ codes "\"" else text
 
--- a field that holds these bytes, each escaped as in a log line if it isn't printable
+-- a field that holds these bytes, escaped as in a log line
 abbrev pub field_text : List ℕ → List ℕ
 field_text bytes = csv_field (escaped bytes)
 
@@ -86,7 +86,7 @@ abbrev pub fault_field : Option ValueFault → List ℕ
 fault_field None = []
 fault_field (Some fault) = decimal (fault_number fault)
 
--- the fields of a reply's line: its communication code, its return code, and its values; three empty fields if there is no reply
+-- the fields of a reply's line: its communication code, its return code, and its values; three empty fields if there is no line
 abbrev pub reply_fields : Option (List ℕ) → List (List ℕ)
 reply_fields None = [] ∷ [] ∷ [] ∷ []
 reply_fields (Some line) = com_of line ∷ code_of line ∷ values_of line ∷ []
@@ -99,9 +99,9 @@ ending_fields end = word_of end ∷ fault_field (fault_of end) ∷ reply_fields 
 abbrev pub value_text : Value → List ℕ
 value_text value = behind_comma (quantity_text value)
 
--- 24 fields: the texts are in columns one after the other, the first in column `first`, counted from 0, and the other columns
--- are empty
-abbrev pub spread : ℕ → List (List ℕ) → List (List ℕ)
+-- the texts in 24 columns, if they fit: one after the other, the first in column `first`, counted from 0, and the other columns are
+-- empty
+abbrev pub spread : (first : ℕ) → (texts : List (List ℕ)) → List (List ℕ)
 spread first texts = replicate first [] ++ (texts ++ replicate (24 - first - length texts) [])
 
 -- the quantities of an answer to `asked`, each in its column; all columns are empty if the procedure isn't in the table
@@ -109,23 +109,25 @@ abbrev pub answer_columns : Asked → Answer → List (List ℕ)
 answer_columns (Table call) answer = spread (column_of call answer) (map quantity_text (answer_fields answer).values)
 answer_columns (Raw raw) answer = replicate 24 []
 
--- the quantities of a command's answer, each in its column; all columns are empty if it ended without one
+-- the quantities of the answer that an ending has, each in its column; all columns are empty if the ending isn't `Answered`, or
+-- has no answer (`None`)
 abbrev pub quantity_fields : Asked → End → List (List ℕ)
 quantity_fields asked (Answered quality (Some answer) line) = answer_columns asked answer
 quantity_fields asked _ = replicate 24 []
 
--- the fields after all others: the quality of the command's answer, empty if it wasn't answered, and the attempt of its chain
+-- the fields after all others: the quality of the command's answer, empty if the ending isn't `Answered`, and the attempt: of the
+-- command's chain or, for a command of the setup, of the setup
 abbrev pub last_fields : When → End → List (List ℕ)
 last_fields when end = quality_text (quality_of end) ∷ decimal when.stamp.turn.attempt ∷ []
 
--- the fields after those that say how the command ended: the quantities, if a row has columns for them (`true`), and the last fields
-abbrev pub fields_after_ending : Bool → When → Asked → End → List (List ℕ)
+-- the fields after those that say how the command ended: the quantities, if a row has columns for them (`columns`), and the last fields
+abbrev pub fields_after_ending : (columns : Bool) → When → Asked → End → List (List ℕ)
 fields_after_ending true when asked end = quantity_fields asked end ++ last_fields when end
 fields_after_ending false when asked end = last_fields when end
 
 -- the fields of a record's row: when its run began, when its command was sent and ended, and which one of the run it was; the target, its
 -- name and the procedure; how the command ended; if `columns` asks for them, a field for each quantity; and last the quality of the answer
 -- and the attempt
-abbrev pub row_fields : Bool → When → List ℕ → Wish → End → List (List ℕ)
+abbrev pub row_fields : (columns : Bool) → When → List ℕ → Wish → End → List (List ℕ)
 row_fields columns when name command end =
     stamp_text when.run ∷ (when_fields when ++ (command_fields command name ++ (ending_fields end ++ fields_after_ending columns when command.call end)))

@@ -4,7 +4,8 @@
 ghost use Rattle.std.specs.Prelude.{◌≡◌, ℕ, ◌+◌, ◌*◌, ◌≤◌, ◌<◌, ◌++◌, false, length, option_map, Some};
 ghost use Rattle.std.specs.List.{flat_map};
 ghost use Rattle.arrayvec.specs.ArrayVec.{array_vec_len};
-ghost use Rattle.gc_rows.specs.Items.{bytes_in, split_items};
+ghost use Rattle.gc_rows.specs.Items.{split_items};
+ghost use Rattle.gc_values.specs.Params.{bytes_in};
 ghost use Rattle.gc_texts.specs.Endings.{ending_seen};
 ghost use Rattle.gc_texts.specs.Logs.{escaped};
 ghost use Rattle.gc_rows.specs.declared.json_line.TheConstants.{NAME_ROOM, VALUE_ROOM, STRINGS_ROOM, LIST_ROOM, ANSWER_ROOM, QUALITY_ROOM, LAST_ROOM, AFTER_ENDING_ROOM};
@@ -211,7 +212,7 @@ fn append_reply_texts<const N: usize>(line: &mut ArrayVec<u8, N>, reply: &Line)
     append_text(line, b"values", texts.values);
 }
 
-// Appends the members of a reply's line, as `append_reply_texts`; nothing if there is no reply.
+// Appends the members of a reply's line, as `append_reply_texts`; nothing if there is no line.
 fn append_reply<const N: usize>(line: &mut ArrayVec<u8, N>, reply: Option<&Line>)
     requires { array_vec_len line.old + 5346 ≤ N }
     ensures text { line.new.items ≡ line.old.items ++ members_text (reply_members (option_map (λ l. l.now.items) reply.entry)) }
@@ -233,8 +234,9 @@ fn append_ending<const N: usize>(line: &mut ArrayVec<u8, N>, ending: Ending<'_>)
     append_reply(line, ending.line());
 }
 
-// Appends the members of a value. A text gives one: its bytes as a string, under this name. A number gives two: the number in
-// its one written form, under this name, and `came`, which is the number as the reply's line wrote it, under the name with `_text`.
+// Appends the members of a value. A text gives one: its bytes as a string, under this name. Any other value gives two: the number
+// that it is as a quantity, under this name, and `came`, which is the value as the reply's line wrote it, under the name with
+// `_text`.
 fn append_value<const N: usize>(line: &mut ArrayVec<u8, N>, name: &[u8], value: &Value, came: &[u8])
     requires named { length name.now ≤ 32 }
     requires short { length came.now ≤ 514 }
@@ -350,7 +352,8 @@ fn append_answer<const N: usize>(
     }
 }
 
-// Appends the quantities or the items of a command's answer, if it ended with one.
+// Appends the quantities or the items of the answer that an ending has; nothing if the ending isn't `Answered`, or has no answer
+// (`None`).
 fn append_quantities<const N: usize>(line: &mut ArrayVec<u8, N>, asked: &Asked, ending: Ending<'_>)
     requires { array_vec_len line.old + ANSWER_ROOM ≤ N }
     ensures text { line.new.items ≡ line.old.items ++ members_text (quantity_members asked.now (ending_seen ending.entry)) }
@@ -373,7 +376,8 @@ fn append_quality<const N: usize>(line: &mut ArrayVec<u8, N>, word: &[u8])
     }
 }
 
-// Appends the member of the answer's quality, if the command was answered, and the one of the attempt of its chain.
+// Appends the member of the answer's quality, if the ending is `Answered`, and the one of the attempt: of the command's chain or,
+// for a command of the setup, of the setup.
 fn append_last<const N: usize>(line: &mut ArrayVec<u8, N>, when: &When, ending: Ending<'_>)
     requires { array_vec_len line.old + LAST_ROOM ≤ N }
     ensures text { line.new.items ≡ line.old.items ++ members_text (last_members when.now (ending_seen ending.entry)) }

@@ -14,8 +14,9 @@ pub fn items_are_the_grammars()
     ensures { ItemsAreTheGrammars }
 {}
 
-/// A reader of comma-separated values gives each row back as its fields, and a table as its rows, whatever bytes a reply had.
-/// No two lists of bytes are written as one field.
+/// A reader of comma-separated values gives each row of two fields or more back as its fields, escaped as in a log, and a table
+/// of such rows as these rows, whatever bytes a reply had. What comes before all records is the row of the columns' names. No two
+/// different lists of bytes are escaped as one text.
 pub fn rows_read_back()
     ensures { RowsReadBack }
 {}
@@ -25,14 +26,14 @@ pub fn rows_are_printable()
     ensures { RowsArePrintable }
 {}
 
-/// A line of JSON, whose members have plain names and hold bytes, numbers of JSON or lists of bytes, reads as an object of these members,
-/// in their order, whatever the bytes.
+/// A line of JSON, whose members have plain names and hold bytes, numbers of JSON or texts of bytes, reads as an object of the
+/// run's moment and these members, in their order, whatever the bytes, which are escaped as in a log.
 pub fn json_lines_read_back()
     ensures { JsonLinesReadBack }
 {}
 
 /// Each record's line of JSON is one of which `json_lines_read_back` speaks: its members have plain names and hold bytes,
-/// numbers of JSON or lists of bytes.
+/// numbers of JSON or texts of bytes.
 pub fn records_have_plain_members()
     ensures { RecordsHavePlainMembers }
 {}

@@ -123,7 +123,8 @@ fn station_values(station: &Station) -> ArrayVec<Value, MOST_VALUES>
     values
 }
 
-/// The column of the first value of a call's answer, counted from 0; each other value has the next column. 0 if there is no value.
+/// The column of the first value of a call's answer, counted from 0; the other values have the columns directly after it, in
+/// order. 0 if there is no value.
 pub(crate) fn column_of(call: &Call, answer: &Answer) -> usize
     ensures is { result ≡ column_of call.now answer.now }
     ensures fits { column_of call.now answer.now + length (answer_fields answer.now).values ≤ 24 }
@@ -144,8 +145,8 @@ pub(crate) fn column_of(call: &Call, answer: &Answer) -> usize
     }
 }
 
-// The column of an answer that is one whole number, by the call: that of a face, of a type of prism, or, for any other call, of a
-// serial number.
+// The column of an answer that is one long number (`Answer::Long`), by the call: that of a face, of a type of prism, or, for any
+// other call, of a serial number.
 fn column_of_long(call: &Call) -> usize
     ensures is { result ≡ column_of_long call.now }
     ensures fits { column_of_long call.now + 1 ≤ 24 }

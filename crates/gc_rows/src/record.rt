@@ -19,14 +19,15 @@ use itoa::Buffer;
 /// How records are written.
 #[derive(Clone, Copy, Debug, PartialEq, Eq)]
 pub enum Form {
-    /// Each a line: the moment, the place, the target, and how the command ended, with the bytes of the reply escaped as in a
-    /// log.
+    /// Each a line: the moment at which the command ended, its place, its target, and how it ended, with the bytes of the reply
+    /// escaped as in a log.
     Lines,
     /// Each a row of comma-separated values, quoted as RFC 4180 has it. The names of the columns are the first row.
     Csv,
     /// As `Csv`, with a column for each quantity that an answer may have.
     Columns,
-    /// Each an object of JSON on a line of its own, with the quantities of its answer.
+    /// Each an object of JSON on a line of its own, with the quantities of its answer, or, if the procedure isn't in the table,
+    /// with the items of its values.
     Json,
 }
 
@@ -69,9 +70,9 @@ pub fn write_head<K: Sink>(sink: &mut K, form: Form) -> Result<(), usize>
     write_whole(sink, head(form))
 }
 
-/// Writes a record in this form: its moments, the target's name (at most 64 bytes, empty if it has none), the command, and how the
-/// command ended. The record goes in one write if the sink takes all of it. `Err(n)`: the sink took the first n bytes of the record,
-/// which aren't all, and failed.
+/// Writes a record in this form, by its moments, the target's name (at most 64 bytes, empty if it has none), the command, and how
+/// the command ended. What of these a line of `Lines` has, `Form::Lines` says. The record goes in one write if the sink takes all
+/// of it. `Err(n)`: the sink took the first n bytes of the record, which aren't all, and failed.
 pub fn write_record<K: Sink>(
     sink: &mut K,
     form: Form,
@@ -115,7 +116,8 @@ fn record_line(when: &When, command: &Wish, ending: Ending<'_>) -> ArrayVec<u8, 
     line
 }
 
-// How a command ended: its word, the number of its fault, and the line of the reply, escaped as in a log; each after a space.
+// How a command ended: its word and, if it has these, the number of its fault, and the line of the reply, escaped as in a log;
+// each after a space.
 fn ending_text(ending: Ending<'_>) -> ArrayVec<u8, ENDING_ROOM>
     ensures { result.items ≡ ending_text (ending_seen ending.entry) }
 {
@@ -139,7 +141,7 @@ fn append_fault<const N: usize>(text: &mut ArrayVec<u8, N>, fault: Option<ValueF
     }
 }
 
-// Appends a space and the line of a reply, escaped as in a log, if there is a reply.
+// Appends a space and the line of a reply, escaped as in a log, if there is a line.
 fn append_line<const N: usize>(text: &mut ArrayVec<u8, N>, line: Option<&Line>)
     requires { array_vec_len text.old + 2049 ≤ N }
     ensures { text.new.items ≡ text.old.items ++ spaced_line (option_map (λ l. l.now.items) line.entry) }

@@ -35,7 +35,7 @@ const QUANTITIES_ROOM: usize = 6 * VALUE_ROOM + QUANTITIES;
 // within quotes.
 const LAST_ROOM: usize = (1 + 8 * 16 + 2) + (1 + 8 * 20 + 2);
 
-// The most bytes of a row after its first thirteen fields: the quantities and the last ones.
+// The most bytes of the fields of a row after its first thirteen: the quantities and the last ones.
 const AFTER_ENDING_ROOM: usize = QUANTITIES_ROOM + LAST_ROOM;
 
 // A comma before each column of a quantity.
@@ -193,8 +193,8 @@ fn fault_text(fault: Option<ValueFault>) -> ArrayVec<u8, 20>
     text
 }
 
-// Appends the communication code, the return code and the values of a reply's line. The three fields are empty if there is no reply.
-// They have at most 12297 bytes: each a comma, two quotes, and 512 bytes of which each may take eight.
+// Appends the communication code, the return code and the values of a reply's line. The three fields are empty if there is no
+// line. They have at most 12297 bytes: each a comma, two quotes, and 512 bytes of which each may take eight.
 fn append_reply<const N: usize>(row: &mut ArrayVec<u8, N>, line: Option<&Line>)
     requires { array_vec_len row.old + 12297 ≤ N }
     ensures text { row.new.items ≡ row.old.items ++ behind_commas (reply_fields (option_map (λ l. l.now.items) line.entry)) }
@@ -211,7 +211,8 @@ fn append_reply<const N: usize>(row: &mut ArrayVec<u8, N>, line: Option<&Line>)
     }
 }
 
-// Appends how a command ended: its word, its fault, and the three fields of its reply's line. These have at most 12800 bytes together.
+// Appends how a command ended: its word, its fault, and the three fields of its reply's line. The five fields have at most 12800
+// bytes together.
 fn append_ending<const N: usize>(row: &mut ArrayVec<u8, N>, ending: Ending<'_>)
     requires { array_vec_len row.old + 12800 ≤ N }
     ensures text { row.new.items ≡ row.old.items ++ behind_commas (ending_fields (ending_seen ending.entry)) }
@@ -259,7 +260,8 @@ fn append_answer<const N: usize>(row: &mut ArrayVec<u8, N>, asked: &Asked, answe
     }
 }
 
-// Appends the quantities of a command's answer, each in its column. All columns are empty if it ended without one.
+// Appends the quantities of the answer that an ending has, each in its column. All columns are empty if the ending isn't
+// `Answered`, or has no answer (`None`).
 fn append_quantities<const N: usize>(row: &mut ArrayVec<u8, N>, asked: &Asked, ending: Ending<'_>)
     requires { array_vec_len row.old + QUANTITIES_ROOM ≤ N }
     ensures text { row.new.items ≡ row.old.items ++ behind_commas (quantity_fields asked.now (ending_seen ending.entry)) }
@@ -271,7 +273,8 @@ fn append_quantities<const N: usize>(row: &mut ArrayVec<u8, N>, asked: &Asked, e
     }
 }
 
-// Appends the quality of a command's answer, which is empty if the command wasn't answered, and the attempt of its chain.
+// Appends the quality of a command's answer, which is empty if the ending isn't `Answered`, and the attempt: of the command's
+// chain or, for a command of the setup, of the setup.
 fn append_last<const N: usize>(row: &mut ArrayVec<u8, N>, when: &When, ending: Ending<'_>)
     requires { array_vec_len row.old + LAST_ROOM ≤ N }
     ensures text { row.new.items ≡ row.old.items ++ behind_commas (last_fields when.now (ending_seen ending.entry)) }

@@ -1,16 +1,15 @@
--- What the instrument of a scene does with the request line of a call. Its reply has the request's id, whatever the scene's rules say.
+-- What the instrument of a scene does with the request line of a call. Its reply has the request's id, whatever the scene's
+-- rules say.
 use Rattle.std.proofs.Common.{◌≡◌, ℕ, ◌+◌, ◌<◌, Bool, true, false, cond, List, [], ◌∷◌, ◌++◌, length, Option, Some, None, refl, sym, ◌∙◌, ap, subst, lit<}
 use Rattle.std.proofs.lemmas.List.{length_push}
 use Rattle.gc_lines.specs.Answering.{AppendsAnswer}
-use Rattle.gc_lines.proofs.Written.{reply_back}
 use Rattle.gc_lines.proofs.Requests.{request_found}
 use Rattle.gc_catalogue.proofs.LineLaws.{call_again}
 use Rattle.gc_catalogue.specs.Calls.{call_fields, IsFitting}
 use Rattle.gc_catalogue.specs.Texts.{request_line, request_of}
 use Rattle.gc_catalogue.specs.declared.call.Call.{Call}
-use Rattle.gc_client.specs.Rule.{id_in, heard}
+use Rattle.gc_client.specs.Rule.{heard}
 use Rattle.gc_instrument.specs.Replying.{Handed, kept_line, kept_after}
-use Rattle.gc_instrument.specs.State.{KeptReply}
 use Rattle.gc_scenes.proofs.Codes.{fault_bound, call_bound}
 use Rattle.gc_scenes.proofs.Turns.{one_reply}
 use Rattle.gc_scenes.specs.Rules.{fault_of}
@@ -18,13 +17,13 @@ use Rattle.gc_scenes.specs.SceneExecution.{Played, plays, played_call, unless_fa
 use Rattle.gc_scenes.specs.SceneReplying.{IsPlayed, answers, names_call, resent_line, again_or_played, handed_call, played_line}
 use Rattle.gc_scenes.specs.SceneState.{SceneState}
 use Rattle.gc_scene_world.specs.SceneRuns.{scene_handed, scene_ends}
-use Rattle.gc_world.specs.Exchange.{IsExchange}
-use Rattle.gc_world.proofs.Handing.{kept_id, again_kept, other_id}
+use Rattle.gc_world.specs.Exchange.{IsExchange, ReadsWithItsId}
+use Rattle.gc_world.proofs.Handing.{kept_id, again_kept, kept_reads, other_id, reply_heard}
 use Rattle.std.proofs.lemmas.Option.{same_Some, none-some}
 
 -- The reply to a request line.
 
--- the instrument does with the request line of a call what `scene_handed` says of the call
+-- the instrument does with the request line of a call with values in range and an id below 8 what `scene_handed` says of the call
 plays_line : (s : SceneState) (id : ℕ) (call : Call) → id < 8 → IsFitting call
     → IsPlayed s (request_line (Some id) call) (scene_handed s id call).state (Some (scene_handed s id call).reply)
 plays_line s id call small fits =
@@ -37,8 +36,8 @@ pub record IsExchanged (before : SceneState) (id : ℕ) (call : Call) (after : S
   pub state : after ≡ (scene_handed before id call).state
   pub line : reply ≡ (scene_handed before id call).reply
 
--- where the instrument got the request line of a call, and its reply, if there is one (b), was appended to the empty text `old`, the line
--- was handed over as `IsExchanged` has it
+-- where the instrument got the request line of a call with values in range and an id below 8, and its reply, if there is one (b),
+-- was appended to the empty text `old`, the line was handed over as `IsExchanged` has it
 pub exchanged : (s : SceneState) (line : List ℕ) (after : SceneState) (old new : List ℕ) (b : Bool) (id : ℕ) (call : Call) (small : id < 8) (fits : IsFitting call)
     (is : line ≡ request_line (Some id) call) (empty : old ≡ []) (played : AppendsAnswer (IsPlayed s line after) old new b) → IsExchanged s id call after new
 exchanged s line after old new true id call small fits is empty h =
@@ -52,47 +51,37 @@ exchanged s line after old new false id call small fits is empty h =
 
 -- The id of a reply.
 
--- the stored line, if there is one, reads as a reply with the stored id
-abbrev pub IsHeard : Option KeptReply → Type 0
-IsHeard None = Unit {0}
-IsHeard (Some k) = heard k.line ≡ Some k.id
-
 -- in this state the stored line, if there is one, reads as a reply with the stored id
-abbrev pub KeepsAReply : SceneState → Type 0
-KeepsAReply s = IsHeard s.base.kept
+abbrev pub StoredReads : SceneState → Type 0
+StoredReads s = ReadsWithItsId s.base.kept
 
--- where the stored line reads as a reply with the stored id, the request's reply has the request's id, and the line that is stored after
--- the request reads as a reply with the id that is stored then
+-- where the stored line reads as a reply with the stored id, the request's reply has the request's id, and the line that is
+-- stored after the request reads as a reply with the id that is stored then
 record KeepsIds (s : SceneState) (id : ℕ) (h : Handed SceneState) : Type 0 where
-  reads : IsHeard s.base.kept → heard h.reply ≡ Some id
-  good : IsHeard s.base.kept → IsHeard h.state.base.kept
+  reads : ReadsWithItsId s.base.kept → heard h.reply ≡ Some id
+  good : ReadsWithItsId s.base.kept → ReadsWithItsId h.state.base.kept
 
--- a reply's line has its id
-line_heard : (id : ℕ) (p : Played) → id < 8 → p.rc < 65536 → heard (played_line id p) ≡ Some id
-line_heard id p small code = ap id_in (reply_back (record { rc_com = 0; id = Some id; rc = p.rc; params = p.params }) (record { rc_com = lit< tt; id = small; rc = code }))
-
--- where a line reads as a reply with this id, so does the line that is stored once the request was answered with it, if one is stored
-kept_heard : (b : Bool) (id : ℕ) (line : List ℕ) (k : Option KeptReply) → heard line ≡ Some id → IsHeard (cond b (kept_after k (Some id) line) None)
-kept_heard true id line k h = h
-kept_heard false id line k h = tt
-
--- `KeepsIds` holds of a request that is answered by the line sent again (`o`), if there is one, or else by what was played
-played_keeps_ids : (s : SceneState) (id : ℕ) (p : Played) (o : Option (List ℕ)) → resent_line s (Some id) ≡ o → id < 8 → p.rc < 65536 → KeepsIds s id (again_or_played s (Some id) p o)
+-- `KeepsIds` holds of a request with an id below 8 that is answered by the line sent again (`o`), if there is one, or else by
+-- what was played, whose return code has 16 bits
+played_keeps_ids : (s : SceneState) (id : ℕ) (p : Played) (o : Option (List ℕ)) → resent_line s (Some id) ≡ o → id < 8 → p.rc < 65536
+    → KeepsIds s id (again_or_played s (Some id) p o)
 played_keeps_ids s id p (Some line) again small code =
-    record { reads = λ good. subst IsHeard (again_kept s.repeats s.base.kept id line again) good; good = λ good. good }
+    record { reads = λ good. subst ReadsWithItsId (again_kept s.repeats s.base.kept id line again) good; good = λ good. good }
 played_keeps_ids s id p None again small code =
     let line = played_line id p in
-    record { reads = λ good. line_heard id p small code; good = λ good. kept_heard p.state.repeats id line p.state.base.kept (line_heard id p small code) }
+    let own : heard line ≡ Some id = reply_heard 0 id p.rc p.params (lit< tt) small code in
+    record { reads = λ good. own; good = λ good. kept_reads p.state.repeats id line p.state.base.kept own }
 
--- `KeepsIds` holds of a request for a call
+-- `KeepsIds` holds of a request for a call with an id below 8
 call_keeps_ids : (s : SceneState) (id : ℕ) (call : Call) → id < 8 → KeepsIds s id (scene_handed s id call)
 unfolding handed_call
 call_keeps_ids s id call small =
     let rpc = (call_fields call).number in
     played_keeps_ids s id (played_call s rpc call) (resent_line s (Some id)) refl small (call_bound (counting rpc s) call (fault_of rpc s.faults) (fault_bound rpc s.faults))
 
--- from states in which the stored line reads as a reply with the stored id, replies have the ids of their requests
-pub exchange : IsExchange scene_ends KeepsAReply
+-- from states in which the stored line reads as a reply with the stored id (`StoredReads`), replies have the ids of their
+-- requests, and requests and restarts lead to such states again
+pub exchange : IsExchange scene_ends StoredReads
 exchange = record {
   reads = λ s id call good small. (call_keeps_ids s id call small).reads good;
   stays_good = λ s id call good small. (call_keeps_ids s id call small).good good;
@@ -101,20 +90,20 @@ exchange = record {
 
 -- Executions.
 
--- the count `old` of executions became `new`: the same where the instrument stores replies and the stored id stayed, and one more where
--- that id changed, or the instrument stores no replies
+-- the count `old` of executions became `new`: the same where the instrument stores replies and the stored id stayed, and one
+-- more where that id changed, or the instrument stores no replies
 pub record Notes (repeats : Bool) (before after : Option ℕ) (old new : ℕ) : Type 0 where
   pub same : repeats ≡ true → before ≡ after → new ≡ old
   pub another : (before ≡ after → ⊥) → new ≡ old + 1
   pub never : repeats ≡ false → new ≡ old + 1
 
--- a call leaves whether the instrument repeats
+-- a call, whether a fault answers it or not, leaves as it is whether the instrument repeats
 same_repeats : (s : SceneState) (rpc : ℕ) (call : Call) (o : Option ℕ) → (unless_faulted (counting rpc s) call o).state.repeats ≡ s.repeats
 unfolding plays
 same_repeats s rpc call (Some code) = refl
 same_repeats s rpc call None = refl
 
--- as `counted`, by the line that is sent again for the id (`o`), if there is one
+-- as `counted` below has it, by the line that is sent again for the id (`o`), if there is one
 counted_by : (s : SceneState) (id : ℕ) (p : Played) (o : Option (List ℕ)) (after : SceneState) (old new : ℕ) (xs : List ℕ) (n : ℕ) (again : resent_line s (Some id) ≡ o)
     (same : p.state.repeats ≡ s.repeats) (is : after ≡ (again_or_played s (Some id) p o).state) (notes : Notes s.repeats (kept_id s.base.kept) (kept_id after.base.kept) old new)
     (count_is : old ≡ length xs) → new ≡ length (cond (again_or_played s (Some id) p o).executed (xs ++ n ∷ []) xs)
@@ -135,15 +124,18 @@ counted_by s id p None after old new xs n again same is h count = by_repeats s.r
         ap (λ (t : SceneState). kept_id t.base.kept) is ∙ ap (λ b. kept_id (cond b (kept_after p.state.base.kept (Some id) (played_line id p)) None)) (same ∙ e) in
         h.another (λ equal. other_id s.base.kept id none (equal ∙ kept))
 
--- where the count of executions changes as `Notes` says, it grows by one exactly if the request was executed
+-- where the count of executions was the length of xs, and changes as `Notes` says, it is the length of xs with n at its end if
+-- the request was executed, and else still that of xs
 pub counted : (s : SceneState) (id : ℕ) (call : Call) (after : SceneState) (old new : ℕ) (xs : List ℕ) (n : ℕ) → after ≡ (scene_handed s id call).state
-    → Notes s.repeats (kept_id s.base.kept) (kept_id after.base.kept) old new → old ≡ length xs → new ≡ length (cond (scene_handed s id call).executed (xs ++ n ∷ []) xs)
+    → Notes s.repeats (kept_id s.base.kept) (kept_id after.base.kept) old new → old ≡ length xs
+    → new ≡ length (cond (scene_handed s id call).executed (xs ++ n ∷ []) xs)
 unfolding handed_call
 counted s id call after old new xs n is h count =
     let rpc = (call_fields call).number in
     counted_by s id (played_call s rpc call) (resent_line s (Some id)) after old new xs n refl (same_repeats s rpc call (fault_of rpc s.faults)) is h count
 
--- `Notes` holds also of equal values
-pub notes_are : (r repeats : Bool) (b before a after : Option ℕ) (old new : ℕ) → r ≡ repeats → b ≡ before → a ≡ after → Notes r b a old new → Notes repeats before after old new
+-- where `Notes` holds of r, b and a, it holds of values equal to these
+pub notes_are : (r repeats : Bool) (b before a after : Option ℕ) (old new : ℕ) → r ≡ repeats → b ≡ before → a ≡ after → Notes r b a old new
+    → Notes repeats before after old new
 notes_are r repeats b before a after old new er eb ea h =
     subst (λ (x : Bool). Notes x before after old new) er (subst (λ (x : Option ℕ). Notes r x after old new) eb (subst (λ (x : Option ℕ). Notes r b x old new) ea h))

@@ -1,41 +1,35 @@
--- For the loop that hands over n bytes of a direction, one completed line after the other: at each turn, handing over the bytes that are
--- left leads to the same streams as handing over all n bytes at the start.
-use Rattle.std.proofs.Common.{◌≡◌, ℕ, suc, ◌+◌, ◌-◌, ◌<◌, ◌≤◌, Bool, true, false, cond, List, [], ◌∷◌, ◌++◌, length, map, refl, sym, ◌∙◌, ap, subst, arith}
-use Rattle.std.specs.Prelude.{replicate}
+-- For the loop that hands over n bytes of a direction, one completed line after the other: at each turn, handing over the bytes
+-- that are left leads to the same streams as handing over all n bytes at the start.
+use Rattle.std.proofs.Common.{◌≡◌, ℕ, suc, ◌+◌, ◌-◌, ◌<◌, ◌≤◌, List, [], ◌∷◌, length, map, refl, sym, ◌∙◌, ap, subst, arith}
 use Rattle.std.proofs.lemmas.List.{length_push}
 use Rattle.gc_lines.specs.Lines.{with_end}
 use Rattle.gc_catalogue.specs.declared.call.Call.{Call}
 use Rattle.gc_client.specs.Rule.{ById}
 use Rattle.gc_scenes.specs.SceneState.{SceneState}
-use Rattle.gc_scene_world.specs.declared.direction.Direction.{Direction}
 use Rattle.gc_scene_world.specs.Lanes.{Flight, further}
 use Rattle.gc_scene_world.specs.SceneRuns.{scene_ends}
-use Rattle.gc_scene_world.specs.SceneStages.{Seen, AreStreamsOf, IsRemainder, after_event, after_bytes, world_direction}
-use Rattle.gc_world.specs.declared.direction.Direction as world
+use Rattle.gc_scene_world.specs.SceneStages.{Seen, AreStreamsOf, IsRemainder, after_event, after_bytes}
+use Rattle.gc_world.specs.declared.direction.Direction.{Direction}
 use Rattle.gc_world.specs.declared.direction.Direction.TheVariants.{Up, Down}
 use Rattle.gc_world.specs.Clients.{by_ids}
-use Rattle.gc_world.specs.Directions.{deliver, delivery, lines, gone, reaches}
-use Rattle.gc_world.specs.Streams.{Streams, cut, up_texts, down_texts, remaining}
-use Rattle.gc_world.specs.World.{Request, Numbered, Wire, World, up_delivered, down_delivered, happens, run}
-use Rattle.gc_world.proofs.Directions.{after_cut}
+use Rattle.gc_world.specs.Directions.{deliver, delivery, lines, gone, after_cut, handed_over}
+use Rattle.gc_world.specs.Streams.{Streams, up_texts, down_texts, remaining}
+use Rattle.gc_world.specs.World.{Request, Numbered, Wire, World, up_delivered, down_delivered, happens}
+use Rattle.gc_world.proofs.Counts.{one_answered}
 use Rattle.gc_world.proofs.Handed.{next, next_same, next_idle, ended}
 use Rattle.gc_world.proofs.Streaming.{cut_short}
 
--- once one of `more` + 1 requests in flight was answered, and counted as an execution (b) or not, executions and requests in flight
--- together haven't grown
-executes : (executed : List ℕ) (k more : ℕ) (b : Bool) → length (cond b (executed ++ k ∷ []) executed) + more ≤ length executed + suc more
-executes executed k more true = omega (arith, length_push executed k)
-executes executed k more false = omega arith
-
 -- executions and requests in flight together don't grow by a delivery upward
-up_executes : (w : Wire SceneState) (q : List (Numbered Request)) → w.up ≡ q → length (up_delivered scene_ends w q).executed + length (up_delivered scene_ends w q).up ≤ length w.executed + length w.up
+up_executes : (w : Wire SceneState) (q : List (Numbered Request)) → w.up ≡ q
+    → length (up_delivered scene_ends w q).executed + length (up_delivered scene_ends w q).up ≤ length w.executed + length w.up
 up_executes w [] e = omega arith
 up_executes w (x ∷ rest) e =
     let up : length w.up ≡ suc (length rest) = ap length e in
-    omega (arith, up, executes w.executed x.number (length rest) (scene_ends.handed w.state x.line.id x.line.call).executed)
+    omega (arith, up, one_answered w.executed x.number (length rest) (scene_ends.handed w.state x.line.id x.line.call).executed)
 
 -- replies made and requests in flight together don't grow by a delivery upward, either
-up_makes : (w : Wire SceneState) (q : List (Numbered Request)) → w.up ≡ q → length (up_delivered scene_ends w q).made + length (up_delivered scene_ends w q).up ≤ length w.made + length w.up
+up_makes : (w : Wire SceneState) (q : List (Numbered Request)) → w.up ≡ q
+    → length (up_delivered scene_ends w q).made + length (up_delivered scene_ends w q).up ≤ length w.made + length w.up
 up_makes w [] e = omega arith
 up_makes w (x ∷ rest) e =
     let up : length w.up ≡ suc (length rest) = ap length e in
@@ -53,25 +47,27 @@ down_leaves : (width : ℕ) (w : World (ById Call) SceneState) (q : List (Number
 down_leaves width w [] = record { executed = refl; made = refl; up = refl }
 down_leaves width w (x ∷ rest) = record { executed = refl; made = refl; up = refl }
 
--- from the wire `old` to the wire `new`, executions and requests in flight together don't grow, nor do replies made and requests in flight
+-- from the wire `old` to the wire `new`, executions and requests in flight together don't grow, nor do replies made and
+-- requests in flight
 pub record IsNoMore (old new : Wire SceneState) : Type 0 where
   pub executed : length new.executed + length new.up ≤ length old.executed + length old.up
   pub made : length new.made + length new.up ≤ length old.made + length old.up
 
 -- a delivery in either direction keeps to `IsNoMore`
-no_more : (width : ℕ) (d : world.Direction) (w : World (ById Call) SceneState) → IsNoMore w.wire (happens scene_ends (by_ids width scene_ends) w (deliver d)).wire
+no_more : (width : ℕ) (d : Direction) (w : World (ById Call) SceneState) → IsNoMore w.wire (happens scene_ends (by_ids width scene_ends) w (deliver d)).wire
 no_more width Up w = record { executed = up_executes w.wire w.wire.up refl; made = up_makes w.wire w.wire.up refl }
 no_more width Down w =
     let s = down_leaves width w w.wire.down in
     record { executed = omega (arith, ap length s.executed, ap length s.up); made = omega (arith, ap length s.made, ap length s.up) }
 
--- a delivery as an event leaves the wire of the delivery as a step
-delivered_wire : (width : ℕ) (d : world.Direction) (v : Streams (ById Call) SceneState)
+-- a delivery as an event leads to the same wire as the delivery as a step
+delivered_wire : (width : ℕ) (d : Direction) (v : Streams (ById Call) SceneState)
     → (after_event width v (delivery d)).world.wire ≡ (happens scene_ends (by_ids width scene_ends) v.world (deliver d)).wire
 delivered_wire width Up v = refl
 delivered_wire width Down v = refl
 
--- the streams once some of n bytes were handed over: handing over those left leads where handing over all n leads
+-- some of n bytes were handed over on the streams v, and `left` of them are left: the stage shows streams `now` from which
+-- handing over those left leads where all n lead from v. Since v no event was counted as not possible, and `IsNoMore` holds
 pub record IsReached (width : ℕ) (d : Direction) (s : Seen) (v : Streams (ById Call) SceneState) (n left : ℕ) : Type 0 where
   pub now : Streams (ById Call) SceneState
   pub shows : AreStreamsOf width s now
@@ -84,36 +80,35 @@ pub reached : (width : ℕ) (d : Direction) (s : Seen) (v : Streams (ById Call) 
 reached width d s v n h = record { now = v; shows = h; same = refl; idle = refl; room = record { executed = omega arith; made = omega arith } }
 
 module _ (width : ℕ) (d : Direction) (s : Seen) (v : Streams (ById Call) SceneState) (n left : ℕ) (h : IsReached width d s v n left) where
-  -- `IsReached` holds also once one more line was delivered
-  pub reaches_next : (t : Seen) (used : ℕ) → used ≡ remaining (gone (world_direction d) h.now) (lines (world_direction d) h.now.world.wire) → 0 < used → used ≤ left
-      → AreStreamsOf width t (after_event width h.now (delivery (world_direction d))) → IsReached width d t v n (left - used)
+  -- `IsReached` holds also once the front line was delivered, with `used` bytes fewer left: those of the line that were still to
+  -- go, at least one, and no more than were left
+  pub reaches_next : (t : Seen) (used : ℕ) → used ≡ remaining (gone d h.now) (lines d h.now.world.wire) → 0 < used → used ≤ left
+      → AreStreamsOf width t (after_event width h.now (delivery d)) → IsReached width d t v n (left - used)
   reaches_next t used e some le shows =
-      let one = next scene_ends (by_ids width scene_ends) (world_direction d) h.now left used e some le in
-      let more = subst (IsNoMore h.now.world.wire) (sym (delivered_wire width (world_direction d) h.now)) (no_more width (world_direction d) h.now.world) in
+      let one = next scene_ends (by_ids width scene_ends) d h.now left used e some le in
+      let more = subst (IsNoMore h.now.world.wire) (sym (delivered_wire width d h.now)) (no_more width d h.now.world) in
       record {
-        now = after_event width h.now (delivery (world_direction d));
+        now = after_event width h.now (delivery d);
         shows = shows;
-        same = sym (next_same scene_ends (by_ids width scene_ends) (world_direction d) h.now left used one) ∙ h.same;
-        idle = next_idle scene_ends (by_ids width scene_ends) (world_direction d) h.now left used one ∙ h.idle;
+        same = sym (next_same scene_ends (by_ids width scene_ends) d h.now left used one) ∙ h.same;
+        idle = next_idle scene_ends (by_ids width scene_ends) d h.now left used one ∙ h.idle;
         room = record { executed = omega (arith, more.executed, h.room.executed); made = omega (arith, more.made, h.room.made) };
       }
 
-  -- where the bytes that are left complete no line, handing them over leads where all n lead
+  -- where a stage shows the streams that handing over the bytes that are left leads to, it shows those that all n bytes lead to
   pub reaches_end : (t : Seen) → AreStreamsOf width t (after_bytes width d h.now left) → AreStreamsOf width t (after_bytes width d v n)
   reaches_end t shows = subst (λ x. AreStreamsOf width t x) h.same shows
 
-  -- where no byte is in flight any more, the streams are those that all n bytes lead to
-  pub runs_dry : (r : ℕ) → IsRemainder (world_direction d) h.now r → r ≡ 0 → AreStreamsOf width s (after_bytes width d v n)
-  runs_dry r is e = subst (λ x. AreStreamsOf width s x) (sym (ended scene_ends (by_ids width scene_ends) (world_direction d) h.now left is.part (sym is.left ∙ e)) ∙ h.same) h.shows
+  -- where no byte of the direction is in flight any more, the stage shows the streams that all n bytes lead to
+  pub runs_dry : (r : ℕ) → IsRemainder d h.now r → r ≡ 0 → AreStreamsOf width s (after_bytes width d v n)
+  runs_dry r is e = subst (λ x. AreStreamsOf width s x) (sym (ended scene_ends (by_ids width scene_ends) d h.now left is.part (sym is.left ∙ e)) ∙ h.same) h.shows
 
 -- Bytes that complete no line.
 
 -- once n bytes of the upward front line were handed over that don't complete it, the streams with n more gone are shown
 pub begins_up : (width : ℕ) (s : Seen) (v : Streams (ById Call) SceneState) (n : ℕ) (lane : Flight) → AreStreamsOf width s v
     → n < remaining v.up_gone (map with_end (up_texts v.world.wire)) → lane ≡ further s.up n
-    → AreStreamsOf width (record s { up = lane })
-    (reaches Up v (run scene_ends (by_ids width scene_ends) (replicate (cut (lines Up v.world.wire) (v.up_gone + n)).lines (deliver Up)) v.world)
-    (cut (lines Up v.world.wire) (v.up_gone + n)).gone)
+    → AreStreamsOf width (record s { up = lane }) (handed_over scene_ends (by_ids width scene_ends) Up v n)
 begins_up width s v n lane h lt is =
     subst (λ c. AreStreamsOf width (record s { up = lane }) (after_cut scene_ends (by_ids width scene_ends) Up v c)) (sym (cut_short (lines Up v.world.wire) v.up_gone n lt)) (record {
       client = h.client;
@@ -129,9 +124,7 @@ begins_up width s v n lane h lt is =
 -- once n bytes of the downward front line were handed over that don't complete it, the streams with n more gone are shown
 pub begins_down : (width : ℕ) (s : Seen) (v : Streams (ById Call) SceneState) (n : ℕ) (lane : Flight) → AreStreamsOf width s v
     → n < remaining v.down_gone (map with_end (down_texts v.world.wire)) → lane ≡ further s.down n
-    → AreStreamsOf width (record s { down = lane })
-    (reaches Down v (run scene_ends (by_ids width scene_ends) (replicate (cut (lines Down v.world.wire) (v.down_gone + n)).lines (deliver Down)) v.world)
-    (cut (lines Down v.world.wire) (v.down_gone + n)).gone)
+    → AreStreamsOf width (record s { down = lane }) (handed_over scene_ends (by_ids width scene_ends) Down v n)
 begins_down width s v n lane h lt is =
     subst (λ c. AreStreamsOf width (record s { down = lane }) (after_cut scene_ends (by_ids width scene_ends) Down v c)) (sym (cut_short (lines Down v.world.wire) v.down_gone n lt)) (record {
       client = h.client;

@@ -16,17 +16,17 @@ use Rattle.gc_world.proofs.Queues.{without_map, doubled_past}
 pub flight : (f : Flight) (texts : List (List ℕ)) (gone : ℕ) → f.texts ≡ texts → f.gone ≡ gone → f ≡ record { texts = texts; gone = gone }
 flight f texts gone e1 e2 = ap₂ {C = Flight} (λ (t : List (List ℕ)) n. record { texts = t; gone = n }) e1 e2
 
--- 0 bytes are a part of the front line, never all of it
+-- 0 gone bytes are a part (`IsPart`) of any lines with their CR LF, also of none
 pub part_none : (texts : List (List ℕ)) → IsPart 0 (map with_end texts)
 part_none [] = refl
 part_none (t ∷ ts) = omega (arith, end_length t)
 
--- one more line at the back leaves the part that has gone
+-- what has gone is still a part (`IsPart`) once one more line is at the back
 pub part_push : (gone : ℕ) (texts : List (List ℕ)) (text : List ℕ) → IsPart gone (map with_end texts) → IsPart gone (map with_end (texts ++ text ∷ []))
 part_push gone [] text h = subst (λ g. IsPart g (map with_end (text ∷ []))) (sym h) (part_none (text ∷ []))
 part_push gone (t ∷ ts) text h = h
 
--- a loss of a line that hasn't begun to go leaves the part that has gone
+-- what has gone is still a part once a line that hasn't begun to go is lost
 pub part_without : (k gone : ℕ) (texts : List (List ℕ)) → is_begun k gone ≡ false → IsPart gone (map with_end texts) → IsPart gone (map with_end (without k texts))
 part_without k gone [] e h = h
 part_without zero gone (t ∷ ts) e h =
@@ -35,13 +35,7 @@ part_without zero gone (t ∷ ts) e h =
     subst (λ g. IsPart g (map with_end ts)) (sym none) (part_none ts)
 part_without (suc k) gone (t ∷ ts) e h = h
 
--- a repeat of a line that hasn't begun to go leaves the part that has gone
-pub part_doubled : (k gone : ℕ) (texts : List (List ℕ)) → is_begun k gone ≡ false → IsPart gone (map with_end texts) → IsPart gone (map with_end (doubled k texts))
-part_doubled k gone [] e h = h
-part_doubled zero gone (t ∷ ts) e h = h
-part_doubled (suc k) gone (t ∷ ts) e h = h
-
--- once n more bytes have gone, which don't complete the front line, a part has gone
+-- once n more bytes have gone, fewer than are still to go of the front line, what has gone is a part
 pub part_more : (gone n : ℕ) (texts : List (List ℕ)) → n < remaining gone (map with_end texts) → IsPart (gone + n) (map with_end texts)
 part_more gone n [] lt = absurd (omega (arith, lt))
 part_more gone n (t ∷ ts) lt = omega (arith, lt)
@@ -52,17 +46,18 @@ remaining_is gone text texts = omega (arith, end_length text)
 
 -- What std's calls on the lines leave of their texts: `f` gives the text of a line.
 module _ {A : Type 0} (f : A → List ℕ) where
-  -- one more line at the back leaves the part that has gone
+  -- what has gone is still a part once one more line is at the back
   pub part_pushed : (gone : ℕ) (old new : List A) (x : A) → new ≡ old ++ x ∷ [] → IsPart gone (map with_end (map f old)) → IsPart gone (map with_end (map f new))
   part_pushed gone old new x is h =
       subst (λ q. IsPart gone (map with_end q)) (sym (ap (map f) is ∙ map-append f old (x ∷ []))) (part_push gone (map f old) (f x) h)
 
-  -- a loss leaves the part that has gone
-  pub part_lost : (k gone : ℕ) (old new : List A) → is_begun k gone ≡ false → new ≡ without k old → IsPart gone (map with_end (map f old)) → IsPart gone (map with_end (map f new))
+  -- what has gone is still a part once line k, which hasn't begun to go, is lost
+  pub part_lost : (k gone : ℕ) (old new : List A) → is_begun k gone ≡ false → new ≡ without k old → IsPart gone (map with_end (map f old))
+      → IsPart gone (map with_end (map f new))
   part_lost k gone old new whole is h =
       subst (λ q. IsPart gone (map with_end q)) (without_map f k old ∙ sym (ap (map f) is)) (part_without k gone (map f old) whole h)
 
-  -- once line k was taken out of the lines, the lane is what `losing` says
+  -- once line k, which hasn't begun to go, was taken out of the lines, the lane is what `losing` says
   pub lost_is : (k gone : ℕ) (old new : List A) → is_begun k gone ≡ false → new ≡ without k old
       → ◌≡◌ {A = Flight} (record { texts = map f new; gone = gone }) (losing k (record { texts = map f old; gone = gone }))
   lost_is k gone old new whole is =
@@ -88,7 +83,7 @@ module _ {A : Type 0} (f : A → List ℕ) where
   doubled_text (z ∷ zs) zero x y lt e same = ap (λ t. t ∷ f z ∷ map f zs) (same ∙ ap f e)
   doubled_text (z ∷ zs) (suc k) x y lt e same = ap (λ l. f z ∷ l) (doubled_text zs k x y (omega (arith, lt)) e same)
 
-  -- once line k was put in once more, the lane is what `repeating` says
+  -- once a line with the text of line k, which hasn't begun to go, was put in at its place, the lane is what `repeating` says
   pub repeat_is : (k gone : ℕ) (old new : List A) (x y : A) (whole : is_begun k gone ≡ false) (there : k < length old) (at : x ≡ get_or old k x) (same : f y ≡ f x)
       (is : new ≡ insert old k y) → ◌≡◌ {A = Flight} (record { texts = map f new; gone = gone }) (repeating k (record { texts = map f old; gone = gone }))
   repeat_is k gone old new x y whole lt at same is =

@@ -1,18 +1,16 @@
--- For the proofs of `stage.rt`. The parts of a stage *show* streams where they are those of the streams (`AreStreamsOf`). Each lemma says:
--- where they show streams, and a function has done to them what its contract says, they show the streams after that event. Variables such
--- as `up` and `settled` are the values that the function left; the premises are what its contract says of them.
-use Rattle.std.proofs.Common.{◌≡◌, ℕ, ◌+◌, ◌<◌, ◌≤◌, ◌⊎◌, Bool, true, false, cond, List, [], ◌∷◌, ◌++◌, length, map, Some, None, refl, sym, ◌∙◌, ap, subst, ltb, arith}
+-- For the proofs of `stage.rt`. The parts of a stage *show* streams where they are those of the streams (`AreStreamsOf`). Each
+-- lemma says: where they show streams, and a function has done to them what its contract says, they show the streams after that
+-- event. Variables such as `up` and `settled` are the values that the function left; the premises are what its contract says of
+-- them.
+use Rattle.std.proofs.Common.{◌≡◌, ℕ, ◌+◌, ◌<◌, ◌≤◌, ◌⊎◌, Bool, true, false, cond, List, [], ◌∷◌, ◌++◌, length, map, refl, sym, ◌∙◌, ap, subst, ltb, arith}
 use mathlib.Core.Path.{ap₂}
-use Rattle.std.specs.Prelude.{IsTrue, ◌↔◌}
 use Rattle.std.proofs.lemmas.List.{map-append, length-map, length_push}
 use Rattle.std.proofs.lemmas.Bool.{ltb-false}
 use Rattle.gc_lines.specs.Answering.{AppendsAnswer}
 use Rattle.gc_catalogue.specs.declared.call.Call.{Call}
-use Rattle.gc_catalogue.specs.Calls.{IsFitting}
-use Rattle.gc_catalogue.specs.Texts.{request_line}
 use Rattle.gc_client.specs.declared.window.TheConstants.{IDS}
 use Rattle.gc_client.specs.declared.settlement.Settlement.{Settlement}
-use Rattle.gc_client.specs.Rule.{ById, Windowed, Sending, Settled, heard, hears, sends, expires, restarts}
+use Rattle.gc_client.specs.Rule.{ById, Windowed, Settled, heard, hears, restarts}
 use Rattle.gc_client.specs.Settlements.{AreSettlements}
 use Rattle.gc_scenes.specs.SceneReplying.{IsPlayed}
 use Rattle.gc_scenes.specs.SceneState.{SceneState, scene_restarted}
@@ -20,7 +18,7 @@ use Rattle.gc_scene_world.specs.declared.report.Counts.{Counts}
 use Rattle.gc_scene_world.specs.Lanes.{Flight, is_whole, pushed}
 use Rattle.gc_scene_world.specs.SceneReports.{AreCounts}
 use Rattle.gc_scene_world.specs.SceneRuns.{scene_handed, scene_ends}
-use Rattle.gc_scene_world.specs.SceneStages.{Seen, AreStreamsOf, IsAsked, IsRemainder, after_event}
+use Rattle.gc_scene_world.specs.SceneStages.{Seen, AreStreamsOf, MayBeWritten, IsRemainder, after_event}
 use Rattle.gc_scene_world.proofs.Exchanges.{Notes, counted, exchanged}
 use Rattle.gc_scene_world.proofs.Lanes.{flight}
 use Rattle.gc_world.specs.declared.direction.Direction.{Direction}
@@ -28,20 +26,21 @@ use Rattle.gc_world.specs.declared.event.Event.TheVariants as event
 use Rattle.gc_world.specs.Clients.{by_ids}
 use Rattle.gc_world.specs.Directions.{bytes, lines, gone}
 use Rattle.gc_world.specs.Order.{Each}
-use Rattle.gc_world.specs.Streams.{Streams, up_texts, down_texts, is_begun, at_line}
-use Rattle.gc_world.specs.World.{Request, Numbered, Wire, World, Step, Up_lose, Up_repeat, Down_lose, Down_repeat, Nothing, without, doubled, idle, up_delivered, with_up, with_down, on_wire, requested, down_delivered, client_restarted, instrument_restarted, happens}
+use Rattle.gc_world.specs.Stages.{bytes_of}
+use Rattle.gc_world.specs.Streams.{Streams, is_begun, at_line}
+use Rattle.gc_world.specs.World.{Request, Numbered, Wire, World, Step, Up_lose, Up_repeat, Down_lose, Down_repeat, Nothing, without, doubled, idle, up_delivered, with_up, with_down, on_wire, down_delivered, client_restarted, instrument_restarted, happens}
 use Rattle.gc_world.proofs.Directions.{bytes_pass, idle_bytes}
 use Rattle.gc_world.proofs.Handing.{kept_id}
-use Rattle.gc_world.proofs.Showing.{are_more, hears_next, sends_next, map_none}
+use Rattle.gc_world.proofs.Showing.{are_more, hears_next, map_none}
 use Rattle.gc_world.proofs.Queues.{without_map, doubled_map, without_past, doubled_past}
-use Rattle.gc_world.proofs.Rows.{each_append, each_without, each_doubled}
+use Rattle.gc_world.proofs.Rows.{each_without, each_doubled}
 
--- the bytes of a request's line
-abbrev pub bytes_of : Numbered Request → List ℕ
-bytes_of x = request_line (Some x.line.id) x.line.call
+-- the text of a request in flight, which is its line without CR LF
+abbrev pub text_of : Numbered Request → List ℕ
+text_of x = bytes_of x.line
 
--- these counts (true), or with one more event that was not possible
-abbrev pub tallied : Bool → Counts → Counts
+-- the counts after an event: as they are if the event was possible (`possible`), else with one more event that wasn't
+abbrev pub tallied : (possible : Bool) → Counts → Counts
 tallied true c = c
 tallied false c = record c { idle_events = c.idle_events + 1 }
 
@@ -58,8 +57,9 @@ tallied_is b c n is = by_possible b ∙ ap (λ (i : ℕ). record c { idle_events
 counts_idle : (c : Counts) (w : Wire SceneState) → AreCounts c w → AreCounts (tallied false c) (idle w)
 counts_idle c w h = record { sent = h.sent; executed = h.executed; made = h.made; refused = h.refused; idle = ap (λ n. n + 1) h.idle }
 
--- counts don't speak of queues
-counts_queues : (c : Counts) (w : Wire SceneState) (up : List (Numbered Request)) (down : List (Numbered (List ℕ))) → AreCounts c w → AreCounts c (record w { up = up; down = down })
+-- the counts of a wire are also those of this wire with other requests and replies in flight
+counts_queues : (c : Counts) (w : Wire SceneState) (up : List (Numbered Request)) (down : List (Numbered (List ℕ))) → AreCounts c w
+    → AreCounts c (record w { up = up; down = down })
 counts_queues c w up down h = record { sent = h.sent; executed = h.executed; made = h.made; refused = h.refused; idle = h.idle }
 
 module _ (width : ℕ) (s : Seen) (v : Streams (ById Call) SceneState) (h : AreStreamsOf width s v) where
@@ -82,7 +82,7 @@ module _ (width : ℕ) (s : Seen) (v : Streams (ById Call) SceneState) (h : AreS
 
   -- if no text is in flight upward, no request is
   no_up : s.up.texts ≡ [] → v.world.wire.up ≡ []
-  no_up e = map_none bytes_of v.world.wire.up (sym (ap (λ (f : Flight). f.texts) h.up) ∙ e)
+  no_up e = map_none text_of v.world.wire.up (sym (ap (λ (f : Flight). f.texts) h.up) ∙ e)
 
   -- if no text is in flight downward, no reply is
   no_down : s.down.texts ≡ [] → v.world.wire.down ≡ []
@@ -90,71 +90,10 @@ module _ (width : ℕ) (s : Seen) (v : Streams (ById Call) SceneState) (h : AreS
 
   -- Sends.
 
-  -- once a send was refused, the streams after that event are shown
-  pub streams_refused : (target : ℕ) (call : Call) (deadline : ℕ) (client : Windowed Call) → sends s.client.width s.client.ids target call deadline ≡ None → client ≡ s.client
-      → AreStreamsOf width (record s { client = client; counts = record s.counts { refused_sends = s.counts.refused_sends + 1 } }) (after_event width v (event.Send target call deadline))
-  streams_refused target call deadline client none same =
-      let ruled : sends width v.world.client target call deadline ≡ None = ap (λ (k : Windowed Call). sends k.width k.ids target call deadline) (sym h.client) ∙ none in
-      subst (λ o. AreStreamsOf width (record s { client = client; counts = record s.counts { refused_sends = s.counts.refused_sends + 1 } }) (with_world (requested v.world target call o)))
-      (sym ruled) (record {
-        client = same ∙ h.client;
-        next = h.next;
-        instrument = h.instrument;
-        up = h.up;
-        down = h.down;
-        requests = h.requests;
-        settled = h.settled;
-        counts = record { sent = h.counts.sent; executed = h.counts.executed; made = h.counts.made; refused = ap (λ n. n + 1) h.counts.refused; idle = h.counts.idle };
-      })
-
-  -- once a request was sent, the streams after that event are shown
-  pub streams_sent : (target : ℕ) (call : Call) (deadline : ℕ) (line : List ℕ) (client : Windowed Call) (up : Flight)
-      → sends s.client.width s.client.ids target call deadline ≡ Some (record { id = s.client.ids.next; client = client.ids }) → client.width ≡ s.client.width
-      → line ≡ request_line (Some s.client.ids.next) call → IsFitting call → up ≡ pushed s.up line
-      → AreStreamsOf width (record s { client = client; up = up; counts = record s.counts { sent = s.counts.sent + 1 } }) (after_event width v (event.Send target call deadline))
-  streams_sent target call deadline line client up sends_is wide line_is fits up_is =
-      let x : Sending (ById Call) = record { id = s.client.ids.next; client = client.ids } in
-      let request : Numbered Request = record { number = length v.world.wire.sent; line = record { id = s.client.ids.next; call = call } } in
-      let ruled : sends width v.world.client target call deadline ≡ Some x = ap (λ (k : Windowed Call). sends k.width k.ids target call deadline) (sym h.client) ∙ sends_is in
-      let digit : s.client.ids.next < IDS = subst (λ (k : Windowed Call). k.ids.next < IDS) (sym h.client) h.next in
-      subst (λ o. AreStreamsOf width (record s { client = client; up = up; counts = record s.counts { sent = s.counts.sent + 1 } }) (with_world (requested v.world target call o)))
-      (sym ruled) (record {
-        client = ap (λ n. record { width = n; ids = client.ids }) (wide ∙ ap (λ (k : Windowed Call). k.width) h.client);
-        next = sends_next s.client.width s.client.ids target call deadline x sends_is;
-        instrument = h.instrument;
-        up = up_is ∙ ap₂ {C = Flight} (λ (f : Flight) (l : List ℕ). pushed f l) h.up line_is
-            ∙ ap (λ (t : List (List ℕ)). record { texts = t; gone = v.up_gone }) (sym (map-append bytes_of v.world.wire.up (request ∷ [])));
-        down = h.down;
-        requests = each_append IsAsked v.world.wire.up (request ∷ []) h.requests ((digit, fits), tt);
-        settled = h.settled;
-        counts = record {
-          sent = ap (λ n. n + 1) h.counts.sent ∙ sym (length_push v.world.wire.sent _);
-          executed = h.counts.executed;
-          made = h.counts.made;
-          refused = h.counts.refused;
-          idle = h.counts.idle;
-        };
-      })
-
   -- Deliveries.
 
-  -- once a delivery upward found no line, the streams after that event are shown
-  pub streams_up_none : (up : Flight) → s.up.texts ≡ [] → up.texts ≡ [] → up.gone ≡ 0 → AreStreamsOf width (record s { up = up; counts = tallied false s.counts }) (after_event width v event.UpDeliver)
-  streams_up_none up none empty start =
-      let none_up = no_up none in
-      subst (λ q. AreStreamsOf width (record s { up = up; counts = tallied false s.counts })
-      (record { world = on_wire v.world (up_delivered scene_ends v.world.wire q); up_gone = 0; down_gone = v.down_gone })) (sym none_up) (record {
-        client = h.client;
-        next = h.next;
-        instrument = h.instrument;
-        up = flight up (up_texts v.world.wire) 0 (empty ∙ sym (ap (map bytes_of) none_up)) start;
-        down = h.down;
-        requests = h.requests;
-        settled = h.settled;
-        counts = counts_idle s.counts v.world.wire h.counts;
-      })
-
-  -- once the front request was delivered, and its reply put behind the others, the streams after that event are shown
+  -- once the front request was delivered, and its reply, if there is one (b), put after the others, the streams after that
+  -- event are shown
   pub streams_up_deliver : (request : List ℕ) (up : Flight) (instrument : SceneState) (old reply : List ℕ) (b : Bool) (executed : ℕ) (down : Flight)
       (front : s.up.texts ≡ request ∷ up.texts) (start : up.gone ≡ 0) (empty : old ≡ []) (played : AppendsAnswer (IsPlayed s.instrument request instrument) old reply b)
       (notes : Notes s.instrument.repeats (kept_id s.instrument.base.kept) (kept_id instrument.base.kept) s.counts.executed executed) (down_is : down ≡ pushed s.down reply)
@@ -166,12 +105,12 @@ module _ (width : ℕ) (s : Seen) (v : Streams (ById Call) SceneState) (h : AreS
       by_front : (q : List (Numbered Request)) → v.world.wire.up ≡ q
           → AreStreamsOf width (record s { instrument = instrument; up = up; down = down; counts = record s.counts { executed = executed; made = s.counts.made + 1 } })
           (record { world = on_wire v.world (up_delivered scene_ends v.world.wire q); up_gone = 0; down_gone = v.down_gone })
-      by_front [] q_is = let wrong : [] ≡ request ∷ up.texts = ap (map bytes_of) (sym q_is) ∙ sym (ap (λ (f : Flight). f.texts) h.up) ∙ e in cc
+      by_front [] q_is = let wrong : [] ≡ request ∷ up.texts = ap (map text_of) (sym q_is) ∙ sym (ap (λ (f : Flight). f.texts) h.up) ∙ e in cc
       by_front (x ∷ rest) q_is =
-          let texts : request ∷ up.texts ≡ bytes_of x ∷ map bytes_of rest = sym e ∙ ap (λ (f : Flight). f.texts) h.up ∙ ap (map bytes_of) q_is in
-          let line_is : request ≡ bytes_of x = cc in
-          let rest_is : up.texts ≡ map bytes_of rest = cc in
-          let asked : Each IsAsked (x ∷ rest) = subst (λ q. Each IsAsked q) q_is h.requests in
+          let texts : request ∷ up.texts ≡ text_of x ∷ map text_of rest = sym e ∙ ap (λ (f : Flight). f.texts) h.up ∙ ap (map text_of) q_is in
+          let line_is : request ≡ text_of x = cc in
+          let rest_is : up.texts ≡ map text_of rest = cc in
+          let asked : Each MayBeWritten (x ∷ rest) = subst (λ q. Each MayBeWritten q) q_is h.requests in
           let did = exchanged s.instrument request instrument old reply b x.line.id x.line.call asked.0.0 asked.0.1 line_is empty played in
           let state : instrument ≡ (scene_handed v.world.wire.state x.line.id x.line.call).state = did.state ∙ ap (λ (t : SceneState). (scene_handed t x.line.id x.line.call).state) h.instrument in
           let said : reply ≡ (scene_handed v.world.wire.state x.line.id x.line.call).reply = did.line ∙ ap (λ (t : SceneState). (scene_handed t x.line.id x.line.call).reply) h.instrument in
@@ -180,7 +119,7 @@ module _ (width : ℕ) (s : Seen) (v : Streams (ById Call) SceneState) (h : AreS
             client = h.client;
             next = h.next;
             instrument = state;
-            up = flight up (map bytes_of rest) 0 rest_is start;
+            up = flight up (map text_of rest) 0 rest_is start;
             down = down_is ∙ ap₂ {C = Flight} (λ (f : Flight) (l : List ℕ). pushed f l) h.down said
                 ∙ ap (λ (t : List (List ℕ)). record { texts = t; gone = v.down_gone }) (sym (map-append (λ (y : Numbered (List ℕ)). y.line) v.world.wire.down (m ∷ [])));
             requests = asked.1;
@@ -195,26 +134,10 @@ module _ (width : ℕ) (s : Seen) (v : Streams (ById Call) SceneState) (h : AreS
             };
           }
 
-  -- once a delivery downward found no line, the streams after that event are shown
-  pub streams_down_none : (down : Flight) → s.down.texts ≡ [] → down.texts ≡ [] → down.gone ≡ 0
-      → AreStreamsOf width (record s { down = down; counts = tallied false s.counts }) (after_event width v event.DownDeliver)
-  streams_down_none down none empty start =
-      let none_down = no_down none in
-      subst (λ q. AreStreamsOf width (record s { down = down; counts = tallied false s.counts })
-      (record { world = down_delivered (by_ids width scene_ends) v.world q; up_gone = v.up_gone; down_gone = 0 })) (sym none_down) (record {
-        client = h.client;
-        next = h.next;
-        instrument = h.instrument;
-        up = h.up;
-        down = flight down (down_texts v.world.wire) 0 (empty ∙ sym (ap (map (λ x. x.line)) none_down)) start;
-        requests = h.requests;
-        settled = h.settled;
-        counts = counts_idle s.counts v.world.wire h.counts;
-      })
-
   -- once the front reply was delivered, and what it settles noted, the streams after that event are shown
-  pub streams_down_deliver : (line : List ℕ) (down : Flight) (more settled : List (Settlement Call)) (client : Windowed Call) → s.down.texts ≡ line ∷ down.texts → down.gone ≡ 0
-      → AreSettlements more (hears s.client.ids line (heard line)).settlements → client ≡ record s.client { ids = (hears s.client.ids line (heard line)).client } → settled ≡ s.settled ++ more
+  pub streams_down_deliver : (line : List ℕ) (down : Flight) (more settled : List (Settlement Call)) (client : Windowed Call)
+      (front : s.down.texts ≡ line ∷ down.texts) (start : down.gone ≡ 0) (more_are : AreSettlements more (hears s.client.ids line (heard line)).settlements)
+      (client_is : client ≡ record s.client { ids = (hears s.client.ids line (heard line)).client }) (settled_is : settled ≡ s.settled ++ more)
       → AreStreamsOf width (record s { client = client; down = down; settled = settled }) (after_event width v event.DownDeliver)
   streams_down_deliver line down more settled client e start more_are client_is settled_is = by_front v.world.wire.down refl
     where
@@ -245,23 +168,24 @@ module _ (width : ℕ) (s : Seen) (v : Streams (ById Call) SceneState) (h : AreS
 
   -- the upward lane is as long as the world's queue
   pub up_length : length s.up.texts ≡ length v.world.wire.up
-  up_length = ap (λ (f : Flight). length f.texts) h.up ∙ length-map v.world.wire.up bytes_of
+  up_length = ap (λ (f : Flight). length f.texts) h.up ∙ length-map v.world.wire.up text_of
 
   -- the downward lane is as long as the world's queue
   down_length : length s.down.texts ≡ length v.world.wire.down
   down_length = ap (λ (f : Flight). length f.texts) h.down ∙ length-map v.world.wire.down (λ x. x.line)
 
   -- the texts of the upward lane are those of the world's queue
-  up_are : s.up.texts ≡ map bytes_of v.world.wire.up
+  up_are : s.up.texts ≡ map text_of v.world.wire.up
   up_are = ap (λ (f : Flight). f.texts) h.up
 
   -- the texts of the downward lane are those of the world's queue
   down_are : s.down.texts ≡ map (λ (x : Numbered (List ℕ)). x.line) v.world.wire.down
   down_are = ap (λ (f : Flight). f.texts) h.down
 
-  -- once line k of a lane was lost or repeated by this step, or the event was only counted, since that wasn't possible (b: whether it was),
-  -- the streams after the step are shown. `old` is the lane before the step and `lane` after it; the step leaves these texts; g bytes of
-  -- the front line have gone; `put` sets a lane and counts in the stage. The last premise is the case in which line k hasn't begun to go
+  -- once line k of a lane was lost or repeated by this step, or the event was only counted, since that wasn't possible (b:
+  -- whether it was), the streams after the step are shown. `old` is the lane before the step and `lane` after it; the step
+  -- leaves these texts; g bytes of the front line have gone; `put` sets a lane and counts in the stage. The last premise is the
+  -- case in which line k hasn't begun to go
   changed : (old : Flight) (g : ℕ) (put : Flight → Counts → Seen) (k : ℕ) (texts : List (List ℕ)) (step : Step) (b : Bool) (lane : Flight) (gone_is : old.gone ≡ g)
       (same : put old (tallied false s.counts) ≡ record s { counts = tallied false s.counts }) (b_is : b ≡ is_whole k old)
       (lane_is : lane ≡ cond (is_begun k old.gone) old (record old { texts = texts }))
@@ -284,9 +208,12 @@ module _ (width : ℕ) (s : Seen) (v : Streams (ById Call) SceneState) (h : AreS
           subst (λ t. AreStreamsOf width t (with_world (happens scene_ends (by_ids width scene_ends) v.world step)))
           (sym (ap₂ (λ (f : Flight) (c : Bool). put f (tallied c s.counts)) left said)) (whole (ltb k (length old.texts)) refl)
 
-  -- once the upward lane has these texts, if there is a line k (t), or else the event was counted, the streams with that queue are shown
-  up_changed : (k : ℕ) (texts : List (List ℕ)) (us : List (Numbered Request)) (texts_are : texts ≡ map bytes_of us) (past : length s.up.texts ≤ k → texts ≡ s.up.texts)
-      (asked : Each IsAsked us) (t : Bool) → ltb k (length s.up.texts) ≡ t → AreStreamsOf width (record s { up = record s.up { texts = texts }; counts = tallied t s.counts })
+  -- where `texts` are those of the requests `us`, each of which is `MayBeWritten`, and are the upward lane's texts of before if
+  -- there is no line k, the streams are shown once the lane has `texts`: with `us` in flight upward if there is a line k (t),
+  -- and else with the event counted as not possible
+  up_changed : (k : ℕ) (texts : List (List ℕ)) (us : List (Numbered Request)) (texts_are : texts ≡ map text_of us) (past : length s.up.texts ≤ k → texts ≡ s.up.texts)
+      (asked : Each MayBeWritten us) (t : Bool) → ltb k (length s.up.texts) ≡ t
+      → AreStreamsOf width (record s { up = record s.up { texts = texts }; counts = tallied t s.counts })
       (with_world (on_wire v.world (with_up v.world.wire us (ltb k (length v.world.wire.up)))))
   up_changed k texts us texts_are past asked t there =
       subst (λ c. AreStreamsOf width (record s { up = record s.up { texts = texts }; counts = tallied t s.counts }) (with_world (on_wire v.world (with_up v.world.wire us c))))
@@ -299,7 +226,7 @@ module _ (width : ℕ) (s : Seen) (v : Streams (ById Call) SceneState) (h : AreS
         client = h.client;
         next = h.next;
         instrument = h.instrument;
-        up = flight (record s.up { texts = texts }) (map bytes_of us) v.up_gone texts_are (ap (λ (f : Flight). f.gone) h.up);
+        up = flight (record s.up { texts = texts }) (map text_of us) v.up_gone texts_are (ap (λ (f : Flight). f.gone) h.up);
         down = h.down;
         requests = asked;
         settled = h.settled;
@@ -316,7 +243,9 @@ module _ (width : ℕ) (s : Seen) (v : Streams (ById Call) SceneState) (h : AreS
         counts = counts_idle s.counts v.world.wire h.counts;
       }
 
-  -- once the downward lane has these texts, if there is a line k (t), or else the event was counted, the streams with that queue are shown
+  -- where `texts`, those of the replies `ds`, are the downward lane's texts of before if there is no line k, the streams are
+  -- shown once the lane has `texts`: with `ds` in flight downward if there is a line k (t), and else with the event counted as
+  -- not possible
   down_changed : (k : ℕ) (texts : List (List ℕ)) (ds : List (Numbered (List ℕ))) (texts_are : texts ≡ map (λ x. x.line) ds) (past : length s.down.texts ≤ k → texts ≡ s.down.texts)
       (t : Bool) → ltb k (length s.down.texts) ≡ t → AreStreamsOf width (record s { down = record s.down { texts = texts }; counts = tallied t s.counts })
       (with_world (on_wire v.world (with_down v.world.wire ds (ltb k (length v.world.wire.down)))))
@@ -355,8 +284,8 @@ module _ (width : ℕ) (s : Seen) (v : Streams (ById Call) SceneState) (h : AreS
     up_lost said left =
         changed s.up v.up_gone (λ (f : Flight) (c : Counts). record s { up = f; counts = c }) k (without k s.up.texts) (Up_lose k) b lane
         (ap (λ (f : Flight). f.gone) h.up) refl said left
-        (up_changed k (without k s.up.texts) (without k v.world.wire.up) (ap (without k) up_are ∙ without_map bytes_of k v.world.wire.up) (without_past k s.up.texts)
-        (each_without IsAsked k v.world.wire.up h.requests))
+        (up_changed k (without k s.up.texts) (without k v.world.wire.up) (ap (without k) up_are ∙ without_map text_of k v.world.wire.up) (without_past k s.up.texts)
+        (each_without MayBeWritten k v.world.wire.up h.requests))
 
     -- once line k of the upward lane was repeated, if that was possible, the streams after that event are shown
     pub up_repeated : b ≡ is_whole k s.up → lane ≡ cond (is_begun k s.up.gone) s.up (record s.up { texts = doubled k s.up.texts })
@@ -364,8 +293,8 @@ module _ (width : ℕ) (s : Seen) (v : Streams (ById Call) SceneState) (h : AreS
     up_repeated said left =
         changed s.up v.up_gone (λ (f : Flight) (c : Counts). record s { up = f; counts = c }) k (doubled k s.up.texts) (Up_repeat k) b lane
         (ap (λ (f : Flight). f.gone) h.up) refl said left
-        (up_changed k (doubled k s.up.texts) (doubled k v.world.wire.up) (ap (doubled k) up_are ∙ doubled_map bytes_of k v.world.wire.up) (doubled_past k s.up.texts)
-        (each_doubled IsAsked k v.world.wire.up h.requests))
+        (up_changed k (doubled k s.up.texts) (doubled k v.world.wire.up) (ap (doubled k) up_are ∙ doubled_map text_of k v.world.wire.up) (doubled_past k s.up.texts)
+        (each_doubled MayBeWritten k v.world.wire.up h.requests))
 
     -- once line k of the downward lane was lost, if that was possible, the streams after that event are shown
     pub down_lost : b ≡ is_whole k s.down → lane ≡ cond (is_begun k s.down.gone) s.down (record s.down { texts = without k s.down.texts })
@@ -385,24 +314,12 @@ module _ (width : ℕ) (s : Seen) (v : Streams (ById Call) SceneState) (h : AreS
 
   -- Moments and restarts.
 
-  -- once the client got a moment, the streams after that event are shown
-  pub streams_expire : (now : ℕ) (client : Windowed Call) → client ≡ record s.client { ids = expires s.client.ids now }
-      → AreStreamsOf width (record s { client = client }) (after_event width v (event.Expire now))
-  streams_expire now client client_is = record {
-    client = client_is ∙ ap (λ (k : Windowed Call). record k { ids = expires k.ids now }) h.client;
-    next = h.next;
-    instrument = h.instrument;
-    up = h.up;
-    down = h.down;
-    requests = h.requests;
-    settled = h.settled;
-    counts = h.counts;
-  }
-
   -- once both ends were restarted, while no line is in flight, the streams after that event are shown
-  pub streams_restart_client : (more settled : List (Settlement Call)) (client : Windowed Call) (instrument : SceneState) → s.up.texts ≡ [] → s.down.texts ≡ []
-      → AreSettlements more (restarts s.client.ids).settlements → client ≡ record s.client { ids = (restarts s.client.ids).client } → settled ≡ s.settled ++ more
-      → instrument ≡ scene_restarted s.instrument → AreStreamsOf width (record s { client = client; instrument = instrument; settled = settled }) (after_event width v event.RestartClient)
+  pub streams_restart_client : (more settled : List (Settlement Call)) (client : Windowed Call) (instrument : SceneState) (up_empty : s.up.texts ≡ [])
+      (down_empty : s.down.texts ≡ []) (more_are : AreSettlements more (restarts s.client.ids).settlements)
+      (client_is : client ≡ record s.client { ids = (restarts s.client.ids).client }) (settled_is : settled ≡ s.settled ++ more)
+      (instrument_is : instrument ≡ scene_restarted s.instrument)
+      → AreStreamsOf width (record s { client = client; instrument = instrument; settled = settled }) (after_event width v event.RestartClient)
   streams_restart_client more settled client instrument eu ed more_are client_is settled_is instrument_is =
       let are : AreSettlements more (restarts v.world.client).settlements = subst (λ (k : Windowed Call). AreSettlements more (restarts k.ids).settlements) h.client more_are in
       let after = record s { client = client; instrument = instrument; settled = settled } in
@@ -419,53 +336,35 @@ module _ (width : ℕ) (s : Seen) (v : Streams (ById Call) SceneState) (h : AreS
         counts = record { sent = h.counts.sent; executed = h.counts.executed; made = h.counts.made; refused = h.counts.refused; idle = h.counts.idle };
       }))
 
-  -- once the instrument was restarted, while no line is in flight, the streams after that event are shown
-  pub streams_restart_instrument : (instrument : SceneState) → s.up.texts ≡ [] → s.down.texts ≡ [] → instrument ≡ scene_restarted s.instrument
-      → AreStreamsOf width (record s { instrument = instrument }) (after_event width v event.RestartInstrument)
-  streams_restart_instrument instrument eu ed instrument_is =
-      let after = record s { instrument = instrument } in
-      subst (λ u. AreStreamsOf width after (with_world (on_wire v.world (instrument_restarted scene_ends v.world.wire u v.world.wire.down)))) (sym (no_up eu))
-      (subst (λ d. AreStreamsOf width after (with_world (on_wire v.world (instrument_restarted scene_ends v.world.wire [] d)))) (sym (no_down ed)) (record {
-        client = h.client;
-        next = h.next;
-        instrument = instrument_is ∙ ap scene_restarted h.instrument;
-        up = h.up;
-        down = h.down;
-        requests = h.requests;
-        settled = h.settled;
-        counts = record { sent = h.counts.sent; executed = h.counts.executed; made = h.counts.made; refused = h.counts.refused; idle = h.counts.idle };
-      }))
-
   -- while a line is in flight, a restart of the client is only counted
-  pub streams_busy_client : ((s.up.texts ≡ []) × (s.down.texts ≡ []) → ⊥) → AreStreamsOf width (record s { counts = tallied false s.counts }) (after_event width v event.RestartClient)
+  pub streams_busy_client : ((s.up.texts ≡ []) × (s.down.texts ≡ []) → ⊥)
+      → AreStreamsOf width (record s { counts = tallied false s.counts }) (after_event width v event.RestartClient)
   streams_busy_client busy = by_queues v.world.wire.up v.world.wire.down refl refl
     where
       -- by whether lines are in flight upward and downward
       by_queues : (us : List (Numbered Request)) (ds : List (Numbered (List ℕ))) → v.world.wire.up ≡ us → v.world.wire.down ≡ ds
           → AreStreamsOf width (record s { counts = tallied false s.counts }) (with_world (client_restarted scene_ends (by_ids width scene_ends) v.world us ds))
-      by_queues [] [] eu ed = absurd (busy (up_are ∙ ap (map bytes_of) eu, down_are ∙ ap (map (λ x. x.line)) ed))
+      by_queues [] [] eu ed = absurd (busy (up_are ∙ ap (map text_of) eu, down_are ∙ ap (map (λ x. x.line)) ed))
       by_queues [] (y ∷ ds) eu ed = idle_event
       by_queues (x ∷ us) ds eu ed = idle_event
 
   -- while a line is in flight, a restart of the instrument is only counted
-  pub streams_busy_instrument : ((s.up.texts ≡ []) × (s.down.texts ≡ []) → ⊥) → AreStreamsOf width (record s { counts = tallied false s.counts }) (after_event width v event.RestartInstrument)
+  pub streams_busy_instrument : ((s.up.texts ≡ []) × (s.down.texts ≡ []) → ⊥)
+      → AreStreamsOf width (record s { counts = tallied false s.counts }) (after_event width v event.RestartInstrument)
   streams_busy_instrument busy = by_queues v.world.wire.up v.world.wire.down refl refl
     where
       -- by whether lines are in flight upward and downward
       by_queues : (us : List (Numbered Request)) (ds : List (Numbered (List ℕ))) → v.world.wire.up ≡ us → v.world.wire.down ≡ ds
           → AreStreamsOf width (record s { counts = tallied false s.counts }) (with_world (on_wire v.world (instrument_restarted scene_ends v.world.wire us ds)))
-      by_queues [] [] eu ed = absurd (busy (up_are ∙ ap (map bytes_of) eu, down_are ∙ ap (map (λ x. x.line)) ed))
+      by_queues [] [] eu ed = absurd (busy (up_are ∙ ap (map text_of) eu, down_are ∙ ap (map (λ x. x.line)) ed))
       by_queues [] (y ∷ ds) eu ed = idle_event
       by_queues (x ∷ us) ds eu ed = idle_event
 
   -- Bytes.
 
   -- an event of 0 bytes, or of bytes while none are in flight, is only counted
-  pub streams_idle_bytes : (d : Direction) (n r : ℕ) → IsRemainder d v r → (n ≡ 0) ⊎ (r ≡ 0) → AreStreamsOf width (record s { counts = tallied false s.counts }) (after_event width v (bytes d n))
+  pub streams_idle_bytes : (d : Direction) (n r : ℕ) → IsRemainder d v r → (n ≡ 0) ⊎ (r ≡ 0)
+      → AreStreamsOf width (record s { counts = tallied false s.counts }) (after_event width v (bytes d n))
   streams_idle_bytes d n r left none =
       subst (λ (x : Streams (ById Call) SceneState). AreStreamsOf width (record s { counts = tallied false s.counts }) x)
       (sym (bytes_pass scene_ends (by_ids width scene_ends) d v n ∙ idle_bytes scene_ends (by_ids width scene_ends) d v (lines d v.world.wire) n left.left none left.part)) idle_event
-
--- where P says that no line is in flight, and the test for P gives false, P doesn't hold
-pub is_busy : {P : Type 0} (quiet : Bool) → IsTrue quiet ↔ P → quiet ≡ false → P → ⊥
-is_busy quiet iff not p = let e : quiet ≡ true = iff.1 p in cc

@@ -1,24 +1,22 @@
 -- A turn of the loop that plays events.
-use Rattle.std.proofs.Common.{◌≡◌, ℕ, ◌+◌, ◌<◌, ◌≤◌, ◌^◌, List, [], ◌∷◌, ◌++◌, length, take, get_or, sym, ◌∙◌, ap, subst, arith, length-take}
-use Rattle.std.proofs.lemmas.List.{take_all, take_more, length-map}
+use Rattle.std.proofs.Common.{◌≡◌, ℕ, ◌+◌, ◌<◌, ◌≤◌, ◌^◌, List, length, take, get_or, ◌∙◌, ap, subst, arith, length-take}
+use Rattle.std.proofs.lemmas.List.{take_all, length-map}
 use Rattle.gc_scenes.specs.SceneState.{SceneState}
 use Rattle.gc_scene_world.specs.Lanes.{Flight}
 use Rattle.gc_scene_world.specs.SceneRuns.{scene_ends, scene_streamed, scene_played}
 use Rattle.gc_scene_world.specs.SceneStages.{Seen, AreStreamsOf, HasRoom, streams_at_start, after_event}
-use Rattle.gc_scene_world.proofs.Shown.{bytes_of}
+use Rattle.gc_scene_world.proofs.Shown.{text_of}
 use Rattle.gc_world.specs.declared.event.Event.{Event}
 use Rattle.gc_world.specs.Clients.{by_ids}
 use Rattle.gc_world.proofs.Counts.{IsWithin, within_all}
-use Rattle.gc_world.proofs.Flow.{flow_append}
+use Rattle.gc_world.proofs.Flow.{flow_more}
 
 -- the streams after the first i + 1 events are those after the first i, and then event i
 pub played_more : (width : ℕ) (opening : SceneState) (events : List Event) (i : ℕ) (e : Event) → i < length events → e ≡ get_or events i e
     → scene_streamed width opening (take (i + 1) events) ≡ after_event width (scene_streamed width opening (take i events)) e
-played_more width opening events i e lt is =
-    ap (scene_streamed width opening) (take_more events i e lt ∙ ap (λ x. take i events ++ x ∷ []) (sym is))
-    ∙ flow_append scene_ends (by_ids width scene_ends) (take i events) (e ∷ []) (streams_at_start opening)
+played_more width opening events i e lt is = flow_more scene_ends (by_ids width scene_ends) events i e (streams_at_start opening) lt is
 
--- no list of a run is longer than its list of events
+-- none of the lists and counts of a run that `IsWithin` speaks of is above the count of its events
 played_within : (width : ℕ) (opening : SceneState) (events : List Event) → IsWithin (length events) (scene_played width opening events).wire
 played_within width opening events =
     let e : 0 + length events ≡ length events = omega arith in
@@ -26,14 +24,14 @@ played_within width opening events =
     (within_all scene_ends (by_ids width scene_ends) events (streams_at_start opening) 0 (record
     { sent = omega arith; executed = omega arith; made = omega arith; starts = omega arith; refused = omega arith; idle = omega arith }))
 
--- after i of so many events as a slice has, the counts have room for one event more
+-- after the first i of fewer than 2^64 events, the counts have room for event i
 pub has_room : (width : ℕ) (opening : SceneState) (events : List Event) (i : ℕ) (s : Seen) → i < length events → length events < 2 ^ 64
     → AreStreamsOf width s (scene_streamed width opening (take i events)) → HasRoom s
 has_room width opening events i s lt few h =
     let w = played_within width opening (take i events) in
     let n = length-take i events in
     let up : length s.up.texts ≡ length (scene_played width opening (take i events)).wire.up =
-    ap (λ (f : Flight). length f.texts) h.up ∙ length-map (scene_played width opening (take i events)).wire.up bytes_of in
+    ap (λ (f : Flight). length f.texts) h.up ∙ length-map (scene_played width opening (take i events)).wire.up text_of in
     record {
       sent = omega (arith, h.counts.sent, w.sent, n, lt, few);
       executed = omega (arith, h.counts.executed, w.executed, n, lt, few, up);
@@ -42,7 +40,8 @@ has_room width opening events i s lt few h =
       idle = omega (arith, h.counts.idle, w.idle, n, lt, few);
     }
 
--- after the last event the stage shows the streams of the whole run
-pub at_end : (width : ℕ) (opening : SceneState) (events : List Event) (s : Seen) (i : ℕ) → length events ≤ i → AreStreamsOf width s (scene_streamed width opening (take i events))
+-- where there are at most i events, a stage that shows the streams after the first i events shows those after all events
+pub at_end : (width : ℕ) (opening : SceneState) (events : List Event) (s : Seen) (i : ℕ) → length events ≤ i
+    → AreStreamsOf width s (scene_streamed width opening (take i events))
     → AreStreamsOf width s (scene_streamed width opening events)
 at_end width opening events s i all h = subst (λ es. AreStreamsOf width s (scene_streamed width opening es)) (take_all i events all) h

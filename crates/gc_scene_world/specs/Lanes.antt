@@ -12,16 +12,17 @@ pub record Flight : Type 0 where
 abbrev pub is_whole : ℕ → Flight → Bool
 is_whole k f = if is_begun k f.gone then false else nat_lt k (length f.texts)
 
--- the lines in flight without line k, if it can be lost
+-- the lines in flight without line k, if it can be lost; else as they are
 abbrev pub losing : ℕ → Flight → Flight
 losing k f = if is_begun k f.gone then f else record f { texts = without k f.texts }
 
--- the lines in flight with line k twice, if it can be repeated
+-- the lines in flight with line k twice, the second directly after the first, if it can be repeated; else as they are
 abbrev pub repeating : ℕ → Flight → Flight
 repeating k f = if is_begun k f.gone then f else record f { texts = doubled k f.texts }
 
--- the count of events that weren't possible after a loss or a repeat of line k: one more, unless it was possible
-abbrev pub idle_after : ℕ → Flight → ℕ → ℕ
+-- how many events weren't possible so far, counted after a loss or a repeat of line k: `idle`, which was the count before it, if
+-- line k could be lost or repeated (`is_whole`), and else one more
+abbrev pub idle_after : (k : ℕ) → Flight → (idle : ℕ) → ℕ
 idle_after k f idle = if is_whole k f then idle else idle + 1
 
 -- the lines in flight with one more at the back

@@ -1,5 +1,5 @@
--- What holds of every run on the instrument of a scene, whatever its rules say and whatever the width of the window, up to seven: laws of
--- this project's own definitions.
+-- What holds of every run on the instrument of a scene, whatever its rules say: laws of this project's own definitions. A law that needs
+-- a window of at most seven says so.
 use Rattle.std.specs.Prelude.{◌≡◌, ℕ, ◌≤◌, List, Some, slice_get}
 use Rattle.gc_catalogue.specs.declared.call.Call.{Call}
 use Rattle.gc_client.specs.declared.window.TheConstants.{WINDOW}
@@ -16,17 +16,19 @@ SettlesInOrder =
     (width : ℕ) (opening : SceneState) (events : List Event) →
     IsOneForOne (scene_played width opening events).wire.sent (scene_played width opening events).wire.settled
 
--- the run by ids and the run by numbers leave the same wire
+-- with a window of at most seven, the run by ids and the run by numbers leave the same wire
 abbrev pub RunsAgree : Type 0
-RunsAgree = (width : ℕ) → width ≤ WINDOW → (opening : SceneState) (events : List Event) → (scene_played width opening events).wire ≡ scene_by_numbers width opening events
+RunsAgree =
+    (width : ℕ) → width ≤ WINDOW → (opening : SceneState) (events : List Event) →
+    (scene_played width opening events).wire ≡ scene_by_numbers width opening events
 
--- if settlement m is an answer, its line is among those that the instrument made for request m
+-- with a window of at most seven, if settlement m is an answer, its line is among those that the instrument made for request m
 abbrev pub BooksItsOwn : Type 0
 BooksItsOwn =
     (width : ℕ) → width ≤ WINDOW → (opening : SceneState) (events : List Event) (m : ℕ) (s : Settlement Call) (line : List ℕ) →
     slice_get (scene_played width opening events).wire.settled m ≡ Some s → s.outcome ≡ Answered line →
     (j : ℕ) × (slice_get (scene_played width opening events).wire.made j ≡ Some (record { number = m; line = line }))
 
--- after each list of events the lines in flight are in the order of the requests (`IsOrderly`)
+-- with a window of at most seven, after each list of events the lines in flight are in the order of the requests (`IsOrderly`)
 abbrev pub KeepsOrder : Type 0
 KeepsOrder = (width : ℕ) → width ≤ WINDOW → (opening : SceneState) (events : List Event) → IsOrderly width (scene_played width opening events).wire

@@ -1,6 +1,6 @@
 -- How a stage corresponds to the streams of a run: for contracts of private functions. A stage is the code's state while it plays events:
 -- the client, the instrument, the lines in flight in both directions, the settlements, and counts.
-use Rattle.std.specs.Prelude.{◌≡◌, ℕ, ◌+◌, ◌<◌, ◌^◌, List, length, replicate}
+use Rattle.std.specs.Prelude.{◌≡◌, ℕ, ◌+◌, ◌<◌, ◌^◌, List, length}
 use Rattle.gc_catalogue.specs.Calls.{IsFitting}
 use Rattle.gc_catalogue.specs.declared.call.Call.{Call}
 use Rattle.gc_client.specs.declared.settlement.Settlement.{Settlement}
@@ -8,27 +8,19 @@ use Rattle.gc_client.specs.declared.window.TheConstants.{IDS}
 use Rattle.gc_client.specs.Rule.{ById, Windowed}
 use Rattle.gc_client.specs.Settlements.{AreSettlements}
 use Rattle.gc_scenes.specs.SceneState.{SceneState, scene_restarted}
-use Rattle.gc_scene_world.specs.declared.direction.Direction.{Direction}
-use Rattle.gc_scene_world.specs.declared.direction.Direction.TheVariants.{Up, Down}
 use Rattle.gc_scene_world.specs.declared.report.Counts.{Counts}
 use Rattle.gc_scene_world.specs.declared.stage.Stage.{Stage}
 use Rattle.gc_scene_world.specs.Lanes.{Flight}
 use Rattle.gc_scene_world.specs.SceneReports.{AreCounts}
 use Rattle.gc_scene_world.specs.SceneRuns.{scene_ends}
-use Rattle.gc_world.specs.declared.direction.Direction as world
-use Rattle.gc_world.specs.declared.direction.Direction.TheVariants as «world's»
+use Rattle.gc_world.specs.declared.direction.Direction.{Direction}
 use Rattle.gc_world.specs.declared.event.Event.{Event}
 use Rattle.gc_world.specs.Clients.{by_ids, ids_open}
-use Rattle.gc_world.specs.Directions.{deliver, lines, gone, reaches}
+use Rattle.gc_world.specs.Directions.{lines, gone, handed_over}
 use Rattle.gc_world.specs.Order.{Each}
 use Rattle.gc_world.specs.Sides.{IsPart}
-use Rattle.gc_world.specs.Streams.{Streams, untouched, up_texts, down_texts, cut, remaining, flows}
-use Rattle.gc_world.specs.World.{Request, Numbered, run}
-
--- the direction as `gc_world` has it
-abbrev pub world_direction : Direction → world.Direction
-world_direction Up = «world's».Up
-world_direction Down = «world's».Down
+use Rattle.gc_world.specs.Streams.{Streams, untouched, up_texts, down_texts, remaining, flows}
+use Rattle.gc_world.specs.World.{Request, Numbered}
 
 -- the parts of a stage of which contracts speak
 pub record Seen : Type 0 where
@@ -51,25 +43,24 @@ streams_at_start opening = untouched (ids_open (scene_restarted opening))
 abbrev pub after_event : ℕ → Streams (ById Call) SceneState → Event → Streams (ById Call) SceneState
 after_event width v e = flows scene_ends (by_ids width scene_ends) v e
 
--- the streams after the next n bytes of a direction
-abbrev pub after_bytes : ℕ → Direction → Streams (ById Call) SceneState → ℕ → Streams (ById Call) SceneState
-after_bytes width d v n =
-    let c = cut (lines (world_direction d) v.world.wire) (gone (world_direction d) v + n) in
-    reaches (world_direction d) v (run scene_ends (by_ids width scene_ends) (replicate c.lines (deliver (world_direction d))) v.world) c.gone
+-- the streams after the next n bytes of a direction, or after all that are in flight if these are fewer; no idle event is counted, even for
+-- 0 bytes
+abbrev pub after_bytes : (width : ℕ) → Direction → Streams (ById Call) SceneState → (n : ℕ) → Streams (ById Call) SceneState
+after_bytes width d v n = handed_over scene_ends (by_ids width scene_ends) d v n
 
 -- a client may have written the request: its id is below 8, and the numbers of its call are in the ranges of their types
-abbrev pub IsAsked : Numbered Request → Type 0
-IsAsked x = (x.line.id < IDS) × IsFitting x.line.call
+abbrev pub MayBeWritten : Numbered Request → Type 0
+MayBeWritten x = (x.line.id < IDS) × IsFitting x.line.call
 
 -- the parts of a stage, whose client's window has this width, correspond to these streams; the client's next id is below 8; and a client
--- may have written each request in flight (`IsAsked`)
+-- may have written each request in flight (`MayBeWritten`)
 pub record AreStreamsOf (width : ℕ) (s : Seen) (v : Streams (ById Call) SceneState) : Type 0 where
   pub client : s.client ≡ record { width = width; ids = v.world.client }
   pub next : v.world.client.next < IDS
   pub instrument : s.instrument ≡ v.world.wire.state
   pub up : s.up ≡ record { texts = up_texts v.world.wire; gone = v.up_gone }
   pub down : s.down ≡ record { texts = down_texts v.world.wire; gone = v.down_gone }
-  pub requests : Each IsAsked v.world.wire.up
+  pub requests : Each MayBeWritten v.world.wire.up
   pub settled : AreSettlements s.settled v.world.wire.settled
   pub counts : AreCounts s.counts v.world.wire
 
@@ -85,27 +76,11 @@ IsShown s = (width : ℕ) × (v : Streams (ById Call) SceneState) × Shows width
 abbrev pub Follows : Stage → Event → Stage → Type 0
 Follows s e t = (width : ℕ) (v : Streams (ById Call) SceneState) → Shows width s v → Shows width t (after_event width v e)
 
--- `n` bytes of the front line of a direction have still to go, and 0 if there is none; of a line in flight not all bytes have gone
-pub record IsRemainder (d : world.Direction) (v : Streams (ById Call) SceneState) (n : ℕ) : Type 0 where
+-- `n` is how many bytes of the front line of a direction are still to go, 0 if no line is in flight; not all bytes of the front line have
+-- gone, and none count as gone if there is no line
+pub record IsRemainder (d : Direction) (v : Streams (ById Call) SceneState) (n : ℕ) : Type 0 where
   pub left : n ≡ remaining (gone d v) (lines d v.world.wire)
   pub part : IsPart (gone d v) (lines d v.world.wire)
-
--- no count overflows at the next event; each request in flight may become an execution and a reply
-pub record HasRoom (s : Seen) : Type 0 where
-  pub sent : s.counts.sent + 1 < 2 ^ 64
-  pub executed : s.counts.executed + length s.up.texts < 2 ^ 64
-  pub made : s.counts.made + length s.up.texts < 2 ^ 64
-  pub refused : s.counts.refused_sends + 1 < 2 ^ 64
-  pub idle : s.counts.idle_events + 1 < 2 ^ 64
-
--- on whatever streams the stage shows, more than n bytes of the front line of the direction are still to go
-abbrev pub HasMoreThan : Stage → Direction → ℕ → Type 0
-HasMoreThan s d n = (width : ℕ) (v : Streams (ById Call) SceneState) → Shows width s v
-    → n < remaining (gone (world_direction d) v) (lines (world_direction d) v.world.wire)
-
--- for all streams that the stage s shows, the stage t shows the streams after the next n bytes of the direction
-abbrev pub FollowsBytes : Stage → Direction → ℕ → Stage → Type 0
-FollowsBytes s d n t = (width : ℕ) (v : Streams (ById Call) SceneState) → Shows width s v → Shows width t (after_bytes width d v n)
 
 -- the count of executions doesn't overflow if each request in flight is executed
 abbrev pub HasRoomForExecutions : Counts → Flight → Type 0
@@ -114,3 +89,20 @@ HasRoomForExecutions counts up = counts.executed + length up.texts < 2 ^ 64
 -- the count of replies doesn't overflow if each request in flight gets a reply
 abbrev pub HasRoomForReplies : Counts → Flight → Type 0
 HasRoomForReplies counts up = counts.made + length up.texts < 2 ^ 64
+
+-- no count overflows at the next event; each request in flight may become an execution and a reply
+pub record HasRoom (s : Seen) : Type 0 where
+  pub sent : s.counts.sent + 1 < 2 ^ 64
+  pub executed : HasRoomForExecutions s.counts s.up
+  pub made : HasRoomForReplies s.counts s.up
+  pub refused : s.counts.refused_sends + 1 < 2 ^ 64
+  pub idle : s.counts.idle_events + 1 < 2 ^ 64
+
+-- on whatever streams the stage shows, more than n bytes of the front line of the direction are still to go
+abbrev pub HasMoreThan : Stage → Direction → ℕ → Type 0
+HasMoreThan s d n = (width : ℕ) (v : Streams (ById Call) SceneState) → Shows width s v
+    → n < remaining (gone d v) (lines d v.world.wire)
+
+-- for all streams that the stage s shows, the stage t shows the streams after the next n bytes of the direction
+abbrev pub FollowsBytes : Stage → Direction → ℕ → Stage → Type 0
+FollowsBytes s d n t = (width : ℕ) (v : Streams (ById Call) SceneState) → Shows width s v → Shows width t (after_bytes width d v n)

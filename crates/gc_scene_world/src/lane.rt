@@ -4,9 +4,10 @@ ghost use Rattle.std.specs.Prelude.{◌≡◌, ◌↔◌, ◌<◌, ◌∷◌, []
 ghost use Rattle.gc_lines.specs.Lines.{with_end};
 ghost use Rattle.gc_scene_world.specs.Lanes.{is_whole, losing, repeating, pushed, further};
 ghost use Rattle.gc_world.specs.Sides.{IsPart};
-ghost use Rattle.gc_world.specs.Streams.{is_begun, remaining};
+ghost use Rattle.gc_world.specs.Streams.{remaining};
 
 use gc_lines::{Line, append};
+use gc_world::is_begun;
 use std::alloc::{AllocError, Global};
 use std::collections::VecDeque;
 use std::marker::Model;
@@ -62,7 +63,7 @@ impl Lane {
         }
     }
 
-    /// Puts a line at the back: it was written last. `Err`: memory for it was refused.
+    /// Puts a line at the back: it was written last. `Err`: memory for it was refused, and the lane is as before.
     pub fn push(&mut self, line: Line) -> Result<(), AllocError>
         ensures { OnOk result (self.new ≡ pushed self.old line.items) }
     {
@@ -71,7 +72,7 @@ impl Lane {
         Ok(())
     }
 
-    /// Takes out the front line, since its last byte goes; of the line behind it none has gone. `None`: no line is in flight.
+    /// Takes out the front line, all of which has then gone; of the next line no byte has. `None`: no line is in flight.
     pub fn take(&mut self) -> Option<Line>
         ensures texts { MatchOption result ((self.old.texts ≡ []) × (self.new.texts ≡ [])) (λ line. self.old.texts ≡ line.items ∷ self.new.texts) }
         ensures gone { self.new.gone ≡ 0 }
@@ -95,7 +96,8 @@ impl Lane {
         self.gone = end - left;
     }
 
-    /// Takes out line k, counted from 0 at the front, if it is in flight and its first byte hasn't gone. It returns whether it did.
+    /// Takes out line k, counted from 0 at the front, if it is in flight and its first byte hasn't gone. Returns whether it is taken out;
+    /// if not, nothing changes.
     pub fn lose(&mut self, k: usize) -> bool
         ensures possible { result ≡ is_whole k self.old }
         ensures left { self.new ≡ losing k self.old }
@@ -106,8 +108,9 @@ impl Lane {
         self.lines.remove(k).is_some()
     }
 
-    /// Doubles line k, counted from 0 at the front, if it is in flight and its first byte hasn't gone: a copy comes directly after it. It
-    /// returns whether it did. `Err`: memory for the copy was refused.
+    /// Doubles line k, counted from 0 at the front, if it is in flight and its first byte hasn't gone: a copy comes directly after it.
+    /// Returns whether it is doubled; if not, nothing changes. `Err`: memory for the copy was refused, and nothing changes
+    /// either.
     pub fn repeat(&mut self, k: usize) -> Result<bool, AllocError>
         ensures possible { IfOk result (λ done. done ≡ is_whole k self.old) }
         ensures left { OnOk result (self.new ≡ repeating k self.old) }
@@ -131,11 +134,4 @@ fn copy_of(line: &Line) -> Line
     let mut copy = Line::new();
     append(&mut copy, line);
     copy
-}
-
-// Whether the first byte of line k has gone.
-fn is_begun(k: usize, gone: usize) -> bool
-    ensures { result ≡ is_begun k gone }
-{
-    k == 0 && gone > 0
 }

@@ -16,7 +16,7 @@ pub fn runs_agree()
     ensures { RunsAgree }
 {}
 
-/// Where a settlement is an answer, its line is a reply that the instrument made for that very request.
+/// Where a settlement is an answer, its line is a reply that the instrument made for the very request that it settles.
 pub fn answers_are_booked()
     ensures { BooksItsOwn }
 {}

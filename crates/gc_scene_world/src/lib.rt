@@ -2,7 +2,6 @@
 //! by event. The definitions are those of `gc_world`, with the instrument of a scene in place of the simulator.
 #![tactic(auto)]
 
-mod direction;
 mod lane;
 pub mod laws;
 mod playing;

@@ -14,18 +14,19 @@ use std::alloc::{AllocError, Global};
 /// Plays the events in order, from a restarted instrument and a new client that lets `width` requests be outstanding, and returns the
 /// settlements and the counts of the run by ids ([`laws`](crate::laws)).
 ///
-/// Whatever the scene's rules say: the settlements are one for one and in order for the requests sent; each answer that the client
-/// booked is a line that the instrument made for that very request; and the run is that of a client which is told the request of each
-/// reply. So the first reply to a request is booked, if it comes while the request is outstanding and in time.
+/// Whatever the scene's rules say: the settlements correspond one for one and in order to the requests sent, as far as they go;
+/// each answer that the client booked is a line that the instrument made for the very request that the answer settles; and the
+/// run is that of a client which is told the request of each reply. So the first reply to a request is booked, if it comes while
+/// the request is outstanding and in time.
 ///
 /// What `play_width` of `gc_world` promises beyond that isn't promised here. If the instrument doesn't repeat (`repeats no` in a scene), a
 /// request whose line is repeated acts as often as it comes, and each time the reply may be another. A request that a fault answers
 /// isn't executed, though it counts as executed. No record of executions is kept, and nothing is said of what an answer reads as: a
 /// scene may answer with any code.
 ///
-/// It has no clock: the moment of each request is that which the instrument has.
+/// A run has no clock: the moment of each request is the one to which `instrument` is set when it is passed.
 ///
-/// `Err`: memory for a list that had to grow was refused.
+/// `Err`: memory for a settlement or for a line in flight was refused; then nothing is returned.
 pub fn play_scene(
     alloc: Global,
     instrument: SceneInstrument,

@@ -8,9 +8,8 @@ ghost use Rattle.gc_world.specs.declared.event.Event.{Event};
 ghost use Rattle.gc_world.specs.Directions.{bytes, delivery};
 ghost use Rattle.gc_world.specs.Streams.{Streams};
 ghost use Rattle.gc_scene_world.specs.Lanes.{losing, repeating, idle_after};
-ghost use Rattle.gc_scene_world.specs.SceneStages.{world_direction, streams_at_start, seen, Shows, IsShown, IsRemainder, Follows, FollowsBytes, HasMoreThan, HasRoom, HasRoomForExecutions, HasRoomForReplies};
+ghost use Rattle.gc_scene_world.specs.SceneStages.{streams_at_start, seen, Shows, IsShown, IsRemainder, Follows, FollowsBytes, HasMoreThan, HasRoom, HasRoomForExecutions, HasRoomForReplies};
 
-use crate::direction::Direction;
 use crate::lane::Lane;
 use crate::report::{Counts, SceneReport};
 use arrayvec::ArrayVec;
@@ -18,7 +17,7 @@ use gc_catalogue::Call;
 use gc_client::{Client, Settlement, Slots, WINDOW};
 use gc_lines::Line;
 use gc_scenes::SceneInstrument;
-use gc_world::Event;
+use gc_world::{Direction, Event, completes};
 use std::alloc::{AllocError, Global};
 
 /// The state of a run.
@@ -59,8 +58,8 @@ impl Stage {
         }
     }
 
-    /// Lets one event happen. An event that isn't possible is only counted. `Err`: memory for a list that had to grow was refused, and the
-    /// event may have happened in part.
+    /// Lets one event happen. An event that isn't possible is only counted. `Err`: memory for a settlement or for a line in
+    /// flight was refused, and the event may have happened in part.
     pub fn happen(&mut self, event: &Event) -> Result<(), AllocError>
         requires room { HasRoom (seen self.old) }
         requires shown { IsShown self.old }
@@ -138,8 +137,8 @@ impl Stage {
         self.down.push(reply)
     }
 
-    // Hands the front reply to the client, and appends its settlements to those so far. If no reply is in flight, the event is only
-    // counted. `Err`: memory was refused.
+    // Hands the front reply to the client, and appends what that settles to the settlements so far. If no reply is in flight, the event
+    // is only counted. `Err`: memory was refused.
     fn down_deliver(&mut self) -> Result<(), AllocError>
         requires idle { self.old.counts.idle_events + 1 < 2 ^ 64 }
         ensures { OnOk result (Follows self.old Event.DownDeliver self.new) }
@@ -153,12 +152,12 @@ impl Stage {
         append_all(&mut self.settled, settled)
     }
 
-    // Hands over the next `n` bytes of a direction: each line that they complete is delivered. If `n` is 0 or no byte is in flight,
-    // the event is only counted. `Err`: memory was refused.
+    // Hands over the next `n` bytes of a direction, or all that are in flight if they are fewer: each line that they complete is delivered.
+    // If `n` is 0 or no byte is in flight, the event is only counted. `Err`: memory was refused.
     fn deliver_bytes(&mut self, direction: Direction, n: usize) -> Result<(), AllocError>
         requires room { HasRoom (seen self.old) }
         requires shown { IsShown self.old }
-        ensures { OnOk result (Follows self.old (bytes (world_direction direction) n) self.new) }
+        ensures { OnOk result (Follows self.old (bytes direction n) self.new) }
     {
         let mut left = n;
         let mut remaining = self.remaining(direction);
@@ -184,7 +183,7 @@ impl Stage {
         requires made { HasRoomForReplies self.old.counts self.old.up }
         requires idle { self.old.counts.idle_events + 1 < 2 ^ 64 }
         requires shown { IsShown self.old }
-        ensures { OnOk result (Follows self.old (delivery (world_direction direction)) self.new) }
+        ensures { OnOk result (Follows self.old (delivery direction) self.new) }
     {
         match direction {
             Direction::Up => self.up_deliver(),
@@ -194,7 +193,7 @@ impl Stage {
 
     // How many bytes of the front line of a direction have still to go, CR LF included; 0 if no line is in flight.
     fn remaining(&self, direction: Direction) -> usize
-        ensures { (width : ℕ) (v : Streams (ById Call) SceneState) → Shows width self.now v → IsRemainder (world_direction direction) v result }
+        ensures { (width : ℕ) (v : Streams (ById Call) SceneState) → Shows width self.now v → IsRemainder direction v result }
     {
         match direction {
             Direction::Up => self.up.remaining(),
@@ -216,7 +215,7 @@ impl Stage {
 
     // The ends.
 
-    // Lets the client time out each request whose deadline is at most `now`.
+    // Lets the client time out each outstanding request whose deadline is at most `now`. The request stays outstanding: nothing is settled.
     fn expire(&mut self, now: u64)
         ensures { Follows self.old (Event.Expire now) self.new }
     {
@@ -269,8 +268,8 @@ fn lose(lane: &mut Lane, k: usize, idle: &mut usize)
     }
 }
 
-// Line k of a lane, counted from 0 at the front, comes twice. If it isn't in flight, or its first byte has gone, only `idle` changes:
-// it grows by one. `Err`: memory was refused.
+// Line k of a lane, counted from 0 at the front, comes twice. If it isn't in flight, or its first byte has gone, only `idle`
+// changes: it grows by one. `Err`: memory was refused, and nothing changes.
 fn repeat(lane: &mut Lane, k: usize, idle: &mut usize) -> Result<(), AllocError>
     requires { idle.old + 1 < 2 ^ 64 }
     ensures left { OnOk result (lane.new ≡ repeating k lane.old) }
@@ -311,11 +310,4 @@ fn append_all(
         all.push_reserved(settlement);
     }
     Ok(())
-}
-
-// Whether `n` bytes complete a line of which `remaining` bytes remain, at least one.
-fn completes(remaining: usize, n: usize) -> bool
-    ensures { IsTrue result ↔ ((0 < remaining) × (remaining ≤ n)) }
-{
-    0 < remaining && remaining <= n
 }

@@ -1,5 +1,5 @@
 -- What holds of each outcome with ways of real instruments, and that without ways it is that of the execution table.
-use Rattle.std.proofs.Common.{◌≡◌, ◌≢◌, ℕ, ℤ, ◌<◌, ◌&&◌, Bool, true, false, cond, Option, Some, None, refl, sym, ap, ◌∙◌, lit<}
+use Rattle.std.proofs.Common.{◌≡◌, ◌≢◌, ℤ, ◌<◌, ◌&&◌, Bool, true, false, cond, Option, Some, None, refl, ap, ◌∙◌, lit<}
 use Rattle.std.specs.Prelude.{pos}
 use Rattle.std.specs.Ordering.{int_eq}
 use Rattle.gc_values.specs.declared.decimal.Decimal.{Decimal}
@@ -12,7 +12,7 @@ use Rattle.gc_instrument.specs.Execution.{Executed, exec, done, distance_outcome
 use Rattle.gc_instrument.specs.State.{State}
 use Rattle.gc_instrument.specs.declared.target.Target.{Target}
 use Rattle.gc_instrument.proofs.Executions.{exec_outcome}
-use Rattle.gc_scenes.specs.Acting.{acted_faceless, acted, dated, is_unchanged_by_ways}
+use Rattle.gc_scenes.specs.Acting.{acted_faceless, dated}
 use Rattle.gc_scenes.specs.SceneExecution.{outcome, shown, seen_by}
 use Rattle.gc_scenes.specs.SceneState.{SceneState}
 use Rattle.gc_scenes.specs.Machine.{seeing}
@@ -78,29 +78,24 @@ table_without_ways s (call.SimpleMea wait mode) = refl
 table_without_ways s call.GetDate = refl
 table_without_ways s asked = refl
 
--- the outcome (but for the face) of a call that no way changes is the table's, whatever the ways and the clock are
-pub table_if_unchanged : (w : Ways) (now : Option DateTime) (s : State) (asked : Call) → is_unchanged_by_ways asked ≡ true → acted_faceless w now s asked ≡ exec s asked
-table_if_unchanged w now s (call.Position hz v pos_mode atr_mode dummy) is = let never : ⊥ = cc in absurd never
-table_if_unchanged w now s (call.ChangeFace pos_mode atr_mode dummy) is = let never : ⊥ = cc in absurd never
-table_if_unchanged w now s (call.SimpleMea wait mode) is = let never : ⊥ = cc in absurd never
-table_if_unchanged w now s call.GetDate is = let never : ⊥ = cc in absurd never
-table_if_unchanged w now s asked is = refl
-
 -- The outcomes that the ways change.
 
--- with `faces`, the outcome of a face change is that of turning to the other face's angles
+-- with `faces`, the outcome of a face change, but for the face, is that of pointing at the other face's angles
 pub face_row : (w : Ways) (now : Option DateTime) (s : State) (pos_mode atr_mode : ℤ) (dummy : Bool) (x : Executed) → w.faces ≡ true
-    → done (pointed s (other_hz s.pointing.hz) (other_v s.pointing.v)) answer.Nothing ≡ x → acted_faceless w now s (call.ChangeFace pos_mode atr_mode dummy) ≡ x
+    → done (pointed s (other_hz s.pointing.hz) (other_v s.pointing.v)) answer.Nothing ≡ x
+    → acted_faceless w now s (call.ChangeFace pos_mode atr_mode dummy) ≡ x
 face_row w now s pos_mode atr_mode dummy x is does =
     ap (λ (b : Bool). cond b (done (pointed s (other_hz s.pointing.hz) (other_v s.pointing.v)) answer.Nothing) (exec s (call.ChangeFace pos_mode atr_mode dummy))) is ∙ does
 
--- with `takes`, the outcome of TMC_GetSimpleMea is that of answering the distance and clearing it
+-- with `takes`, the outcome of TMC_GetSimpleMea, but for the face, is that of answering the distance and clearing it
 pub take_row : (w : Ways) (now : Option DateTime) (s : State) (wait mode : ℤ) (x : Executed) → w.takes ≡ true
-    → distance_outcome (unmeasured s) (λ d. answer.Measured s.pointing.hz s.pointing.v d) s.distance ≡ x → acted_faceless w now s (call.SimpleMea wait mode) ≡ x
+    → distance_outcome (unmeasured s) (λ d. answer.Measured s.pointing.hz s.pointing.v d) s.distance ≡ x
+    → acted_faceless w now s (call.SimpleMea wait mode) ≡ x
 take_row w now s wait mode x is does =
     ap (λ (b : Bool). cond b (distance_outcome (unmeasured s) (λ d. answer.Measured s.pointing.hz s.pointing.v d) s.distance) (exec s (call.SimpleMea wait mode))) is ∙ does
 
--- where no clock runs, the outcome of asking for the date is the table's
-pub date_row : (w : Ways) (now : Option DateTime) (s : State) (x : Executed) → now ≡ None → exec s call.GetDate ≡ x → acted_faceless w now s call.GetDate ≡ x
+-- where no clock runs, the outcome of asking for the date, but for the face, is the table's
+pub date_row : (w : Ways) (now : Option DateTime) (s : State) (x : Executed) → now ≡ None → exec s call.GetDate ≡ x
+    → acted_faceless w now s call.GetDate ≡ x
 unfolding exec
 date_row w now s x is does = ap (λ (n : Option DateTime). dated n s) is ∙ does

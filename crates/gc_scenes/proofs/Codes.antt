@@ -9,7 +9,8 @@ use Rattle.gc_scenes.specs.SceneState.{SceneState}
 use Rattle.gc_scenes.specs.declared.rules.Fault.{Fault}
 
 -- the code of a fault, if that fault is due (b), or else of a later one, is below 65536, where that holds of the later ones
-fault_by : (f : Fault) (b : Bool) (later : Option ℕ) (code : ℕ) → (later ≡ Some code → code < 65536) → cond b (Some f.rc) later ≡ Some code → code < 65536
+fault_by : (f : Fault) (b : Bool) (later : Option ℕ) (code : ℕ) → (later ≡ Some code → code < 65536) → cond b (Some f.rc) later ≡ Some code
+    → code < 65536
 fault_by f true later code rest e = subst (λ (c : ℕ). c < 65536) (same_Some f.rc code e) f.fits
 fault_by f false later code rest e = rest e
 

@@ -9,8 +9,10 @@ use Rattle.gc_scenes.specs.Laws.{IsNearest, IsFarOff, IsAimedAt, NearestIsNeares
 use Rattle.gc_scenes.specs.Ways.{apart, window, nearer, nearest_of}
 
 module _ (there : Pointing) where
-  -- where none of the targets `done` is within the window, the next target is aimed at if it is within it (true), and else none
-  aimed_at_first : (done : List Target) (t : Target) (b : Bool) → nat_le (apart there t) window ≡ b → IsFarOff there done → IsAimedAt there (done ++ t ∷ []) (cond b (Some t) None)
+  -- where none of the targets `done` is within the window, the next target is aimed at if it is within the window (`b`), and
+  -- else none
+  aimed_at_first : (done : List Target) (t : Target) (b : Bool) → nat_le (apart there t) window ≡ b → IsFarOff there done
+      → IsAimedAt there (done ++ t ∷ []) (cond b (Some t) None)
   aimed_at_first done t true is far = record {
     front = done;
     behind = [];
@@ -21,8 +23,10 @@ module _ (there : Pointing) where
   }
   aimed_at_first done t false is far = all_append (λ (u : Target). window < apart there u) done (t ∷ []) far (leb-false (apart there t) window is, tt)
 
-  -- where `u` is the nearest of the targets `done`, the nearer of `u` and the next target is aimed at
-  aimed_at_nearer : (done : List Target) (u t : Target) (b : Bool) → nat_le (apart there u) (apart there t) ≡ b → IsNearest there done u → IsAimedAt there (done ++ t ∷ []) (cond b (Some u) (Some t))
+  -- where `u` is the nearest of the targets `done`, the nearer of `u` and the next target is aimed at: `u` if they are equally
+  -- near
+  aimed_at_nearer : (done : List Target) (u t : Target) (b : Bool) → nat_le (apart there u) (apart there t) ≡ b → IsNearest there done u
+      → IsAimedAt there (done ++ t ∷ []) (cond b (Some u) (Some t))
   aimed_at_nearer done u t true is found = record {
     front = found.front;
     behind = found.behind ++ t ∷ [];
@@ -51,12 +55,13 @@ module _ (there : Pointing) where
   aimed_at_next done (Some u) t found = aimed_at_nearer done u t (nat_le (apart there u) (apart there t)) refl found
 
   -- where `o` is aimed at among the targets `done`, `nearest_of` gives what is aimed at once the targets `ts` are added
-  aimed_at_all : (done : List Target) (o : Option Target) (ts : List Target) → IsAimedAt there done o → IsAimedAt there (done ++ ts) (nearest_of there o ts)
+  aimed_at_all : (done : List Target) (o : Option Target) (ts : List Target) → IsAimedAt there done o
+      → IsAimedAt there (done ++ ts) (nearest_of there o ts)
   aimed_at_all done o [] is = subst (λ (ds : List Target). IsAimedAt there ds o) (sym (append-nil done)) is
   aimed_at_all done o (t ∷ ts) is =
       subst (λ (ds : List Target). IsAimedAt there ds (nearest_of there (nearer there o t) ts)) (append_assoc done (t ∷ []) ts)
       (aimed_at_all (done ++ t ∷ []) (nearer there o t) ts (aimed_at_next done o t is))
 
--- `nearest` gives the nearest target within the window, or none if all are beyond it
+-- `nearest` gives the nearest target within the window, the first of several that are equally near, or none if all are beyond it
 pub nearest_is_nearest : NearestIsNearest
 nearest_is_nearest there targets = aimed_at_all there [] None targets tt

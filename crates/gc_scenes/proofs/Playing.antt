@@ -17,10 +17,10 @@ use Rattle.gc_catalogue.specs.declared.call.Call.{Call}
 use Rattle.gc_catalogue.specs.declared.fault.CallFault.TheVariants.{Unknown, Parameters}
 use Rattle.gc_instrument.specs.Execution.{Executed}
 use Rattle.gc_instrument.specs.Replying.{refusal_line, reply_id}
-use Rattle.gc_scenes.specs.Appending.{AppendsGave, AppendsPlayed, AppendsReply}
+use Rattle.gc_scenes.specs.Appending.{AppendsHanded, AppendsPlayed, AppendsReply}
 use Rattle.gc_scenes.specs.Rules.{fault_of, answer_of, noisy, noise_after}
 use Rattle.gc_scenes.specs.SceneExecution.{Played, Reports, plays, outcome, after_call, replied_answer, played_call, played_raw, unless_faulted_raw, scripted, counting, faulted}
-use Rattle.gc_scenes.specs.SceneReplying.{IsPlayed, silent, answers, AnswersRequest, names_call, names_none, unreadable, resent_line, again_or_played, handed_call, handed_raw, played_or_refused, holding, kept_if_repeating, played_line}
+use Rattle.gc_scenes.specs.SceneReplying.{IsPlayed, silent, answers, AnswersRequest, names_call, unreadable, resent_line, again_or_played, handed_call, handed_raw, played_or_refused, holding, kept_if_repeating, played_line}
 use Rattle.gc_scenes.specs.SceneServing.{PlaysFrame}
 use Rattle.gc_scenes.specs.SceneState.{SceneState}
 use Rattle.gc_scenes.specs.declared.rules.Noise.{Noise}
@@ -28,21 +28,24 @@ use Rattle.gc_scenes.specs.declared.rules.Scripted.{Scripted}
 use Rattle.gc_scenes.specs.Params.{scripted_params}
 use Rattle.gc_scenes.proofs.Acted.{outcome_sound}
 
--- A request that isn't executed, or is.
+-- A request that is answered again, or for the first time.
 
--- where a line is stored for the id, appending that line is what `again_or_played` says of the request
+-- where a stored line is sent again for the id (`resent_line`), appending it is what `again_or_played` says of the request
 pub gave_again : (s : SceneState) (id : Option ℕ) (p : Played) (line old new : List ℕ) → resent_line s id ≡ Some line → new ≡ old ++ line
-    → AppendsGave (again_or_played s id p (resent_line s id)) s old new
+    → AppendsHanded (again_or_played s id p (resent_line s id)) s old new
 gave_again s id p line old new again appended =
-    subst (λ (o : Option (List ℕ)). AppendsGave (again_or_played s id p o) s old new) (sym again) (record { state = refl; appended = appended })
+    subst (λ (o : Option (List ℕ)). AppendsHanded (again_or_played s id p o) s old new) (sym again) (record { state = refl; appended = appended })
 
--- where no line is stored for the id, appending and storing the request's own reply is what `again_or_played` says of the request
-pub gave_played : (s : SceneState) (id : Option ℕ) (p : Played) (number : ℕ) (played after : SceneState) (line old new : List ℕ) → resent_line s id ≡ None
-    → number ≡ unwrap_or id 0 → played ≡ p.state → new ≡ old ++ played_line number p → line ≡ played_line number p → after ≡ holding (kept_if_repeating played id line) played
-    → AppendsGave (again_or_played s id p (resent_line s id)) after old new
+-- where no stored line is sent again for the id (`resent_line`), appending the request's own reply, and storing it as
+-- `kept_if_repeating` has it, is what `again_or_played` says of the request
+pub gave_played : (s : SceneState) (id : Option ℕ) (p : Played) (number : ℕ) (played after : SceneState) (line old new : List ℕ)
+    → (none : resent_line s id ≡ None) → (is : number ≡ unwrap_or id 0) → (state : played ≡ p.state)
+    → (appended : new ≡ old ++ played_line number p) → (own : line ≡ played_line number p)
+    → (kept : after ≡ holding (kept_if_repeating played id line) played)
+    → AppendsHanded (again_or_played s id p (resent_line s id)) after old new
 gave_played s id p number played after line old new none is state appended own kept =
     let one : played_line number p ≡ played_line (unwrap_or id 0) p = ap (λ n. played_line n p) is in
-    subst (λ (o : Option (List ℕ)). AppendsGave (again_or_played s id p o) after old new) (sym none)
+    subst (λ (o : Option (List ℕ)). AppendsHanded (again_or_played s id p o) after old new) (sym none)
     (record {
       state = kept ∙ ap (λ (l : List ℕ). holding (kept_if_repeating played id l) played) (own ∙ one)
           ∙ ap (λ (t : SceneState). holding (kept_if_repeating t id (played_line (unwrap_or id 0) p)) t) state;
@@ -50,34 +53,41 @@ gave_played s id p number played after line old new none is state appended own k
     })
 
 -- what `again_or_played` says of a call is what `handed_call` says of a request for it
-pub gave_call : (s after : SceneState) (rpc : ℕ) (id : Option ℕ) (call : Call) (old new : List ℕ) → AppendsGave (again_or_played s id (played_call s rpc call) (resent_line s id)) after old new
-    → AppendsGave (handed_call s rpc id call) after old new
+pub gave_call : (s after : SceneState) (rpc : ℕ) (id : Option ℕ) (call : Call) (old new : List ℕ)
+    → AppendsHanded (again_or_played s id (played_call s rpc call) (resent_line s id)) after old new
+    → AppendsHanded (handed_call s rpc id call) after old new
 unfolding handed_call
 gave_call s after rpc id call old new h = h
 
 -- A request of a procedure that isn't in the table, by what the scene has for it.
 module _ (s after : SceneState) (rpc : ℕ) (id : Option ℕ) (old new : List ℕ) where
   -- what `played_or_refused` says of `played_raw` of the request is what `handed_raw` says of the request
-  by_played : (o : Option Played) → played_raw s rpc ≡ o → AppendsGave (played_or_refused s rpc id o) after old new → AppendsGave (handed_raw s rpc id) after old new
+  by_played : (o : Option Played) → played_raw s rpc ≡ o → AppendsHanded (played_or_refused s rpc id o) after old new
+      → AppendsHanded (handed_raw s rpc id) after old new
   unfolding handed_raw
-  by_played o is h = subst (λ (p : Option Played). AppendsGave (played_or_refused s rpc id p) after old new) (sym is) h
+  by_played o is h = subst (λ (p : Option Played). AppendsHanded (played_or_refused s rpc id p) after old new) (sym is) h
 
-  -- where a fault answers the request, its code is the reply
-  pub gave_fault : (code : ℕ) → Some code ≡ fault_of rpc s.faults → AppendsGave (again_or_played s id (record { state = counting rpc s; rc = code; params = [] }) (resent_line s id)) after old new
-      → AppendsGave (handed_raw s rpc id) after old new
+  -- where a fault answers the request, what `again_or_played` says of a reply with its code, without parameters, is what
+  -- `handed_raw` says of the request
+  pub gave_fault : (code : ℕ) → Some code ≡ fault_of rpc s.faults
+      → AppendsHanded (again_or_played s id (record { state = counting rpc s; rc = code; params = [] }) (resent_line s id)) after old new
+      → AppendsHanded (handed_raw s rpc id) after old new
   gave_fault code is h = by_played (Some (faulted (counting rpc s) code)) (ap (unless_faulted_raw (counting rpc s) rpc) (sym is)) h
 
-  -- where no fault answers it, and the scene has a reply, that is the reply
+  -- where no fault answers the request, and the scene has a reply for the request's procedure, what `again_or_played` says of
+  -- that reply is what `handed_raw` says of the request
   pub gave_scripted : (a : Scripted) → None ≡ fault_of rpc s.faults → Some a ≡ answer_of rpc s.answers
-      → AppendsGave (again_or_played s id (record { state = counting rpc s; rc = a.rc; params = scripted_params a.with }) (resent_line s id)) after old new
-      → AppendsGave (handed_raw s rpc id) after old new
+      → AppendsHanded (again_or_played s id (record { state = counting rpc s; rc = a.rc; params = scripted_params a.with }) (resent_line s id)) after old new
+      → AppendsHanded (handed_raw s rpc id) after old new
   gave_scripted a none is h =
       by_played (Some (record { state = counting rpc s; rc = a.rc; params = scripted_params a.with }))
       (ap (unless_faulted_raw (counting rpc s) rpc) (sym none) ∙ ap (scripted (counting rpc s)) (sym is)) h
 
-  -- where no fault answers it, and the scene has no reply, it is refused
-  pub gave_refusal : None ≡ fault_of rpc s.faults → None ≡ answer_of rpc s.answers → after ≡ counting rpc s → new ≡ old ++ refusal_line (unwrap_or id 0) Unknown
-      → AppendsGave (handed_raw s rpc id) after old new
+  -- where no fault answers the request, and the scene has no reply for the request's procedure, counting the request and
+  -- appending its refusal is what `handed_raw` says of it
+  pub gave_refusal : None ≡ fault_of rpc s.faults → None ≡ answer_of rpc s.answers → after ≡ counting rpc s
+      → new ≡ old ++ refusal_line (unwrap_or id 0) Unknown
+      → AppendsHanded (handed_raw s rpc id) after old new
   gave_refusal none unknown state appended =
       by_played None (ap (unless_faulted_raw (counting rpc s) rpc) (sym none) ∙ ap (scripted (counting rpc s)) (sym unknown)) (record { state = state; appended = appended })
 
@@ -94,11 +104,13 @@ pub refuses : (s t : SceneState) (call : Call) (code : ℕ) (said told : Answer)
 refuses s t call code said told is noise some =
     noise ∙ noise_of_none t.noise said (sym (ap (λ (y : Executed). y.answer) is) ∙ (outcome_sound s call).refuses (λ none. some (sym (ap (λ (y : Executed). y.rc) is) ∙ none)))
 
--- executing a call, adding the noise and appending the reply is what `plays` says of the call
+-- executing a call, adding the noise and appending the reply is what `plays` says of the call: `s` is the state before, `t`
+-- that after the call, but with the old noise, and `u` that with the noise after the answer
 pub executed : (s t u : SceneState) (call : Call) (number code : ℕ) (said told : Answer) (old new : List ℕ)
-    → Reports (outcome s call) code said
-    → t ≡ record (after_call s call (outcome s call)) { noise = s.noise } → told ≡ noisy t.noise said → u ≡ record t { noise = noise_after t.noise said }
-    → new ≡ old ++ reply_line number code (replied_answer u.ways.values u.base.pointing call code told) u.base.precision → AppendsPlayed number (plays s call) u old new
+    → (is : Reports (outcome s call) code said) → (state : t ≡ record (after_call s call (outcome s call)) { noise = s.noise })
+    → (noise : told ≡ noisy t.noise said) → (drawn : u ≡ record t { noise = noise_after t.noise said })
+    → (appended : new ≡ old ++ reply_line number code (replied_answer u.ways.values u.base.pointing call code told) u.base.precision)
+    → AppendsPlayed number (plays s call) u old new
 unfolding plays
 executed s t u call number code said told old new is state noise drawn appended =
     let x = outcome s call in
@@ -117,20 +129,17 @@ executed s t u call number code said told old new is state noise drawn appended 
 
 -- Lines.
 
--- where the reply that `handed_call` gives was appended, `AppendsReply` holds of the request
-pub call_reply : (before after : SceneState) (q : RequestFields) (call : Call) (old new : List ℕ) → IsCall q.rpc q.params call → AppendsGave (handed_call before q.rpc q.id call) after old new
+-- where a request names a call, and the reply that `handed_call` gives was appended, `AppendsReply` holds of the request
+pub call_reply : (before after : SceneState) (q : RequestFields) (call : Call) (old new : List ℕ) → IsCall q.rpc q.params call
+    → AppendsHanded (handed_call before q.rpc q.id call) after old new
     → AppendsReply before q after old new
 call_reply before after q call old new is h =
     record { text = (handed_call before q.rpc q.id call).reply; appended = h.appended; answers = names_call call is (record { state = h.state; line = refl }) }
 
--- where the reply that `handed_raw` gives was appended, `AppendsReply` holds of the request, whose procedure isn't in the table
-pub raw_reply : (before after : SceneState) (q : RequestFields) (old new : List ℕ) → IsRefusal q.rpc q.params Unknown → AppendsGave (handed_raw before q.rpc q.id) after old new
-    → AppendsReply before q after old new
-raw_reply before after q old new is h =
-    record { text = (handed_raw before q.rpc q.id).reply; appended = h.appended; answers = names_none is (record { state = h.state; line = refl }) }
-
--- where the refusal of parameters that can't be read was appended, `AppendsReply` holds of the request
-pub unread_reply : (s : SceneState) (q : RequestFields) (e : ValueFault) (number : ℕ) (old new : List ℕ) → IsRefusal q.rpc q.params (Parameters e) → number ≡ reply_id q
+-- where a request's parameters can't be read, and their refusal was appended, with the state as it was, `AppendsReply` holds of
+-- the request
+pub unread_reply : (s : SceneState) (q : RequestFields) (e : ValueFault) (number : ℕ) (old new : List ℕ)
+    → IsRefusal q.rpc q.params (Parameters e) → number ≡ reply_id q
     → new ≡ old ++ refusal_line number (Parameters e) → AppendsReply s q s old new
 unread_reply s q e number old new is same appended =
     record { text = refusal_line number (Parameters e); appended = appended; answers = unreadable e is refl (ap (λ n. refusal_line n (Parameters e)) same) }
@@ -140,22 +149,24 @@ pub request_played : (before after : SceneState) (line bytes : List ℕ) (q : Re
     → AnswersRequest before q after text → IsPlayed before line after (Some text)
 request_played before after line bytes q text same is made = answers q (subst (λ (x : List ℕ). IsRequest x q) same is) text made refl
 
--- a line that is no request gets no reply. The premise about `view` is the contract of the reading that failed
+-- a line that doesn't read as a request gets no reply, and changes nothing. The premise about `view` is the contract of the
+-- reading that failed
 pub silence_played : (state : SceneState) (line bytes : List ℕ) (fault : LineFault) (view : Request → RequestFields) → bytes ≡ line
     → ((q : RequestFields) → IsRequest bytes q → Gives view (Err fault) (Ok q)) → IsPlayed state line state None
 silence_played state line bytes fault view same only =
     silent (λ q is. let wrong : ◌≡◌ {A = Result RequestFields LineFault} (Ok q) (Err fault) = only q (subst (λ (x : List ℕ). IsRequest x q) (sym same) is) in cc) refl refl
 
--- where a reply was appended to the empty text, the text is then that reply
+-- where a reply to a line, as `IsPlayed` has it, was appended to the empty text, the text is then that reply
 pub played_alone : (s t : SceneState) (line new : List ℕ) → AppendsAnswer (IsPlayed s line t) [] new true → IsPlayed s line t (Some new)
 played_alone s t line new h = subst (λ (text : List ℕ). IsPlayed s line t (Some text)) (sym h.2) h.1
 
 -- appending a line's reply, and CR LF after it, is how the instrument answers the frame of that line
-pub answered_line : (before after : SceneState) (line old between new : List ℕ) → AppendsAnswer (IsPlayed before line after) old between true → new ≡ between ++ 13 ∷ 10 ∷ []
+pub answered_line : (before after : SceneState) (line old between new : List ℕ)
+    → AppendsAnswer (IsPlayed before line after) old between true → new ≡ between ++ 13 ∷ 10 ∷ []
     → AppendsAnswer (PlaysFrame before (Line (record { items = line })) after) old new true
 answered_line before after line old between new h e = (with_end h.0, (Some h.0, h.1, refl), e ∙ ap (λ (xs : List ℕ). xs ++ 13 ∷ 10 ∷ []) h.2 ∙ append_assoc old h.0 (13 ∷ 10 ∷ []))
 
--- a line without a reply is answered by nothing
+-- where a line has no reply, appending nothing is how the instrument answers the frame of that line
 pub unanswered_line : (before after : SceneState) (line old new : List ℕ) → AppendsAnswer (IsPlayed before line after) old new false
     → AppendsAnswer (PlaysFrame before (Line (record { items = line })) after) old new false
 unanswered_line before after line old new h = ((None, h.0, refl), h.1)

@@ -25,15 +25,17 @@ one_decimal z d e x y =
 signed_same : (b : Bool) (m n k j : ℕ) → n * k ≡ m * j → signed b n *ℤ pos k ≡ signed b m *ℤ pos j
 signed_same b m n k j e = signed-mul b n k ∙ ap (signed b) e ∙ sym (signed-mul b m j)
 
--- the decimal that `of_units` makes of z units has the value of z units
-units_value : (z : ℤ) (h : nat_le (unsigned_abs z) (10 ^ 13 * 10 ^ 24) ≡ true) (d : Decimal) → SameValue (of_units true z h d).digits (of_units true z h d).scale z 24
+-- the decimal that `of_units` makes of z units that are in range has the value of z units
+units_value : (z : ℤ) (h : nat_le (unsigned_abs z) (10 ^ 13 * 10 ^ 24) ≡ true) (d : Decimal)
+    → SameValue (of_units true z h d).digits (of_units true z h d).scale z 24
 units_value z h d =
     let m = unsigned_abs z in
     let w = stripped_is m 24 in
     signed_same (is_negative z) m (stripped m 24).digits (10 ^ 24) (10 ^ (stripped m 24).places) (sym w.same) ∙ ap (λ (x : ℤ). x *ℤ pos (10 ^ (stripped m 24).places)) (signed-unsigned_abs z)
 
 -- a decimal with the value of z units, which are in range, is the one that `of_units` gives
-made_by : (b : Bool) (z : ℤ) (h : nat_le (unsigned_abs z) (10 ^ 13 * 10 ^ 24) ≡ b) (d moved : Decimal) → SameValue moved.digits moved.scale z 24 → IsInRange z 24 → moved ≡ of_units b z h d
+made_by : (b : Bool) (z : ℤ) (h : nat_le (unsigned_abs z) (10 ^ 13 * 10 ^ 24) ≡ b) (d moved : Decimal)
+    → SameValue moved.digits moved.scale z 24 → IsInRange z 24 → moved ≡ of_units b z h d
 made_by true z h d moved same within = one_decimal z moved (of_units true z h d) same (units_value z h d)
 made_by false z h d moved same within = absurd (false≢true (sym h ∙ le-leb (unsigned_abs z) (10 ^ 13 * 10 ^ 24) within))
 
@@ -46,19 +48,22 @@ not_made false z h d out = refl
 sum_small : (x y : ℤ) → unsigned_abs x ≤ 10 ^ 37 → unsigned_abs y ≤ 3 * 10 ^ 37 → unsigned_abs (x +ℤ y) ≤ 4 * 10 ^ 37
 sum_small x y a b = omega (arith, ints, a, b)
 
--- the sum that the code computes in 128 bits is exact
-pub sum_is : (d : Decimal) (u by : ℤ) → u ≡ units d → unsigned_abs u ≤ 10 ^ 37 → unsigned_abs by ≤ 3 * 10 ^ 37 → as_i128 (as_i128 u +ℤ as_i128 by) ≡ units d +ℤ by
+-- the sum of a decimal's units, at most 10^37, and of `by`, at most 3 * 10^37, that the code computes in 128 bits is exact
+pub sum_is : (d : Decimal) (u by : ℤ) → u ≡ units d → unsigned_abs u ≤ 10 ^ 37 → unsigned_abs by ≤ 3 * 10 ^ 37
+    → as_i128 (as_i128 u +ℤ as_i128 by) ≡ units d +ℤ by
 sum_is d u by is a b =
     ap (λ x. as_i128 (x +ℤ as_i128 by)) (as_i128_same u (omega (arith, a))) ∙ ap (λ x. as_i128 (u +ℤ x)) (as_i128_same by (omega (arith, b)))
     ∙ as_i128_same (u +ℤ by) (sum_small u by a b) ∙ ap (λ x. x +ℤ by) is
 
--- a decimal with the value of the sum is the shifted one
-pub shifted_made : (d moved : Decimal) (by sum : ℤ) → sum ≡ units d +ℤ by → SameValue moved.digits moved.scale sum 24 → IsInRange sum 24 → moved ≡ shifted d by
+-- where the sum of a decimal's units and `by` is in range, the decimal with the value of the sum (`moved`) is the shifted one
+-- (`shifted`)
+pub shifted_made : (d moved : Decimal) (by sum : ℤ) → sum ≡ units d +ℤ by → SameValue moved.digits moved.scale sum 24 → IsInRange sum 24
+    → moved ≡ shifted d by
 unfolding shifted
 shifted_made d moved by sum is same within =
     made_by _ (units d +ℤ by) refl d moved (subst (λ (z : ℤ). SameValue moved.digits moved.scale z 24) is same) (subst (λ (z : ℤ). IsInRange z 24) is within)
 
--- where the sum is out of range, shifting leaves the decimal as it is
+-- where the sum of a decimal's units and `by` is out of range, `shifted` leaves the decimal as it is
 pub shifted_kept : (d : Decimal) (by sum : ℤ) → sum ≡ units d +ℤ by → (IsInRange sum 24 → ⊥) → d ≡ shifted d by
 unfolding shifted
 shifted_kept d by sum is out = not_made _ (units d +ℤ by) refl d (λ within. out (subst (λ (z : ℤ). IsInRange z 24) (sym is) within))

@@ -10,7 +10,7 @@ use Rattle.gc_scenes.specs.SceneState.{SceneState}
 use Rattle.gc_scenes.specs.Slow.{SlowState, HearsLine, silent, replies, IsTaken, IsDelay, delay_of, moment_after, scene_then, taken_up}
 use Rattle.gc_scenes.specs.declared.delay.Delay.{Delay}
 
--- the delay of the request that a line reads as is the delay of the line
+-- the delay of the request that a line reads as is the delay of the line. The premise about `view` is the contract of the reading
 pub delay_read : (delays : List Delay) (line : List ℕ) (view : Request → RequestFields) (r : Request) (ms : ℕ)
     → ((q : RequestFields) → IsRequest line q → Gives view (Ok r) (Ok q)) → ms ≡ delay_of (view r).rpc delays → IsDelay delays line ms
 delay_read delays line view r ms only is = λ q reads.
@@ -18,14 +18,16 @@ delay_read delays line view r ms only is = λ q reads.
     let one : q ≡ view r = cc in
     is ∙ ap (λ (x : RequestFields). delay_of x.rpc delays) (sym one)
 
--- a line that doesn't read as a request is no request, so `IsDelay` holds of it with any delay
+-- a line that doesn't read as a request is no request, so `IsDelay` holds of it with any delay. The premise about `view` is the
+-- contract of the reading that failed
 pub delay_unread : (delays : List Delay) (line : List ℕ) (view : Request → RequestFields) (fault : LineFault) (ms : ℕ)
     → ((q : RequestFields) → IsRequest line q → Gives view (Err fault) (Ok q)) → IsDelay delays line ms
 delay_unread delays line view fault ms only = λ q reads. let wrong : ◌≡◌ {A = Result RequestFields LineFault} (Ok q) (Err fault) = only q reads in cc
 
--- where a line that was taken up gets no reply, `HearsLine` holds of it; v is the state `now`, field by field
-pub silent_heard : (v now : SlowState) → v ≡ now → (line : List ℕ) (at : ℕ) (then scene : SceneState) (old new : List ℕ) → IsTaken now at
-    → then ≡ scene_then now at → AppendsAnswer (IsPlayed then line scene) old new false
+-- where a line that was taken up gets no reply, `HearsLine` holds of it. `v` equals the state `now` before the line, `then` is
+-- the scene's state when the instrument starts on the line, and `scene` that after it
+pub silent_heard : (v now : SlowState) → (e : v ≡ now) → (line : List ℕ) (at : ℕ) (then scene : SceneState) (old new : List ℕ)
+    → (taken : IsTaken now at) → (is : then ≡ scene_then now at) → (h : AppendsAnswer (IsPlayed then line scene) old new false)
     → AppendsAnswer (HearsLine now line at (record v { scene = scene })) old new false
 silent_heard v now e line at then scene old new taken is h =
     subst (λ (b : SlowState). AppendsAnswer (HearsLine b line at (record v { scene = scene })) old new false) e (
@@ -34,9 +36,11 @@ silent_heard v now e line at then scene old new taken is h =
       h.1,
     )
 
--- where a line that was taken up gets a reply, `HearsLine` holds of it
-pub reply_heard : (v now : SlowState) → v ≡ now → (line : List ℕ) (at : ℕ) (then scene : SceneState) (ms due : ℕ) (old new : List ℕ) → IsTaken now at
-    → IsDelay now.delays line ms → due ≡ moment_after (taken_up now at) ms → then ≡ scene_then now at → AppendsAnswer (IsPlayed then line scene) old new true
+-- where a line that was taken up gets a reply, which takes `ms` milliseconds and goes out at the moment `due`, `HearsLine`
+-- holds of it; `v`, `then` and `scene` are as above
+pub reply_heard : (v now : SlowState) → (e : v ≡ now) → (line : List ℕ) (at : ℕ) (then scene : SceneState) (ms due : ℕ) (old new : List ℕ)
+    → (taken : IsTaken now at) → (delay : IsDelay now.delays line ms) → (is : due ≡ moment_after (taken_up now at) ms)
+    → (stands : then ≡ scene_then now at) → (h : AppendsAnswer (IsPlayed then line scene) old new true)
     → AppendsAnswer (HearsLine now line at (record v { scene = scene; free_from = due })) old new true
 reply_heard v now e line at then scene ms due old new taken delay is stands h =
     subst (λ (b : SlowState). AppendsAnswer (HearsLine b line at (record v { scene = scene; free_from = due })) old new true) e (

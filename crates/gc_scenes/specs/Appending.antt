@@ -1,4 +1,4 @@
--- What the code appends for a request: this project's own.
+-- What the code appends for a request: this project's own. `number` is an id; `old` and `new` are the bytes before and after.
 use Rattle.std.specs.Prelude.{◌≡◌, ℕ, List, ◌++◌}
 use Rattle.gc_lines.specs.Requests.{RequestFields}
 use Rattle.gc_instrument.specs.Replying.{Handed}
@@ -7,7 +7,7 @@ use Rattle.gc_scenes.specs.SceneReplying.{AnswersRequest, played_line}
 use Rattle.gc_scenes.specs.SceneState.{SceneState}
 
 -- the state after a request is that of `x`, and the reply of `x` was appended to `old`
-pub record AppendsGave (x : Handed SceneState) (after : SceneState) (old new : List ℕ) : Type 0 where
+pub record AppendsHanded (x : Handed SceneState) (after : SceneState) (old new : List ℕ) : Type 0 where
   pub state : after ≡ x.state
   pub appended : new ≡ old ++ x.reply
 

@@ -20,9 +20,10 @@ abbrev pub all_still : List Target → List Prism
 all_still [] = []
 all_still (t ∷ ts) = still t ∷ all_still ts
 
--- the state of an instrument in a scene without rules, after this many looks and with this moment of the next request: it has the values
--- and the targets of the state `s` of the execution table
-abbrev pub ruleless : ℕ → ℕ → State → SceneState
+-- the state of an instrument in a scene without rules, after this many looks and with this moment of the next request: it has the
+-- values and the targets of the state `s` of the execution table, sends a stored reply again for a repeat, and has none of the
+-- ways of real instruments
+abbrev pub ruleless : (looks moment : ℕ) → State → SceneState
 ruleless looks moment s = record {
   base = seeing [] s;
   prisms = all_still s.scene;
@@ -36,9 +37,11 @@ ruleless looks moment s = record {
   moment = moment;
 }
 
--- in a scene without rules the instrument does with a line what the instrument of the execution table does, and replies the same
+-- in a scene without rules the instrument does with a line what the instrument of the execution table does, and replies the same; how many
+-- looks there were then (`more`) is left open
 abbrev pub TableIsTheInstance : Type 0
-TableIsTheInstance = (before after : State) (line : List ℕ) (reply : Option (List ℕ)) (looks moment : ℕ) → table.IsReplied before line after reply
+TableIsTheInstance = (before after : State) (line : List ℕ) (reply : Option (List ℕ)) (looks moment : ℕ)
+    → table.IsReplied before line after reply
     → (more : ℕ) × IsPlayed (ruleless looks moment before) line (ruleless more moment after) reply
 
 -- a state, which contains the noise's seed, and a line determine the state after the line, and the reply or that there is none
@@ -49,7 +52,8 @@ OneReply = (s t u : SceneState) (line : List ℕ) (p q : Option (List ℕ)) → 
 abbrev pub IsFarOff : Pointing → List Target → Type 0
 IsFarOff there targets = AllByRecursion (λ u. window < apart there u) targets
 
--- `t` is one of these targets and within the window; each target before it is farther off, and none after it is nearer
+-- `t` is one of these targets and within the window round where the telescope points (`there`); each target before `t` is farther
+-- off, and none after `t` is nearer
 pub record IsNearest (there : Pointing) (targets : List Target) (t : Target) : Type 0 where
   pub front : List Target
   pub behind : List Target

@@ -20,19 +20,20 @@ abbrev pub outcome_with_parts : List Target → Option Decimal → Option KeptRe
 outcome_with_parts targets d kept x = record x { state = with_parts targets d kept x.state }
 
 -- the stored reply of a machine, as the state of the execution table has it
-abbrev pub kept_of : Option Held → Option KeptReply
-kept_of None = None
-kept_of (Some h) = Some (record { id = h.id; line = h.line.items })
+abbrev pub held_as_kept : Option Held → Option KeptReply
+held_as_kept None = None
+held_as_kept (Some h) = Some (record { id = h.id; line = h.line.items })
 
 -- the state of a machine: that of its base, with the machine's own distance and stored reply
 abbrev pub machine_of : Inside → State
-machine_of i = with_parts i.base.scene i.distance (kept_of i.kept) i.base
+machine_of i = with_parts i.base.scene i.distance (held_as_kept i.kept) i.base
 
 -- the state with these targets
 abbrev pub seeing : List Target → State → State
 seeing targets s = record s { scene = targets }
 
--- whether a machine passes the call on to its base: it neither turns the telescope, nor asks for a distance or a target
+-- whether a machine passes the call on to its base: each call but those that may turn the telescope, measure, clear or answer a distance,
+-- or look for a target
 abbrev pub is_passed_on : Call → Bool
 is_passed_on (call.DoMeasure command mode) = false
 is_passed_on (call.SimpleMea wait mode) = false
@@ -54,6 +55,6 @@ abbrev pub simply_measured : (s after : State) → Executed
 simply_measured s after = distance_outcome after (λ d. Measured s.pointing.hz s.pointing.v d) s.distance
 
 -- the outcome of measuring over these targets in the state s: the angles, the distance and the mode; without a distance it is a refusal
-abbrev pub measured_in_mode : List Target → State → ℤ → Executed
+abbrev pub measured_in_mode : (targets : List Target) → State → (mode : ℤ) → Executed
 measured_in_mode targets s mode =
     distance_outcome (measured (seeing targets s)) (λ d. MeasuredMode s.pointing.hz s.pointing.v d mode) (measured (seeing targets s)).distance

@@ -3,7 +3,8 @@ use Rattle.std.specs.Prelude.{ℕ, List, [], Option, Some, None}
 use Rattle.gc_catalogue.specs.RawTexts.{raw_bytes}
 use Rattle.gc_catalogue.specs.declared.raw.RawCall.{RawCall}
 
--- the parameters of a scripted reply: those of the request `with` of its procedure, as they are; none without a request
+-- the parameters of a scripted reply, by its field `with`: that is a request for the reply's procedure, whose parameters, as they
+-- are, are the reply's, too; with `None` the reply has no parameters
 abbrev pub scripted_params : Option RawCall → List ℕ
 scripted_params None = []
 scripted_params (Some call) = raw_bytes call.params

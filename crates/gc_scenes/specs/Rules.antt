@@ -1,4 +1,5 @@
--- What each rule of a scene does to targets, to requests and to answers. A look is a measurement or a search. This project's own.
+-- What each rule of a scene does to targets, to requests and to answers: this project's own. A look is a measurement or a search.
+-- `rpc` is a procedure's number.
 use Rattle.std.specs.Prelude.{ℕ, ◌+◌, ◌-◌, ◌==◌, ◌&&◌, not, Bool, true, false, List, [], ◌∷◌, Option, Some, None, nat_le, if◌then◌else◌, min}
 use Rattle.gc_values.specs.Decimals.{units}
 use Rattle.gc_values.specs.declared.decimal.Decimal.{Decimal}
@@ -52,56 +53,57 @@ drifted over look there (p ∷ ps) = moved over look there p ∷ drifted over lo
 
 -- Requests.
 
--- whether the next request of this procedure is answered by the fault
-abbrev pub is_due : ℕ → Fault → Bool
+-- whether the fault is due at the next request of this procedure: the fault is one of the procedure, and the procedure's requests
+-- so far, `met` of them, are at least `after`, and fewer than `after` + `times`
+abbrev pub is_due : (rpc : ℕ) → Fault → Bool
 is_due rpc f = (f.rpc == rpc) && (nat_le f.after f.met && nat_le (f.met - f.after + 1) f.times)
 
--- the return code of the first fault that answers the next request of this procedure, if one does
-abbrev pub fault_of : ℕ → List Fault → Option ℕ
+-- the return code with which the first fault that is due answers the next request of this procedure; none if none is due
+abbrev pub fault_of : (rpc : ℕ) → List Fault → Option ℕ
 fault_of rpc [] = None
 fault_of rpc (f ∷ fs) = if is_due rpc f then Some f.rc else fault_of rpc fs
 
 -- the fault after one more request of this procedure, which it counts if the procedure is its own
-abbrev pub met_once : ℕ → Fault → Fault
+abbrev pub met_once : (rpc : ℕ) → Fault → Fault
 met_once rpc f = if f.rpc == rpc then record f { met = one_more f.met } else f
 
 -- the faults after one more request of this procedure
-abbrev pub counted : ℕ → List Fault → List Fault
+abbrev pub counted : (rpc : ℕ) → List Fault → List Fault
 counted rpc [] = []
 counted rpc (f ∷ fs) = met_once rpc f ∷ counted rpc fs
 
 -- the first reply that the scene has for this procedure, if it has one
-abbrev pub answer_of : ℕ → List Scripted → Option Scripted
+abbrev pub answer_of : (rpc : ℕ) → List Scripted → Option Scripted
 answer_of rpc [] = None
 answer_of rpc (a ∷ rest) = if a.rpc == rpc then Some a else answer_of rpc rest
 
 -- Answers.
 
--- a horizontal direction with the first deviation of one measurement, by the generator's next number
+-- a horizontal direction with the first deviation of an answer, by the generator's next number
 abbrev pub deviated_hz : Noise → Decimal → Decimal
 deviated_hz n hz = shifted hz (deviation n.hz (next n.seed))
 
--- a vertical angle with the second deviation of one measurement, by the generator's second next number
+-- a vertical angle with the second deviation of an answer, by the generator's second next number
 abbrev pub deviated_v : Noise → Decimal → Decimal
 deviated_v n v = shifted v (deviation n.v (next (next n.seed)))
 
--- a distance with the third deviation of one measurement, by the generator's third next number
+-- a distance with the third deviation of an answer, by the generator's third next number
 abbrev pub deviated_distance : Noise → Decimal → Decimal
 deviated_distance n d = shifted d (deviation n.distance (next (next (next n.seed))))
 
--- the answer with the three deviations of one measurement, if it is a measurement, and else as it is
+-- the answer with three deviations if it has angles and a distance, even if that was measured earlier (TMC_GetSimpleMea); else as it is
 abbrev pub disturbed : Noise → Answer → Answer
 disturbed n (answer.Measured hz v d) = answer.Measured (deviated_hz n hz) (deviated_v n v) (deviated_distance n d)
 disturbed n (answer.MeasuredMode hz v d mode) = answer.MeasuredMode (deviated_hz n hz) (deviated_v n v) (deviated_distance n d) mode
 disturbed n other = other
 
--- whether an answer is a measurement, with angles and a distance
+-- whether an answer has angles and a distance
 abbrev pub is_measured : Answer → Bool
 is_measured (answer.Measured hz v d) = true
 is_measured (answer.MeasuredMode hz v d mode) = true
 is_measured other = false
 
--- the noise after an answer: a measurement takes the generator's next three numbers, and another answer none
+-- the noise after an answer: one with angles and a distance takes the generator's next three numbers, and any other none
 abbrev pub advanced : Noise → Answer → Noise
 advanced n a = if is_measured a then record n { seed = next (next (next n.seed)) } else n
 

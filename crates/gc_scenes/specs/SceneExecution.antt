@@ -1,5 +1,5 @@
--- What a call does to the instrument of a scene: the execution table over the targets that aren't hidden, with the instrument's ways of
--- real instruments, and then the scene's rules. This project's own.
+-- What a call does to the instrument of a scene: the execution table over the targets that aren't hidden, with the instrument's
+-- ways of real instruments, and then the scene's rules. This project's own. `rpc` is a procedure's number, `rc` a return code.
 use Rattle.std.specs.Prelude.{◌≡◌, ℕ, pos, ◌==◌, ◌&&◌, Bool, true, false, List, [], Option, Some, None, unwrap_or, if◌then◌else◌}
 use Rattle.std.specs.Option.{option_map}
 use Rattle.std.specs.Ordering.{int_eq}
@@ -52,7 +52,8 @@ heading there other = there
 abbrev pub is_over_for : SceneState → Call → Bool
 is_over_for s asked = is_over s.ways (heading s.base.pointing asked)
 
--- the targets that aren't hidden in the look of this call, each with the angles at which the telescope points at it
+-- the targets that aren't hidden in the look of this call or, if the call is no look, in the last look (number 0 before the
+-- first), each with the angles at which the telescope points at it
 abbrev pub seen_by : SceneState → Call → List Target
 seen_by s asked = seen (is_over_for s asked) (look_of s.ways.aims s.looks asked) s.prisms
 
@@ -65,7 +66,7 @@ abbrev pub outcome : SceneState → Call → Executed
 outcome s asked = acted s.ways (shown s) (seeing (seen_by s asked) s.base) asked
 
 -- the outcome `x` has this return code and this answer
-abbrev pub Reports : Executed → ℕ → Answer → Type 0
+abbrev pub Reports : Executed → (code : ℕ) → Answer → Type 0
 Reports x code answered = x ≡ record { state = x.state; rc = code; answer = answered }
 
 -- the clock after a call at this moment that had this return code: if the instrument has a clock that runs (true), a call that sets the
@@ -81,19 +82,21 @@ pub record Played : Type 0 where
   pub rc : ℕ
   pub params : List ℕ
 
--- the state after a call with this outcome: after a measurement targets may have moved; a look is counted if it was a measurement or a
--- search; the noise's generator has advanced if the answer has a measured distance; a clock may have been set
+-- the state after a call with this outcome: the execution table's part is that of the outcome, but for its targets, which stay;
+-- after a measurement the scene's targets may have moved; a look is counted if the call was a measurement or a search; the
+-- noise's generator has advanced if the answer has a measured distance; a clock may have been set
 abbrev pub after_call : SceneState → Call → Executed → SceneState
 after_call s asked x = record s {
   base = seeing s.base.scene x.state;
-  prisms = if is_measurement asked then drifted (is_over_for s asked) (look_of s.ways.aims s.looks asked) s.base.pointing s.prisms else s.prisms;
+  prisms =
+      if is_measurement asked then drifted (is_over_for s asked) (look_of s.ways.aims s.looks asked) s.base.pointing s.prisms else s.prisms;
   noise = noise_after s.noise x.answer;
   looks = look_of s.ways.aims s.looks asked;
   clock = clock_after s.ways.clock s.moment asked x.rc s.clock;
 }
 
 -- the answer that the reply to an executed call has: its own; or, if the code is a warning and the instrument has values with warnings
--- (true), the angles, without noise, and a distance of 0 if the call answers one
+-- (true), the angles, without noise, and a distance of 0 if the call answers one, or `Nothing` for a call that answers no angles
 abbrev pub replied_answer : (values : Bool) → Pointing → Call → (rc : ℕ) → Answer → Answer
 replied_answer values there asked rc answered = if values && is_warning rc then valued there asked zero else answered
 
@@ -101,8 +104,8 @@ replied_answer values there asked rc answered = if values && is_warning rc then 
 abbrev pub params_for : (places : ℕ) → Answer → List ℕ
 params_for places answered = params_of (answer_fields (rounded_answer places answered)).values
 
--- what the instrument does with a call that has this outcome: the reply has its answer with the noise, each double rounded to the precision
--- after the call
+-- what the instrument does with a call that has this outcome: the reply has its answer with the noise, or that of a warning
+-- (`replied_answer`), each double rounded to the precision after the call
 abbrev pub played_of : SceneState → Call → Executed → Played
 played_of s asked x = record {
   state = after_call s asked x;
@@ -115,7 +118,7 @@ unfoldable pub plays : SceneState → Call → Played
 plays s asked = played_of s asked (outcome s asked)
 
 -- the state after one more request of this procedure: the faults have counted it
-abbrev pub counting : ℕ → SceneState → SceneState
+abbrev pub counting : (rpc : ℕ) → SceneState → SceneState
 counting rpc s = record s { faults = counted rpc s.faults }
 
 -- the distance that the call would answer: for TMC_GetSimpleMea the one that was measured last, for other calls that of the target which
@@ -126,28 +129,30 @@ known_distance s asked = option_map (λ t. t.distance) (first_at s.base.pointing
 
 -- the distance in the reply to a call that a fault answers with this code: that of `known_distance`, if replies with the code
 -- have a distance and one is known, and else 0
-abbrev pub distance_in_warning : SceneState → Call → ℕ → Decimal
+abbrev pub distance_in_warning : SceneState → Call → (code : ℕ) → Decimal
 distance_in_warning s asked code = if has_distance code then unwrap_or (known_distance s asked) zero else zero
 
 -- a request that a fault answers with this code: nothing is executed, and the reply has no values
-abbrev pub faulted : SceneState → ℕ → Played
+abbrev pub faulted : SceneState → (code : ℕ) → Played
 faulted s code = record { state = s; rc = code; params = [] }
 
 -- a call that a fault answers with this code: nothing is executed, and the reply has values only if the code is a warning and the
 -- instrument has values with warnings
-abbrev pub warned : SceneState → Call → ℕ → Played
+abbrev pub warned : SceneState → Call → (code : ℕ) → Played
 warned s asked code = record {
   state = s;
   rc = code;
-  params = params_for s.base.precision (if s.ways.values && is_warning code then valued s.base.pointing asked (distance_in_warning s asked code) else answer.Nothing);
+  params = params_for s.base.precision
+      (if s.ways.values && is_warning code then valued s.base.pointing asked (distance_in_warning s asked code) else answer.Nothing);
 }
 
 -- what the instrument does with a call that a fault answers with this code, or that no fault answers (`None`)
-abbrev pub unless_faulted : SceneState → Call → Option ℕ → Played
+abbrev pub unless_faulted : SceneState → Call → (code : Option ℕ) → Played
 unless_faulted s asked (Some code) = warned s asked code
 unless_faulted s asked None = plays s asked
 
--- what the instrument does with a call of the procedure with this number, which isn't a repeat
+-- what the instrument does with a call of the procedure with this number, where the request isn't a repeat: the faults count the
+-- request, and the first that was due at it answers it, if one was
 abbrev pub played_call : SceneState → (rpc : ℕ) → Call → Played
 played_call s rpc asked = unless_faulted (counting rpc s) asked (fault_of rpc s.faults)
 
@@ -158,10 +163,12 @@ scripted s None = None
 
 -- what the instrument does with a request of a procedure that isn't in the table: a fault answers it with this code, or none does (`None`),
 -- and then the scene's reply answers it, if there is one
-abbrev pub unless_faulted_raw : SceneState → (rpc : ℕ) → Option ℕ → Option Played
+abbrev pub unless_faulted_raw : SceneState → (rpc : ℕ) → (code : Option ℕ) → Option Played
 unless_faulted_raw s rpc (Some code) = Some (faulted s code)
 unless_faulted_raw s rpc None = scripted s (answer_of rpc s.answers)
 
--- what the instrument does with a request of a procedure that isn't in the table and that isn't a repeat. `None`: nothing answers it
+-- what the instrument does with a request that isn't a repeat, of a procedure that isn't in the table: the faults count the
+-- request, and the first that was due at it answers it, if one was, and else the scene's reply, if there is one. `None`: nothing
+-- answers the request
 abbrev pub played_raw : SceneState → (rpc : ℕ) → Option Played
 played_raw s rpc = unless_faulted_raw (counting rpc s) rpc (fault_of rpc s.faults)

@@ -12,15 +12,16 @@ use Rattle.gc_scenes.specs.SceneState.{SceneState}
 
 -- what a scene's instrument does with a frame, where `text` is what it sends: the reply to a line with its CR LF, and nothing for a frame
 -- that is no line
-abbrev pub PlaysFrame : SceneState → Frame → SceneState → Option (List ℕ) → Type 0
-PlaysFrame before (Line line) after text = (reply : Option (List ℕ)) × IsPlayed before line.items after reply × (text ≡ option_map with_end reply)
+abbrev pub PlaysFrame : (before : SceneState) → Frame → (after : SceneState) → (text : Option (List ℕ)) → Type 0
+PlaysFrame before (Line line) after text =
+    (reply : Option (List ℕ)) × IsPlayed before line.items after reply × (text ≡ option_map with_end reply)
 PlaysFrame before Cleared after text = (after ≡ before) × (text ≡ None)
 PlaysFrame before Overlong after text = (after ≡ before) × (text ≡ None)
 PlaysFrame before More after text = (after ≡ before) × (text ≡ None)
 
 -- serving in at most `most` reads led the instrument from the state `from` to `to` and the ports from `old` to `new`, and had this result
 pub record IsSceneServing (from to : SceneState) (old new : Ports) (most : ℕ) (result : Result Served ServeFault) : Type 0 where
-  -- the frames of the bytes that the source gave were answered, and the sink took the replies as the result says
+  -- the frames of the bytes that the source gave were answered, and the sink took the replies: how far, `AnswersGiven` says by the result
   pub serves : AnswersGiven PlaysFrame from to old new result
   -- why the run ended, and what that says of the ports, as `HasEnded` has it
   pub ended : HasEnded old new most result

@@ -1,4 +1,4 @@
--- A decimal moved by units of 10^-24, and the numbers of the noise: this project's own.
+-- A decimal moved by units of 10^-24, and the generator whose numbers make the noise: this project's own.
 use Rattle.std.specs.Prelude.{◌≡◌, refl, ℕ, ℤ, ◌+◌, ◌*◌, ◌/◌, ◌%◌, ◌^◌, ◌==◌, ◌+ℤ◌, Bool, true, false, nat_le, unsigned_abs}
 use Rattle.gc_values.specs.Decimals.{units}
 use Rattle.gc_values.specs.Fraction.{is_negative, signed}
@@ -6,8 +6,8 @@ use Rattle.gc_values.specs.Zeros.{stripped}
 use Rattle.gc_values.specs.declared.decimal.Decimal.{Decimal}
 use Rattle.gc_scenes.specs.ShiftedFacts.{few, in_range, canonical}
 
--- the decimal of z units of 10^-24 if these are in range (true), and else `d`
-abbrev pub of_units : (b : Bool) (z : ℤ) → nat_le (unsigned_abs z) (10 ^ 13 * 10 ^ 24) ≡ b → Decimal → Decimal
+-- the decimal of z units of 10^-24 if these are in range (`fits`), and else `d`
+abbrev pub of_units : (fits : Bool) (z : ℤ) → nat_le (unsigned_abs z) (10 ^ 13 * 10 ^ 24) ≡ fits → (d : Decimal) → Decimal
 of_units true z h d = record {
   digits = signed (is_negative z) (stripped (unsigned_abs z) 24).digits;
   scale = (stripped (unsigned_abs z) 24).places;
@@ -25,7 +25,8 @@ shifted d z = of_units (nat_le (unsigned_abs (units d +ℤ z)) (10 ^ 13 * 10 ^ 2
 abbrev pub next : ℕ → ℕ
 next x = (x * 1664525 + 1013904223) % 4294967296
 
--- the deviation that the generator's number x gives, in units of 10^-24: bit 16 of x is the sign, and the bits from 17 on, modulo 1001, are
--- how many thousandths of `most` it has
-abbrev pub deviation : Decimal → ℕ → ℤ
+-- the deviation that the generator's number x gives, in units of 10^-24: it has a minus, unless it is 0, if bit 16 of x is 1, and
+-- the bits from 17 on, modulo 1001, are how many thousandths of `most` it has; the sign of `most` doesn't count, and a thousandth
+-- is rounded down to whole units
+abbrev pub deviation : (most : Decimal) → (x : ℕ) → ℤ
 deviation most x = signed ((x / 65536) % 2 == 1) (unsigned_abs (units most) / 1000 * ((x / 131072) % 1001))

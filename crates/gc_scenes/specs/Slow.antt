@@ -1,4 +1,5 @@
 -- An instrument whose replies take time: this project's own. Moments are milliseconds on one clock; only their differences count.
+-- `rpc` is a procedure's number.
 use Rattle.std.specs.Prelude.{◌≡◌, ℕ, ◌+◌, ◌<◌, ◌≤◌, ◌==◌, Bool, true, List, [], ◌∷◌, Option, Some, None, if◌then◌else◌, min, nat_lt}
 use Rattle.std.specs.Option.{option_map}
 use Rattle.gc_lines.specs.Lines.{with_end}
@@ -11,16 +12,16 @@ use Rattle.gc_scenes.specs.declared.delay.Delay.{Delay}
 
 -- how long the reply to a request of this procedure takes, in milliseconds: as the last delay for the procedure says, or `ms` if none is
 -- for it
-abbrev pub delay_from : ℕ → ℕ → List Delay → ℕ
+abbrev pub delay_from : (rpc ms : ℕ) → List Delay → ℕ
 delay_from rpc ms [] = ms
 delay_from rpc ms (d ∷ ds) = delay_from rpc (if d.rpc == rpc then d.ms else ms) ds
 
 -- how long the reply to a request of this procedure takes, in milliseconds: 0 if no delay is for the procedure
-abbrev pub delay_of : ℕ → List Delay → ℕ
+abbrev pub delay_of : (rpc : ℕ) → List Delay → ℕ
 delay_of rpc delays = delay_from rpc 0 delays
 
--- if the line is a request, its reply takes `ms` milliseconds
-abbrev pub IsDelay : List Delay → List ℕ → ℕ → Type 0
+-- if the line is a request, its reply takes `ms` milliseconds by these delays
+abbrev pub IsDelay : (delays : List Delay) → (line : List ℕ) → (ms : ℕ) → Type 0
 IsDelay delays line ms = (q : RequestFields) → IsRequest line q → ms ≡ delay_of q.rpc delays
 
 -- the state of a scene's instrument whose replies take time
@@ -29,7 +30,7 @@ pub record SlowState : Type 0 where
   pub delays : List Delay
   -- whether lines that come while the instrument is busy are discarded
   pub drops : Bool
-  -- the moment at which the last reply goes out: the instrument is busy until then
+  -- the moment at which the last reply goes out, 0 before the first: the instrument is busy until then
   pub free_from : ℕ
 
 -- the state after a restart of the instrument, which is as busy as before
@@ -37,19 +38,20 @@ abbrev pub slow_restarted : SlowState → SlowState
 slow_restarted s = record s { scene = scene_restarted s.scene }
 
 -- a line that comes at this moment isn't discarded: the instrument isn't busy then, or discards no lines
-abbrev pub IsTaken : SlowState → ℕ → Type 0
+abbrev pub IsTaken : SlowState → (at : ℕ) → Type 0
 IsTaken s at = s.drops ≡ true → s.free_from ≤ at
 
--- the moment at which the instrument starts on a line that came at the moment `at`: then, or once it isn't busy any more
-abbrev pub taken_up : SlowState → ℕ → ℕ
+-- the moment at which the instrument starts on a line that came at the moment `at`, unless it discards the line: `at`, or
+-- `free_from` if it is busy until then
+abbrev pub taken_up : SlowState → (at : ℕ) → ℕ
 taken_up s at = if nat_lt at s.free_from then s.free_from else at
 
 -- the state of the scene's instrument when it starts on a line that came at the moment `came`
-abbrev pub scene_then : SlowState → ℕ → SceneState
+abbrev pub scene_then : SlowState → (came : ℕ) → SceneState
 scene_then s came = at_moment (taken_up s came) s.scene
 
 -- the moment `ms` milliseconds after `at`, at most the last one that 64 bits hold
-abbrev pub moment_after : ℕ → ℕ → ℕ
+abbrev pub moment_after : (at ms : ℕ) → ℕ
 moment_after at ms = min (at + ms) 18446744073709551615
 
 -- what the instrument does with a line whose last byte came at the moment `at`, and its reply, if there is one. The reply goes out at
@@ -58,20 +60,24 @@ pub data HearsLine (before : SlowState) (line : List ℕ) (at : ℕ) (after : Sl
   -- the instrument is busy, and discards the line: nothing is executed
   drops_it : before.drops ≡ true → at < before.free_from → after ≡ before → reply ≡ None → HearsLine before line at after reply
   -- the line gets no reply: it is no request
-  silent : IsTaken before at → (scene : SceneState) → IsPlayed (scene_then before at) line scene None → after ≡ record before { scene = scene } → reply ≡ None
+  silent : IsTaken before at → (scene : SceneState) → IsPlayed (scene_then before at) line scene None
+      → after ≡ record before { scene = scene } → reply ≡ None
       → HearsLine before line at after reply
   -- the line is a request: its reply goes out `ms` milliseconds after the instrument started on it
-  replies : IsTaken before at → (scene : SceneState) → (text : List ℕ) → IsPlayed (scene_then before at) line scene (Some text) → (ms : ℕ) → IsDelay before.delays line ms
-      → after ≡ record before { scene = scene; free_from = moment_after (taken_up before at) ms } → reply ≡ Some text → HearsLine before line at after reply
+  replies : IsTaken before at → (scene : SceneState) → (text : List ℕ) → IsPlayed (scene_then before at) line scene (Some text) → (ms : ℕ)
+      → IsDelay before.delays line ms
+      → after ≡ record before { scene = scene; free_from = moment_after (taken_up before at) ms } → reply ≡ Some text
+      → HearsLine before line at after reply
 
 -- what the slow instrument does with a frame that came at the moment `at`, where `text` is what it sends: the reply to a line with its CR
 -- LF, and nothing for a frame that is no line
-abbrev pub HearsFrame : SlowState → Frame → ℕ → SlowState → Option (List ℕ) → Type 0
-HearsFrame before (Line line) at after text = (reply : Option (List ℕ)) × HearsLine before line.items at after reply × (text ≡ option_map with_end reply)
+abbrev pub HearsFrame : (before : SlowState) → Frame → (at : ℕ) → (after : SlowState) → (text : Option (List ℕ)) → Type 0
+HearsFrame before (Line line) at after text =
+    (reply : Option (List ℕ)) × HearsLine before line.items at after reply × (text ≡ option_map with_end reply)
 HearsFrame before Cleared at after text = (after ≡ before) × (text ≡ None)
 HearsFrame before Overlong at after text = (after ≡ before) × (text ≡ None)
 HearsFrame before More at after text = (after ≡ before) × (text ≡ None)
 
 -- what the slow instrument does with a frame that came at some moment
-abbrev pub HearsSometime : SlowState → Frame → SlowState → Option (List ℕ) → Type 0
+abbrev pub HearsSometime : (before : SlowState) → Frame → (after : SlowState) → (text : Option (List ℕ)) → Type 0
 HearsSometime before frame after text = (at : ℕ) × HearsFrame before frame at after text

@@ -24,7 +24,7 @@ use Rattle.gc_scenes.specs.declared.ways.Way.TheVariants as way
 abbrev pub no_ways : Ways
 no_ways = record { faces = false; aims = false; takes = false; values = false; clock = false }
 
--- these ways and one more, or all of them
+-- these ways with this one as well, or all of them for `way.Real`
 abbrev pub with_way : Way → Ways → Ways
 with_way way.Faces w = record w { faces = true }
 with_way way.Aims w = record w { aims = true }
@@ -67,27 +67,28 @@ is_over w there = w.faces && is_in_face_two there.v
 abbrev pub on_circle : ℤ → ℕ
 on_circle z = min (unsigned_abs z % 6283185307179586476925286) (6283185307179586476925286 - unsigned_abs z % 6283185307179586476925286)
 
--- how far a target is from where the telescope points, in units: the greater of the differences of the two angles
+-- how far a target is from where the telescope points, in units: the greater of the differences of the two angles, of which that of the
+-- horizontal ones is taken the shorter way round the circle
 abbrev pub apart : Pointing → Target → ℕ
 apart there t = max (on_circle (units t.hz -ℤ units there.hz)) (unsigned_abs (units t.v -ℤ units there.v))
 
--- the window of target recognition, each way, in units: 0.0131 radians, three quarters of a degree
+-- the window of target recognition, each way, in units: 0.0131 radians, about three quarters of a degree
 abbrev pub window : ℕ
 window = 13100000000000000000000
 
--- the nearer of the target found so far and this one, and of two that are equally near the one found so far; if none was found so far, this
--- one if it is within the window
-abbrev pub nearer : Pointing → Option Target → Target → Option Target
+-- the target that is nearer to where the telescope points (`there`), of the one found so far and this one, and the one found so
+-- far if both are equally near; if none was found so far: this one if it is within the window, and else none
+abbrev pub nearer : (there : Pointing) → (found : Option Target) → Target → Option Target
 nearer there None t = if nat_le (apart there t) window then Some t else None
 nearer there (Some u) t = if nat_le (apart there u) (apart there t) then Some u else Some t
 
--- the nearest of the target found so far and these
-abbrev pub nearest_of : Pointing → Option Target → List Target → Option Target
+-- what `nearer` makes of the target found so far and these targets, one after the other
+abbrev pub nearest_of : (there : Pointing) → (found : Option Target) → List Target → Option Target
 nearest_of there found [] = found
 nearest_of there found (t ∷ ts) = nearest_of there (nearer there found t) ts
 
 -- the nearest target within the window, the first of several that are equally near; none if all are beyond the window
-abbrev pub nearest : Pointing → List Target → Option Target
+abbrev pub nearest : (there : Pointing) → List Target → Option Target
 nearest there targets = nearest_of there None targets
 
 -- Values of a reply whose return code isn't 0.
@@ -97,12 +98,13 @@ nearest there targets = nearest_of there None targets
 abbrev pub is_warning : ℕ → Bool
 is_warning rc = (rc == 1283) || ((rc == 1284) || ((rc == 1285) || ((rc == 1288) || (rc == 1289))))
 
--- whether a distance is among the values of a reply with this code
+-- whether a distance is among the values of a reply with this code, where the code is a warning
 abbrev pub has_distance : ℕ → Bool
 has_distance rc = (rc == 1283) || (rc == 1284)
 
--- the answer of a call that answers angles, with these and, if it has a distance, this one; `Nothing` for any other call
-abbrev pub valued : Pointing → Call → Decimal → Answer
+-- the answer of a call that answers angles, with those of `there` and, if the answer has a distance, this one; `Nothing` for any
+-- other call
+abbrev pub valued : Pointing → Call → (distance : Decimal) → Answer
 valued there (call.GetAngle mode) d = answer.Angles there.hz there.v
 valued there (call.SimpleMea wait mode) d = answer.Measured there.hz there.v d
 valued there call.QuickDist d = answer.Measured there.hz there.v d
@@ -110,9 +112,10 @@ valued there (call.MeasDistance mode) d = answer.MeasuredMode there.hz there.v d
 valued there other d = answer.Nothing
 
 -- the two angles of a pointing as values of a reply, rounded to the places
-abbrev pub angle_values : Pointing → ℕ → List Value
+abbrev pub angle_values : Pointing → (places : ℕ) → List Value
 angle_values there places = Double (rounded there.hz places) ∷ Double (rounded there.v places) ∷ []
 
 -- the two angles of a pointing and a distance as values of a reply, rounded to the places
-abbrev pub measured_values : Pointing → Decimal → ℕ → List Value
-measured_values there distance places = Double (rounded there.hz places) ∷ Double (rounded there.v places) ∷ Double (rounded distance places) ∷ []
+abbrev pub measured_values : Pointing → (distance : Decimal) → (places : ℕ) → List Value
+measured_values there distance places =
+    Double (rounded there.hz places) ∷ Double (rounded there.v places) ∷ Double (rounded distance places) ∷ []

@@ -16,7 +16,8 @@ impl Machine {
     ghost use Rattle.gc_catalogue.specs.declared.answer.Answer.TheVariants.{Nothing, Measured, Date};
 
     /// Carries out a call over these targets with these ways, and returns the return code. `now` is what a running clock shows, if one
-    /// runs. An answer is written into `answer`, which stays `Answer::Nothing` if there is none.
+    /// runs. An answer is written into `answer`, which stays `Answer::Nothing` if there is none. With `ways.faces` the face is then the one
+    /// that the vertical angle belongs to.
     pub(crate) fn act(
         &mut self,
         ways: &Ways,
@@ -35,7 +36,7 @@ impl Machine {
         rc
     }
 
-    // Carries out a call with these ways, but leaves out that the face follows the vertical angle.
+    // As `act`, but the face isn't set by the vertical angle.
     fn act_faceless(
         &mut self,
         ways: &Ways,
@@ -85,7 +86,7 @@ impl Machine {
         }
     }
 
-    // Carries out a call whose outcome no way changes. `ways` and `now` are for the contract alone.
+    // Carries out a call whose outcome no way changes, but for the face. `ways` and `now` are for the contract alone.
     fn carry_out_unchanged(
         &mut self,
         ways: &Ways,
@@ -127,8 +128,8 @@ impl Machine {
         self.turn_to(&other_hz(&there.hz), &other_v(&there.v))
     }
 
-    // Answers the angles and the distance, and clears the distance; the code is 0. If there is no distance, it is 1285, without an
-    // answer.
+    // Answers the angles and the distance, and clears the distance; the code is 0. If there is no distance, the code is 1285, and nothing
+    // is answered.
     fn take_distance(&mut self, answer: &mut Answer) -> u16
         requires { answer.old ≡ Nothing }
         ensures gives { (targets : List Target) → Gives (simply_measured self.old (unmeasured (seeing targets self.old))) (seeing targets self.new) result answer.new }

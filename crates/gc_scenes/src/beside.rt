@@ -53,9 +53,9 @@ fn push_measured<const N: usize>(
     push_value(out, distance, places);
 }
 
-/// Appends a reply with this id and this code, without CR LF. To a call that answers angles it has the values of such an answer: the
-/// angles, then this distance if the call answers one, each rounded to the places, and then the mode if the call answers that, too. To
-/// any other call it has no values.
+/// Appends a reply with this id and this code, without CR LF. If the call answers angles, the reply has the values of its answer:
+/// the angles, then this distance if the call answers one, each rounded to the places, and then the mode if the call answers
+/// that, too. If the call doesn't answer angles, the reply has no values.
 pub(crate) fn push_reply_with_values<const N: usize>(
     out: &mut ArrayVec<u8, N>,
     id: u8,

@@ -1,9 +1,10 @@
-//! A clock that runs from the date that it was set to, by the Gregorian calendar. All arithmetic on dates is here.
+//! A clock that runs from the date that it was set to, by the Gregorian calendar. All of this crate's arithmetic on dates
+//! is here.
 
 ghost use Rattle.std.specs.Prelude.{◌≡◌, ◌≤◌, unsigned_abs};
-ghost use Rattle.gc_scenes.specs.Clocks.{is_leap, days_in, next_year, next_day, days_on, second_of, at_second, later, shown_at};
+ghost use Rattle.gc_scenes.specs.Clocks.{days_in, next_year, next_day, days_on, second_of, at_second, later, shown_at};
 
-use gc_catalogue::DateTime;
+use gc_catalogue::{DateTime, is_leap};
 
 // The seconds of a day.
 const DAY: u64 = 86_400;
@@ -16,8 +17,8 @@ pub struct Clock {
 }
 
 impl Clock {
-    /// What the clock shows at this moment: the date that it was set to, plus the whole seconds since it was set. A moment before that
-    /// counts as the one at which it was set.
+    /// What the clock shows at this moment: the date that it was set to, plus the whole seconds since it was set. A moment before
+    /// the clock was set counts as the one at which it was set. At the end of the year 9999 that year begins again.
     pub(crate) fn shown_at(&self, moment: u64) -> DateTime
         ensures { result ≡ shown_at moment self.now }
     {
@@ -25,20 +26,13 @@ impl Clock {
     }
 }
 
-// Whether the year has a 29th of February.
-fn is_leap(year: u16) -> bool
-    ensures { result ≡ is_leap year }
-{
-    year % 4 == 0 && (year % 100 != 0 || year % 400 == 0)
-}
-
-// How many days a month of a year has.
+// How many days this month of the year has; months count from 1. A number that is no month counts as one of 31 days.
 fn days_in(year: u16, month: u8) -> u8
     ensures value { result ≡ days_in year month }
     ensures few { result ≤ 31 }
 {
     if month == 2 {
-        if is_leap(year) { 29 } else { 28 }
+        if is_leap(u64::from(year)) { 29 } else { 28 }
     } else if month == 4 || month == 6 || month == 9 || month == 11 {
         30
     } else {
@@ -46,7 +40,7 @@ fn days_in(year: u16, month: u8) -> u8
     }
 }
 
-// The next year; 9999 is followed by itself.
+// The next year; from 9999 on a year is followed by itself.
 fn next_year(year: i16) -> i16
     ensures { result ≡ next_year year }
 {
@@ -71,7 +65,7 @@ fn next_day(date: DateTime) -> DateTime
     after
 }
 
-// The date this many days later, at the same time of day.
+// The date this many days later, at the same time of day. It is counted day by day.
 fn days_on(days: u64, date: &DateTime) -> DateTime
     ensures { result ≡ days_on days date.now }
 {

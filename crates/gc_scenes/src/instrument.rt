@@ -11,7 +11,7 @@ ghost use Rattle.gc_catalogue.specs.declared.answer.Answer.TheVariants.{Nothing}
 
 use crate::clock::Clock;
 use crate::machine::Machine;
-use crate::rules::{Fault, Noise, Prism, Scripted};
+use crate::rules::{Fault, Noise, Prism, SceneRules, Scripted};
 use crate::ways::{Ways, has_distance, target_in_face};
 use arrayvec::ArrayVec;
 use gc_catalogue::{Answer, Call, DateTime};
@@ -29,12 +29,12 @@ pub struct SceneInstrument {
     // The replies to procedures that aren't in the table.
     answers: ArrayVec<Scripted, 16>,
     noise: Option<Noise>,
-    // How many looks there were: a look is a measurement or a search.
+    // How many looks there were, counted up to 2^32 - 1: a look is a measurement or a search.
     looks: u32,
-    // Whether it stores its last reply for a repeat.
+    // Whether it stores its last reply to a request with an id, for a repeat.
     pub(crate) repeats: bool,
     pub(crate) ways: Ways,
-    // The clock, once it was set, if it runs.
+    // The clock that runs. `None`: the instrument has none, or it hasn't been set yet.
     clock: Option<Clock>,
     // The moment of the next request, in milliseconds of the program's clock.
     moment: u64,
@@ -51,31 +51,30 @@ impl Model for SceneInstrument {
 }
 
 impl SceneInstrument {
-    /// The instrument of a scene with these rules, in its opening state. `repeats` says whether it stores its last reply for a repeat, as
-    /// the simulator does, and `ways` which ways of real instruments it has. The moment of the first request is 0 until it is set.
-    pub fn new(
-        serial: i32,
-        name: Text,
-        prisms: ArrayVec<Prism, 32>,
-        faults: ArrayVec<Fault, 32>,
-        answers: ArrayVec<Scripted, 16>,
-        noise: Option<Noise>,
-        repeats: bool,
-        ways: Ways,
-    ) -> SceneInstrument
+    /// The instrument of a scene with this serial number, this name and these rules, in its opening state: no look is counted yet, and no
+    /// clock runs. The moment of the first request is 0 until it is set.
+    pub fn new(serial: i32, name: Text, rules: SceneRules) -> SceneInstrument
         ensures { result ≡ record {
           base = opening serial name [];
-          prisms = prisms.items;
-          faults = faults.items;
-          answers = answers.items;
-          noise = noise;
+          prisms = rules.prisms.items;
+          faults = rules.faults.items;
+          answers = rules.answers.items;
+          noise = rules.noise;
           looks = 0;
-          repeats = repeats;
-          ways = ways;
+          repeats = rules.repeats;
+          ways = rules.ways;
           clock = None;
           moment = 0;
         } }
     {
+        let SceneRules {
+            prisms,
+            faults,
+            answers,
+            noise,
+            repeats,
+            ways,
+        } = rules;
         SceneInstrument {
             machine: Machine::new(serial, name),
             prisms,
@@ -105,7 +104,8 @@ impl SceneInstrument {
         self.ways.clock
     }
 
-    /// Whether the instrument stores its last reply, and sends it again to a request with the same id.
+    /// Whether the instrument stores its last reply to a request with an id, and sends it again to a request with that id
+    /// (`on_line` says which replies it doesn't store).
     pub fn repeats(&self) -> bool
         ensures { result ≡ self.now.repeats }
     {
@@ -148,7 +148,8 @@ impl SceneInstrument {
         self.faults = counted(rpc, self.faults.as_slice());
     }
 
-    // What the instrument's clock shows at its moment. `None`: no clock runs.
+    // What the instrument's clock shows at the moment of the next request. `None`: the instrument has no clock that runs, or it
+    // hasn't been set yet.
     fn shown(&self) -> Option<DateTime>
         ensures { result ≡ shown self.now }
     {
@@ -166,7 +167,8 @@ impl SceneInstrument {
         self.ways.is_over(&heading(self.machine.pointing(), call))
     }
 
-    // The targets that aren't hidden in the look of this call, each with the angles at which the telescope points at it.
+    // The targets that aren't hidden in the look of this call or, if the call is no look, in the last look (number 0 before the
+    // first), each with the angles at which the telescope points at it.
     fn seen_by(&self, call: &Call) -> ArrayVec<Target, 32>
         ensures { result.items ≡ seen_by self.now call.now }
     {
@@ -175,7 +177,9 @@ impl SceneInstrument {
     }
 
     /// Executes a call that no fault answers, and returns the return code. An answer is written into `answer`, which stays
-    /// `Answer::Nothing` if there is none. The noise is left to `disturb`.
+    /// `Answer::Nothing` if there is none. A measurement or a search is counted as a look; after a measurement each target that
+    /// isn't hidden and lies exactly where the telescope points has moved by its drift, if it has one; and setting the date may
+    /// start the clock. The noise is left to `disturb`.
     pub(crate) fn execute(&mut self, call: &Call, answer: &mut Answer) -> u16
         requires { answer.old ≡ Nothing }
         ensures gives { Reports (outcome self.old call.now) result answer.new }
@@ -208,8 +212,8 @@ impl SceneInstrument {
         self.known_distance(call).unwrap_or(Decimal::zero())
     }
 
-    // The distance that the call would answer, in metres: for TMC_GetSimpleMea the one that was measured last, for other calls that of
-    // the target which they would measure. `None`: there is none.
+    // The distance that is known for a reply to the call, in metres: for TMC_GetSimpleMea the one that was measured last, for any other
+    // call that of the target at which the telescope points (`distance_to_target`). `None`: there is none.
     fn known_distance(&self, call: &Call) -> Option<Decimal>
         ensures { result ≡ known_distance self.now call.now }
     {
@@ -219,7 +223,8 @@ impl SceneInstrument {
         }
     }
 
-    // The distance of the target that the call would measure, in metres. `None`: there is no such target.
+    // The distance, in metres, of the first of the targets of `seen_by` that lies exactly where the telescope points. `None`:
+    // none of them does.
     fn distance_to_target(&self, call: &Call) -> Option<Decimal>
         ensures { result ≡ option_map (λ t. t.distance) (first_at self.now.base.pointing (seen_by self.now call.now)) }
     {
@@ -228,8 +233,8 @@ impl SceneInstrument {
         )
     }
 
-    /// Adds the scene's noise, if it has one, to an answer that is a measurement, and advances the noise's generator. Any other answer
-    /// stays as it is, and so does the generator then.
+    /// Adds the scene's noise, if it has one, to an answer with angles and a distance, also if that was measured earlier
+    /// (TMC_GetSimpleMea), and advances the noise's generator. Any other answer stays as it is, and so does the generator then.
     pub(crate) fn disturb(&mut self, answer: &mut Answer)
         ensures answer { answer.new ≡ noisy self.old.noise answer.old }
         ensures state { self.new ≡ record self.old { noise = noise_after self.old.noise answer.old } }

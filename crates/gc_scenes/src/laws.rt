@@ -2,7 +2,8 @@
 
 ghost use Rattle.gc_scenes.specs.Laws.{TableIsTheInstance, OneReply, NearestIsNearest};
 
-/// In a scene without rules the instrument does with a line what the instrument of the execution table does, and replies the same.
+/// In a scene without rules the instrument does with a line what the instrument of the execution table does, and replies the
+/// same. How many looks are counted then isn't said.
 pub fn table_is_the_instance()
     ensures { TableIsTheInstance }
 {}

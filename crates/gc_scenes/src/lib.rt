@@ -20,7 +20,7 @@ mod ways;
 
 pub use delay::Delay;
 pub use instrument::SceneInstrument;
-pub use rules::{Fault, Noise, Offset, Prism, Scripted};
+pub use rules::{Fault, Noise, Offset, Prism, SceneRules, Scripted};
 pub use serving::serve_scene;
 pub use slow::SlowInstrument;
 pub use ways::{Way, Ways};

@@ -31,7 +31,7 @@ pub(crate) struct Held {
 pub(crate) struct Machine {
     // All of the state but the targets, the distance and the stored reply. It has no targets.
     base: Instrument,
-    // The slope distance that was measured last, in metres, unless it was cleared.
+    // The slope distance that was measured last, in metres. `None`: none was measured, or it was cleared.
     distance: Option<Decimal>,
     kept: Option<Held>,
 }
@@ -193,7 +193,8 @@ impl Machine {
         }
     }
 
-    // Carries out, by `base`, a call that neither turns the telescope nor asks for a distance or a target, and returns the return code.
+    // Carries out, by `base`, a call that needs neither targets nor the distance and doesn't clear it. Returns the return code, and writes
+    // the answer, or `Answer::Nothing`, into `answer`.
     fn pass_on(&mut self, call: &Call, answer: &mut Answer) -> u16
         requires { is_passed_on call.now ≡ true }
         ensures { (targets : List Target) → CarriesOut targets self.old call.now self.new result answer.new }
@@ -233,7 +234,7 @@ impl Machine {
         }
     }
 
-    // Answers the angles and the distance; the code is 0. Where there is no distance, it is 1285, without an answer.
+    // Answers the angles and the distance; the code is 0. If there is no distance, the code is 1285, and nothing is answered.
     fn answer_measured(&self, answer: &mut Answer) -> u16
         requires { answer.old ≡ Nothing }
         ensures { (targets : List Target) → Gives (simply_measured self.now (seeing targets self.now)) (seeing targets self.now) result answer.new }
@@ -246,8 +247,8 @@ impl Machine {
         0
     }
 
-    // Measures, and answers the angles, the distance and this mode, which changes nothing else; the code is 0. Where no target lies where
-    // the telescope points, it is 1285, without an answer, and the distance is cleared.
+    // Measures, and answers the angles, the distance and `mode`, which has no other effect; the code is 0. If no target lies exactly where
+    // the telescope points, the code is 1285, nothing is answered, and the distance is cleared.
     fn measure_in_mode(&mut self, mode: i32, targets: &[Target], answer: &mut Answer) -> u16
         requires { answer.old ≡ Nothing }
         ensures gives { Gives (measured_in_mode targets.now self.old mode) (seeing targets.now self.new) result answer.new }
@@ -267,7 +268,7 @@ impl Machine {
         0
     }
 
-    // Turns the telescope to these angles, which clears the distance. The code is always 0.
+    /// Turns the telescope to these angles, in radians, which clears the distance. The code is always 0.
     #[tactic(auto, unfolding(gc_instrument::specs::Execution::exec))]
     pub(crate) fn turn_to(&mut self, hz: &Decimal, v: &Decimal) -> u16
         ensures gives { (targets : List Target) → Gives (done (pointed (seeing targets self.old) hz.now v.now) Nothing) (seeing targets self.new) result Nothing }
@@ -302,7 +303,8 @@ impl Machine {
     }
 
     // Turns the telescope to the first of these targets whose angles differ from the telescope's by at most these areas, in radians,
-    // which clears the distance; the code is 0. With a negative area the code is 2, and without such a target 8710: then nothing changes.
+    // which clears the distance; the code is 0. If an area is negative, the code is 2, and else, if there is no such target, 8710; in both
+    // cases nothing changes.
     fn fine_adjust(&mut self, area_hz: &Decimal, area_v: &Decimal, targets: &[Target]) -> u16
         ensures gives { Gives (searched (seeing targets.now self.old) area_hz.now area_v.now) (seeing targets.now self.new) result Nothing }
         ensures same { self.new.scene ≡ self.old.scene }

@@ -8,8 +8,8 @@ ghost use Rattle.gc_lines.specs.Requests.{request_seen};
 ghost use Rattle.gc_instrument.specs.Replying.{Handed};
 ghost use Rattle.gc_catalogue.specs.Texts.{reply_line};
 ghost use Rattle.gc_scenes.specs.SceneExecution.{Played, plays, unless_faulted, warned};
-ghost use Rattle.gc_scenes.specs.SceneReplying.{IsPlayed, AnswersRequest, Gave, resent_line, executed_reply_line, handed_call, handed_raw, handed_unexecuted, played_line, line_with, kept_if_repeating, holding};
-ghost use Rattle.gc_scenes.specs.Appending.{AppendsGave, AppendsPlayed, AppendsReply};
+ghost use Rattle.gc_scenes.specs.SceneReplying.{IsPlayed, AnswersRequest, IsHanded, resent_line, executed_reply_line, handed_call, handed_raw, handed_unexecuted, played_line, line_with, kept_if_repeating, holding};
+ghost use Rattle.gc_scenes.specs.Appending.{AppendsHanded, AppendsPlayed, AppendsReply};
 
 use crate::beside::push_reply_with_values;
 use crate::instrument::SceneInstrument;
@@ -27,10 +27,14 @@ impl SceneInstrument {
     ghost use Rattle.gc_catalogue.specs.declared.call.Call.{Call};
     ghost use Rattle.gc_catalogue.specs.declared.answer.Answer.TheVariants.{Nothing};
 
-    /// The reply to a line. `None`: the line is no request. The reply is that of the simulator, but for the scene's rules and the
-    /// instrument's ways: a request that a fault answers is not executed, a hidden target isn't found, and a procedure that isn't in the
-    /// catalogue is answered if the scene has a reply. If the instrument repeats, the reply to a request with an id is stored for a
-    /// repeat, whether it was executed or not, unless it was refused with a communication code (3080 or 3081).
+    /// The reply to a line, without CR LF. `None`: the line is no request. The reply is that of the simulator, but for the
+    /// scene's rules and the instrument's ways: a request that a fault answers is not executed, a hidden target isn't found, and
+    /// a procedure that isn't in the catalogue gets the code of a fault or the scene's reply, if there is one, in place of the
+    /// communication code 3081.
+    ///
+    /// If the instrument repeats, the reply to a request with an id is stored, also if the request wasn't executed; and a request with the
+    /// stored id gets the stored reply again, and changes nothing. Neither holds of a request that is refused with a communication code
+    /// (3080 or 3081).
     #[tactic(auto, using(crate::proofs::Playing::played_alone))]
     pub fn on_line(&mut self, line: &Line) -> Option<Line>
         ensures { IsPlayed self.old line.now.items self.new (option_map (λ r. r.items) result) }
@@ -59,8 +63,8 @@ impl SceneInstrument {
         }
     }
 
-    // Appends the reply to a request. Parameters that can't be read are refused with the communication code 3080: then nothing changes, and
-    // no fault counts the request.
+    // Appends the reply to a request. Parameters that can't be read are refused with the communication code 3080: then the instrument stays
+    // as it is, and no fault counts the request.
     fn reply_to<const N: usize>(&mut self, request: &Request<'_>, out: &mut ArrayVec<u8, N>)
         requires id { ForSome request.now.id (λ id. id < 8) }
         requires room { array_vec_len out.old + 512 ≤ N }
@@ -77,8 +81,8 @@ impl SceneInstrument {
         }
     }
 
-    // The stored line that answers a request with this id, if the instrument repeats. `None`: no line is stored for the id, or the
-    // instrument doesn't repeat.
+    // The stored line that answers a request with this id, if the instrument repeats. `None`: `id` is `None`, no line is stored
+    // with it, or the instrument doesn't repeat.
     fn resent_line(&self, id: Option<u8>) -> Option<&[u8]>
         ensures line { option_map (λ r. r.now) result ≡ resent_line self.now id }
         ensures within { IfSome result (λ r. length r.now ≤ 512) }
@@ -103,8 +107,8 @@ impl SceneInstrument {
         }
     }
 
-    // Appends the reply to a call: the stored one to a repeat, which changes nothing, and else a new one, which `keep` stores; faults count
-    // the call then.
+    // Appends the reply to a call. A repeat gets the stored reply (`resent_line`), and changes nothing. Else the faults count the call, and
+    // it gets a new reply, which is passed to `keep`.
     fn answer_call<const N: usize>(
         &mut self,
         rpc: u16,
@@ -114,7 +118,7 @@ impl SceneInstrument {
     )
         requires id { ForSome id (λ id. id < 8) }
         requires room { array_vec_len out.old + 512 ≤ N }
-        ensures gave { AppendsGave (handed_call self.old rpc id call.now) self.new out.old.items out.new.items }
+        ensures gave { AppendsHanded (handed_call self.old rpc id call.now) self.new out.old.items out.new.items }
         ensures bound { length out.new.items ≤ length out.old.items + 512 }
     {
         if let Some(line) = self.resent_line(id) {
@@ -128,7 +132,8 @@ impl SceneInstrument {
         self.keep(id, &out[start..]);
     }
 
-    // Appends the reply to a call that isn't a repeat: with the code of the fault, if one answers it, or that of executing the call.
+    // Appends the reply to a call that isn't a repeat: that of the fault with this code or, if no fault answers the call (`None`), that of
+    // executing it.
     fn play_onto<const N: usize>(
         &mut self,
         id: u8,
@@ -147,8 +152,8 @@ impl SceneInstrument {
         }
     }
 
-    // Appends the reply to a call that a fault answers with this code. It has values if the code is a warning and the instrument has values
-    // with warnings.
+    // Appends the reply to a call that a fault answers with this code. It has values if the code is a warning, the instrument has values
+    // with warnings, and the call answers angles.
     fn warn_onto<const N: usize>(&self, id: u8, call: &Call, rc: u16, out: &mut ArrayVec<u8, N>)
         requires id { id < 8 }
         requires room { array_vec_len out.old + 512 ≤ N }
@@ -186,7 +191,7 @@ impl SceneInstrument {
     }
 
     // Appends the reply to an executed call with this code. It has this answer or, if the code is a warning and the instrument has values
-    // with warnings, the angles and a distance of 0.
+    // with warnings, the values of `push_reply_with_values`, with a distance of 0.
     fn reply_executed_onto<const N: usize>(
         &self,
         id: u8,
@@ -210,8 +215,8 @@ impl SceneInstrument {
         }
     }
 
-    // Appends the reply to an executed call with its answer. The line is made in a buffer of its own, whose size is another than that of
-    // the buffer of a served run. So the code that writes answers into the latter is used by the simulator alone, and LLVM inlines it
+    // Appends the reply to an executed call with its answer. The line is put together in a buffer of its own, of another size than the
+    // `Outgoing` of a served run. So the simulator alone uses the instance of `encode_answer_onto` for an `Outgoing`, and LLVM inlines it
     // there, also in a program that serves scenes.
     fn answer_onto<const N: usize>(
         &self,
@@ -232,11 +237,12 @@ impl SceneInstrument {
     }
 
     // Appends the reply to a request of a procedure that isn't in the table: with the code of the fault, if one answers it; else the
-    // scene's reply, if it has one; else with the communication code 3081. A repeat gets the stored reply in place of the first two.
+    // scene's reply, if it has one; else with the communication code 3081. In place of the first two a repeat gets the stored
+    // reply, and no fault counts it. In every other case the faults count the request.
     fn answer_raw<const N: usize>(&mut self, rpc: u16, id: Option<u8>, out: &mut ArrayVec<u8, N>)
         requires id { ForSome id (λ id. id < 8) }
         requires room { array_vec_len out.old + 512 ≤ N }
-        ensures gave { AppendsGave (handed_raw self.old rpc id) self.new out.old.items out.new.items }
+        ensures gave { AppendsHanded (handed_raw self.old rpc id) self.new out.old.items out.new.items }
         ensures bound { length out.new.items ≤ length out.old.items + 512 }
     {
         match self.fault_of(rpc) {
@@ -251,8 +257,8 @@ impl SceneInstrument {
         }
     }
 
-    // Appends the reply to a request that isn't executed: the stored one to a repeat, and else one with this return code and these
-    // parameters, which `keep` stores.
+    // Appends the reply to a request that isn't executed. A repeat gets the stored reply (`resent_line`), and changes nothing. Else the
+    // faults count the request, and it gets a reply with this return code and these parameters, which is passed to `keep`.
     fn answer_with<const N: usize>(
         &mut self,
         rpc: u16,
@@ -264,7 +270,7 @@ impl SceneInstrument {
         requires id { ForSome id (λ id. id < 8) }
         requires few { length params.now ≤ 490 }
         requires room { array_vec_len out.old + 512 ≤ N }
-        ensures gave { AppendsGave (handed_unexecuted self.old rpc id rc params.now) self.new out.old.items out.new.items }
+        ensures gave { AppendsHanded (handed_unexecuted self.old rpc id rc params.now) self.new out.old.items out.new.items }
         ensures bound { length out.new.items ≤ length out.old.items + 512 }
     {
         if let Some(line) = self.resent_line(id) {
@@ -278,7 +284,7 @@ impl SceneInstrument {
     }
 }
 
-// Appends a reply with this return code and these parameters, at most 490 bytes.
+// Appends a reply with this id, this return code and these parameters, at most 490 bytes of them, without CR LF.
 fn push_reply_with<const N: usize>(id: u8, rc: u16, params: &[u8], out: &mut ArrayVec<u8, N>)
     requires id { id < 8 }
     requires few { length params.now ≤ 490 }

@@ -3,6 +3,8 @@
 ghost use Rattle.std.specs.Prelude.{◌<◌, ◌≤◌, length};
 ghost use Rattle.gc_scenes.specs.Params.{scripted_params};
 
+use crate::ways::Ways;
+use arrayvec::ArrayVec;
 use gc_catalogue::RawCall;
 use gc_instrument::Target;
 use gc_values::Decimal;
@@ -15,8 +17,9 @@ pub struct Offset {
     pub distance: Decimal,
 }
 
-/// A target of a scene: where it is, what each measurement of it adds (`None`: nothing), and in which looks it is hidden: those from
-/// number `from` to `to`. A look is a measurement or a search; looks are counted from 1. A target that is never hidden has 1 and 0.
+/// A target of a scene: where it is; the offset by which it moves at each measurement with the telescope pointing exactly at it
+/// (`None`: it never moves); and the looks in which it is hidden and doesn't move: those from number `from` to `to`. A look is a
+/// measurement or a search; looks are counted from 1. A target that is never hidden has 1 and 0.
 #[derive(Clone, Copy, Debug, PartialEq, Eq)]
 pub struct Prism {
     pub at: Target,
@@ -25,8 +28,9 @@ pub struct Prism {
     pub to: u32,
 }
 
-/// A procedure that is answered with a return code, and does nothing: `times` times, after the first `after` requests of it.
-/// `met` counts its requests.
+/// A procedure whose requests are answered with a return code, and do nothing: `times` of them, after the first `after`, but for
+/// those that an earlier fault of the scene answers. `met` counts its requests, up to 2^32 - 1, but none that gets the stored
+/// reply again or has parameters that can't be read.
 #[derive(Clone, Copy, Debug, PartialEq, Eq)]
 pub struct Fault {
     pub rpc: u16,
@@ -38,7 +42,7 @@ pub struct Fault {
 }
 
 /// The reply to a procedure that isn't in the table: its number, the return code, and parameters of at most 490 bytes, which are
-/// those of a request `with` of that procedure (`None`: it has none).
+/// those of a request `with` of that procedure (`None`: the reply has no parameters).
 #[derive(Clone, Copy, Debug, PartialEq, Eq)]
 pub struct Scripted {
     pub rpc: u16,
@@ -48,7 +52,24 @@ pub struct Scripted {
     pub ghost short: { length (scripted_params with) ≤ 490 },
 }
 
-/// The most by which a measurement deviates, either way, in radians and metres, and the generator's last number.
+/// What a scene says of its instrument besides the serial number and the name: at most 32 targets, 32 faults and 16 replies.
+#[derive(Debug, Drop)]
+pub struct SceneRules {
+    /// The targets.
+    pub prisms: ArrayVec<Prism, 32>,
+    pub faults: ArrayVec<Fault, 32>,
+    /// The replies to procedures that aren't in the table.
+    pub answers: ArrayVec<Scripted, 16>,
+    /// The noise of answers with angles and a distance. `None`: they have none.
+    pub noise: Option<Noise>,
+    /// Whether the instrument stores its last reply to a request with an id, for a repeat, as the simulator does.
+    pub repeats: bool,
+    /// Which ways of real instruments the instrument has.
+    pub ways: Ways,
+}
+
+/// The most by which an answer with angles and a distance deviates, either way, in radians and metres, and the generator's last
+/// number, or, before the first such answer, the number from which the generator starts.
 #[derive(Clone, Copy, Debug, PartialEq, Eq)]
 pub struct Noise {
     pub hz: Decimal,

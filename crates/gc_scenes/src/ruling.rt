@@ -15,8 +15,8 @@ use gc_instrument::{Pointing, Target};
 use gc_values::Decimal;
 
 impl Fault {
-    /// Makes a fault that answers `times` requests of the procedure `rpc` with the return code `rc`, after its first `after` requests. No
-    /// request is counted yet.
+    /// Makes a fault that lets the first `after` requests of the procedure `rpc` pass, and answers the next `times` with the
+    /// return code `rc`, but for those that an earlier fault of the scene answers. No request is counted yet.
     pub fn new(rpc: u16, rc: u16, after: u32, times: u32) -> Fault
         ensures rpc { result.rpc ≡ rpc }
         ensures rc { result.rc ≡ rc }
@@ -33,7 +33,7 @@ impl Fault {
         }
     }
 
-    /// Whether the next request of this procedure is answered by the fault.
+    /// Whether the next request of this procedure is answered by the fault, if no fault before it answers the request.
     pub(crate) fn is_due(&self, rpc: u16) -> bool
         ensures { result ≡ is_due rpc self.now }
     {
@@ -42,7 +42,8 @@ impl Fault {
             && u64::from(self.met - self.after) + 1 <= u64::from(self.times)
     }
 
-    /// The fault after one more request of this procedure, which it counts if the procedure is its own.
+    /// The fault after one more request of this procedure, which it counts if the procedure is its own. The count goes up to 2^32 - 1, and
+    /// stays there.
     pub(crate) fn met_once(&self, rpc: u16) -> Fault
         ensures { result ≡ met_once rpc self.now }
     {
@@ -78,7 +79,7 @@ impl Scripted {
         }
     }
 
-    /// The parameters of the reply.
+    /// The parameters of the reply, as they stand in its line; empty if it has none.
     pub(crate) fn params(&self) -> &[u8]
         ensures value { result.now ≡ scripted_params self.now.with }
         ensures few { length result.now ≤ 490 }
@@ -178,7 +179,7 @@ impl Offset {
 }
 
 impl Noise {
-    // The generator's next three numbers, which the three deviations of one measurement take.
+    // The generator's next three numbers, which the three deviations of one answer take.
     fn next_three_numbers(&self) -> (u32, u32, u32)
         ensures first { result.0 ≡ next self.now.seed }
         ensures second { result.1 ≡ next (next self.now.seed) }
@@ -189,7 +190,8 @@ impl Noise {
         (first, second, next(second))
     }
 
-    /// Adds the three deviations of one measurement to what was measured. Other answers stay as they are.
+    /// Adds three deviations to an answer with angles and a distance, also if that was measured earlier (TMC_GetSimpleMea). Any
+    /// other answer stays as it is. The generator isn't advanced: `advanced` does that.
     pub(crate) fn disturb(&self, answer: &mut Answer)
         ensures { answer.new ≡ disturbed self.now answer.old }
     {
@@ -216,7 +218,7 @@ impl Noise {
         }
     }
 
-    // A direction, an angle and a distance, to each of which is added a deviation by one of the generator's next three numbers.
+    // This direction, angle and distance, each with its deviation added: by the generator's next number, the one after that, and the third.
     fn deviated(&self, hz: Decimal, v: Decimal, distance: Decimal) -> (Decimal, Decimal, Decimal)
         ensures hz { result.0 ≡ deviated_hz self.now hz }
         ensures v { result.1 ≡ deviated_v self.now v }
@@ -229,7 +231,7 @@ impl Noise {
         (hz, v, distance)
     }
 
-    /// The noise after an answer: a measurement takes the generator's next three numbers, and another answer none.
+    /// The noise after an answer: one with angles and a distance takes the generator's next three numbers, and any other none.
     pub(crate) fn advanced(&self, answer: &Answer) -> Noise
         ensures { result ≡ advanced self.now answer.now }
     {
@@ -247,7 +249,7 @@ impl Noise {
     }
 }
 
-// Whether an answer is a measurement, with angles and a distance.
+// Whether an answer has angles and a distance.
 fn is_measured(answer: &Answer) -> bool
     ensures { result ≡ is_measured answer.now }
 {
@@ -258,7 +260,8 @@ fn is_measured(answer: &Answer) -> bool
     }
 }
 
-// The decimal `d` plus the deviation, of at most `most` either way, that the generator's number `x` gives.
+// The decimal `d` plus the deviation, of at most the size of `most` either way, that the generator's number `x` gives; `d` itself if the
+// sum is out of a decimal's range.
 fn deviated(d: &Decimal, most: &Decimal, x: u32) -> Decimal
     ensures { result ≡ shifted d.now (deviation most.now x) }
 {

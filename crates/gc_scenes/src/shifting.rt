@@ -9,7 +9,7 @@ use gc_values::Decimal;
 // The number of places of a decimal's units.
 const PLACES: u8 = 24;
 
-/// The decimal plus `by` units of 10^-24, exactly. If the sum is out of a decimal's range, it is the decimal `d`.
+/// The decimal `d` plus `by` units of 10^-24, exactly; `d` itself if the sum is out of a decimal's range.
 pub(crate) fn shifted(d: &Decimal, by: i128) -> Decimal
     requires { unsigned_abs by ≤ 3 * 10 ^ 37 }
     ensures { result ≡ shifted d.now by }
@@ -27,7 +27,8 @@ pub(crate) fn next(x: u32) -> u32
     ((u64::from(x) * 1_664_525 + 1_013_904_223) % 4_294_967_296) as u32
 }
 
-/// The deviation, in units of 10^-24, that the generator's number `x` gives: 0 to 1000 thousandths of `most`, either way.
+/// The deviation, in units of 10^-24, that the generator's number `x` gives: 0 to 1000 thousandths of the size of `most`, either way. A
+/// thousandth is rounded down to whole units.
 pub(crate) fn deviation(most: &Decimal, x: u32) -> i128
     ensures value { result ≡ deviation most.now x }
     ensures bound { unsigned_abs result ≤ 10 ^ 37 }

@@ -20,7 +20,7 @@ pub struct SlowInstrument {
     delays: ArrayVec<Delay, 32>,
     // Whether it discards lines that come while it is busy.
     drops: bool,
-    // The moment at which the last reply goes out.
+    // The moment at which the last reply goes out; 0 before the first.
     free_from: u64,
 }
 
@@ -33,8 +33,8 @@ impl Model for SlowInstrument {
 }
 
 impl SlowInstrument {
-    /// The instrument with these delays; of two for one procedure the later one counts. If `drops`, it discards lines that come while it is
-    /// busy.
+    /// The instrument with these delays; of several for one procedure the last one counts. If `drops`, it discards lines that
+    /// come while it is busy.
     pub fn new(scene: SceneInstrument, delays: ArrayVec<Delay, 32>, drops: bool) -> SlowInstrument
         ensures { result ≡ record { scene = scene; delays = delays.items; drops = drops; free_from = 0 } }
     {
@@ -60,7 +60,7 @@ impl SlowInstrument {
         self.free_from
     }
 
-    /// Restarts the scene's instrument. It stays busy for as long as before.
+    /// Restarts the scene's instrument, as `SceneInstrument::restart` does. It stays busy until the same moment as before.
     pub fn restart(&mut self)
         ensures { self.new ≡ slow_restarted self.old }
     {
@@ -69,7 +69,9 @@ impl SlowInstrument {
 
     /// Answers a line whose last byte came at the moment `at`: appends the reply to `out`, without CR LF, and returns whether there is one.
     /// The reply goes out at `free_from`. If the instrument is busy and `drops`, the line is discarded: nothing is executed, and there is
-    /// no reply. A line that is no request gets none either, and leaves `free_from` as it is.
+    /// no reply. A line that is no request gets none either. Without a reply `free_from` stays as it is. Unless the line is
+    /// discarded, the moment at which the instrument starts on it is set in the scene's instrument
+    /// (`SceneInstrument::set_moment`).
     pub fn hear<const N: usize>(&mut self, line: &[u8], at: u64, out: &mut ArrayVec<u8, N>) -> bool
         requires { array_vec_len out.old + 512 ≤ N }
         ensures heard { AppendsAnswer (HearsLine self.old line.now at self.new) out.old.items out.new.items result }
@@ -96,7 +98,8 @@ impl SlowInstrument {
         self.drops && at < self.free_from
     }
 
-    // The moment at which the instrument starts on a line that came at the moment `at`: then, or once it isn't busy any more.
+    // The moment at which the instrument starts on a line that came at the moment `at`, unless it discards the line: `at`, or
+    // `free_from` if it is busy until then.
     fn taken_up(&self, at: u64) -> u64
         ensures { result ≡ taken_up self.now at }
     {
@@ -107,7 +110,7 @@ impl SlowInstrument {
         }
     }
 
-    // How long the reply to a line takes, in milliseconds. For a line that is no request it is 0, of which the contract says nothing.
+    // How long the reply to a line takes, in milliseconds. For a line that is no request it is 0. (The contract doesn't say so.)
     fn delay_of_line(&self, line: &[u8]) -> u32
         ensures { IsDelay self.now.delays line.now result }
     {

@@ -9,13 +9,13 @@ use crate::shifting::shifted;
 use gc_instrument::{Pointing, Target};
 use gc_values::Decimal;
 
-// Half a turn, pi to 24 places, in units of 10^-24 radians: the same number as a station's test for nearness has.
+// Half a turn, pi to 24 places, in units of 10^-24 radians: the same number as in `gc_values`, whose code compares directions.
 const HALF_TURN: i128 = 3_141_592_653_589_793_238_462_643;
 
 // A whole turn, in the same units.
 const TURN: i128 = 6_283_185_307_179_586_476_925_286;
 
-// The window of target recognition, each way, in the same units: 0.0131 radians, three quarters of a degree.
+// The window of target recognition, each way, in the same units: 0.0131 radians, about three quarters of a degree.
 const WINDOW: u128 = 13_100_000_000_000_000_000_000;
 
 /// Which ways of real instruments a scene's instrument has.
@@ -27,7 +27,7 @@ pub struct Ways {
     pub aims: bool,
     /// TMC_GetSimpleMea clears the distance that it answers.
     pub takes: bool,
-    /// Replies whose return code is a warning have values.
+    /// Replies to calls that answer angles have values also where the return code is a warning.
     pub values: bool,
     /// The clock runs from the date that it is set to.
     pub clock: bool,
@@ -59,7 +59,7 @@ impl Ways {
         }
     }
 
-    /// These ways and one more, or all of them.
+    /// These ways with this one as well, or all of them for `Way::Real`.
     pub fn with(self, way: Way) -> Ways
         ensures { result ≡ with_way way self }
     {
@@ -98,7 +98,8 @@ pub(crate) fn is_in_face_two(v: &Decimal) -> bool
     !(v.units() <= HALF_TURN)
 }
 
-/// The horizontal direction in the other face: half a turn more or less. What would leave a decimal's range stays.
+/// The horizontal direction in the other face: half a turn less if it is at least half a turn, and else half a turn more. What would leave
+/// a decimal's range stays.
 pub(crate) fn other_hz(hz: &Decimal) -> Decimal
     ensures { result ≡ other_hz hz.now }
 {
@@ -110,7 +111,7 @@ pub(crate) fn other_hz(hz: &Decimal) -> Decimal
     shifted(hz, by)
 }
 
-/// The vertical angle in the other face: a turn less the angle. What would leave a decimal's range stays.
+/// The vertical angle in the other face: a turn minus the angle. What would leave a decimal's range stays.
 pub(crate) fn other_v(v: &Decimal) -> Decimal
     ensures { result ≡ other_v v.now }
 {
@@ -133,7 +134,8 @@ pub(crate) fn target_in_face(over: bool, target: &Target) -> Target
     }
 }
 
-// The angle between two directions with this difference, the shorter way round the circle, in units. The number is `TURN`, as a `u128`.
+// The angle between two directions with this difference, the shorter way round the circle, in units. The number below is `TURN`, as a
+// `u128`.
 fn on_circle(difference: i128) -> u128
     ensures { result ≡ on_circle difference }
 {
@@ -149,7 +151,8 @@ fn difference(one: &Decimal, other: &Decimal) -> i128
     one.units() - other.units()
 }
 
-// How far a target is from where the telescope points, in units: the greater of the differences of the two angles.
+// How far a target is from where the telescope points, in units: the greater of the differences of the two angles, of which that of the
+// horizontal ones is taken the shorter way round the circle.
 fn apart(there: &Pointing, target: &Target) -> u128
     ensures { result ≡ apart there.now target.now }
 {
@@ -158,8 +161,8 @@ fn apart(there: &Pointing, target: &Target) -> u128
     hz.max(v)
 }
 
-// The nearer of the target found so far and this one, and `found` if both are equally near. If none was found so far, it is this one if
-// it is within the window.
+// The nearer of the target found so far and `target`, and `found` if both are equally near. If none was found so far: `target` if
+// it is within the window, and else none.
 fn nearer(there: &Pointing, found: Option<Target>, target: &Target) -> Option<Target>
     ensures { result ≡ nearer there.now found target.now }
 {

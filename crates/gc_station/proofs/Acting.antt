@@ -2,11 +2,10 @@
 -- the client, the marks and the records belong together (`Sound`), and the phase fits them (`Placed`). An act is one call on the
 -- link, with its result. A mark says which command an outstanding request is of, or `None` of a null procedure; a piece is the
 -- bytes that one read gave.
-use Rattle.std.proofs.Common.{◌≡◌, ℕ, ◌<◌, inl, ◌&&◌, ◌||◌, Bool, true, false, not, List, [], ◌∷◌, length, if◌then◌else◌, nat_lt, Option, Some, None, refl, sym, ap, subst}
+use Rattle.std.proofs.Common.{◌≡◌, ℕ, ◌<◌, inl, ◌&&◌, ◌||◌, Bool, true, false, not, List, [], ◌∷◌, if◌then◌else◌, nat_lt, Option, refl, sym, ap, subst}
 use Rattle.std.proofs.lemmas.Bool.{both_ways}
 use Rattle.gc_lines.specs.Frames.{rest_behind}
-use Rattle.gc_catalogue.specs.declared.asked.Asked.{Asked}
-use Rattle.gc_client.specs.Rule.{ById, heard, hears, id_settled, place_in}
+use Rattle.gc_client.specs.Rule.{heard, hears}
 use Rattle.gc_client.proofs.OneForOne.{heard_parts}
 use Rattle.gc_texts.specs.declared.tasks.Task.{Task}
 use Rattle.gc_links.specs.declared.link.Moment.{Moment}
@@ -25,6 +24,7 @@ use Rattle.gc_station.specs.Marks.{commands_in}
 use Rattle.gc_station.specs.Progressing.{moment_noted, failing, after_failure, is_finished, is_spared, lines_synchronizing, quieted, drained, time_passed, silent, is_idle, closed}
 use Rattle.gc_station.specs.Model.{Model, with_progress, with_moment, with_rest, waiting_of, line_came, lines_came, lines_completed, after_piece, is_heard, piece_noted, piece_at, after_clock, after_put, after_open, after_read, after_close}
 use Rattle.gc_station.proofs.Invariant.{is_bare, is_done, says_done}
+use Rattle.gc_station.proofs.Meets.{heard_left}
 use Rattle.gc_station.proofs.Midway.{Placed, SoundAt, PlacedAt, Mid, sound_moment, sound_settles}
 use Rattle.gc_station.proofs.Walk.{asked_along, closed_along}
 use Rattle.gc_station.proofs.Facts.{finished_so}
@@ -35,27 +35,28 @@ fail_placed : (p : Progress) (rest : List ℕ) (marks : List (Option Mark)) (why
 fail_placed p rest marks why true other = record { empty = λ e. cc; finished = λ e. absurd (both_ways (is_done why) other e) }
 fail_placed p rest marks why false other = record { empty = λ e. cc; finished = λ e. absurd (both_ways (is_done why) other e) }
 
--- a failure preserves `Mid`, unless the run fails for being done
+-- a failure for `why` preserves `Mid`, if `why` isn't `Done`
 pub mid_fail : (plan : Plan) (commands : List Task) (s : Model) (why : Cause) → is_done why ≡ false → Mid plan commands s → Mid plan commands (with_progress (failing why) s)
 mid_fail plan commands s why other mid = (mid.0, fail_placed s.progress s.rest s.marks why (is_up s.progress.phase) other)
 
--- a moment that times requests out preserves `Mid`
+-- a moment, at which requests may time out, preserves `Mid`
 pub mid_moment : (plan : Plan) (commands : List Task) (s : Model) (m : Moment) → Mid plan commands s → Mid plan commands (with_moment m s)
 mid_moment plan commands s m mid = (sound_moment plan commands s.progress.left s.progress.unsent s.client s.marks s.records s.passes m.elapsed mid.0, mid.1)
 
--- an act that reads the clock preserves `Mid`, if the change of the progress does
+-- an act that reads the clock preserves `Mid`, if the change of the progress by `f m` does so for each moment m
 pub mid_clock : (plan : Plan) (commands : List Task) (f : Moment → Progress → Progress) (s : Model) (act : Act) → Mid plan commands s
     → ((m : Moment) → Mid plan commands (with_progress (f m) s)) → Mid plan commands (after_clock f s act)
 mid_clock plan commands f s (Told m) mid ok = mid_moment plan commands (with_progress (f m) s) m (ok m)
 mid_clock plan commands f s act mid ok = mid_fail plan commands s cause.Clock refl mid
 
--- an act that puts bytes preserves `Mid`, if the change of the model does
+-- `Mid` holds after an act that puts bytes, whole or in part, if it holds of the model that `f` changed
 pub mid_put : (plan : Plan) (commands : List Task) (requests : ℕ) (f : Model → Model) (s : Model) (act : Act) → Mid plan commands (f s) → Mid plan commands (after_put requests f s act)
 mid_put plan commands requests f s (Cut bytes n) mid = mid_fail plan commands (f s) (cause.Write requests n) refl mid
 mid_put plan commands requests f s act mid = mid
 
--- the phase after a lost connection or a failed attempt is `Placed`: the run is over as done (`done`), or it pauses (`some`: a
--- try is left, or none is needed), or it is over for `why`, which isn't `Done`
+-- the phase after a lost connection or a failed attempt is over as done if `done`, else a pause if `some` (a try is left, or none
+-- is needed), and else over for `why`. It is `Placed`, if `why` isn't `Done`, no bytes of a line are kept, and nothing is left to
+-- be sent where `done`
 again_placed : (why : Cause) (left unsent : ℕ) (rest : List ℕ) (marks : List (Option Mark)) (done some : Bool) → is_done why ≡ false → rest ≡ [] → (done ≡ true → (left ≡ 0) × (unsent ≡ 0))
     → Placed (if done then Over cause.Done else if some then Pausing else Over why) left unsent rest marks
 again_placed why left unsent rest marks true some other none finished = record { empty = λ e. cc; finished = λ e. let it = finished refl in (it.0, it.1, inl refl) }
@@ -68,12 +69,13 @@ placed_again plan n why p rest marks other none =
     again_placed why p.left p.unsent rest marks (is_finished n p) (is_spared plan why p || nat_lt 0 p.tries) other none
     (λ finished. let it = finished_so n p finished in (it.0, it.1))
 
--- an attempt to connect preserves `Mid`
+-- an attempt to connect, made in the phase `Down`, preserves `Mid`
 pub mid_open : (plan : Plan) (commands : List Task) (s : Model) (act : Act) → s.progress.phase ≡ Down → Mid plan commands s → Mid plan commands (after_open plan s act)
 mid_open plan commands s Opened is mid = (mid.0, record { empty = λ e. mid.1.empty (ap is_bare is); finished = λ e. cc })
 mid_open plan commands s act is mid = (mid.0, placed_again plan (commands_in s.marks) cause.Open s.progress s.rest s.marks refl (mid.1.empty (ap is_bare is)))
 
--- the end of a run, with no bytes of a line kept, is `Placed`, if a run that is done has nothing left to be sent
+-- the phase of a run that is over for `why`, with no bytes of a line kept, is `Placed`, if nothing is left to be sent where `why`
+-- is `Done`
 over_placed : (why : Cause) (p : Progress) (marks : List (Option Mark)) → (is_done why ≡ true → (p.left ≡ 0) × (p.unsent ≡ 0)) → Placed (Over why) p.left p.unsent [] marks
 over_placed why p marks done = record { empty = λ e. cc; finished = λ e. let it = done e in (it.0, it.1, inl refl) }
 
@@ -91,31 +93,22 @@ close_sound : (plan : Plan) (commands : List Task) (s : Model) (w : Waiting) (wh
     → SoundAt plan commands (closed plan w why s.progress) s.client s.marks s.records s.passes
 close_sound plan commands s w why sound = closed_along (λ (q : Progress). SoundAt plan commands q s.client s.marks s.records s.passes) plan w why s.progress sound sound
 
--- a close preserves `Mid`, if one for being done has nothing left to be sent
+-- a close for `why` preserves `Mid`, if nothing is left to be sent where `why` is `Done`
 pub mid_close : (plan : Plan) (commands : List Task) (s : Model) (why : Cause) → (why ≡ cause.Done → (s.progress.left ≡ 0) × (s.progress.unsent ≡ 0))
     → Mid plan commands s → Mid plan commands (after_close plan why s)
 mid_close plan commands s why done mid = let w : Waiting = waiting_of (with_rest [] s) in (close_sound plan commands s w why mid.0, close_placed plan w why s.progress s.marks done)
 
--- `Mid`, in a phase in which lines are heard: requests are sent then
+-- what `Mid` says in the phase `Ready`, in which lines are heard and requests sent: the phase adds nothing to `Sound`
 pub record Listening (plan : Plan) (commands : List Task) (s : Model) : Type 0 where
   pub sound : SoundAt plan commands s.progress s.client s.marks s.records s.passes
   pub is_ready : s.progress.phase ≡ Ready
-
--- hearing a line leaves the client's next id
-same_next : (c : ById Asked) (line : List ℕ) (o : Option ℕ) → (hears c line o).client.next ≡ c.next
-same_next c line None = refl
-same_next c line (Some id) = by_place (nat_lt (place_in c id) (length c.waiting)) where
-  -- the lemma above, whether a request with the line's id waits (`true`) or not
-  by_place : (b : Bool) → (id_settled c line (place_in c id) b).client.next ≡ c.next
-  by_place true = refl
-  by_place false = refl
 
 -- a line that is heard preserves `Listening`
 listen_line : (plan : Plan) (commands : List Task) (s : Model) (line : List ℕ) → Listening plan commands s → Listening plan commands (line_came s line)
 listen_line plan commands s line l =
     let p = s.progress in
     let x = hears s.client line (heard line) in
-    let next : x.client.next ≡ s.client.next = same_next s.client line (heard line) in
+    let next : x.client.next ≡ s.client.next = (heard_left s.client line (heard line)).next in
     record {
       sound = sound_settles s.reads plan commands p.left p.unsent s.client x.client s.marks s.records s.passes p.moment.utc x.settlements
           (heard_parts s.client line (heard line)) (subst (λ (n : ℕ). n < 8) (sym next) l.sound.digit) l.sound;
@@ -144,7 +137,7 @@ listen_came plan commands s [] piece l = listen_lines plan commands (with_rest (
 listen_came plan commands s (asked ∷ others) piece l = listen_asked plan commands (with_rest (rest_behind s.rest piece) s) (lines_completed s.rest piece)
     (record { sound = l.sound; is_ready = l.is_ready })
 
--- counting what a piece settled preserves `Mid`, where lines are heard
+-- where `Listening` holds of a model, `Mid` holds of it once it is noted what a piece settled (`piece_noted`)
 piece_noted_ready : (plan : Plan) (commands : List Task) (s : Model) (until : Until) (before : ℕ) → Listening plan commands s → Mid plan commands (piece_noted plan until before s)
 piece_noted_ready plan commands s until before l = (
   l.sound,
@@ -155,9 +148,10 @@ piece_noted_ready plan commands s until before l = (
   },
 )
 
--- a piece that was counted preserves `Mid`, heard or not
-piece_noted_came : (plan : Plan) (commands : List Task) (s : Model) (until : Until) (before : ℕ) (h : Bool) (word piece : List ℕ) → is_heard s.progress.phase ≡ h
-    → Mid plan commands s → Mid plan commands (piece_noted plan until before (after_piece h word piece s))
+-- a piece, which is heard or discarded as the phase says (`heard`), preserves `Mid`, once it is noted what the piece settled
+-- (`piece_noted`)
+piece_noted_came : (plan : Plan) (commands : List Task) (s : Model) (until : Until) (before : ℕ) (heard : Bool) (word piece : List ℕ) → is_heard s.progress.phase ≡ heard
+    → Mid plan commands s → Mid plan commands (piece_noted plan until before (after_piece heard word piece s))
 piece_noted_came plan commands s until before true word piece is mid =
     piece_noted_ready plan commands (after_piece true word piece s) until before (listen_came plan commands s word piece (record { sound = mid.0; is_ready = heard_ready s.progress.phase is }))
 piece_noted_came plan commands s until before false word piece is mid = (mid.0, record { empty = mid.1.empty; finished = mid.1.finished })
@@ -180,12 +174,12 @@ down_placed false phase left unsent rest marks is placed = placed
 abbrev MidAt : Plan → List Task → Model → Progress → Type 0
 MidAt plan commands s p = SoundAt plan commands p s.client s.marks s.records s.passes × PlacedAt p s.rest s.marks
 
--- the end of a drain preserves `MidAt`
-drained_there : (plan : Plan) (commands : List Task) (s : Model) (p : Progress) (b : Bool) → MidAt plan commands s p → MidAt plan commands s (if b then drained p else p)
+-- the end of a drain, if it ends (`ends`), preserves `MidAt`
+drained_there : (plan : Plan) (commands : List Task) (s : Model) (p : Progress) (ends : Bool) → MidAt plan commands s p → MidAt plan commands s (if ends then drained p else p)
 drained_there plan commands s p true mid = (mid.0, record { empty = λ e. cc; finished = λ e. cc })
 drained_there plan commands s p false mid = mid
 
--- the end of a pause or a drain preserves `MidAt`
+-- the end of a pause or a drain, if one ends, preserves `MidAt`
 quiet_there : (plan : Plan) (commands : List Task) (s : Model) (phase : Phase) (p : Progress) → p.phase ≡ phase → MidAt plan commands s p → MidAt plan commands s (quieted plan phase p)
 quiet_there plan commands s Pausing p is mid = (mid.0, down_placed (is_past p.pause p && not (is_idle plan p)) p.phase p.left p.unsent s.rest s.marks is mid.1)
 quiet_there plan commands s Draining p is mid = drained_there plan commands s p (is_quiet plan p) mid

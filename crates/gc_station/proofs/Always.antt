@@ -1,5 +1,5 @@
--- Facts of every run: what holds at the start, and after each act of a run, holds after a whole run. An act is one call on the
--- link, with its result.
+-- Facts of every run: what holds at the start, and is kept by each act of a run, holds after a whole run. An act is one call on
+-- the link, with its result.
 use Rattle.std.proofs.Common.{◌≡◌, List, [], ◌∷◌, ◌++◌, sym, ap, ◌∙◌, subst}
 use Rattle.gc_texts.specs.declared.tasks.Task.{Task}
 use Rattle.gc_station.specs.declared.plan.Plan.{Plan}
@@ -39,11 +39,11 @@ module _ (plan : Plan) (commands : List Task) where
         let t = after_all plan commands s done in
         subst (λ (q : Progress). P q (done ++ act ∷ [])) (sym (ended_progress (moved plan commands (action_at plan t) (with_progress turned t) act))) (step done act runs o p)
 
--- the progress after one act more is what `moved` makes of it: the loss of what is outstanding, at the end of the act, changes
--- no progress
-pub progress_behind : (plan : Plan) (commands : List Task) (scope : Scope) (done : List Act) (act : Act)
+-- the progress after one act more is that which `moved` gives once the turn is taken: the loss of what is outstanding, at the end
+-- of the act, changes no progress
+pub progress_after_act : (plan : Plan) (commands : List Task) (scope : Scope) (done : List Act) (act : Act)
     → (state_after plan commands scope (done ++ act ∷ [])).progress ≡ (moved plan commands (action_at plan (state_after plan commands scope done))
     (with_progress turned (state_after plan commands scope done)) act).progress
-progress_behind plan commands scope done act =
+progress_after_act plan commands scope done act =
     let s = state_after plan commands scope done in
     ap (λ (x : Model). x.progress) (after_all-append plan commands (opening plan scope) done (act ∷ [])) ∙ ended_progress (moved plan commands (action_at plan s) (with_progress turned s) act)

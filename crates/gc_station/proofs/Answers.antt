@@ -1,6 +1,6 @@
 -- Each record is of its very request: an answer came after it, with its id, and in time; a late reply came too late; and a lost
--- one is lost for a cause. Each act preserves `IsHonest` (of `Waiting`): the outstanding requests were put among the acts, and the
--- records are true. An act is one call on the link, with its result.
+-- one is lost for a cause. Each act preserves `IsHonest` (of `Waiting`): the outstanding requests were put among the acts, and
+-- the records are true. An act is one call on the link, with its result.
 use Rattle.std.proofs.Common.{◌≡◌, inl, inr, ℕ, ◌+◌, ◌%◌, ◌<◌, ◌≤◌, Bool, true, false, List, [], ◌∷◌, ◌++◌, length, drop, if◌then◌else◌, Option, Some, None, refl, sym, ap, ◌∙◌, subst, arith, append_assoc, append-nil, length-append}
 use Rattle.std.specs.List.{AllByRecursion}
 use Rattle.gc_catalogue.specs.declared.asked.Asked.{Asked}
@@ -31,14 +31,15 @@ use Rattle.gc_station.specs.Reasons.{HoldsBefore}
 use Rattle.gc_station.specs.Records.{Record}
 use Rattle.gc_station.specs.Runs.{state_after}
 use Rattle.gc_station.specs.ActKinds.{Puts, ReadsClock, IsOpening, IsReading}
-use Rattle.gc_station.specs.Model.{Model, opening, action_at, waiting_of, mark_next, place_next, request_text, null_text, first_text, with_progress, is_heard, client_sent, asks_null, asks_first, asks_next, is_chained_after_next, others_after_next, is_chained_after, others_after, after_pass, with_passes, next_left_out, with_listed, listed_after_skip, with_records, unsent_record, first_unsent_record, after_clock, after_put, after_open, after_read, Performs, moved, Runs, cycle_length, place_to_send, mark_setup, text_or_null, asks_or_null, asks_setup}
+use Rattle.gc_station.specs.Model.{Model, opening, action_at, waiting_of, request_text, null_text, first_text, with_progress, is_heard, client_sent, asks_null, asks_first, asks_next, after_pass, with_passes, next_left_out, with_listed, listed_after_skip, with_records, unsent_record, first_unsent_record, after_clock, after_put, after_open, after_read, Performs, moved, Runs, cycle_length, place_to_send, text_or_null, asks_or_null, asks_setup}
+use Rattle.gc_station.specs.NextCommand.{mark_next, place_next, is_chained_after_next, others_after_next, is_chained_after, others_after, mark_setup}
 use Rattle.gc_station.proofs.EachRun.{invariant_holds}
 use Rattle.gc_station.proofs.Outs.{prepare_cycle, prepare_place, send_cycle, send_place, sending_asks}
 use Rattle.gc_station.proofs.Facts.{action_for}
 use Rattle.gc_station.proofs.Invariant.{Invariant}
 use Rattle.gc_station.proofs.Going.{after_all-append}
 use Rattle.gc_station.proofs.Growing.{losing_records}
-use Rattle.gc_station.proofs.Lists.{all_append, all_on, Rows, rows_more}
+use Rattle.gc_station.proofs.Lists.{all_append, all_on, AllRisingAt, rising_more}
 use Rattle.gc_station.proofs.Losing.{losing_honest}
 use Rattle.gc_station.proofs.Waiting.{Stayed, Waits, IsJustified, Honest, IsHonest, Marked, asked_more, asked_as, asked_among, stays_still, more_true, still, moment_told}
 use Rattle.gc_station.proofs.Pieces.{piece_honest}
@@ -58,7 +59,8 @@ puts_still bytes act o d = absurd o
 abbrev pub with_sent : ById Asked → ℕ → Asked → ℕ → ById Asked
 with_sent c target call deadline = record { next = (c.next + 1) % 8; waiting = c.waiting ++ pending_of target call deadline ∷ [] }
 
--- an act that sends a request preserves `Honest`: one more request is outstanding, after the others
+-- an act that reads no moment, and sends a request with room for it, preserves `Honest`, if the request waits as `Waits` says,
+-- and each outstanding request has a mark: the request is then outstanding after the others
 sent_honest : (plan : Plan) (commands : List Task) (scope : Scope) (acts : List Act) (act : Act) (c : ById Asked) (marks : List (Option Mark))
     (records : List Record) (target : ℕ) (call : Asked) (deadline : ℕ) (mark : Option Mark)
     → (reads_none : (d : ℕ) → ReadsBefore d act) → (digit : c.next < 8) → (room : length c.waiting < 7) → (paired : length marks ≡ length c.waiting)
@@ -75,8 +77,8 @@ sent_honest plan commands scope acts act c marks records target call deadline ma
     let end : length ws ≡ 0 + length ws = omega arith in
     let from : 0 ≤ length acts = omega arith in
     record {
-      waiting = subst (λ (n : ℕ). Rows (Waits plan commands scope (acts ++ act ∷ []) next n) 0 0 (ws ++ asked ∷ []) (marks ++ mark ∷ [])) (sym many)
-          (rows_more (Waits plan commands scope acts c.next (length ws)) W 0 0 (length acts) (length ws) ws marks asked mark end paired from
+      waiting = subst (λ (n : ℕ). AllRisingAt (Waits plan commands scope (acts ++ act ∷ []) next n) 0 0 (ws ++ asked ∷ []) (marks ++ mark ∷ [])) (sym many)
+          (rising_more (Waits plan commands scope acts c.next (length ws)) W 0 0 (length acts) (length ws) ws marks asked mark end paired from
           (λ n j p y low w.
           let below : j < length ws = omega (arith, low) in (
             asked_among plan commands scope acts Stayed n j _ p y w,
@@ -86,7 +88,9 @@ sent_honest plan commands scope acts act c marks records target call deadline ma
       written = h.written;
     }
 
--- the request that is sent waits as `Waits` says, put as the last of the acts
+-- a request that is sent, with room for it, waits as `Waits` says, put as the last of the acts. Its mark is of the command that
+-- is sent next (`Marked`), with the deadline that this command has, or it has none; and if other requests wait, a request of the
+-- client is next (`IsAsking`)
 asked_here : (plan : Plan) (commands : List Task) (scope : Scope) (acts : List Act) (act : Act) (target : ℕ) (call : Asked) (deadline : ℕ) (mark : Option Mark)
     → Invariant plan commands (state_after plan commands scope acts)
     → (room : length (state_after plan commands scope acts).client.waiting < 7)
@@ -113,7 +117,7 @@ asked_here plan commands scope acts act target call deadline mark fine room asks
       stays = tt;
     }
 
--- an act that sends a command preserves `Honest`
+-- an act that sends a command, with the mark of the one that is next (`Marked`) and with room for it, preserves `Honest`
 command_honest : (plan : Plan) (commands : List Task) (scope : Scope) (acts : List Act) (act : Act) (target : ℕ) (call : Asked) (mark : Mark)
     → Invariant plan commands (state_after plan commands scope acts) → IsHonest plan commands scope acts (acts ++ act ∷ []) (state_after plan commands scope acts)
     → (marked : Marked plan commands scope acts mark) → (room : length (state_after plan commands scope acts).client.waiting < 7)
@@ -128,17 +132,18 @@ command_honest plan commands scope acts act target call mark fine h is room puts
     (asked_here plan commands scope acts act target call (deadline_after plan commands scope acts) (Some mark) fine room (λ above. sending_asks plan s is.sends)
     (λ m its. let same : mark ≡ m = cc in subst (λ (x : Mark). Marked plan commands scope acts x) same is) (λ m its. refl) puts) h
 
--- the act that sends the first of these commands, with this mark, preserves `IsHonest`
-first_honest : (plan : Plan) (commands : List Task) (scope : Scope) (acts : List Act) (act : Act) (next_is_chained : Bool) (behind : ℕ) (left : List Task) (mark : Mark)
+-- an act that sends the first of the commands `left`, those from the next one on, with the mark of that one (`Marked`) and with
+-- room for it, preserves `IsHonest`
+first_honest : (plan : Plan) (commands : List Task) (scope : Scope) (acts : List Act) (act : Act) (next_is_chained : Bool) (next_others : ℕ) (left : List Task) (mark : Mark)
     → Invariant plan commands (state_after plan commands scope acts) → IsHonest plan commands scope acts (acts ++ act ∷ []) (state_after plan commands scope acts)
     → (marked : Marked plan commands scope acts mark) → (room : length (state_after plan commands scope acts).client.waiting < 7)
     → (there : drop (place_to_send plan commands (state_after plan commands scope acts)) commands ≡ left)
     → (puts : Puts (first_text mark.sent (state_after plan commands scope acts).client left) act)
     → IsHonest plan commands scope (acts ++ act ∷ []) (acts ++ act ∷ [])
-    (with_progress (sent next_is_chained behind) (asks_first mark left (with_progress turned (state_after plan commands scope acts))))
-first_honest plan commands scope acts act next_is_chained behind [] mark fine h is room at puts =
+    (with_progress (sent next_is_chained next_others) (asks_first mark left (with_progress turned (state_after plan commands scope acts))))
+first_honest plan commands scope acts act next_is_chained next_others [] mark fine h is room at puts =
     still plan commands scope acts act _ _ _ (puts_still [] act puts) h
-first_honest plan commands scope acts act next_is_chained behind (task ∷ others) mark fine h is room at puts =
+first_honest plan commands scope acts act next_is_chained next_others (task ∷ others) mark fine h is room at puts =
     let s = state_after plan commands scope acts in
     let d : later s.progress.moment.elapsed task.deadline ≡ deadline_after plan commands scope acts = ap (λ (left : List Task). later s.progress.moment.elapsed (first_deadline left)) (sym at) in
     subst (λ (c : ById Asked). Honest plan commands scope (acts ++ act ∷ []) (acts ++ act ∷ []) c (s.marks ++ Some mark ∷ []) s.records)
@@ -146,7 +151,8 @@ first_honest plan commands scope acts act next_is_chained behind (task ∷ other
     ∙ client_behind s.client task.command.target (call_at task mark.sent) (deadline_after plan commands scope acts) room))
     (command_honest plan commands scope acts act task.command.target (call_at task mark.sent) mark fine h is room puts)
 
--- an act that sends a null procedure after commands preserves `IsHonest`
+-- an act that sends a null procedure of the client, with room for it, preserves `IsHonest`; if other requests wait, a request of
+-- the client is next (`IsAsking`)
 null_honest : (plan : Plan) (commands : List Task) (scope : Scope) (acts : List Act) (act : Act) (f : Progress → Progress)
     → Invariant plan commands (state_after plan commands scope acts) → IsHonest plan commands scope acts (acts ++ act ∷ []) (state_after plan commands scope acts)
     → (room : length (state_after plan commands scope acts).client.waiting < 7)
@@ -163,7 +169,8 @@ null_honest plan commands scope acts act f fine h room asks puts =
       never : (m : Mark) → None ≡ Some m → ⊥
       never m e = cc
 
--- the act that sends the first of these commands of the setup, with this mark, preserves `IsHonest`
+-- an act that sends the first of the setup's commands `left`, those from the next one on, with the mark of that one (`Marked`),
+-- or a null procedure if there is none, and with room for the request, preserves `IsHonest`
 setup_honest : (plan : Plan) (commands : List Task) (scope : Scope) (acts : List Act) (act : Act) (left : List Task) (mark : Mark)
     → Invariant plan commands (state_after plan commands scope acts) → IsHonest plan commands scope acts (acts ++ act ∷ []) (state_after plan commands scope acts)
     → (marked : Marked plan commands scope acts mark) → (room : length (state_after plan commands scope acts).client.waiting < 7)
@@ -172,13 +179,7 @@ setup_honest : (plan : Plan) (commands : List Task) (scope : Scope) (acts : List
     → IsHonest plan commands scope (acts ++ act ∷ []) (acts ++ act ∷ []) (with_progress (setup_sent plan) (asks_or_null plan mark left (with_progress turned (state_after plan commands scope acts))))
 setup_honest plan commands scope acts act [] mark fine h is room at puts =
     null_honest plan commands scope acts act (setup_sent plan) fine h room (λ above. sending_asks plan (state_after plan commands scope acts) is.sends) puts
-setup_honest plan commands scope acts act (task ∷ others) mark fine h is room at puts =
-    let s = state_after plan commands scope acts in
-    let d : later s.progress.moment.elapsed task.deadline ≡ deadline_after plan commands scope acts = ap (λ (left : List Task). later s.progress.moment.elapsed (first_deadline left)) (sym at) in
-    subst (λ (c : ById Asked). Honest plan commands scope (acts ++ act ∷ []) (acts ++ act ∷ []) c (s.marks ++ Some mark ∷ []) s.records)
-    (sym (ap (λ (e : ℕ). client_sent s.client (sends WINDOW s.client task.command.target (call_at task mark.sent) e)) d
-    ∙ client_behind s.client task.command.target (call_at task mark.sent) (deadline_after plan commands scope acts) room))
-    (command_honest plan commands scope acts act task.command.target (call_at task mark.sent) mark fine h is room puts)
+setup_honest plan commands scope acts act (task ∷ others) mark fine h is room at puts = first_honest plan commands scope acts act false 0 (task ∷ others) mark fine h is room at puts
 
 -- `IsHonest` holds after a write, whole or cut, if it holds after a whole one
 put_honest : (plan : Plan) (commands : List Task) (scope : Scope) (acts : List Act) (requests : ℕ) (f : Model → Model) (t : Model) (act : Act)
@@ -189,8 +190,9 @@ put_honest plan commands scope acts requests f t act h = h
 -- A command that isn't sent is neither answered nor late nor lost.
 
 -- the record of a command that isn't sent is true: it is neither an answer nor late nor lost
-unsent_true : (plan : Plan) (commands : List Task) (scope : Scope) (all : List Act) (b : Bool) (utc : ℕ) (mark : Mark) (command : Wish)
-    → IsJustified plan commands scope all (record { sent = None; utc = utc; cycle = mark.cycle; place = mark.place; turn = mark.expected.turn; command = command; end = if b then Missed else Skipped })
+unsent_true : (plan : Plan) (commands : List Task) (scope : Scope) (all : List Act) (missed : Bool) (utc : ℕ) (mark : Mark) (command : Wish)
+    → IsJustified plan commands scope all (record
+    { sent = None; utc = utc; cycle = mark.cycle; place = mark.place; turn = mark.expected.turn; command = command; end = if missed then Missed else Skipped })
 unsent_true plan commands scope all true utc mark command = record { answered = λ line e. cc; late = λ e. cc; lost = λ e. cc }
 unsent_true plan commands scope all false utc mark command = record { answered = λ line e. cc; late = λ e. cc; lost = λ e. cc }
 
@@ -234,7 +236,7 @@ open_honest plan commands scope acts Opened s h o = still plan commands scope ac
 open_honest plan commands scope acts Unopened s h o = still plan commands scope acts Unopened _ _ _ (λ d. tt) h
 open_honest plan commands scope acts act s h o = absurd o
 
--- a read preserves `IsHonest`, whatever came of it
+-- a read preserves `IsHonest`, whatever came of it. `tail` are the records that the loss of what is outstanding adds after it
 read_honest : (plan : Plan) (commands : List Task) (scope : Scope) (acts : List Act) (until : Until) (act : Act) (tail : List Record)
     → Invariant plan commands (state_after plan commands scope acts) → IsHonest plan commands scope acts (acts ++ act ∷ []) (state_after plan commands scope acts)
     → IsReading act
@@ -253,7 +255,8 @@ read_honest plan commands scope acts until act tail fine h o ends = absurd o
 close_still : (act : Act) → act ≡ Closed → (d : ℕ) → ReadsBefore d act
 close_still act is d = subst (λ (x : Act). ReadsBefore d x) (sym is) tt
 
--- each act preserves `IsHonest`, before what is outstanding is lost
+-- an act of the action that is next, whose conditions hold, preserves `IsHonest`, before what is outstanding is lost. `tail` are
+-- the records that this loss adds
 moved_honest : (plan : Plan) (commands : List Task) (scope : Scope) (acts : List Act) (action : Action) (act : Act) (tail : List Record)
     → Invariant plan commands (state_after plan commands scope acts) → IsHonest plan commands scope acts (acts ++ act ∷ []) (state_after plan commands scope acts)
     → (is_next : action_at plan (state_after plan commands scope acts) ≡ action)

@@ -19,7 +19,8 @@ use Rattle.gc_station.specs.Deciding.{has_begun, is_none_left}
 use Rattle.gc_station.specs.Parts as part
 use Rattle.gc_station.specs.Parts.{Part, sync_part, client_part, in_front, parts_of}
 use Rattle.gc_station.specs.Progressing.{is_over, loses_all}
-use Rattle.gc_station.specs.Model.{Performs, Runs, Model, after, is_heard, lines_completed, mark_next, action_at, place_next, mark_setup}
+use Rattle.gc_station.specs.Model.{Performs, Runs, Model, after, is_heard, lines_completed, action_at}
+use Rattle.gc_station.specs.NextCommand.{mark_next, place_next, mark_setup}
 use Rattle.gc_station.proofs.Beginnings.{word_after as word_left, word_if_resynchronizing}
 use Rattle.gc_station.proofs.Midway.{kept_for}
 use Rattle.gc_station.proofs.Turns.{over_stays}
@@ -38,7 +39,7 @@ pub left_append : (word : List ℕ) (xs ys : List (List ℕ)) → unanswered_aft
 left_append word [] ys = refl
 left_append word (line ∷ xs) ys = left_append (left_by word (heard line)) xs ys
 
--- turns that hear these lines hear exactly these
+-- the turns that hear `lines`, one turn for each line, hear these lines and no others
 heard_lines : (lines : List (List ℕ)) → heard_in (map part.Hears lines) ≡ lines
 heard_lines [] = refl
 heard_lines (line ∷ lines) = ap (λ l. line ∷ l) (heard_lines lines)
@@ -50,62 +51,64 @@ pub word_of : (w : List ℕ) → is_none_left w ≡ true → w ≡ []
 word_of [] e = refl
 word_of (asked ∷ others) e = cc
 
+-- the lines heard by the turns of a piece are its lines if it is heard, and none if it is discarded
+heard_piece : (heard : Bool) (lines : List (List ℕ)) → heard_in (if heard then map part.Hears lines else []) ≡ (if heard then lines else [])
+heard_piece true lines = heard_lines lines
+heard_piece false lines = refl
+
+-- if an act performs the action o, the lines in the turns of the act's part of a synchronization (`sync_part`) are those that the
+-- station hears at the act
+heard_by : (commands : List Task) (s : Model) (o : Action) (act : Act) → Performs commands s o act → heard_in (sync_part s o act).turns ≡ lines_heard_at s act
+heard_by commands s action.Ask (Put bytes) obeys = refl
+heard_by commands s action.Ask (Cut bytes count) obeys = refl
+heard_by commands s (action.Read until) (Gave piece m) obeys = heard_piece (is_heard s.progress.phase) (lines_completed s.rest piece)
+heard_by commands s (action.Close why) (Gave piece m) obeys = cc
+heard_by commands s o (Gave piece m) obeys = absurd obeys
+heard_by commands s o act obeys = refl
+
+-- the turns of a read that gave `piece`, in its part of a synchronization (`sync_part`), are the lines of the piece if it is
+-- heard, and none if it is discarded
+pub turns_gave : (commands : List Task) (s : Model) (o : Action) (piece : List ℕ) (m : Moment) → Performs commands s o (Gave piece m)
+    → (sync_part s o (Gave piece m)).turns ≡ (if is_heard s.progress.phase then map part.Hears (lines_completed s.rest piece) else [])
+turns_gave commands s (action.Read until) piece m obeys = refl
+turns_gave commands s (action.Close why) piece m obeys = cc
+turns_gave commands s o piece m obeys = absurd obeys
+
+-- the act puts no bytes, and gives none
+abbrev pub CarriesNoBytes : Act → Type 0
+CarriesNoBytes (Put bytes) = ⊥
+CarriesNoBytes (Cut bytes count) = ⊥
+CarriesNoBytes (Gave piece m) = ⊥
+CarriesNoBytes act = Unit {0}
+
+-- an act that puts and gives no bytes makes no turn
+pub turns_none : (s : Model) (o : Action) (act : Act) → CarriesNoBytes act → (sync_part s o act).turns ≡ []
+turns_none s action.Ask (Put bytes) h = absurd h
+turns_none s action.Ask (Cut bytes count) h = absurd h
+turns_none s (action.Read until) (Gave piece m) h = absurd h
+turns_none s o act h = refl
+
 module _ (plan : Plan) (commands : List Task) where
-  -- the lines heard by the turns of a piece are its lines if it is heard, and none if it is discarded
-  heard_piece : (h : Bool) (lines : List (List ℕ)) → heard_in (if h then map part.Hears lines else []) ≡ (if h then lines else [])
-  heard_piece true lines = heard_lines lines
-  heard_piece false lines = refl
-
-  -- the lines that a station hears by an act while it synchronizes are those that the act brings
-  heard_by : (s : Model) (o : Action) (act : Act) → Performs commands s o act → heard_in (sync_part s o act).turns ≡ lines_heard_at s act
-  heard_by s action.Ask (Put bytes) obeys = refl
-  heard_by s action.Ask (Cut bytes count) obeys = refl
-  heard_by s (action.Read until) (Gave piece m) obeys = heard_piece (is_heard s.progress.phase) (lines_completed s.rest piece)
-  heard_by s (action.Close why) (Gave piece m) obeys = cc
-  heard_by s o (Gave piece m) obeys = absurd obeys
-  heard_by s o act obeys = refl
-
-  -- the turns of a piece, while the station synchronizes, are its lines if it is heard, and none if it is discarded
-  pub turns_gave : (s : Model) (o : Action) (piece : List ℕ) (m : Moment) → Performs commands s o (Gave piece m)
-      → (sync_part s o (Gave piece m)).turns ≡ (if is_heard s.progress.phase then map part.Hears (lines_completed s.rest piece) else [])
-  turns_gave s (action.Read until) piece m obeys = refl
-  turns_gave s (action.Close why) piece m obeys = cc
-  turns_gave s o piece m obeys = absurd obeys
-
-  -- the act puts no bytes, and brings none
-  abbrev pub IsPlain : Act → Type 0
-  IsPlain (Put bytes) = ⊥
-  IsPlain (Cut bytes count) = ⊥
-  IsPlain (Gave piece m) = ⊥
-  IsPlain act = Unit {0}
-
-  -- an act that is `IsPlain` makes no turn
-  pub turns_plain : (s : Model) (o : Action) (act : Act) → IsPlain act → (sync_part s o act).turns ≡ []
-  turns_plain s action.Ask (Put bytes) h = absurd h
-  turns_plain s action.Ask (Cut bytes count) h = absurd h
-  turns_plain s (action.Read until) (Gave piece m) h = absurd h
-  turns_plain s o act h = refl
-
   -- after an act while the station synchronizes, the ids that are left are those that the lines of the act leave
   pub word_after : (s : Model) (act : Act) → Performs commands s (action_at plan s) act → has_begun s.progress ≡ false
       → (after plan commands s act).progress.word ≡ unanswered_after s.progress.word (heard_in (sync_part s (action_at plan s) act).turns)
-  word_after s act obeys begins = word_left plan commands s act obeys begins ∙ ap (λ l. unanswered_after s.progress.word l) (sym (heard_by s (action_at plan s) act obeys))
+  word_after s act obeys begins = word_left plan commands s act obeys begins ∙ ap (λ l. unanswered_after s.progress.word l) (sym (heard_by commands s (action_at plan s) act obeys))
 
-  -- Each part synchronizes first.
+-- Each part synchronizes first.
 
-  -- the part of an act while the station synchronizes has no steps of the client
-  pub steps_none : (s : Model) (o : Action) (act : Act) → (sync_part s o act).steps ≡ []
-  steps_none s action.Ask (Put bytes) = refl
-  steps_none s action.Ask (Cut bytes count) = refl
-  steps_none s (action.Read until) (Gave piece m) = refl
-  steps_none s o act = refl
+-- the part of an act while the station synchronizes has no steps of the client
+pub steps_none : (s : Model) (o : Action) (act : Act) → (sync_part s o act).steps ≡ []
+steps_none s action.Ask (Put bytes) = refl
+steps_none s action.Ask (Cut bytes count) = refl
+steps_none s (action.Read until) (Gave piece m) = refl
+steps_none s o act = refl
 
-  -- the part of an act while the station synchronizes has no marks
-  pub marks_none : (s : Model) (o : Action) (act : Act) → (sync_part s o act).marks ≡ []
-  marks_none s action.Ask (Put bytes) = refl
-  marks_none s action.Ask (Cut bytes count) = refl
-  marks_none s (action.Read until) (Gave piece m) = refl
-  marks_none s o act = refl
+-- the part of an act while the station synchronizes has no marks
+pub marks_none : (s : Model) (o : Action) (act : Act) → (sync_part s o act).marks ≡ []
+marks_none s action.Ask (Put bytes) = refl
+marks_none s action.Ask (Cut bytes count) = refl
+marks_none s (action.Read until) (Gave piece m) = refl
+marks_none s o act = refl
 
 -- where two lists are empty, they are empty joined
 pub nil_both : {A : Type 0} (xs ys : List A) → xs ≡ [] → ys ≡ [] → xs ++ ys ≡ []
@@ -121,15 +124,16 @@ FirstHasNoTurns (p ∷ ps) = p.turns ≡ []
 left_both : (word : List ℕ) (xs ys : List part.Turn) → unanswered_after word (heard_in (xs ++ ys)) ≡ unanswered_after (unanswered_after word (heard_in xs)) (heard_in ys)
 left_both word xs ys = ap (λ l. unanswered_after word l) (heard_append xs ys) ∙ left_append word (heard_in xs) (heard_in ys)
 
--- if the part p of an act of a synchronization is joined to the front of the first part: the parts then have synchronized from
--- `word` (`AreBegun`), if without p they have synchronized from the ids that the lines of p leave of `word`
+-- parts with p, which has no step of the client, joined to the front of the first one (or p alone, if there are none) have
+-- synchronized from `word` (`AreBegun`), if without p they have synchronized from the ids that the lines of p leave of `word`
 begun_on : (word : List ℕ) (p : Part) (ps : List Part) → p.steps ≡ [] → AreBegun (unanswered_after word (heard_in p.turns)) ps → AreBegun word (in_front p false ps)
 begun_on word p [] e h = inl e
 begun_on word p (q ∷ []) e (inl f) = inl (nil_both p.steps q.steps e f)
 begun_on word p (q ∷ []) e (inr f) = inr (left_both word p.turns q.turns ∙ f)
 begun_on word p (q ∷ r ∷ ps) e h = (left_both word p.turns q.turns ∙ h.0, h.1)
 
--- if the parts have synchronized with no id left (`AreBegun []`), they still have with p joined to the front of the first part
+-- if the parts have synchronized with no id left (`AreBegun []`), they still have with p joined to the front of the first one;
+-- and so has p alone, if there are none
 begun_in : (p : Part) (ps : List Part) → AreBegun [] ps → AreBegun [] (in_front p false ps)
 begun_in p [] h = inr (left_none (heard_in p.turns))
 begun_in p (q ∷ []) h = inr (left_none (heard_in (p.turns ++ q.turns)))
@@ -141,12 +145,31 @@ begun_out : (p : Part) (ps : List Part) → AreBegun the_word ps → AreBegun []
 begun_out p [] h = inr (left_none (heard_in p.turns))
 begun_out p (q ∷ ps) h = (left_none (heard_in p.turns), h)
 
-module _ (plan : Plan) (commands : List Task) where
-  -- if nothing is lost the station has synchronized
-  pub goes_begun : (t : Model) → loses_all t.progress ≡ false → has_begun t.progress ≡ true
-  goes_begun t e = (kept_for (has_begun t.progress) (is_over t.progress) e).0
+-- if `loses_all` says that nothing is lost, the station has synchronized
+pub goes_begun : (t : Model) → loses_all t.progress ≡ false → has_begun t.progress ≡ true
+goes_begun t e = (kept_for (has_begun t.progress) (is_over t.progress) e).0
 
-  -- if a part ends with the model t, the acts after it begin with all eight ids; or the run is over, and there are none
+-- with a part p without turns before the parts `ps` (`in_front`), the first part has no turns; if p is joined to the first of
+-- `ps` (`ends` is false), that one has to have none either
+none_in_front : (p : Part) (ends : Bool) (ps : List Part) → p.turns ≡ [] → (ends ≡ false → FirstHasNoTurns ps) → FirstHasNoTurns (in_front p ends ps)
+none_in_front p true ps e h = e
+none_in_front p false [] e h = e
+none_in_front p false (q ∷ ps) e h = nil_both p.turns q.turns e (h refl)
+
+-- the part that sends the first of these commands has no turns; nor does it have any if there is no command
+none_asking : (now : ℕ) (mark : Mark) (tasks : List Task) → (part.first_request_part now mark tasks).turns ≡ []
+none_asking now mark [] = refl
+none_asking now mark (task ∷ others) = refl
+
+-- the part that sends the first of these commands of the setup, or a null procedure if there is none, has no turns
+none_setup : (plan : Plan) (now : ℕ) (mark : Mark) (tasks : List Task) → (part.request_or_null_part plan now mark tasks).turns ≡ []
+none_setup plan now mark [] = refl
+none_setup plan now mark (task ∷ others) = refl
+
+module _ (plan : Plan) (commands : List Task) where
+  -- let all that is outstanding be lost at the model t (`loses_all`), and all eight ids be left in t unless the station has
+  -- synchronized. If the parts of the acts after t have synchronized from the ids left in t, they have synchronized from all
+  -- eight: where the station has synchronized, the run is over, and no act follows
   next_begun : (t : Model) (acts : List Act) → loses_all t.progress ≡ true → (has_begun t.progress ≡ false → t.progress.word ≡ the_word)
       → Runs plan commands t acts → AreBegun t.progress.word (parts_of plan commands t acts)
       → AreBegun the_word (parts_of plan commands t acts)
@@ -161,9 +184,9 @@ module _ (plan : Plan) (commands : List Task) where
     by_case true e over = none_over acts over runs
     by_case false e over = subst (λ w. AreBegun w (parts_of plan commands t acts)) (anew e) h
 
-  -- if the parts of the acts after `act` have synchronized from the ids that it leaves, the parts with `act` before it have
-  -- synchronized from the ids before it. `begun` is whether the station had synchronized before the act, and `lost` whether all
-  -- that is outstanding is lost at its end
+  -- if the parts of the acts after `act` have synchronized from the ids left after it, the parts of `act` and these acts have
+  -- synchronized from the ids left before it. `begun` is whether the station had synchronized before the act, and `lost` whether
+  -- all that is outstanding is lost at its end
   parts_begun_with : (s : Model) (act : Act) (acts : List Act) (begun lost : Bool) → (is_begun : has_begun s.progress ≡ begun) → (is_lost : loses_all (after plan commands s act).progress ≡ lost)
       → (performs : Performs commands s (action_at plan s) act) → (runs : Runs plan commands (after plan commands s act) acts)
       → AreBegun (after plan commands s act).progress.word (parts_of plan commands (after plan commands s act) acts)
@@ -171,7 +194,7 @@ module _ (plan : Plan) (commands : List Task) where
       (begun && lost) (parts_of plan commands (after plan commands s act) acts))
   parts_begun_with s act acts false lost e f obeys runs h =
       let t = after plan commands s act in
-      begun_on s.progress.word (sync_part s (action_at plan s) act) (parts_of plan commands t acts) (steps_none plan commands s (action_at plan s) act)
+      begun_on s.progress.word (sync_part s (action_at plan s) act) (parts_of plan commands t acts) (steps_none s (action_at plan s) act)
       (subst (λ w. AreBegun w (parts_of plan commands t acts)) (word_after plan commands s act obeys e) h)
   parts_begun_with s act acts true false e f obeys runs h =
       let t = after plan commands s act in
@@ -185,7 +208,7 @@ module _ (plan : Plan) (commands : List Task) where
       subst (λ w. AreBegun w (p ∷ parts_of plan commands t acts)) (sym (word_of s.progress.word e))
       (begun_out p (parts_of plan commands t acts) (next_begun t acts f (λ begins. word_if_resynchronizing plan commands s act obeys e begins) runs h))
 
-  -- all parts of a run have synchronized, as `AreBegun` says
+  -- the parts of a run from the model s on have synchronized from the ids left in s, as `AreBegun` says
   pub parts_begun : (s : Model) (acts : List Act) → Runs plan commands s acts → AreBegun s.progress.word (parts_of plan commands s acts)
   parts_begun s [] runs = inl refl
   parts_begun s (act ∷ acts) runs =
@@ -193,26 +216,10 @@ module _ (plan : Plan) (commands : List Task) where
 
   -- Once the station has synchronized there are no turns.
 
-  -- parts of which the first has no turns stay so with a part without turns before it
-  none_in_front : (p : Part) (b : Bool) (ps : List Part) → p.turns ≡ [] → (b ≡ false → FirstHasNoTurns ps) → FirstHasNoTurns (in_front p b ps)
-  none_in_front p true ps e h = e
-  none_in_front p false [] e h = e
-  none_in_front p false (q ∷ ps) e h = nil_both p.turns q.turns e (h refl)
-
-  -- the part of a command that is sent has no turns
-  none_asking : (now : ℕ) (mark : Mark) (tasks : List Task) → (part.first_request_part now mark tasks).turns ≡ []
-  none_asking now mark [] = refl
-  none_asking now mark (task ∷ others) = refl
-
-  -- the part of a command of the setup that is sent has no turns
-  none_setup : (now : ℕ) (mark : Mark) (tasks : List Task) → (part.request_or_null_part plan now mark tasks).turns ≡ []
-  none_setup now mark [] = refl
-  none_setup now mark (task ∷ others) = refl
-
   -- the part of an action that puts bytes has no turns
   none_putting : (s : Model) (o : Action) → (part.put_part plan commands s o).turns ≡ []
   none_putting s action.Flush = refl
-  none_putting s action.Prepare = none_setup s.progress.moment.elapsed (mark_setup commands s.progress) (drop s.progress.prepared commands)
+  none_putting s action.Prepare = none_setup plan s.progress.moment.elapsed (mark_setup commands s.progress) (drop s.progress.prepared commands)
   none_putting s action.Send = none_asking s.progress.moment.elapsed (mark_next plan commands s.progress) (drop (place_next commands s.progress) commands)
   none_putting s o = refl
 

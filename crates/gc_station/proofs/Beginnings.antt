@@ -23,7 +23,7 @@ use Rattle.gc_station.specs.Reasons.{HoldsBefore}
 use Rattle.gc_station.specs.Runs.{state_after}
 use Rattle.gc_station.specs.Scopes.{Scope}
 use Rattle.gc_station.specs.Model.{Model, opening, action_at, waiting_of, with_progress, Performs, moved, after, after_all, Runs}
-use Rattle.gc_station.proofs.Always.{progress_behind}
+use Rattle.gc_station.proofs.Always.{progress_after_act}
 use Rattle.gc_station.proofs.Closings.{runs_split}
 use Rattle.gc_station.proofs.Counts.{ended_progress}
 use Rattle.gc_station.proofs.EachRun.{invariant_holds}
@@ -32,8 +32,7 @@ use Rattle.gc_station.proofs.Going.{after_all-append, runs_behind}
 use Rattle.gc_station.proofs.Quiets.{asks_only}
 use Rattle.gc_station.proofs.Words.{word_moved, renews_only, renews_needs}
 
--- Lines answer the ids of a word, the null procedures that aren't answered yet, in their order: the word is a subsequence of the
--- lines' ids.
+-- Lines answer the ids of a word in their order: the word is a subsequence of the lines' ids.
 
 -- if what `line` leaves of the word is a subsequence of the ids of `others` and then `ids`, the word is a subsequence of the id
 -- of `line`, the ids of `others` and then `ids`
@@ -56,8 +55,13 @@ lines_answered : (word : List ℕ) (lines : List (List ℕ)) (ids : List ℕ) �
 lines_answered word [] ids h = h
 lines_answered word (line ∷ others) ids h = left_answered word line others ids (lines_answered (left_by word (heard line)) others ids h)
 
+-- a word of which no id is left is a subsequence of any ids
+none_left : (word ids : List ℕ) → is_none_left word ≡ true → IsSubsequence word ids
+none_left [] ids e = tt
+none_left (asked ∷ others) ids e = cc
+
 module _ (plan : Plan) (commands : List Task) where
-  -- a synchronizing station doesn't resynchronize
+  -- while the station synchronizes, an action whose conditions hold isn't `Renew`
   begins_not : (s : Model) (o : Action) → HoldsBefore plan s.progress (waiting_of s) o → has_begun s.progress ≡ false → o ≡ actions.Renew → ⊥
   begins_not s o needs begins is = let it = subst (λ (x : Action). HoldsBefore plan s.progress (waiting_of s) x) is needs in both_ways (has_begun s.progress) begins it.1
 
@@ -78,11 +82,6 @@ module _ (plan : Plan) (commands : List Task) where
       ap (λ (p : Progress). p.word) far ∙ ap (λ (x : Action). (moved plan commands x (with_progress turned s) act).progress.word) it.0
       ∙ ap (λ (x : Act). (moved plan commands actions.Renew (with_progress turned s) x).progress.word) it.2
 
-  -- a word of which no id is left is a subsequence of any ids
-  none_left : (word ids : List ℕ) → is_none_left word ≡ true → IsSubsequence word ids
-  none_left [] ids e = tt
-  none_left (asked ∷ others) ids e = cc
-
   -- if the word after an act is a subsequence of `ids`, the word before it is a subsequence of the ids of the act's lines and
   -- then `ids`; `begun` is whether the station had synchronized before the act
   one_before : (s : Model) (act : Act) (ids : List ℕ) (begun : Bool) → has_begun s.progress ≡ begun → Performs commands s (action_at plan s) act
@@ -91,8 +90,8 @@ module _ (plan : Plan) (commands : List Task) where
   one_before s act ids true begun obeys h = none_left s.progress.word _ begun
   one_before s act ids false begins obeys h = lines_answered s.progress.word (lines_heard_at s act) ids (subst (λ (w : List ℕ). IsSubsequence w ids) (word_after s act obeys begins) h)
 
-  -- if the station has synchronized after these acts, the word before them is a subsequence of the ids of the lines that they
-  -- bring
+  -- if the station has synchronized after these acts, the word before them is a subsequence of the ids of the lines that are
+  -- heard at them
   none_before : (s : Model) (acts : List Act) → Runs plan commands s acts → has_begun (after_all plan commands s acts).progress ≡ true
       → IsSubsequence s.progress.word (filter_map heard (lines_heard plan commands s acts))
   none_before s [] runs begun = none_left s.progress.word [] begun
@@ -102,14 +101,15 @@ module _ (plan : Plan) (commands : List Task) where
       subst (λ (all : List ℕ). IsSubsequence s.progress.word all) (sym (filter_map-append heard (lines_heard_at s act) (lines_heard plan commands u acts)))
       (one_before s act ids (has_begun s.progress) refl runs.0 (none_before u acts runs.1 begun))
 
--- if a command or a null procedure after commands is sent, the station has synchronized
+-- if a command is next, or a null procedure that isn't of a synchronization, the station has synchronized
 asking_begun : (plan : Plan) (s : Model) (o : Action) → IsAsking o → HoldsBefore plan s.progress (waiting_of s) o → has_begun s.progress ≡ true
 asking_begun plan s actions.Prepare asks needs = needs.1
 asking_begun plan s actions.Send asks needs = needs.1
 asking_begun plan s actions.Flush asks needs = needs.1
 asking_begun plan s o asks needs = absurd asks
 
--- no command is sent before the last answer of a synchronization
+-- the law: if a command is sent next, or a null procedure that isn't of a synchronization, the ids that weren't answered after
+-- some acts are, in order, among the ids of the lines heard since
 pub none_before_the_last : NoneBeforeTheLastAnswer
 none_before_the_last plan commands scope earlier between runs asks =
     let t = state_after plan commands scope (earlier ++ between) in
@@ -146,7 +146,7 @@ module _ (plan : Plan) (commands : List Task) (scope : Scope) (acts : List Act) 
   -- outstanding, all timed out; after it the client is new, and all eight ids are left
   of_resynchronizing : Performs commands here (action_at plan here) act → has_begun here.progress ≡ true → has_begun there.progress ≡ false → IsResynchronizing plan commands scope acts act
   of_resynchronizing obeys begun begins =
-      let far = progress_behind plan commands scope acts act in
+      let far = progress_after_act plan commands scope acts act in
       let on = after_all-append plan commands (opening plan scope) acts (act ∷ []) in
       let it = renews_only plan commands here (action_at plan here) act obeys begun (ap has_begun (sym far) ∙ begins) in
       let full = renews_needs plan commands here (action_at plan here) (invariant_holds plan commands scope acts) it.0 (action_for plan here.progress (waiting_of here)) in

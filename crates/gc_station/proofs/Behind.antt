@@ -1,7 +1,7 @@
 -- Where commands are sent after calls of the table. A course is what a client has sent and settled so far, and the client after
--- that; its steps are to send, to hear a line, to read the clock and to restart. `behind_by` says of steps how many requests
--- are after the last call of the table that a reply ended, and `CountsBehind` that a course is so. A part reaches from one
--- synchronization to the next. An act is one call on the link, with its result.
+-- that; its steps are to send, to hear a line, to read the clock and to restart. `behind_by` counts, over steps, the requests
+-- after the last call of the table that a reply ended, and `CountsBehind` says that a count is right for a course. A part reaches
+-- from one synchronization to the next. An act is one call on the link, with its result.
 use Rattle.std.proofs.Common.{◌≡◌, ◌⊎◌, inl, inr, ℕ, zero, suc, ◌+◌, ◌-◌, ◌<◌, ◌≤◌, Bool, true, false, List, [], ◌∷◌, ◌++◌, length, map, Option, Some, None, refl, sym, ap, ◌∙◌, subst, arith, append_assoc, append-nil, if◌then◌else◌, nat_lt}
 use Rattle.std.specs.Prelude.{slice_get}
 use Rattle.std.proofs.lemmas.Bool.{ltb-true, cond_both, ltb-false}
@@ -12,18 +12,19 @@ use Rattle.gc_client.specs.OneForOne.{Course, Step, Send, Hear, Expire, Restart,
 use Rattle.gc_client.specs.Rule.{ById, Sending, Settlement, Lost, heard, hears, id_settled, lost, settled_by_line, settle, sends, restarts}
 use Rattle.gc_client.specs.declared.pending.Pending.{Pending}
 use Rattle.gc_client.specs.declared.window.TheConstants.{WINDOW}
-use Rattle.gc_client.proofs.OneForOne.{one_for_one}
+use Rattle.gc_client.proofs.OneForOne.{length-settle, one_for_one}
+use Rattle.gc_station.specs.Parts.{client_stepped}
 use Rattle.gc_station.specs.Behind.{IsReplied, IsNearTheTable}
 use Rattle.gc_station.specs.Model.{is_some_of_table, ends_with_table}
 use Rattle.gc_station.specs.Progressing.{one_more_in_window}
-use Rattle.gc_station.proofs.Booking.{stepped, course_client}
-use Rattle.gc_station.proofs.Meets.{settle_length, met_lost}
+use Rattle.gc_station.proofs.Booking.{course_client}
+use Rattle.gc_station.proofs.Meets.{met_lost}
 use Rattle.gc_station.proofs.Lists.{get_more, get_behind}
 
 -- Steps.
 
--- the count after one step of this client, if it was `b` before: how many requests were sent after the last call of the table that
--- a reply ended
+-- the count after one step of this client, if it was `b` before: how many requests were sent, up to seven, after the last call of
+-- the table that a reply ended
 abbrev pub behind_step : ById Asked → ℕ → Step Asked → ℕ
 behind_step c b (Send target call deadline) = one_more_in_window b
 behind_step c b (Hear line) = if ends_with_table (hears c line (heard line)).settlements then length (hears c line (heard line)).client.waiting else b
@@ -33,7 +34,7 @@ behind_step c b Restart = b
 -- the count after these steps of this client, in order, if it was `b` before
 abbrev pub behind_by : ById Asked → ℕ → List (Step Asked) → ℕ
 behind_by c b [] = b
-behind_by c b (step ∷ steps) = behind_by (stepped c step) (behind_step c b step) steps
+behind_by c b (step ∷ steps) = behind_by (client_stepped c step) (behind_step c b step) steps
 
 -- at most `b` requests were sent in all; or at most `b` were sent after some call of the table that a reply ended
 abbrev pub IsWithin : Course Asked → ℕ → Type 0
@@ -45,14 +46,10 @@ IsWithin x b =
 abbrev pub CountsBehind : Course Asked → ℕ → Type 0
 CountsBehind x b = b < 7 → IsWithin x b
 
--- a request that a reply meets isn't lost
-met_not_lost : (p : Pending Asked) (line : List ℕ) → (settled_by_line p line).outcome ≡ Lost → ⊥
-met_not_lost p line e = met_lost p.given_up line e
-
 -- the last of the requests that a reply settles isn't lost
 last_settled_not_lost : (k : ℕ) (line : List ℕ) (ps : List (Pending Asked)) (x : Settlement Asked) → k < length ps → slice_get (settle k line ps) k ≡ Some x → x.outcome ≡ Lost → ⊥
 last_settled_not_lost k line [] x low e lost = absurd (omega (arith, low))
-last_settled_not_lost zero line (p ∷ ps) x low e lost = met_not_lost p line (ap (λ (y : Settlement Asked). y.outcome) same ∙ lost) where
+last_settled_not_lost zero line (p ∷ ps) x low e lost = met_lost p.given_up line (ap (λ (y : Settlement Asked). y.outcome) same ∙ lost) where
   -- the only settlement is that of the first request
   same : settled_by_line p line ≡ x
   same = cc
@@ -65,12 +62,12 @@ record EndsReplied (xs : List (Settlement Asked)) : Type 0 where
   at : slice_get xs (length xs - 1) ≡ Some last
   replied : IsReplied last
 
--- what is a settlement of a call of the table, by the test, is a settlement
+-- if the test `is_some_of_table` holds of what may be a settlement, there is a settlement, and it is of a call of the table
 table_one : (o : Option (Settlement Asked)) → is_some_of_table o ≡ true → (x : Settlement Asked) × (o ≡ Some x) × (is_of_table x.call ≡ true)
 table_one None e = cc
 table_one (Some x) e = (x, refl, e)
 
--- if the last request that a line settles is a call of the table, a reply ended that
+-- if the last request that a line settles is a call of the table, a reply ended it
 ends_replied : (c : ById Asked) (line : List ℕ) (o : Option ℕ) → ends_with_table (hears c line o).settlements ≡ true → EndsReplied (hears c line o).settlements
 ends_replied c line None e = cc
 ends_replied c line (Some id) e = by_test _ _ refl e where
@@ -80,7 +77,7 @@ ends_replied c line (Some id) e = by_test _ _ refl e where
   by_test k true fits e =
       let low = ltb-true k (length c.waiting) fits in
       let xs = settle k line c.waiting in
-      let many = settle_length k line c.waiting low in
+      let many = length-settle k line c.waiting low in
       let at : length xs - 1 ≡ k = omega (arith, many) in
       let last = table_one (slice_get xs (length xs - 1)) e in
       record {
@@ -105,7 +102,7 @@ within_more : (x : Course Asked) (more : List (Settlement Asked)) (client : ById
 within_more x more client b (inl few) = inl few
 within_more x more client b (inr (k, s, at, replied, near)) = inr (k, s, get_more x.settlements more k s at, replied, near)
 
--- `IsWithin` is preserved by one more request, with the count one higher
+-- `IsWithin` is preserved by a send, with the count one higher, whether the client refuses the send (`None`) or not
 within_sent : (x : Course Asked) (target : ℕ) (call : Asked) (o : Option (Sending (ById Asked))) (b : ℕ) → IsWithin x b → IsWithin (sent_on x target call o) (b + 1)
 within_sent x target call None b (inl few) = inl (omega (arith, few))
 within_sent x target call None b (inr (k, s, at, replied, near)) = inr (k, s, at, replied, omega (arith, near))
@@ -114,12 +111,12 @@ within_sent x target call (Some sending) b (inl few) =
 within_sent x target call (Some sending) b (inr (k, s, at, replied, near)) =
     let more = length-append x.sent (record { target = target; call = call } ∷ []) in inr (k, s, at, replied, omega (arith, more, near))
 
--- if `one_more_in_window` of a number is below seven, so is the number, and the former is the number and 1
+-- if `one_more_in_window` of a number is below seven, so is the number, and the former is the number plus 1
 one_more_is : (b : ℕ) → one_more_in_window b < 7 → (b < 7) × (one_more_in_window b ≡ b + 1)
 one_more_is b low = cond_both (nat_lt b WINDOW) (b + 1) b (λ n. n < 7 → (b < 7) × (n ≡ b + 1)) (λ e l. (ltb-true b WINDOW e, refl))
     (λ e l. let high : 7 ≤ b = ltb-false b WINDOW e in absurd (omega (arith, l, high))) low
 
--- a step preserves `CountsBehind`, if the course is one for one after it
+-- a step preserves `CountsBehind`, with the count that `behind_step` gives, if the course after the step is one for one
 counts_step : (x : Course Asked) (b : ℕ) (step : Step Asked) → IsOneForOne (course_after WINDOW x step) → CountsBehind x b → CountsBehind (course_after WINDOW x step) (behind_step x.client b step)
 counts_step x b (Send target call deadline) one h low =
     let is = one_more_is b low in
@@ -139,7 +136,7 @@ counts_step x b (Hear line) one h low = by_test (ends_with_table (hears x.client
 counts_step x b (Expire now) one h low = h low
 counts_step x b Restart one h low = within_more x (restarts x.client).settlements (restarts x.client).client b (h low)
 
--- the course from x over the steps `first` and then `later` is that over `later` from where `first` lead
+-- the course from x over the steps `first` and then `later` is that over `later`, from the course from x over `first` on
 pub course_append : (width : ℕ) (first later : List (Step Asked)) (x : Course Asked) → course width x (first ++ later) ≡ course width (course width x first) later
 course_append width [] later x = refl
 course_append width (step ∷ first) later x = course_append width first later (course_after width x step)
@@ -152,7 +149,8 @@ reached steps = course WINDOW begun steps
 reached_more : (done : List (Step Asked)) (step : Step Asked) → reached (done ++ step ∷ []) ≡ course_after WINDOW (reached done) step
 reached_more done step = course_append WINDOW done (step ∷ []) begun
 
--- steps preserve `CountsBehind`, after the steps that were done
+-- if `CountsBehind` holds of the count b after the steps `done`, it holds after further steps of the count that `behind_by` makes
+-- of b
 pub counts_steps : (done steps : List (Step Asked)) (b : ℕ) → CountsBehind (reached done) b → CountsBehind (reached (done ++ steps)) (behind_by (reached done).client b steps)
 counts_steps done [] b h = subst (λ (l : List (Step Asked)). CountsBehind (reached l) b) (sym (append-nil done)) h
 counts_steps done (step ∷ steps) b h =
@@ -162,17 +160,17 @@ counts_steps done (step ∷ steps) b h =
     let one : IsOneForOne (course_after WINDOW x step) = subst (λ (y : Course Asked). IsOneForOne y) more (one_for_one WINDOW next) in
     let here : CountsBehind (reached next) (behind_step x.client b step) = subst (λ (y : Course Asked). CountsBehind y (behind_step x.client b step)) (sym more) (counts_step x b step one h) in
     let there = counts_steps next steps (behind_step x.client b step) here in
-    let client : (reached next).client ≡ stepped x.client step = ap (λ (y : Course Asked). y.client) more ∙ client_of_step x step in
+    let client : (reached next).client ≡ client_stepped x.client step = ap (λ (y : Course Asked). y.client) more ∙ client_of_step x step in
     subst (λ (l : List (Step Asked)). CountsBehind (reached l) (behind_by x.client b (step ∷ steps))) (append_assoc done (step ∷ []) steps)
     (subst (λ (c : ById Asked). CountsBehind (reached (next ++ steps)) (behind_by c (behind_step x.client b step) steps)) client there) where
       -- the client of a course after a step is its client before it with that step made, whatever was sent and settled before
-      client_of_step : (x : Course Asked) (step : Step Asked) → (course_after WINDOW x step).client ≡ stepped x.client step
+      client_of_step : (x : Course Asked) (step : Step Asked) → (course_after WINDOW x step).client ≡ client_stepped x.client step
       client_of_step x step = course_client (step ∷ []) x
 
--- where `CountsBehind` holds with fewer than seven after, one of the last seven requests is a call of the table that a reply ended
+-- if `CountsBehind` holds of a count below seven, `IsNearTheTable` holds of the course
 pub near_so : (x : Course Asked) (b : ℕ) → CountsBehind x b → b < 7 → IsNearTheTable x
 near_so x b h low = by_case (h low) where
-  -- the lemma above, whether no more than `b` requests were sent, or such a call was sent before them
+  -- the lemma above, by the case of `IsWithin`
   by_case : IsWithin x b → IsNearTheTable x
   by_case (inl few) = inl (omega (arith, few, low))
   by_case (inr (k, s, at, replied, near)) = inr (k, s, at, replied, omega (arith, near, low))

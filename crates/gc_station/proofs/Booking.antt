@@ -5,7 +5,7 @@
 use Rattle.std.proofs.Common.{◌≡◌, ℕ, zero, suc, ◌+◌, ◌<◌, ◌≤◌, Bool, true, false, List, [], ◌∷◌, ◌++◌, length, map, drop, Option, Some, None, refl, sym, ◌∙◌, ap, subst, arith, append_assoc, append-nil}
 use Rattle.std.specs.Prelude.{slice_get}
 use Rattle.std.specs.List.{AllByRecursion}
-use Rattle.std.proofs.lemmas.List.{length-map, length-append, length-drop, map-append, drop-append-le}
+use Rattle.std.proofs.lemmas.List.{length-map, length-append, length-drop, map-append, drop-append-le, drop-drop}
 use Rattle.std.proofs.lemmas.Bool.{ne_eqb}
 use Rattle.std.proofs.lemmas.Option.{same_Some}
 use Rattle.gc_catalogue.specs.declared.answer.Answer.{Answer}
@@ -28,54 +28,41 @@ use Rattle.gc_station.specs.Marks.{value_as, warned_as, refused_as, answer_as, e
 use Rattle.gc_station.specs.Records.{Record}
 use Rattle.gc_station.specs.Model.{client_sent}
 use Rattle.gc_station.specs.Lists.{with_if}
-use Rattle.gc_station.specs.Parts.{Turn, Part, only_turns, only_steps, nothing, joined, request_part, MarkAsks, MarksAsk, went_out, sent_of, timeless}
+use Rattle.gc_station.specs.Parts.{Turn, Part, only_turns, only_steps, nothing, joined, request_part, MarkAsks, MarksAsk, went_out, sent_of, timeless, course_at, client_stepped, client_after}
 use Rattle.gc_station.proofs.Records.{records-none, records-append}
 
 -- Steps.
 
--- the course at its start: this client has sent and settled nothing
-abbrev pub course_at : ById Asked → Course Asked
-course_at c = record { sent = []; settlements = []; client = c }
-
--- this client after one step
-abbrev pub stepped : ById Asked → Step Asked → ById Asked
-stepped c s = (course_after 7 (course_at c) s).client
-
--- this client after these steps, in order
-abbrev pub client_after : ById Asked → List (Step Asked) → ById Asked
-client_after c [] = c
-client_after c (s ∷ ss) = client_after (stepped c s) ss
-
 -- what these steps settle, from this client on
 abbrev pub settled_by : ById Asked → List (Step Asked) → List (Settlement Asked)
 settled_by c [] = []
-settled_by c (s ∷ ss) = (course_after 7 (course_at c) s).settlements ++ settled_by (stepped c s) ss
+settled_by c (s ∷ ss) = (course_after 7 (course_at c) s).settlements ++ settled_by (client_stepped c s) ss
 
 -- what these steps send, from this client on
 abbrev pub sent_by : ById Asked → List (Step Asked) → List (Wanted Asked)
 sent_by c [] = []
-sent_by c (s ∷ ss) = (course_after 7 (course_at c) s).sent ++ sent_by (stepped c s) ss
+sent_by c (s ∷ ss) = (course_after 7 (course_at c) s).sent ++ sent_by (client_stepped c s) ss
 
 -- a client after two lists of steps is the one after the second, from the one after the first on
 pub client_append : (c : ById Asked) (first later : List (Step Asked)) → client_after c (first ++ later) ≡ client_after (client_after c first) later
 client_append c [] later = refl
-client_append c (s ∷ first) later = client_append (stepped c s) first later
+client_append c (s ∷ first) later = client_append (client_stepped c s) first later
 
 -- two lists of steps settle what the first settles and then what the second settles after it
 pub settled_append : (c : ById Asked) (first later : List (Step Asked)) → settled_by c (first ++ later) ≡ settled_by c first ++ settled_by (client_after c first) later
 settled_append c [] later = refl
 settled_append c (s ∷ first) later =
-    ap (λ k. (course_after 7 (course_at c) s).settlements ++ k) (settled_append (stepped c s) first later)
-    ∙ sym (append_assoc (course_after 7 (course_at c) s).settlements (settled_by (stepped c s) first) (settled_by (client_after (stepped c s) first) later))
+    ap (λ k. (course_after 7 (course_at c) s).settlements ++ k) (settled_append (client_stepped c s) first later)
+    ∙ sym (append_assoc (course_after 7 (course_at c) s).settlements (settled_by (client_stepped c s) first) (settled_by (client_after (client_stepped c s) first) later))
 
 -- two lists of steps send what the first sends and then what the second sends after it
 pub sent_append : (c : ById Asked) (first later : List (Step Asked)) → sent_by c (first ++ later) ≡ sent_by c first ++ sent_by (client_after c first) later
 sent_append c [] later = refl
 sent_append c (s ∷ first) later =
-    ap (λ k. (course_after 7 (course_at c) s).sent ++ k) (sent_append (stepped c s) first later)
-    ∙ sym (append_assoc (course_after 7 (course_at c) s).sent (sent_by (stepped c s) first) (sent_by (client_after (stepped c s) first) later))
+    ap (λ k. (course_after 7 (course_at c) s).sent ++ k) (sent_append (client_stepped c s) first later)
+    ∙ sym (append_assoc (course_after 7 (course_at c) s).sent (sent_by (client_stepped c s) first) (sent_by (client_after (client_stepped c s) first) later))
 
--- a send adds the same to any course as to one at its start with the same client
+-- a send adds the same to any course as to one at its start with the same client, and leaves the same client
 sent_parts : (x : Course Asked) (target : ℕ) (call : Asked) (o : Option (Sending (ById Asked)))
     → ((sent_on x target call o).settlements ≡ x.settlements ++ (sent_on (course_at x.client) target call o).settlements)
     × ((sent_on x target call o).sent ≡ x.sent ++ (sent_on (course_at x.client) target call o).sent)
@@ -83,10 +70,12 @@ sent_parts : (x : Course Asked) (target : ℕ) (call : Asked) (o : Option (Sendi
 sent_parts x target call None = (sym (append-nil x.settlements), sym (append-nil x.sent), refl)
 sent_parts x target call (Some s) = (sym (append-nil x.settlements), refl, refl)
 
--- a step adds the same to any course as to one at its start with the same client
+-- a step adds the same to any course as to one at its start with the same client, and makes that client the one that
+-- `client_stepped` gives
 step_parts : (x : Course Asked) (s : Step Asked)
     → ((course_after 7 x s).settlements ≡ x.settlements ++ (course_after 7 (course_at x.client) s).settlements)
-    × ((course_after 7 x s).sent ≡ x.sent ++ (course_after 7 (course_at x.client) s).sent) × ((course_after 7 x s).client ≡ stepped x.client s)
+    × ((course_after 7 x s).sent ≡ x.sent ++ (course_after 7 (course_at x.client) s).sent)
+    × ((course_after 7 x s).client ≡ client_stepped x.client s)
 step_parts x (Send target call deadline) = sent_parts x target call (sends 7 x.client target call deadline)
 step_parts x (Hear line) = (refl, sym (append-nil x.sent), refl)
 step_parts x (Expire now) = (sym (append-nil x.settlements), sym (append-nil x.sent), refl)
@@ -99,7 +88,8 @@ course_settled (s ∷ ss) x =
     let p = step_parts x s in
     let y = course_after 7 x s in
     let now = (course_after 7 (course_at x.client) s).settlements in
-    course_settled ss y ∙ ap (λ l. l ++ settled_by y.client ss) p.0 ∙ ap (λ c. (x.settlements ++ now) ++ settled_by c ss) p.2 ∙ append_assoc x.settlements now (settled_by (stepped x.client s) ss)
+    course_settled ss y ∙ ap (λ l. l ++ settled_by y.client ss) p.0 ∙ ap (λ c. (x.settlements ++ now) ++ settled_by c ss) p.2
+    ∙ append_assoc x.settlements now (settled_by (client_stepped x.client s) ss)
 
 -- steps add to the requests of a course what they send from its client on
 pub course_sent : (steps : List (Step Asked)) (x : Course Asked) → (course 7 x steps).sent ≡ x.sent ++ sent_by x.client steps
@@ -108,7 +98,7 @@ course_sent (s ∷ ss) x =
     let p = step_parts x s in
     let y = course_after 7 x s in
     let now = (course_after 7 (course_at x.client) s).sent in
-    course_sent ss y ∙ ap (λ l. l ++ sent_by y.client ss) p.1 ∙ ap (λ c. (x.sent ++ now) ++ sent_by c ss) p.2 ∙ append_assoc x.sent now (sent_by (stepped x.client s) ss)
+    course_sent ss y ∙ ap (λ l. l ++ sent_by y.client ss) p.1 ∙ ap (λ c. (x.sent ++ now) ++ sent_by c ss) p.2 ∙ append_assoc x.sent now (sent_by (client_stepped x.client s) ss)
 
 -- the client of a course after steps is its client after them
 pub course_client : (steps : List (Step Asked)) (x : Course Asked) → (course 7 x steps).client ≡ client_after x.client steps
@@ -117,26 +107,18 @@ course_client (s ∷ ss) x = course_client ss (course_after 7 x s) ∙ ap (λ c.
 
 -- Lists.
 
--- an empty list stays empty where elements are discarded
-drop_none : {A : Type 0} (n : ℕ) (xs : List A) → xs ≡ [] → drop n xs ≡ []
-drop_none zero xs e = e
-drop_none (suc n) [] e = refl
-drop_none (suc n) (x ∷ xs) e = cc
-
 -- to drop as many elements as the settlements `ss`, and then as `ts`, is to drop as many as both
 drop_twice : {A : Type 0} (ss ts : List (Settlement Asked)) (xs : List A) → drop (length ts) (drop (length ss) xs) ≡ drop (length (ss ++ ts)) xs
-drop_twice [] ts xs = refl
-drop_twice (s ∷ ss) ts [] = drop_none (length ts) [] refl
-drop_twice (s ∷ ss) ts (x ∷ xs) = drop_twice ss ts xs
+drop_twice ss ts xs = drop-drop (length ts) (length ss) xs ∙ ap (λ n. drop n xs) (sym (length-append ss ts))
 
--- records without their moment are those of moment 0
+-- the records of settlements, without their moments (`timeless`), are those of the moment 0
 records_timeless : (reads : Asked → List ℕ → Reading) (utc : ℕ) (ms : List (Option Mark)) (ss : List (Settlement Asked)) → map timeless (records_of reads utc ms ss) ≡ records_of reads 0 ms ss
 records_timeless reads utc [] ss = refl
 records_timeless reads utc (m ∷ ms) [] = refl
 records_timeless reads utc (None ∷ ms) (s ∷ ss) = records_timeless reads utc ms ss
 records_timeless reads utc (Some mark ∷ ms) (s ∷ ss) = ap (λ rs. record_of reads 0 mark s ∷ rs) (records_timeless reads utc ms ss)
 
--- settlements have the same records with more marks after those of their requests
+-- settlements, of which there are no more than marks `ms`, have the same records if the marks `more` come after `ms`
 records_more : (reads : Asked → List ℕ → Reading) (ms more : List (Option Mark)) (ss : List (Settlement Asked)) → length ss ≤ length ms → records_of reads 0 (ms ++ more) ss ≡ records_of reads 0 ms ss
 records_more reads [] more [] le = records-none reads 0 more
 records_more reads [] more (s ∷ ss) le = absurd (omega (arith, le))
@@ -193,13 +175,14 @@ pub sent_both : (xs ys : List Record) → sent_of (xs ++ ys) ≡ sent_of xs ++ s
 sent_both [] ys = refl
 sent_both (r ∷ xs) ys = ap (with_if (went_out r.end) r) (sent_both xs ys) ∙ sent_more (went_out r.end) r (sent_of xs) (sent_of ys)
 
--- the records of settlements, after others, are all of commands that were sent
+-- of the records `rs` and those of settlements after them, the ones of commands that were sent are those of `rs`, and all of the
+-- settlements'
 pub sent_records : (reads : Asked → List ℕ → Reading) (rs : List Record) (utc : ℕ) (ms : List (Option Mark)) (ss : List (Settlement Asked))
     → sent_of (rs ++ records_of reads utc ms ss) ≡ sent_of rs ++ records_of reads utc ms ss
 sent_records reads rs utc ms ss = sent_both rs (records_of reads utc ms ss) ∙ ap (λ xs. sent_of rs ++ xs) (records_sent reads utc ms ss)
 
--- `MarksAsk` says of marks and requests, one for one, that each request is of the command that its mark names. If it holds of `ms`
--- and `xs`, and of `ns` and `ys`, it holds of both joined
+-- `MarksAsk` says of marks and requests, one for one, that each request is of the command that its mark names. If it holds of
+-- `ms` and `xs`, and of `ns` and `ys`, it holds of both joined
 pub of_append : (commands : List Task) (ms ns : List (Option Mark)) (xs ys : List (Wanted Asked)) → MarksAsk commands ms xs → MarksAsk commands ns ys → MarksAsk commands (ms ++ ns) (xs ++ ys)
 of_append commands [] ns [] ys h g = g
 of_append commands [] ns (x ∷ xs) ys h g = absurd h
@@ -213,7 +196,7 @@ of_length commands [] (x ∷ xs) h = absurd h
 of_length commands (m ∷ ms) [] h = absurd h
 of_length commands (m ∷ ms) (x ∷ xs) h = ap suc (of_length commands ms xs h.1)
 
--- the request at a place asks what the mark at that place says
+-- where `MarksAsk` holds, a mark at place n has a request at the same place, which asks what the mark says
 pub of_at : (commands : List Task) (ms : List (Option Mark)) (xs : List (Wanted Asked)) (n : ℕ) (mark : Option Mark) → MarksAsk commands ms xs
     → slice_get ms n ≡ Some mark → (a : Wanted Asked) × (slice_get xs n ≡ Some a) × MarkAsks commands mark a
 of_at commands [] [] n mark h e = cc
@@ -222,7 +205,8 @@ of_at commands (m ∷ ms) [] n mark h e = absurd h
 of_at commands (m ∷ ms) (x ∷ xs) zero mark h e = (x, refl, subst (λ (k : Option Mark). MarkAsks commands k x) (same_Some m mark e) h.0)
 of_at commands (m ∷ ms) (x ∷ xs) (suc n) mark h e = of_at commands ms xs n mark h.1 e
 
--- what holds of each record of a settlement, by its mark and the settlement, holds of all records of these settlements
+-- if P holds of the record of each settlement with the command's mark at the same place, P holds of all records of the
+-- settlements `ss` with the marks `ms`; all records are of the moment 0
 pub all_records : (reads : Asked → List ℕ → Reading) (P : Record → Type 0) (ms : List (Option Mark)) (ss : List (Settlement Asked))
     → ((n : ℕ) (mark : Mark) (s : Settlement Asked) → slice_get ms n ≡ Some (Some mark) → slice_get ss n ≡ Some s → P (record_of reads 0 mark s)) → AllByRecursion P (records_of reads 0 ms ss)
 all_records reads P [] ss f = tt
@@ -313,7 +297,8 @@ pub books_moment : (reads : Asked → List ℕ → Reading) (commands : List Tas
     → Books reads commands c ms rs (only_steps (Expire now ∷ [])) (expires c now) ms rs
 books_moment reads commands c ms rs now = record { client = refl; wrote = wrote_none reads commands ms rs }
 
--- settlements of the oldest requests (`ss`, also called `ts`) take out as many of the first marks, and add their records
+-- `Wrote` holds of settlements of the oldest requests (`ss`, and `ts` is the same list), of which there are no more than marks:
+-- as many of the first marks are taken out, and the records of the settlements are added
 wrote_settled : (reads : Asked → List ℕ → Reading) (commands : List Task) (ms : List (Option Mark)) (rs : List Record) (utc : ℕ) (ss ts : List (Settlement Asked))
     → ts ≡ ss → length ss ≤ length ms → Wrote reads commands ms rs [] ts [] (drop (length ss) ms) (rs ++ records_of reads utc ms ss)
 wrote_settled reads commands ms rs utc ss ts same few =
@@ -325,7 +310,8 @@ wrote_settled reads commands ms rs utc ss ts same few =
       sent = tt;
     })
 
--- no more requests are settled than have marks
+-- if the requests that were settled, and those still outstanding after them, are the ones that were outstanding, each of which
+-- has a mark, no more are settled than have marks
 few_settled : (ms : List (Option Mark)) (c d : ById Asked) (ss : List (Settlement Asked)) → length ms ≡ length c.waiting
     → map of_settled ss ++ map of_pending d.waiting ≡ map of_pending c.waiting → length ss ≤ length ms
 few_settled ms c d ss paired parts =
@@ -334,7 +320,8 @@ few_settled ms c d ss paired parts =
     sym (length-append (map of_settled ss) (map of_pending d.waiting)) ∙ ap length parts ∙ length-map c.waiting of_pending in
     omega (arith, ended, count, paired)
 
--- a line that the client hears: its settlements take out their marks, and add their records
+-- a line that the client hears, where each outstanding request has a mark: its settlements take out their marks, and add their
+-- records
 pub books_line : (reads : Asked → List ℕ → Reading) (commands : List Task) (c : ById Asked) (ms : List (Option Mark)) (rs : List Record) (utc : ℕ) (line : List ℕ) → length ms ≡ length c.waiting
     → (let x = hears c line (heard line) in Books reads commands c ms rs (only_steps (Hear line ∷ [])) x.client (drop (length x.settlements) ms) (rs ++ records_of reads utc ms x.settlements))
 books_line reads commands c ms rs utc line paired =
@@ -349,14 +336,15 @@ books_line reads commands c ms rs utc line paired =
 abbrev pub restarting : Part
 restarting = only_steps (Restart ∷ [])
 
--- a restart: all outstanding requests are lost, which removes their marks and adds their records
+-- a restart, where each outstanding request has a mark: all outstanding requests are lost, which removes their marks and adds
+-- their records
 pub books_restart : (reads : Asked → List ℕ → Reading) (commands : List Task) (c : ById Asked) (ms : List (Option Mark)) (rs : List Record) (utc : ℕ) → length ms ≡ length c.waiting
     → Books reads commands c ms rs restarting fresh (drop (length (map lost c.waiting)) ms) (rs ++ records_of reads utc ms (map lost c.waiting))
 books_restart reads commands c ms rs utc paired =
     let ss = map lost c.waiting in
     record { client = refl; wrote = wrote_settled reads commands ms rs utc ss (ss ++ []) (append-nil ss) (few_settled ms c fresh ss paired (append-nil (map of_settled ss) ∙ lost_parts c.waiting)) }
 
--- what a client sends that isn't refused: the id, and the client after it
+-- what a send of this call to this target gives, if the client doesn't refuse it: the id, and the client after the send
 abbrev pub sending_of : ById Asked → ℕ → Asked → ℕ → Sending (ById Asked)
 sending_of c target call deadline = record { id = c.next; client = client_sent c (id_send c target call deadline false) }
 
@@ -371,7 +359,7 @@ IsSendBooked reads commands c ms rs target call mark o =
     ((sent_on (course_at c) target call o).client ≡ client_sent c o)
     × Wrote reads commands ms rs (mark ∷ []) ((sent_on (course_at c) target call o).settlements ++ []) ((sent_on (course_at c) target call o).sent ++ []) (ms ++ mark ∷ []) rs
 
--- `IsSendBooked` holds of a send that isn't refused
+-- `IsSendBooked` holds of a send that isn't refused, if it asks for what its mark says
 sent_some : (reads : Asked → List ℕ → Reading) (commands : List Task) (c : ById Asked) (ms : List (Option Mark)) (rs : List Record) (target : ℕ) (call : Asked)
     (mark : Option Mark) (x : Sending (ById Asked)) → MarkAsks commands mark (record { target = target; call = call })
     → IsSendBooked reads commands c ms rs target call mark (Some x)
@@ -385,7 +373,7 @@ sent_some reads commands c ms rs target call mark x is = (
   },
 )
 
--- a send if there is room: its mark is added, and the records stay
+-- a send of what its mark says, if there is room: the mark is added, and the records stay
 pub books_send : (reads : Asked → List ℕ → Reading) (commands : List Task) (c : ById Asked) (ms : List (Option Mark)) (rs : List Record) (target : ℕ) (call : Asked)
     (deadline : ℕ) (mark : Option Mark) → length c.waiting < 7 → MarkAsks commands mark (record { target = target; call = call })
     → Books reads commands c ms rs (request_part target call deadline mark) (client_sent c (sends 7 c target call deadline)) (ms ++ mark ∷ []) rs

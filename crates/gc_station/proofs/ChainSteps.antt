@@ -12,7 +12,8 @@ use Rattle.gc_station.specs.declared.progress.Progress.{Progress}
 use Rattle.gc_links.specs.Acts.{Act, Told, Cut, Opened}
 use Rattle.gc_station.specs.Quiet.{KeepsOpen}
 use Rattle.gc_station.specs.Progressing.{failing}
-use Rattle.gc_station.specs.Model.{Model, commands_before, Performs, waiting_of, is_chained_after_next, is_chained_after, with_rest, moved, cycle_length}
+use Rattle.gc_station.specs.Model.{Model, Performs, waiting_of, with_rest, moved, cycle_length}
+use Rattle.gc_station.specs.NextCommand.{commands_before, is_chained_after_next, is_chained_after}
 use Rattle.gc_station.proofs.Walk.{closed_along, is_prepared, is_sent, moved_changed, walk}
 
 -- What an act does to the place in a cycle, and to the chain that is there.
@@ -25,21 +26,21 @@ pub record Still (p q : Progress) : Type 0 where
   pub next_is_chained : q.next_is_chained ≡ p.next_is_chained
   pub chain_unbroken : q.chain_unbroken ≡ true → p.chain_unbroken ≡ true
 
--- q has one command less to be sent than p, and the next one of q waits for the answer of the one before it as `next_is_chained`
--- says
+-- q is in the same cycle as p, with one command fewer left (none, if none was); and `next_is_chained` says whether the next one
+-- of q waits for the answer of the one before it
 pub record Next (next_is_chained : Bool) (p q : Progress) : Type 0 where
   pub left : q.left ≡ p.left
   pub unsent : q.unsent ≡ p.unsent - 1
   pub missed : q.missed ≡ p.missed
   pub chained : q.next_is_chained ≡ next_is_chained
 
--- q is at the beginning of a cycle of `count` commands: all are unsent, and no chain has begun
+-- q is at the beginning of a cycle of `count` commands: all are unsent, and no chain goes on
 pub record AtCycleStart (count : ℕ) (q : Progress) : Type 0 where
   pub unsent : q.unsent ≡ count
   pub chain_unbroken : q.chain_unbroken ≡ false
 
--- q has the further attempts of a chain left out that the next command of p begins; the next one of q waits as
--- `is_chained_after` says
+-- q is in the same cycle as p, with the further attempts of a chain left out that the next command of p begins; no chain goes on,
+-- and whether the next one of q waits for the answer of the one before it is what `is_chained_after` says
 pub record Past (commands : List Task) (p q : Progress) : Type 0 where
   pub left : q.left ≡ p.left
   pub unsent : q.unsent ≡ p.unsent - p.next_others
@@ -49,15 +50,15 @@ pub record Past (commands : List Task) (p q : Progress) : Type 0 where
 
 -- what an act of an action does to the fields on chains, from p to q: it leaves them, breaks the chain, goes on to the next
 -- command, leaves out attempts, or begins a cycle. If an action has two cases, the first is that the clock couldn't be read
-abbrev pub Steps : Plan → List Task → Action → Progress → Progress → Type 0
-Steps plan commands Begin p q = Still p q ⊎ AtCycleStart (cycle_length plan commands) q
-Steps plan commands Renew p q = Still p q ⊎ (Still p q × (q.chain_unbroken ≡ false))
-Steps plan commands Send p q = Next (is_chained_after_next commands p) p q
-Steps plan commands Skip p q = Still p q ⊎ (Next (is_chained_after_next commands p) p q × (q.chain_unbroken ≡ false))
-Steps plan commands Pass p q = Still p q ⊎ Past commands p q
-Steps plan commands Prepare p q = Still p q × (q.chain_unbroken ≡ false)
-Steps plan commands (Close why) p q = Still p q × (q.chain_unbroken ≡ false)
-Steps plan commands _ p q = Still p q
+abbrev pub ChangesChain : Plan → List Task → Action → (p q : Progress) → Type 0
+ChangesChain plan commands Begin p q = Still p q ⊎ AtCycleStart (cycle_length plan commands) q
+ChangesChain plan commands Renew p q = Still p q ⊎ (Still p q × (q.chain_unbroken ≡ false))
+ChangesChain plan commands Send p q = Next (is_chained_after_next commands p) p q
+ChangesChain plan commands Skip p q = Still p q ⊎ (Next (is_chained_after_next commands p) p q × (q.chain_unbroken ≡ false))
+ChangesChain plan commands Pass p q = Still p q ⊎ Past commands p q
+ChangesChain plan commands Prepare p q = Still p q × (q.chain_unbroken ≡ false)
+ChangesChain plan commands (Close why) p q = Still p q × (q.chain_unbroken ≡ false)
+ChangesChain plan commands _ p q = Still p q
 
 -- if these fields are the same, `Still` holds
 pub still : (p q : Progress) → (left : q.left ≡ p.left) → (unsent : q.unsent ≡ p.unsent) → (missed : q.missed ≡ p.missed) → (next_is_chained : q.next_is_chained ≡ p.next_is_chained)
@@ -79,9 +80,9 @@ broken p q left unsent missed next_is_chained chain_unbroken = (
   chain_unbroken,
 )
 
--- an act of each action does to these fields what `Steps` says
+-- an act of each action does to these fields what `ChangesChain` says
 pub moved_steps : (plan : Plan) (commands : List Task) (action : Action) (s : Model) (act : Act)
-    → Steps plan commands action s.progress (moved plan commands action s act).progress
+    → ChangesChain plan commands action s.progress (moved plan commands action s act).progress
 moved_steps plan commands Begin s (Told m) = inr (record { unsent = refl; chain_unbroken = refl })
 moved_steps plan commands Begin s act = inl (still s.progress _ refl refl refl refl refl)
 moved_steps plan commands Renew s (Told m) = inr (broken s.progress _ refl refl refl refl refl)

@@ -1,14 +1,15 @@
 -- A command of a chain is sent only after the answer of the one before it. The two fields on chains of a progress are
 -- `next_is_chained`, whether the next command waits for that answer, and `chain_unbroken`. An act is one call on the link, with
--- its result. `Chain` says that both fields are true to the acts so far, and `Whole` that the command before the next one was
--- sent, with no connection closed and no new synchronization since.
+-- its result. `Chain` says that both fields are right after the acts so far, and `Whole` that the command before the next one
+-- was sent, with no connection closed and no new synchronization since.
 use Rattle.std.proofs.Common.{◌≡◌, ◌⊎◌, inl, inr, ℕ, ◌+◌, ◌-◌, ◌<◌, ◌≤◌, ◌||◌, Bool, true, false, List, [], ◌∷◌, ◌++◌, length, drop, map, Option, refl, sym, ap, ◌∙◌, subst, arith, append_assoc, append-nil}
 use Rattle.std.specs.List.{AllByRecursion}
 use Rattle.std.proofs.lemmas.List.{drop_all, length-drop, map-append, same_from_push}
 use Rattle.std.proofs.lemmas.Bool.{both_ways, or_right}
+use Rattle.gc_lines.proofs.Lists.{all_behind}
 use Rattle.gc_catalogue.specs.declared.answer.Answer.{Answer}
 use Rattle.gc_texts.specs.declared.tasks.Task.{Task}
-use Rattle.gc_texts.specs.Endings.{End, Answered}
+use Rattle.gc_texts.specs.Endings.{End, Answered, line_of}
 use Rattle.gc_texts.specs.Qualities.{is_good}
 use Rattle.gc_texts.specs.declared.quality.Quality.{Quality}
 use Rattle.gc_station.specs.declared.plan.Plan.{Plan}
@@ -17,7 +18,7 @@ use Rattle.gc_station.specs.declared.progress.Action.TheVariants.{Begin, Renew, 
 use Rattle.gc_station.specs.declared.progress.Progress.{Progress}
 use Rattle.gc_station.specs.declared.progress.Waiting.{Waiting}
 use Rattle.gc_links.specs.Acts.{Act, Told}
-use Rattle.gc_station.specs.Answers.{AnswerIsJustified, answer_of}
+use Rattle.gc_station.specs.Answers.{AnswerIsJustified}
 use Rattle.gc_station.specs.Chains.{IsChained, IsLinked}
 use Rattle.gc_station.specs.Deciding.{has_begun}
 use Rattle.gc_station.specs.EachOnce.{Interleave, Request, of_record, of_task, requests, commands_reached, still_waiting, of_text, in_text}
@@ -29,7 +30,8 @@ use Rattle.gc_station.specs.Reasons.{HoldsBefore, MayGo}
 use Rattle.gc_station.specs.Records.{Record}
 use Rattle.gc_station.specs.Runs.{state_after}
 use Rattle.gc_station.specs.Scopes.{Scope}
-use Rattle.gc_station.specs.Model.{Model, Performs, Runs, opening, action_at, waiting_of, place_next, cycles_begun, is_chained, is_chained_after_next, ended, with_progress, moved, after, after_all, cycle_length}
+use Rattle.gc_station.specs.Model.{Model, Performs, Runs, opening, action_at, waiting_of, ended, with_progress, moved, after, after_all, cycle_length}
+use Rattle.gc_station.specs.NextCommand.{place_next, cycles_begun, is_chained, is_chained_after_next}
 use Rattle.gc_station.proofs.Answers.{answers_true}
 use Rattle.gc_station.proofs.Counts.{ended_progress, ended_passes}
 use Rattle.gc_station.proofs.Each.{each_settled, sent_next}
@@ -43,7 +45,7 @@ use Rattle.gc_station.proofs.Lists.{all_append}
 use Rattle.gc_station.proofs.Nearly.{as_listed}
 use Rattle.gc_station.proofs.Walk.{moved_changed}
 use Rattle.gc_station.proofs.Words.{begun_kept}
-use Rattle.gc_station.proofs.ChainSteps.{Still, Next, AtCycleStart, Past, Steps, broken, moved_steps, stays_open}
+use Rattle.gc_station.proofs.ChainSteps.{Still, Next, AtCycleStart, Past, ChangesChain, broken, moved_steps, stays_open}
 
 -- What every run keeps of the chain where it is.
 
@@ -52,7 +54,7 @@ abbrev pub StaysBegun : Plan → List Task → Model → List Act → Type 0
 StaysBegun plan commands s [] = Unit {0}
 StaysBegun plan commands s (act ∷ acts) = (has_begun (after plan commands s act).progress ≡ true) × StaysBegun plan commands (after plan commands s act) acts
 
--- `StaysBegun` holds after one more act, if the station has synchronized after it
+-- `StaysBegun` is preserved by one more act, if the station has synchronized after that act
 stays_more : (plan : Plan) (commands : List Task) (s : Model) (acts : List Act) (act : Act) → StaysBegun plan commands s acts
     → has_begun (after_all plan commands s (acts ++ act ∷ [])).progress ≡ true → StaysBegun plan commands s (acts ++ act ∷ [])
 stays_more plan commands s [] act h e = (e, tt)
@@ -69,8 +71,9 @@ pub prepares_none : (plan : Plan) (commands : List Task) (s : Model) (xs ys : Li
 prepares_none plan commands s [] ys h k = k
 prepares_none plan commands s (x ∷ xs) ys h k = (h.0, prepares_none plan commands (after plan commands s x) xs ys h.1 k)
 
--- if a station has the progress p: the command before the next one, of the same cycle, was sent among these acts, and since
--- then no connection was closed, the station didn't resynchronize, and no command of the setup was sent
+-- a station has the progress p and has synchronized; the command before the next one, of the same cycle, was sent among these
+-- acts; and since then no connection was closed, the station didn't resynchronize, no attempts were left out, and no command of
+-- the setup was sent
 record Whole (plan : Plan) (commands : List Task) (scope : Scope) (acts : List Act) (p : Progress) : Type 0 where
   before : List Act
   request : Act
@@ -83,24 +86,24 @@ record Whole (plan : Plan) (commands : List Task) (scope : Scope) (acts : List A
   begun : has_begun p ≡ true
   passes : (state_after plan commands scope acts).passes ≡ (state_after plan commands scope before).passes
   keeps : StaysBegun plan commands (state_after plan commands scope before) (request ∷ between)
-  cycles : PreparesNothing plan commands (state_after plan commands scope before) (request ∷ between)
+  no_setup : PreparesNothing plan commands (state_after plan commands scope before) (request ∷ between)
 
 -- if all acts (`all`) are `before` and then `behind`, and the station has synchronized after all of them, it has synchronized
 -- after `behind`, counted from the model after `before`
 begun_there : (plan : Plan) (commands : List Task) (scope : Scope) (before behind all : List Act) (q : Progress) → all ≡ before ++ behind
     → (state_after plan commands scope all).progress ≡ q → has_begun q ≡ true
     → has_begun (after_all plan commands (state_after plan commands scope before) behind).progress ≡ true
-begun_there plan commands scope before behind all q action there begun =
-    ap (λ (x : Model). has_begun x.progress) (sym (ap (state_after plan commands scope) action ∙ after_all-append plan commands (opening plan scope) before behind)) ∙ ap has_begun there ∙ begun
+begun_there plan commands scope before behind all q order there begun =
+    ap (λ (x : Model). has_begun x.progress) (sym (ap (state_after plan commands scope) order ∙ after_all-append plan commands (opening plan scope) before behind)) ∙ ap has_begun there ∙ begun
 
--- the two fields on chains of p are true after these acts: `next_is_chained` is what the text says of the next command, or true
--- in a missed cycle; and if `chain_unbroken` is true, `Whole` holds
+-- the two fields on chains of p are right after these acts: if the next command isn't the first of its cycle, `next_is_chained`
+-- is what the text says of it, or true in a missed cycle; and if `chain_unbroken` is true, `Whole` holds
 record Chain (plan : Plan) (commands : List Task) (scope : Scope) (acts : List Act) (p : Progress) : Type 0 where
   next_is_chained : plan.setup < place_next commands p → p.next_is_chained ≡ (p.missed || is_chained (drop (place_next commands p) commands))
   chain_unbroken : p.chain_unbroken ≡ true → Whole plan commands scope acts p
 
--- from one model to another nothing is left out, or no chain goes on there
-abbrev LeavesNothingOut : Model → Model → Type 0
+-- from the model s to t nothing is left out, or no chain goes on in t
+abbrev LeavesNothingOut : (s t : Model) → Type 0
 LeavesNothingOut s t = (t.passes ≡ s.passes) ⊎ (t.progress.chain_unbroken ≡ false)
 
 -- no act leaves commands out, but one after which no chain goes on
@@ -109,12 +112,24 @@ moved_keeps plan commands Pass s (Told m) = inr refl
 moved_keeps plan commands Pass s act = inl refl
 moved_keeps plan commands action s act = inl (ap (λ (x : Model). x.passes) (moved_changed plan commands action s act))
 
--- if a chain goes on in the model t, the commands left out there are those that were left out in s
+-- if `LeavesNothingOut` holds from s to t, and a chain goes on in t, the commands that were left out in s (`before`) are those
+-- left out in t
 still_passes : (s t : Model) (before : List Request) → LeavesNothingOut s t → t.progress.chain_unbroken ≡ true → s.passes ≡ before → t.passes ≡ before
 still_passes s t before (inl same) e is = same ∙ is
 still_passes s t before (inr none) e is = absurd (both_ways t.progress.chain_unbroken none e)
 
--- `Chain` is preserved by an act that leaves these fields and doesn't close the connection
+-- what `Chain` says of `next_is_chained` holds still where the next command and the fields on chains stay (`Still`)
+still_chained : (plan : Plan) (commands : List Task) (p q : Progress) → (stays : Still p q)
+    → (before : plan.setup < place_next commands p → p.next_is_chained ≡ (p.missed || is_chained (drop (place_next commands p) commands)))
+    → plan.setup < place_next commands q → q.next_is_chained ≡ (q.missed || is_chained (drop (place_next commands q) commands))
+still_chained plan commands p q k before above =
+    let place_is : place_next commands q ≡ place_next commands p = ap (λ (n : ℕ). length commands - n) k.unsent in
+    k.next_is_chained ∙ before (subst (λ (n : ℕ). plan.setup < n) place_is above) ∙ ap (λ (b : Bool). b || is_chained (drop (place_next commands p) commands)) (sym k.missed)
+    ∙ ap (λ (n : ℕ). q.missed || is_chained (drop n commands)) (sym place_is)
+
+-- `Chain` is preserved by an act that keeps the fields as `Still` says, doesn't close the connection, and sends no command of the
+-- setup; given that, if a chain goes on after the act, no command was left out (`LeavesNothingOut`), and a station that had
+-- synchronized still has
 chain_still : (plan : Plan) (commands : List Task) (scope : Scope) (acts : List Act) (act : Act) (p q : Progress)
     → (there : (state_after plan commands scope (acts ++ act ∷ [])).progress ≡ q) → (stays : Still p q) → (begins : has_begun p ≡ true → q.chain_unbroken ≡ true → has_begun q ≡ true)
     → (leaves : LeavesNothingOut (state_after plan commands scope acts) (state_after plan commands scope (acts ++ act ∷ []))) → (keeps_open : KeepsOpen act)
@@ -123,9 +138,7 @@ chain_still : (plan : Plan) (commands : List Task) (scope : Scope) (acts : List 
 chain_still plan commands scope acts act p q there k begins keeps stays other h =
     let place_is : place_next commands q ≡ place_next commands p = ap (λ (n : ℕ). length commands - n) k.unsent in
     record {
-      next_is_chained = λ above.
-          k.next_is_chained ∙ h.next_is_chained (subst (λ (n : ℕ). plan.setup < n) place_is above) ∙ ap (λ (b : Bool). b || is_chained (drop (place_next commands p) commands)) (sym k.missed)
-          ∙ ap (λ (n : ℕ). q.missed || is_chained (drop n commands)) (sym place_is);
+      next_is_chained = λ above. still_chained plan commands p q k h.next_is_chained above;
       chain_unbroken = λ e.
           let w = h.chain_unbroken (k.chain_unbroken e) in
           let order = ap (λ xs. xs ++ act ∷ []) w.order ∙ append_assoc w.before (w.request ∷ w.between) (act ∷ []) in
@@ -145,11 +158,11 @@ chain_still plan commands scope acts act p q there k begins keeps stays other h 
             keeps =
                 stays_more plan commands (state_after plan commands scope w.before) (w.request ∷ w.between) act w.keeps
                 (begun_there plan commands scope w.before (w.request ∷ (w.between ++ act ∷ [])) (acts ++ act ∷ []) q order there begun);
-            cycles =
+            no_setup =
                 let back = after_all-append plan commands (opening plan scope) w.before (w.request ∷ w.between) in
                 let here : after_all plan commands (state_after plan commands scope w.before) (w.request ∷ w.between)
                 ≡ state_after plan commands scope acts = sym back ∙ ap (state_after plan commands scope) (sym w.order) in
-                prepares_none plan commands (state_after plan commands scope w.before) (w.request ∷ w.between) (act ∷ []) w.cycles
+                prepares_none plan commands (state_after plan commands scope w.before) (w.request ∷ w.between) (act ∷ []) w.no_setup
                 (subst (λ (x : Model). PreparesNothing plan commands x (act ∷ [])) (sym here) (other, tt));
           };
     }
@@ -158,13 +171,7 @@ chain_still plan commands scope acts act p q there k begins keeps stays other h 
 chain_closed : (plan : Plan) (commands : List Task) (scope : Scope) (acts all : List Act) (p q : Progress) → Still p q → q.chain_unbroken ≡ false
     → Chain plan commands scope acts p → Chain plan commands scope all q
 chain_closed plan commands scope acts all p q k broken h =
-    let place_is : place_next commands q ≡ place_next commands p = ap (λ (n : ℕ). length commands - n) k.unsent in
-    record {
-      next_is_chained = λ above.
-          k.next_is_chained ∙ h.next_is_chained (subst (λ (n : ℕ). plan.setup < n) place_is above) ∙ ap (λ (b : Bool). b || is_chained (drop (place_next commands p) commands)) (sym k.missed)
-          ∙ ap (λ (n : ℕ). q.missed || is_chained (drop n commands)) (sym place_is);
-      chain_unbroken = λ e. absurd (both_ways q.chain_unbroken broken e);
-    }
+    record { next_is_chained = λ above. still_chained plan commands p q k h.next_is_chained above; chain_unbroken = λ e. absurd (both_ways q.chain_unbroken broken e) }
 
 -- `Chain` holds at the beginning of a cycle
 chain_at_start : (plan : Plan) (commands : List Task) (scope : Scope) (acts : List Act) (q : Progress) → AtCycleStart (cycle_length plan commands) q → Chain plan commands scope acts q
@@ -172,25 +179,27 @@ chain_at_start plan commands scope acts q a =
     let none : place_next commands q ≤ plan.setup = omega (arith, a.unsent) in
     record { next_is_chained = λ above. absurd (omega (arith, none, above)); chain_unbroken = λ e. absurd (both_ways q.chain_unbroken a.chain_unbroken e) }
 
--- if one command less is left, the next one is one place further on
+-- if a command is unsent in p, no more are than `commands` has, and one fewer is unsent in q, the next command of q is one place
+-- after that of p
 next_place : (commands : List Task) (p q : Progress) → q.unsent ≡ p.unsent - 1 → 0 < p.unsent → p.unsent ≤ length commands → place_next commands q ≡ place_next commands p + 1
 next_place commands p q less some within = omega (arith, less, some, within)
 
--- after a command that was sent or left out, `next_is_chained` is what the text says of the next command, or true in a missed
--- cycle
+-- after a command that was sent, or recorded without being sent, `next_is_chained` is what the text says of the next command, or
+-- true in a missed cycle
 next_chained : (commands : List Task) (p q : Progress) → Next (is_chained_after_next commands p) p q → place_next commands q ≡ place_next commands p + 1
     → q.next_is_chained ≡ (q.missed || is_chained (drop (place_next commands q) commands))
 next_chained commands p q n at =
     n.chained ∙ ap (λ (b : Bool). b || is_chained (drop (place_next commands p + 1) commands)) (sym n.missed) ∙ ap (λ (k : ℕ). q.missed || is_chained (drop k commands)) (sym at)
 
--- `Chain` holds after a command that isn't sent
+-- `Chain` holds after a command is recorded without being sent (`Next`, with the chain broken), if one was unsent, and no more
+-- were than `commands` has
 chain_skipped : (plan : Plan) (commands : List Task) (scope : Scope) (acts : List Act) (p q : Progress) → Next (is_chained_after_next commands p) p q
     → q.chain_unbroken ≡ false → 0 < p.unsent → p.unsent ≤ length commands → Chain plan commands scope acts q
 chain_skipped plan commands scope acts p q n broken some within =
     let at = next_place commands p q n.unsent some within in
     record { next_is_chained = λ above. next_chained commands p q n at; chain_unbroken = λ e. absurd (both_ways q.chain_unbroken broken e) }
 
--- `Chain` holds after the further attempts of a chain are left out
+-- `Chain` holds after the further attempts of a chain are left out (`Past`), if no more commands were unsent than `commands` has
 chain_past : (plan : Plan) (commands : List Task) (scope : Scope) (acts : List Act) (p q : Progress) → Past commands p q → p.unsent ≤ length commands → Chain plan commands scope acts q
 chain_past plan commands scope acts p q k within =
     record {
@@ -201,7 +210,8 @@ chain_past plan commands scope acts p q k within =
       chain_unbroken = λ e. absurd (both_ways q.chain_unbroken k.chain_unbroken e);
     }
 
--- `Chain` holds after a command that is sent
+-- `Chain` holds after a command of a cycle is sent, if one was unsent, and no more were than `commands` has; given that, if a
+-- chain goes on after the act, no command was left out (`LeavesNothingOut`), and the station has synchronized
 chain_sent : (plan : Plan) (commands : List Task) (scope : Scope) (acts : List Act) (act : Act) (p q : Progress)
     → (here : p ≡ turned (state_after plan commands scope acts).progress) → (there : (state_after plan commands scope (acts ++ act ∷ [])).progress ≡ q)
     → (sends : action_at plan (state_after plan commands scope acts) ≡ Send) → (begins : q.chain_unbroken ≡ true → has_begun q ≡ true)
@@ -224,18 +234,20 @@ chain_sent plan commands scope acts act p q here there is begins n some within k
         passes = still_passes (state_after plan commands scope acts) (state_after plan commands scope (acts ++ act ∷ [])) (state_after plan commands scope acts).passes keeps
             (ap (λ (x : Progress). x.chain_unbroken) there ∙ e) refl;
         keeps = (begun_there plan commands scope acts (act ∷ []) (acts ++ act ∷ []) q refl there (begins e), tt);
-        cycles = (λ prepares. let both : Send ≡ Prepare = sym is ∙ prepares in cc, tt);
+        no_setup = (λ prepares. let both : Send ≡ Prepare = sym is ∙ prepares in cc, tt);
       };
     }
 
--- `Chain` is preserved by an act of any action
+-- `Chain` is preserved by an act of the action that is next, whose conditions hold, from a model with the invariant, if the act
+-- changes the fields as `ChangesChain` says; given that, if a chain goes on after the act, no command was left out
+-- (`LeavesNothingOut`), and a station that had synchronized still has
 chain_moved : (plan : Plan) (commands : List Task) (scope : Scope) (acts : List Act) (act : Act) (action : Action) (w : Waiting) (q : Progress)
     → Invariant plan commands (state_after plan commands scope acts)
     → (is_next : action_at plan (state_after plan commands scope acts) ≡ action) → (needs : HoldsBefore plan (state_after plan commands scope acts).progress w action)
     → (performs : Performs commands (state_after plan commands scope acts) action act)
     → (there : (state_after plan commands scope (acts ++ act ∷ [])).progress ≡ q)
     → (begins : has_begun (state_after plan commands scope acts).progress ≡ true → q.chain_unbroken ≡ true → has_begun q ≡ true)
-    → (steps : Steps plan commands action (turned (state_after plan commands scope acts).progress) q)
+    → (steps : ChangesChain plan commands action (turned (state_after plan commands scope acts).progress) q)
     → (leaves : LeavesNothingOut (state_after plan commands scope acts) (state_after plan commands scope (acts ++ act ∷ [])))
     → Chain plan commands scope acts (turned (state_after plan commands scope acts).progress) → Chain plan commands scope (acts ++ act ∷ []) q
 chain_moved plan commands scope acts act Begin w q fine is needs o at begins (inl k) keeps h =
@@ -296,7 +308,7 @@ chain_along plan commands scope done (act ∷ acts) runs h =
             begun = w.begun;
             passes = w.passes;
             keeps = w.keeps;
-            cycles = w.cycles;
+            no_setup = w.no_setup;
           };
     } in
     let one = chain_moved plan commands scope done act (action_at plan s) (waiting_of s) t.progress (invariant_holds plan commands scope done)
@@ -317,8 +329,8 @@ chain_holds : (plan : Plan) (commands : List Task) (scope : Scope) (acts : List 
     → Chain plan commands scope acts (state_after plan commands scope acts).progress
 chain_holds plan commands scope acts runs = chain_along plan commands scope [] acts runs (record { next_is_chained = λ above. sym (ap is_chained (none_behind commands)); chain_unbroken = λ e. cc })
 
--- after every run, if the next command isn't the first of its cycle, it counts as chained as the text says, or in a missed
--- cycle
+-- after every run, if the next command isn't the first of its cycle, `next_is_chained` is what the text says of it, or true in a
+-- missed cycle
 pub chained_as_text_says : (plan : Plan) (commands : List Task) (scope : Scope) (acts : List Act) → Runs plan commands (opening plan scope) acts
     → plan.setup < place_next commands (state_after plan commands scope acts).progress
     → (state_after plan commands scope acts).progress.next_is_chained
@@ -357,18 +369,17 @@ ends_well (r ∷ rs) e = last_one r rs e
 
 -- what holds of all elements of a list holds of its last one
 all_last : {A : Type 0} (P : A → Type 0) (xs : List A) (x : A) → AllByRecursion P (xs ++ x ∷ []) → P x
-all_last P [] x all = all.0
-all_last P (y ∷ xs) x all = all_last P xs x all.1
+all_last P xs x all = (all_behind P xs (x ∷ []) all).0
 
--- as `sent_next`, where it is known only that a command is left: the commands that had their turn, with the next one after them,
--- are those that had their turn one place later
+-- as `sent_next`, where it is known only that a command is left: in a cycle, the commands that had their turn, with the next one
+-- after them, are those that had their turn one place later
 last_sent : (plan : Plan) (commands : List Task) (cycle place : ℕ) (left : List Task) → drop place commands ≡ left → 0 < length left → 0 < cycle
     → plan.setup ≤ place
     → (task : Task) × (commands_reached plan.setup commands cycle place ++ requests cycle place (of_task task ∷ []) ≡ commands_reached plan.setup commands cycle (place + 1))
 last_sent plan commands cycle place [] at some many within = absurd (omega (arith, some))
 last_sent plan commands cycle place (task ∷ others) at some many within = (task, sent_next plan.setup commands cycle place task others at within many)
 
--- a request of this very place isn't before it
+-- a request of this very cycle and place isn't before that place (`IsInFront`)
 not_in_front : (cycle place : ℕ) (r : Request) → r.cycle ≡ cycle → r.place ≡ place → IsInFront cycle place r → ⊥
 not_in_front cycle place r at is (inl less) = omega (arith, less, at)
 not_in_front cycle place r at is (inr same) = omega (arith, same.1, is)
@@ -400,8 +411,8 @@ chain_whole plan commands scope acts runs is chained = of_may needs.4 where
   next_is_chained : s.progress.next_is_chained ≡ true
   next_is_chained = h.next_is_chained chained.0 ∙ ap (λ (b : Bool). s.progress.missed || b) chained.1 ∙ or_right s.progress.missed true refl
 
-  -- the command before the next one, if no command is outstanding: `Whole` says that it was sent, and `EndsAnsweredWell` that the last
-  -- record was answered well; that record is its own, so `IsLinked` holds of it
+  -- the command before the next one, if no command is outstanding: `Whole` says that it was sent, and `EndsAnsweredWell` that the
+  -- last record was answered well; that record is its own, so `IsLinked` holds of it
   of_last : commands_in s.marks ≡ 0 → s.progress.chain_unbroken ≡ true → EndsAnsweredWell s.records → Whole plan commands scope acts s.progress
       → (l : IsLinked plan commands scope acts) × StaysBegun plan commands (state_after plan commands scope l.before) (l.request ∷ l.between)
       × PreparesNothing plan commands (state_after plan commands scope l.before) (l.request ∷ l.between)
@@ -456,15 +467,10 @@ chain_whole plan commands scope acts runs is chained = of_may needs.4 where
         last = l.last;
         own_cycle = ap (λ (r : Request). r.cycle) own;
         own_place = ap (λ (r : Request). r.place) own;
-        line = l.line;
-        quality = l.quality;
-        said = l.said;
-        answered = l.answered;
-        well = l.well;
-        says = listed l.quality l.said l.line l.answered;
-        in_time = true_one l.line (ap answer_of l.answered);
+        good = record { line = l.line; quality = l.quality; said = l.said; answered = l.answered; well = l.well; says = listed l.quality l.said l.line l.answered };
+        in_time = true_one l.line (ap line_of l.answered);
       } in
-      (linked, w.keeps, w.cycles)
+      (linked, w.keeps, w.no_setup)
 
   -- the lemma above, if the next command may be sent (`MayGo`): as it is chained, that is because the one before it was
   -- answered well
@@ -473,7 +479,7 @@ chain_whole plan commands scope acts runs is chained = of_may needs.4 where
   of_may (inl free) = absurd (both_ways s.progress.next_is_chained free next_is_chained)
   of_may (inr it) = of_last it.0 it.2 (ends_well s.records it.1) (h.chain_unbroken it.2)
 
--- a chained command is sent only after the answer of the one before it
+-- a chained command is sent only once the one before it was answered well, as `IsLinked` says
 pub chain_kept : (plan : Plan) (commands : List Task) (scope : Scope) (acts : List Act) → Runs plan commands (opening plan scope) acts
     → action_at plan (state_after plan commands scope acts) ≡ Send → IsChained plan commands (state_after plan commands scope acts) → IsLinked plan commands scope acts
 chain_kept plan commands scope acts runs is chained = (chain_whole plan commands scope acts runs is chained).0

@@ -1,6 +1,7 @@
--- A connection is closed, and a run stops, only for a cause; and the act that decided the end shows that cause. The end is
--- decided once the phase is `Closing` or `Over`, which name the cause. An act is one call on the link, with its result.
--- `Decides` says why an act decided the end, or that it left the phase as it was; `Decided` says why it did.
+-- A connection is closed, and a run stops, only for a cause; and the act that decided the end shows that cause, or closed the
+-- connection, or couldn't make one. The end is decided once the phase is `Closing` or `Over`, which name the cause. An act is one
+-- call on the link, with its result. `Decides` says why an act decided the end, or that it left the phase as it was; `Decided`
+-- says why it did.
 use Rattle.std.proofs.Common.{◌≡◌, ℕ, ◌⊎◌, inl, inr, ◌&&◌, ◌||◌, Bool, true, false, not, List, [], ◌∷◌, ◌++◌, length, drop, Option, Some, None, if◌then◌else◌, nat_lt, refl, sym, ap, ◌∙◌, subst, arith}
 use Rattle.std.proofs.lemmas.Bool.Decides.{nat_tests}
 use Rattle.std.proofs.lemmas.List.{nil_from_length}
@@ -23,10 +24,11 @@ use Rattle.gc_links.specs.Acts.{Act, Untold, Cut, Ended, Broke, Closed}
 use Rattle.gc_station.specs.Deciding.{has_begun, is_up, is_past, action_in}
 use Rattle.gc_station.specs.Marks.{commands_in}
 use Rattle.gc_station.specs.Progressing.{turned, moment_noted, failing, quieted, time_passed, is_finished, is_idle, cleared, closed, is_spared}
-use Rattle.gc_station.specs.Closing.{IsAlone, IsReasoned, Shows, ClosesForACause, EndsDone, EndsAfter, EndsDisconnected, Ends, StopsForACause}
-use Rattle.gc_station.specs.Reasons.{HoldsBefore, IsAtItsEnd}
+use Rattle.gc_station.specs.Closing.{IsAlone, IsReasoned, Shows, ClosesForACause, EndsAfter, EndsDisconnected, Ends, StopsForACause, EndsAgain}
+use Rattle.gc_station.specs.Reasons.{HoldsBefore, IsAtItsEnd, IsFinished}
 use Rattle.gc_station.specs.Runs.{state_after}
-use Rattle.gc_station.specs.Model.{Model, commands_before, request_text, null_text, first_text, waiting_of, opening, action_at, place_next, with_progress, with_moment, is_heard, lines_completed, after_piece, Performs, moved, after, after_all, Runs, text_or_null}
+use Rattle.gc_station.specs.Model.{Model, request_text, null_text, first_text, waiting_of, opening, action_at, with_progress, with_moment, is_heard, lines_completed, after_piece, Performs, moved, after, after_all, Runs, text_or_null}
+use Rattle.gc_station.specs.NextCommand.{commands_before, place_next}
 use Rattle.gc_station.proofs.Counts.{ended_progress}
 use Rattle.gc_station.proofs.EachRun.{invariant_holds}
 use Rattle.gc_station.proofs.Facts.{action_for, finished_so}
@@ -42,14 +44,14 @@ end_of (Closing why) = Some why
 end_of (Over why) = Some why
 end_of _ = None
 
--- an act shows that a call failed for this cause. The two phases are those before and after it: if there is no connection after
+-- an act between the phases `before` and `behind` shows that a call failed for this cause; and if there is no connection after
 -- it, there was none before
-abbrev pub Failed : Phase → Phase → Cause → Act → Type 0
+abbrev pub Failed : (before behind : Phase) → Cause → Act → Type 0
 Failed before behind why act = (is_up behind ≡ false → is_up before ≡ false) × Shows why act
 
--- why the second phase, after an act, decides the end for this cause: a call failed, as the act shows; or `Other` holds; or the
--- phase is as before the act (the first phase)
-abbrev Decides : Type 0 → Phase → Phase → Cause → Act → Type 0
+-- why the phase `behind`, after an act, decides the end for this cause: a call failed, as the act shows; or `Other` holds; or the
+-- phase is as before the act (`before`)
+abbrev Decides : Type 0 → (before behind : Phase) → Cause → Act → Type 0
 Decides Other before behind why act = Failed before behind why act ⊎ (Other ⊎ (behind ≡ before))
 
 -- a failure for `why`, which the act shows, sets the phase to closing if there is a connection (`up`) and to over if there is
@@ -65,12 +67,12 @@ failed : {Other : Type 0} (s : Model) (why c : Cause) (act : Act) → Shows why 
     → Decides Other s.progress.phase (with_progress (failing why) s).progress.phase c act
 failed s why c act shows e = fail_decides s.progress.phase s.progress.phase (is_up s.progress.phase) why c act refl shows (λ d. d) e
 
--- the end of a pause decides no end
-paused_same : (at : Phase) (b : Bool) (c : Cause) → end_of (if b then Down else at) ≡ Some c → (if b then Down else at) ≡ at
+-- if the end is decided where a pause ends (`ends`) or goes on, the phase is as it was
+paused_same : (at : Phase) (ends : Bool) (c : Cause) → end_of (if ends then Down else at) ≡ Some c → (if ends then Down else at) ≡ at
 paused_same at true c e = cc
 paused_same at false c e = refl
 
--- the end of a pause or a drain decides no end
+-- if the end is decided where a pause or a drain ends or goes on, the phase is as it was
 quiet_same : (plan : Plan) (phase : Phase) (p : Progress) (c : Cause) → end_of (quieted plan phase p).phase ≡ Some c → (quieted plan phase p).phase ≡ p.phase
 quiet_same plan phase p c =
     quieted_along (λ (q : Progress). end_of q.phase ≡ Some c → q.phase ≡ p.phase) plan phase p
@@ -82,32 +84,24 @@ came_phase heard word piece s =
     came_along (λ (t : Model). t.progress.phase ≡ s.progress.phase) (λ t line e. e) heard word piece s refl
     (asked_along (λ (q : Progress). q.phase ≡ s.progress.phase) (λ q line e. e) s.progress (lines_completed s.rest piece) refl) refl
 
--- if one test says that a new connection isn't spared a try and that no try is left, both are true
+-- if the test is false that a new connection needs no try (`spared`) or a try is left, it needs one and none is left
 no_try : (spared : Bool) (tries : ℕ) → spared || nat_lt 0 tries ≡ false → (spared ≡ false) × (tries ≡ 0)
 no_try true tries e = cc
 no_try false tries e = (refl, grind (arith, nat_tests, e))
 
--- how a run ends whose connection is gone for the cause `other`, while n commands are outstanding. It ends for the cause c (the
--- last argument): as done, if nothing is left to be sent and none is outstanding; otherwise for `other`, if a try is needed and
--- none is left
-abbrev EndsAgain : Plan → Progress → ℕ → Cause → Cause → Type 0
-EndsAgain plan p n other c = EndsDone p n c ⊎ ((c ≡ other) × (is_finished n p ≡ false) × (is_spared plan other p ≡ false) × (p.tries ≡ 0))
-
--- if the phase after a lost connection or a failed attempt ends the run, the cause is as `EndsAgain` says
+-- if the phase after a lost connection or a failed attempt ends the run, the cause is as `EndsAgain` says. `done`: nothing is
+-- left to be sent and none is outstanding; `some`: a try is left, or none is needed
 again_ends : (plan : Plan) (other c : Cause) (n : ℕ) (p : Progress) (done some : Bool) → is_finished n p ≡ done → (is_spared plan other p || nat_lt 0 p.tries) ≡ some
     → end_of (if done then Over cause.Done else if some then Pausing else Over other) ≡ Some c → EndsAgain plan p n other c
-again_ends plan other c n p true some finished tries e = let none = finished_so n p finished in inl (cc, none.0, none.1, none.2)
+again_ends plan other c n p true some finished tries e = inl (cc, finished_so n p finished)
 again_ends plan other c n p false true finished tries e = cc
 again_ends plan other c n p false false finished tries e = let none = no_try (is_spared plan other p) p.tries tries in inr (cc, finished, none.0, none.1)
 
--- no command is left to be sent, and none is outstanding
-abbrev NoneLeft : Progress → ℕ → Type 0
-NoneLeft p n = (p.left ≡ 0) × (p.unsent ≡ 0) × (n ≡ 0)
-
--- if a close ends the run, the cause is as `EndsAfter` says
-closed_ends : (plan : Plan) (w : Waiting) (other c : Cause) (p : Progress) → (other ≡ cause.Done → NoneLeft p w.commands)
+-- if a close for the cause `other` ends the run, it ends as `EndsAfter` says, given that a close for `Done` is made only if all
+-- is done (`IsFinished`)
+closed_ends : (plan : Plan) (w : Waiting) (other c : Cause) (p : Progress) → (other ≡ cause.Done → IsFinished w.commands p)
     → end_of (closed plan w other (turned p)).phase ≡ Some c → EndsAfter plan p w.commands other c
-closed_ends plan w cause.Done c p done e = let none = done refl in (cc, none.0, none.1, none.2)
+closed_ends plan w cause.Done c p done e = (cc, done refl)
 closed_ends plan w cause.Clock c p done e = cc
 closed_ends plan w cause.Turns c p done e = cc
 closed_ends plan w cause.Stale c p done e = cc
@@ -115,7 +109,7 @@ closed_ends plan w cause.Stopped c p done e = cc
 closed_ends plan w cause.Open c p done e = again_ends plan cause.Open c w.commands p (is_finished w.commands p) (nat_lt 0 p.tries) refl refl e
 closed_ends plan w other c p done e = again_ends plan other c w.commands p (is_finished w.commands p) (is_idle plan p || nat_lt 0 p.tries) refl refl e
 
--- in the phase after the act, which is given, there is no connection: the act closed it or could make none, and no other is
+-- in the phase `behind`, the one after the act, there is no connection: the act closed it or could make none, and no other is
 -- made, for this cause
 abbrev pub Gone : Plan → Model → Action → Phase → Cause → Act → Type 0
 Gone plan s next behind c act = (is_up behind ≡ false) × EndsDisconnected plan s.progress (waiting_of s) next c act
@@ -135,12 +129,10 @@ pub cleared_up : (begun : Bool) → is_up (if begun then Draining else Ready) �
 cleared_up true = refl
 cleared_up false = refl
 
--- if the end is decided after an act, the act decided it, or the phase is as before
+-- `DecidesSo` holds after an act, given that a close for `Done` is next only if all is done (`IsFinished`)
 moved_decides : (plan : Plan) (commands : List Task) (next : Action) (s : Model) (act : Act) (c : Cause) → Performs commands s next act
-    → (next ≡ action.Close cause.Done → NoneLeft s.progress (commands_in s.marks))
-    → end_of (moved plan commands next (with_progress turned s) act).progress.phase ≡ Some c
-    → Decides (Gone plan s next (moved plan commands next (with_progress turned s) act).progress.phase c act) s.progress.phase
-    (moved plan commands next (with_progress turned s) act).progress.phase c act
+    → (next ≡ action.Close cause.Done → IsFinished (commands_in s.marks) s.progress)
+    → DecidesSo plan s next c act (moved plan commands next (with_progress turned s) act)
 moved_decides plan commands action.Open s act c o done e =
     let n = commands_in s.marks in
     let p = s.progress in
@@ -201,9 +193,10 @@ not_twice plan commands s act c phase is e o same = cc
 abbrev pub Decided : Plan → Model → Phase → Cause → Act → Type 0
 Decided plan s behind c act = Failed s.progress.phase behind c act ⊎ Gone plan s (action_at plan s) behind c act
 
--- if the end is decided after an act, before what is outstanding is lost, the act decided it
+-- if the end is decided after an act, before what is outstanding is lost, the act decided it; given that a close for `Done` is
+-- next only if all is done (`IsFinished`)
 moved_decided : (plan : Plan) (commands : List Task) (s : Model) (act : Act) (c : Cause) → Performs commands s (action_at plan s) act
-    → (action_at plan s ≡ action.Close cause.Done → NoneLeft s.progress (commands_in s.marks))
+    → (action_at plan s ≡ action.Close cause.Done → IsFinished (commands_in s.marks) s.progress)
     → end_of (moved plan commands (action_at plan s) (with_progress turned s) act).progress.phase ≡ Some c
     → Decided plan s (moved plan commands (action_at plan s) (with_progress turned s) act).progress.phase c act
 moved_decided plan commands s act c o done e = pick (moved_decides plan commands (action_at plan s) s act c o done e) where
@@ -215,9 +208,10 @@ moved_decided plan commands s act c o done e = pick (moved_decides plan commands
   pick (inr (inl gone)) = inr gone
   pick (inr (inr same)) = absurd (not_twice plan commands s act c s.progress.phase refl (ap end_of (sym same) ∙ e) o same)
 
--- if the end is decided after a whole act, the act decided it
+-- if the end is decided after a whole act, the act decided it; given that a close for `Done` is next only if all is done
+-- (`IsFinished`)
 pub after_decided : (plan : Plan) (commands : List Task) (s : Model) (act : Act) (c : Cause) → Performs commands s (action_at plan s) act
-    → (action_at plan s ≡ action.Close cause.Done → NoneLeft s.progress (commands_in s.marks))
+    → (action_at plan s ≡ action.Close cause.Done → IsFinished (commands_in s.marks) s.progress)
     → end_of (after plan commands s act).progress.phase ≡ Some c → Decided plan s (after plan commands s act).progress.phase c act
 after_decided plan commands s act c o done e =
     let same : (after plan commands s act).progress.phase ≡ (moved plan commands (action_at plan s) (with_progress turned s) act).progress.phase =
@@ -251,12 +245,12 @@ act_reasoned plan commands scope earlier later act runs =
 none_or_last : (acts : List Act) → (acts ≡ []) ⊎ ((earlier : List Act) × (last : Act) × (acts ≡ earlier ++ last ∷ []))
 none_or_last [] = inl refl
 none_or_last (x ∷ xs) = on (none_or_last xs) where
-  -- the lemma above for one act more before it
+  -- the lemma above for the list with the act x before `xs`
   on : ((xs ≡ []) ⊎ ((earlier : List Act) × (last : Act) × (xs ≡ earlier ++ last ∷ []))) → (x ∷ xs ≡ []) ⊎ ((earlier : List Act) × (last : Act) × (x ∷ xs ≡ earlier ++ last ∷ []))
   on (inl none) = inr ([], x, ap (λ ys. x ∷ ys) none)
   on (inr some) = inr (x ∷ some.0, some.1, ap (λ ys. x ∷ ys) some.2)
 
--- only a close performs the act that closes a connection
+-- the act that closes a connection performs no action but a close
 pub closes_only : (commands : List Task) (s : Model) (next : Action) → Performs commands s next Closed → (why : Cause) × (next ≡ action.Close why)
 closes_only commands s (action.Close why) o = (why, refl)
 closes_only commands s next o = absurd o
@@ -267,12 +261,12 @@ needs_of plan s next is = subst (λ (o : Action). HoldsBefore plan s.progress (w
 
 -- a connection is closed for being done only if no command is left to be sent, and none is outstanding
 pub done_sent : (plan : Plan) (commands : List Task) (scope : Scope) (acts : List Act) → action_at plan (state_after plan commands scope acts) ≡ action.Close cause.Done
-    → NoneLeft (state_after plan commands scope acts).progress (commands_in (state_after plan commands scope acts).marks)
+    → IsFinished (commands_in (state_after plan commands scope acts).marks) (state_after plan commands scope acts).progress
 done_sent plan commands scope acts is = by_needs (needs_of plan (state_after plan commands scope acts) (action.Close cause.Done) is).1 where
   -- the lemma above, by the condition of that close: the phase says so, or nothing is left
   by_needs : (((state_after plan commands scope acts).progress.phase ≡ Closing cause.Done)
       ⊎ IsAtItsEnd plan (state_after plan commands scope acts).progress (waiting_of (state_after plan commands scope acts)) cause.Done)
-      → NoneLeft (state_after plan commands scope acts).progress (commands_in (state_after plan commands scope acts).marks)
+      → IsFinished (commands_in (state_after plan commands scope acts).marks) (state_after plan commands scope acts).progress
   by_needs (inl phase) = (invariant_holds plan commands scope acts).finished (ap says_done phase)
   by_needs (inr end) = end
 
@@ -301,18 +295,18 @@ decided_last plan commands scope acts c runs e = by_last (none_or_last acts) whe
             (after_decided plan commands s last c split.1 (done_sent plan commands scope earlier) (ap end_of (sym behind) ∙ e)),
       )
 
--- if the phase is that the connection is to be closed for `why`, the last act shows the call that failed
+-- if the phase says that the connection is to be closed for `why`, the last act shows that cause (`Shows`)
 pub closing_shown : (plan : Plan) (commands : List Task) (scope : Scope) (acts : List Act) (why : Cause) → Runs plan commands (opening plan scope) acts
     → (state_after plan commands scope acts).progress.phase ≡ Closing why
     → (earlier : List Act) × (last : Act) × (acts ≡ earlier ++ last ∷ []) × Shows why last
 closing_shown plan commands scope acts why runs phase =
     let d = decided_last plan commands scope acts why runs (ap end_of phase) in (d.0, d.1, d.2, shows (state_after plan commands scope d.0) d.1 d.3) where
-      -- as the connection isn't closed yet, the end wasn't decided by a connection that is gone
+      -- if the last act decided the end, it shows the cause: the connection isn't closed yet, so it isn't gone
       shows : (before : Model) (last : Act) → Decided plan before (state_after plan commands scope acts).progress.phase why last → Shows why last
       shows before last (inl failed) = failed.1
       shows before last (inr gone) = let up : true ≡ false = sym (ap is_up phase) ∙ gone.0 in cc
 
--- if a connection is closed, it is closed for a cause
+-- if a connection is closed, it is closed for a cause, as `ClosesForACause` says
 pub closed_for : (plan : Plan) (commands : List Task) (scope : Scope) (acts : List Act) → Runs plan commands (opening plan scope) acts
     → Performs commands (state_after plan commands scope acts) (action_at plan (state_after plan commands scope acts)) Closed
     → ClosesForACause plan commands scope acts
@@ -332,7 +326,7 @@ closed_for plan commands scope acts runs o =
       by_needs why (inl phase) = inr (closing_shown plan commands scope acts why runs phase)
       by_needs why (inr end) = inl end
 
--- if a run stops, it stops for a cause
+-- if a run stops, it stops for a cause, as `StopsForACause` says
 pub stopped_for : (plan : Plan) (commands : List Task) (scope : Scope) (acts : List Act) (why : Cause) → Runs plan commands (opening plan scope) acts
     → action_at plan (state_after plan commands scope acts) ≡ action.Stop why → StopsForACause plan commands scope acts why
 stopped_for plan commands scope acts why runs stop =

@@ -51,12 +51,17 @@ not_among_zeros (suc n) code some e = elim (eqb_tells 0 code) as (λ _. ⊥) [
   | inr other ↦ not_among_zeros n code some (sym (ap (λ b. b || list_any (λ c. c == code) (replicate n 0)) other.0) ∙ e)
 ]
 
--- no code is among no codes
+-- `no_codes` lists no code
 none_accepted : (code : ℕ) → lists_code no_codes code ≡ true → ⊥
 none_accepted code e = elim (eqb_tells code 0) as (λ _. ⊥) [
   | inl same ↦ let bad : false ≡ true = sym (ap (λ b. not b && list_any (λ c. c == code) (replicate 16 0)) same.0) ∙ e in cc
   | inr other ↦ not_among_zeros 16 code other.1 (sym (ap (λ b. not b && list_any (λ c. c == code) (replicate 16 0)) other.0) ∙ e)
 ]
+
+-- if no code is accepted, a return code that is 0 or an accepted one is 0
+without_codes : (accepted : Codes) (rc : ℕ) → accepted ≡ no_codes → (rc ≡ 0) ⊎ (lists_code accepted rc ≡ true) → rc ≡ 0
+without_codes accepted rc none (inl same) = same
+without_codes accepted rc none (inr some) = absurd (none_accepted rc (ap (λ (cs : Codes). lists_code cs rc) (sym none) ∙ some))
 
 module _ (reads : Asked → List ℕ → Reading) (expected : Expected) (call : Asked) (line : List ℕ) (r : ReplyFields) (are : AreReadings reads) (is : IsReply line r) where
   -- if a reply's fields r mean `said` for the call (`IsAskedReading`), `reads` reads its line as `said`
@@ -89,22 +94,17 @@ module _ (reads : Asked → List ℕ → Reading) (expected : Expected) (call : 
   ]
 
   -- a command that is refused, and is answered well nevertheless, was refused with an accepted code
-  accepted_one : (b : Bool) → lists_code expected.accepted r.rc ≡ b → reads call line ≡ reading.Refused r.rc → is_well (end_of reads expected call (Answered line)) ≡ true
+  accepted_one : (accepted : Bool) → lists_code expected.accepted r.rc ≡ accepted → reads call line ≡ reading.Refused r.rc → is_well (end_of reads expected call (Answered line)) ≡ true
       → lists_code expected.accepted r.rc ≡ true
   accepted_one true e said well = e
   accepted_one false e said well = absurd (both_ways (is_well (end_of reads expected call (Answered line))) (refused_unwell r.rc said e) well)
 
-  -- a command is answered well only if the return code of its reply is 0 or an accepted one
+  -- a command whose reply has communication code 0 is answered well only if the return code is 0 or an accepted one
   rc_zero : r.rc_com ≡ 0 → is_well (end_of reads expected call (Answered line)) ≡ true → (r.rc ≡ 0) ⊎ (lists_code expected.accepted r.rc ≡ true)
   rc_zero none well = elim (eqb_tells r.rc 0) as (λ _. (r.rc ≡ 0) ⊎ (lists_code expected.accepted r.rc ≡ true)) [
     | inl same ↦ inl same.1
     | inr other ↦ inr (accepted_one (lists_code expected.accepted r.rc) refl (says (reading.Refused r.rc) (refused_is call r none other.1)) well)
   ]
-
-  -- if no code is accepted, the return code is 0
-  without_codes : expected.accepted ≡ no_codes → (r.rc ≡ 0) ⊎ (lists_code expected.accepted r.rc ≡ true) → r.rc ≡ 0
-  without_codes none (inl same) = same
-  without_codes none (inr some) = absurd (none_accepted r.rc (ap (λ (cs : Codes). lists_code cs r.rc) (sym none) ∙ some))
 
   -- a command whose line says anything but an answer or a refusal with an accepted code isn't answered well
   unread_well : (said : Reading) → reads call line ≡ said → ((answer : Answer) → said ≡ reading.Value answer → ⊥)
@@ -127,32 +127,35 @@ module _ (reads : Asked → List ℕ → Reading) (expected : Expected) (call : 
   warned_ends said none some accepted read =
       ended_refused r.rc true (says (reading.Refused r.rc) (refused_is call r none some)) accepted ∙ ap (λ x. warned_as expected.near x line) (says_zeroed said read)
 
--- if no code is accepted, an answer of a good quality has both codes 0
+-- the law: if no code is accepted, the line of an answer of a good quality says an answer (both codes are 0), and the record has
+-- it
 pub without_accept : GoodIsAnAnswer
 without_accept reads call quality.Fine said line is good = is
 without_accept reads call quality.Warning said line (code, refusal, listed, has) good = absurd (none_accepted code listed)
 without_accept reads call quality.Refused said line is good = cc
 
--- the law: a command is answered well only with communication code 0, and a return code that is 0 or accepted
+-- the law: how a command that a reply in time ended is answered well or not, by its codes (`EndsByItsCodes`); and one that is
+-- late, lost, skipped or missed never is answered well
 pub accepted_codes : WellIsAnAcceptedCode
 accepted_codes = record {
-  only = λ reads expected call line r are is well.
-      let first = com_zero reads expected call line r are is well in
-      (first, rc_zero reads expected call line r are is first well);
-  without = λ reads expected call line r are is none well.
-      let first = com_zero reads expected call line r are is well in
-      (first, without_codes reads expected call line r are is none (rc_zero reads expected call line r are is first well));
-  unread = λ reads expected call line r said are is reading none unlisted. unread_well reads expected call line r are is said (says reads expected call line r are is said reading) none unlisted;
-  found = λ reads expected call line r answer are is has.
-      ap is_well (value_ends reads expected call line r are is answer has) ∙ value_well quality.Fine refl answer line (is_elsewhere expected.near answer);
-  away = λ reads expected call line r answer are is has elsewhere.
-      value_ends reads expected call line r are is answer has ∙ ap (λ b. value_as quality.Fine b answer line) elsewhere;
-  warned = λ reads expected call line r answer are is none some accepted has.
-      ap is_well (warned_ends reads expected call line r are is (reading.Value answer) none some accepted has)
-      ∙ value_well quality.Warning refl answer line (is_elsewhere expected.near answer);
-  warned_away = λ reads expected call line r answer are is none some accepted has elsewhere.
-      warned_ends reads expected call line r are is (reading.Value answer) none some accepted has ∙ ap (λ b. value_as quality.Warning b answer line) elsewhere;
-  warned_without = λ reads expected call line r fault are is none some accepted unreadable.
-      warned_ends reads expected call line r are is (reading.Unreadable fault) none some accepted unreadable;
+  replied = λ reads expected call line r are is. record {
+    only = λ well.
+        let first = com_zero reads expected call line r are is well in
+        (first, rc_zero reads expected call line r are is first well);
+    without = λ none well.
+        let first = com_zero reads expected call line r are is well in
+        (first, without_codes expected.accepted r.rc none (rc_zero reads expected call line r are is first well));
+    unread = λ said reading none unlisted. unread_well reads expected call line r are is said (says reads expected call line r are is said reading) none unlisted;
+    found = λ answer has.
+        ap is_well (value_ends reads expected call line r are is answer has) ∙ value_well quality.Fine refl answer line (is_elsewhere expected.near answer);
+    away = λ answer has elsewhere. value_ends reads expected call line r are is answer has ∙ ap (λ b. value_as quality.Fine b answer line) elsewhere;
+    warned = λ answer none some accepted has.
+        ap is_well (warned_ends reads expected call line r are is (reading.Value answer) none some accepted has)
+        ∙ value_well quality.Warning refl answer line (is_elsewhere expected.near answer);
+    warned_away = λ answer none some accepted has elsewhere.
+        warned_ends reads expected call line r are is (reading.Value answer) none some accepted has ∙ ap (λ b. value_as quality.Warning b answer line) elsewhere;
+    warned_without = λ fault none some accepted unreadable.
+        warned_ends reads expected call line r are is (reading.Unreadable fault) none some accepted unreadable;
+  };
   none = λ reads expected call. (refl, refl, refl, refl);
 }

@@ -19,7 +19,8 @@ use Rattle.gc_links.specs.Acts.{Act, Told, Put, Gave, Silent, Opened}
 use Rattle.gc_station.specs.Deciding.{is_up, is_past, is_quiet}
 use Rattle.gc_station.specs.Marks.{commands_in}
 use Rattle.gc_station.specs.Progressing.{turned, moment_noted, cycle_begun, skipped, attempts_left_out, opened, cleared, request_noted, null_sent, renewed, sent, early_noted, time_passed, quieted, is_idle, drained, setup_sent}
-use Rattle.gc_station.specs.Model.{Model, commands_before, request_text, null_text, first_text, place_next, is_chained_after_next, others_after_next, is_chained_after, others_after, waiting_of, piece_at, with_progress, Performs, moved, cycle_length, text_or_null, opening, action_at, Runs}
+use Rattle.gc_station.specs.Model.{Model, request_text, null_text, first_text, waiting_of, piece_at, with_progress, Performs, moved, cycle_length, text_or_null, opening, action_at, Runs}
+use Rattle.gc_station.specs.NextCommand.{commands_before, place_next, is_chained_after_next, others_after_next, is_chained_after, others_after}
 use Rattle.gc_station.specs.Runs.{state_after}
 use Rattle.gc_station.specs.Scopes.{Scope}
 use Rattle.gc_station.proofs.Always.{always_of_progress}
@@ -45,8 +46,8 @@ down_unused phase.Draining down = cc
 down_unused phase.Ready down = cc
 down_unused at down = refl
 
--- at the end of a pause no connection is in use
-paused_unused : (b : Bool) (at : Phase) → at ≡ phase.Pausing → is_in_use (if b then phase.Down else at) ≡ false
+-- in a pause, whether it ends (`ends`) or not, no connection is in use
+paused_unused : (ends : Bool) (at : Phase) → at ≡ phase.Pausing → is_in_use (if ends then phase.Down else at) ≡ false
 paused_unused true at is = refl
 paused_unused false at is = ap is_in_use is
 
@@ -130,7 +131,8 @@ module _ (plan : Plan) (commands : List Task) (F : Progress → List Act → Typ
       (h, λ n. unused _ _ (failed_unused (is_up s.progress.phase) (cause.Write (commands_before plan commands (turned s.progress)) n)))
   on_line next s act acts o h = walk plan commands (FactBehind acts) next (with_progress turned s) act o (h, λ n. unused _ _ (failed_unused (is_up s.progress.phase) cause.Clock))
 
-  -- the fact holds after every run, if it holds at the start, and `OnLine` holds of the action that is next after each run
+  -- the fact holds after every run, if it holds at the start, and `OnLine` holds of the action that is next after each run after
+  -- which the fact holds
   pub on_line_always : (scope : Scope)
       → ((done : List Act) → Runs plan commands (opening plan scope) done → F (state_after plan commands scope done).progress done
       → OnLine plan commands F (action_at plan (state_after plan commands scope done)) (with_progress turned (state_after plan commands scope done)) done)

@@ -1,8 +1,8 @@
 -- A tally counts the records of the last attempts. `count` is one of its counts, and `so` says which endings it counts; no count
--- exceeds 2^64 - 1 (`at_most`).
+-- exceeds 2^64 - 1 (`capped`).
 use Rattle.std.proofs.Common.{◌||◌, ◌&&◌, not, nat_eq, nat_lt, ◌≡◌, ℕ, suc, ◌+◌, Bool, true, false, List, [], ◌∷◌, if◌then◌else◌, refl, sym, ap, ◌∙◌, arith}
 use Rattle.gc_texts.specs.Endings.{End, Answered, Unreadable, Elsewhere, Late, Lost, Skipped, Missed}
-use Rattle.gc_station.specs.Counting.{is_followed, last_attempts, further_attempts, how_many, is_answered, is_unreadable, is_elsewhere, is_late, is_lost, is_skipped, is_missed, at_most, TalliesCountRecords}
+use Rattle.gc_station.specs.Counting.{is_followed, last_attempts, further_attempts, how_many, is_answered, is_unreadable, is_elsewhere, is_late, is_lost, is_skipped, is_missed, capped, TalliesCountRecords}
 use Rattle.gc_station.specs.Records.{Record}
 use Rattle.gc_station.specs.Tallies.{none_yet, one_more, counted, sum, nothing_yet, tallied, total, tally_of}
 use Rattle.gc_station.specs.Deciding.{later}
@@ -13,8 +13,8 @@ use Rattle.gc_station.specs.declared.tally.Tally.{Tally}
 -- chains before, `counts` whether the command has the ending that is counted. In an attempt that is `followed` by another one no
 -- command counts
 counted_either_way : (followed counts : Bool) (before attempt rest : ℕ)
-    → at_most (before + ((if followed then 0 else (if counts then one_more attempt else attempt)) + rest))
-    ≡ at_most (before + ((if followed then 0 else attempt) + (if followed then rest else (if counts then suc rest else rest))))
+    → capped (before + ((if followed then 0 else (if counts then one_more attempt else attempt)) + rest))
+    ≡ capped (before + ((if followed then 0 else attempt) + (if followed then rest else (if counts then suc rest else rest))))
 counted_either_way true counts before attempt rest = refl
 counted_either_way false true before attempt rest = omega arith
 counted_either_way false false before attempt rest = refl
@@ -24,64 +24,69 @@ zero_chosen : (followed : Bool) → ◌≡◌ {A = ℕ} (if followed then 0 else
 zero_chosen true = refl
 zero_chosen false = refl
 
--- an attempt without commands so far leaves a count, whether it is followed or not
-adds_nothing : (followed : Bool) (before rest : ℕ) → at_most (before + ((if followed then 0 else 0) + rest)) ≡ at_most (before + (0 + rest))
-adds_nothing followed before rest = ap (λ n. at_most (before + (n + rest))) (zero_chosen followed)
+-- an attempt without commands so far adds nothing to a count, whether it is followed or not
+adds_nothing : (followed : Bool) (before rest : ℕ) → capped (before + ((if followed then 0 else 0) + rest)) ≡ capped (before + (0 + rest))
+adds_nothing followed before rest = ap (λ n. capped (before + (n + rest))) (zero_chosen followed)
 
--- an attempt that isn't followed is counted once the next chain begins
-settled_then : (followed : Bool) (before attempt rest : ℕ) → at_most (later before attempt + ((if followed then 0 else 0) + rest)) ≡ at_most (before + (attempt + rest))
+-- once the next chain begins, the count of the last attempt (`attempt`) is among those of the chains before, and the attempt that
+-- begins, `followed` by another one or not, has none yet
+settled_then : (followed : Bool) (before attempt rest : ℕ) → capped (later before attempt + ((if followed then 0 else 0) + rest)) ≡ capped (before + (attempt + rest))
 settled_then followed before attempt rest = adds_nothing followed (later before attempt) rest ∙ omega arith
 
 -- the counts `c` once an attempt begins, as `started` gives them: it is a further one (`true`), or the first one of its chain
 abbrev attempt_begun : Counts → Bool → Counts
 attempt_begun c further =
-    if further then record { settled = record c.settled { again = one_more c.settled.again }; attempt = none_yet } else record { settled = sum c.settled c.attempt; attempt = none_yet }
+    if further then record { settled = record c.settled { again = one_more c.settled.again }; attempt = none_yet }
+    else record { settled = sum c.settled c.attempt; attempt = none_yet }
+
+-- to count the records with an ending for which `so` is true, with r before `rs` unless its attempt is followed (q), is to count
+-- those of `rs`, and one more if r is there and has such an ending
+in_front : (so : End → Bool) (q : Bool) (r : Record) (rs : List Record)
+    → how_many so (if q then rs else r ∷ rs) ≡ (if q then how_many so rs else (if so r.end then suc (how_many so rs) else how_many so rs))
+in_front so true r rs = refl
+in_front so false r rs = refl
 
 -- a count that grows by one for each command with this ending (`so`), stays for any other, adds up, and doesn't depend on `again`
 module _ (count : Tally → ℕ) (so : End → Bool) (step : (end : End) (t : Tally) → count (counted end t) ≡ (if so end then one_more (count t) else count t))
     (adds : (a b : Tally) → count (sum a b) ≡ later (count a) (count b)) (none : count none_yet ≡ 0) (stays : (t : Tally) (n : ℕ) → count (record t { again = n }) ≡ count t) where
-  -- how many of these records have this ending, with one before it that counts where its attempt isn't followed (q)
-  in_front : (q : Bool) (r : Record) (rs : List Record) → how_many so (if q then rs else r ∷ rs) ≡ (if q then how_many so rs else (if so r.end then suc (how_many so rs) else how_many so rs))
-  in_front true r rs = refl
-  in_front false r rs = refl
-
-  -- the next command of an attempt is counted in it
-  counts_next : (x s : ℕ) (t : Tally) (r : Record) (rs : List Record) (q : Bool) → x ≡ at_most (s + ((if q then 0 else count (counted r.end t)) + how_many so rs))
-      → x ≡ at_most (s + ((if q then 0 else count t) + how_many so (if q then rs else r ∷ rs)))
+  -- a count x with r, the next command of an attempt, counted with that attempt is the same as with r counted among the records
+  -- instead, in front of `rs`. If the attempt is followed (q), r isn't counted either way
+  counts_next : (x s : ℕ) (t : Tally) (r : Record) (rs : List Record) (q : Bool) → x ≡ capped (s + ((if q then 0 else count (counted r.end t)) + how_many so rs))
+      → x ≡ capped (s + ((if q then 0 else count t) + how_many so (if q then rs else r ∷ rs)))
   counts_next x s t r rs q is =
-      is ∙ ap (λ n. at_most (s + ((if q then 0 else n) + how_many so rs))) (step r.end t) ∙ counted_either_way q (so r.end) s (count t) (how_many so rs)
-      ∙ ap (λ n. at_most (s + ((if q then 0 else count t) + n))) (sym (in_front q r rs))
+      is ∙ ap (λ n. capped (s + ((if q then 0 else n) + how_many so rs))) (step r.end t) ∙ counted_either_way q (so r.end) s (count t) (how_many so rs)
+      ∙ ap (λ n. capped (s + ((if q then 0 else count t) + n))) (sym (in_front so q r rs))
 
-  -- a count after records is that of the chains before, that of the attempt before if no further one follows, and the number of
-  -- records of last attempts with its ending, up to its greatest number
-  counts : (c : Counts) (rs : List Record) → count (total (tallied c rs)) ≡ at_most (count c.settled + ((if is_followed rs then 0 else count c.attempt) + how_many so (last_attempts rs)))
+  -- a count after these records is the sum of that of the chains before, of that of the attempt before unless a further one
+  -- follows, and of the number of records of last attempts with its ending; at most 2^64 - 1
+  counts : (c : Counts) (rs : List Record) → count (total (tallied c rs)) ≡ capped (count c.settled + ((if is_followed rs then 0 else count c.attempt) + how_many so (last_attempts rs)))
   counts c [] = adds c.settled c.attempt ∙ omega arith
   counts c (r ∷ rs) = by_tests (λ d. counts d rs) (nat_eq r.cycle 0) (nat_eq r.turn.link 0) (nat_lt 1 r.turn.attempt) where
     -- the lemma above, whether the record is of the setup (z), whether an attempt begins with it (l), and whether that is a
     -- further one (f)
-    by_tests : ((d : Counts) → count (total (tallied d rs)) ≡ at_most (count d.settled + ((if is_followed rs then 0 else count d.attempt) + how_many so (last_attempts rs)))) → (z l f : Bool)
+    by_tests : ((d : Counts) → count (total (tallied d rs)) ≡ capped (count d.settled + ((if is_followed rs then 0 else count d.attempt) + how_many so (last_attempts rs)))) → (z l f : Bool)
         → count (total (tallied (if z then c else (let d = (if l then attempt_begun c f else c) in record d { attempt = counted r.end d.attempt })) rs))
-        ≡ at_most (count c.settled + ((if (if z || not l then is_followed rs else f) then 0 else count c.attempt) + how_many so
+        ≡ capped (count c.settled + ((if (if z || not l then is_followed rs else f) then 0 else count c.attempt) + how_many so
         (if z || is_followed rs then last_attempts rs else r ∷ last_attempts rs)))
     by_tests ih true l f = ih c
     by_tests ih false false f = counts_next _ (count c.settled) c.attempt r (last_attempts rs) (is_followed rs) (ih (record c { attempt = counted r.end c.attempt }))
     by_tests ih false true true =
         counts_next _ (count (record c.settled { again = one_more c.settled.again })) none_yet r (last_attempts rs) (is_followed rs)
         (ih (record { settled = record c.settled { again = one_more c.settled.again }; attempt = counted r.end none_yet }))
-        ∙ ap (λ n. at_most (n + ((if is_followed rs then 0 else count none_yet) + how_many so (if is_followed rs then last_attempts rs else r ∷ last_attempts rs))))
+        ∙ ap (λ n. capped (n + ((if is_followed rs then 0 else count none_yet) + how_many so (if is_followed rs then last_attempts rs else r ∷ last_attempts rs))))
         (stays c.settled (one_more c.settled.again))
-        ∙ ap (λ n. at_most (count c.settled + ((if is_followed rs then 0 else n) + how_many so (if is_followed rs then last_attempts rs else r ∷ last_attempts rs)))) none
+        ∙ ap (λ n. capped (count c.settled + ((if is_followed rs then 0 else n) + how_many so (if is_followed rs then last_attempts rs else r ∷ last_attempts rs)))) none
         ∙ adds_nothing (is_followed rs) (count c.settled) _
     by_tests ih false true false =
         counts_next _ (count (sum c.settled c.attempt)) none_yet r (last_attempts rs) (is_followed rs) (ih (record { settled = sum c.settled c.attempt; attempt = counted r.end none_yet }))
-        ∙ ap (λ n. at_most (n + ((if is_followed rs then 0 else count none_yet) + how_many so (if is_followed rs then last_attempts rs else r ∷ last_attempts rs)))) (adds c.settled c.attempt)
-        ∙ ap (λ n. at_most (later (count c.settled) (count c.attempt) + ((if is_followed rs then 0 else n) + how_many so (if is_followed rs then last_attempts rs else r ∷ last_attempts rs)))) none
+        ∙ ap (λ n. capped (n + ((if is_followed rs then 0 else count none_yet) + how_many so (if is_followed rs then last_attempts rs else r ∷ last_attempts rs)))) (adds c.settled c.attempt)
+        ∙ ap (λ n. capped (later (count c.settled) (count c.attempt) + ((if is_followed rs then 0 else n) + how_many so (if is_followed rs then last_attempts rs else r ∷ last_attempts rs)))) none
         ∙ settled_then (is_followed rs) (count c.settled) (count c.attempt) _
 
-  -- a count of a tally of all records is the number of records of last attempts with its ending, up to its greatest number
-  pub counts_all : (records : List Record) → count (tally_of records) ≡ at_most (how_many so (last_attempts records))
+  -- a count of a tally of all records is the number of records of last attempts with its ending, at most 2^64 - 1
+  pub counts_all : (records : List Record) → count (tally_of records) ≡ capped (how_many so (last_attempts records))
   counts_all records =
-      counts nothing_yet records ∙ ap (λ n. at_most (n + ((if is_followed records then 0 else n) + how_many so (last_attempts records)))) none
+      counts nothing_yet records ∙ ap (λ n. capped (n + ((if is_followed records then 0 else n) + how_many so (last_attempts records)))) none
       ∙ adds_nothing (is_followed records) 0 (how_many so (last_attempts records)) ∙ omega arith
 
 -- a command that is counted leaves how many chains were sent again
@@ -94,22 +99,23 @@ same_again Lost t = refl
 same_again Skipped t = refl
 same_again Missed t = refl
 
--- how many chains were sent again after records is that before, and the number of further attempts among them
-again_counts : (c : Counts) (rs : List Record) → c.attempt.again ≡ 0 → (total (tallied c rs)).again ≡ at_most (c.settled.again + further_attempts rs)
+-- the number of further attempts of chains, after these records, is that before them plus those among them, at most 2^64 - 1, if
+-- none is counted in the attempt itself
+again_counts : (c : Counts) (rs : List Record) → c.attempt.again ≡ 0 → (total (tallied c rs)).again ≡ capped (c.settled.again + further_attempts rs)
 again_counts c [] none = omega (arith, none)
 again_counts c (r ∷ rs) none = by_tests (λ d n. again_counts d rs n) (nat_eq r.cycle 0) (nat_eq r.turn.link 0) (nat_lt 1 r.turn.attempt) where
   -- the lemma above, whether the record is of the setup (z), whether an attempt begins with it (l), and whether that is a
   -- further one (f)
-  by_tests : ((d : Counts) → d.attempt.again ≡ 0 → (total (tallied d rs)).again ≡ at_most (d.settled.again + further_attempts rs)) → (z l f : Bool)
+  by_tests : ((d : Counts) → d.attempt.again ≡ 0 → (total (tallied d rs)).again ≡ capped (d.settled.again + further_attempts rs)) → (z l f : Bool)
       → (total (tallied (if z then c else (let d = (if l then attempt_begun c f else c) in record d { attempt = counted r.end d.attempt })) rs)).again
-      ≡ at_most (c.settled.again + (if not z && l && f then suc (further_attempts rs) else further_attempts rs))
+      ≡ capped (c.settled.again + (if not z && l && f then suc (further_attempts rs) else further_attempts rs))
   by_tests ih true l f = ih c none
   by_tests ih false false f = ih (record c { attempt = counted r.end c.attempt }) (same_again r.end c.attempt ∙ none)
   by_tests ih false true true =
       ih (record { settled = record c.settled { again = one_more c.settled.again }; attempt = counted r.end none_yet }) (same_again r.end none_yet) ∙ omega arith
   by_tests ih false true false =
       ih (record { settled = sum c.settled c.attempt; attempt = counted r.end none_yet }) (same_again r.end none_yet)
-      ∙ ap (λ n. at_most (later c.settled.again n + further_attempts rs)) none ∙ omega arith
+      ∙ ap (λ n. capped (later c.settled.again n + further_attempts rs)) none ∙ omega arith
 
 -- the count of answered commands grows by one for an answered command alone
 answered : (end : End) (t : Tally) → (counted end t).answered ≡ (if is_answered end then one_more t.answered else t.answered)
@@ -146,7 +152,8 @@ missed : (end : End) (t : Tally) → (counted end t).missed ≡ (if is_missed en
 missed Missed t = refl
 missed end t = refl
 
--- each count of a tally is the number of the records of last attempts with its ending
+-- each count of a tally is the number of the records of last attempts with its ending, and `again` is the number of further
+-- attempts; each at most 2^64 - 1
 pub count_records : TalliesCountRecords
 count_records = record {
   answered = counts_all (λ (t : Tally). t.answered) is_answered answered (λ a b. refl) refl (λ t n. refl);

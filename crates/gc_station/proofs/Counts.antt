@@ -1,5 +1,5 @@
--- What each act leaves of the counts: the turns, the cycles that haven't begun, and the commands of the cycle that weren't
--- sent. An act is one call on the link, with its result.
+-- What each act leaves of the counts: the turns, the cycles that haven't begun, and the commands of the cycle that are left
+-- (`unsent`): neither sent, nor recorded without being sent, nor left out. An act is one call on the link, with its result.
 use Rattle.std.proofs.Common.{◌≡◌, ℕ, ◌-◌, ◌≤◌, ◌⊎◌, inl, inr, Bool, true, false, List, refl, ap, subst, arith}
 use Rattle.gc_texts.specs.declared.tasks.Task.{Task}
 use Rattle.gc_station.specs.declared.plan.Plan.{Plan}
@@ -9,7 +9,8 @@ use Rattle.gc_station.specs.declared.progress.Action.TheVariants.{Begin, Send, S
 use Rattle.gc_station.specs.declared.progress.Progress.{Progress}
 use Rattle.gc_links.specs.Acts.{Act, Told, Cut}
 use Rattle.gc_station.proofs.Walk.{moved_changed, is_sent}
-use Rattle.gc_station.specs.Model.{Model, cycle_length, commands_before, moved, losing, ended}
+use Rattle.gc_station.specs.Model.{Model, cycle_length, moved, losing, ended}
+use Rattle.gc_station.specs.NextCommand.{commands_before}
 use Rattle.gc_station.specs.Progressing.{failing, skipped, loses_all}
 
 -- from p to q the turns, the cycles that are left and the commands that are unsent stay the same
@@ -26,17 +27,17 @@ kept p q turns left unsent = record { turns = turns; left = left; unsent = unsen
 abbrev pub counted_begun : ℕ → Progress → Progress
 counted_begun count p = record p { left = p.left - 1; unsent = count }
 
--- the progress with one command less unsent
+-- the progress with one command fewer unsent
 abbrev pub counted_sent : Progress → Progress
 counted_sent p = record p { unsent = p.unsent - 1 }
 
--- the progress with as many commands less unsent as the next command's attempt and those after it have
+-- the progress with as many commands fewer unsent as the attempt that the next one begins, and the chain's later ones, have
 abbrev pub counted_passed : Progress → Progress
 counted_passed p = record p { unsent = p.unsent - p.next_others }
 
--- what an act of an action does to these counts, from p to q: nothing, or what begins a cycle, or what sends or skips a
--- command, or leaves out some. The first argument is how many commands a cycle has
-abbrev pub Counts : ℕ → Action → Progress → Progress → Type 0
+-- what an act of an action does to these counts, from p to q, where a cycle has `count` commands: it leaves them, begins a cycle,
+-- sends or skips a command, or leaves out some. If an action has two cases, the first is that the clock couldn't be read
+abbrev pub Counts : (count : ℕ) → Action → (p q : Progress) → Type 0
 Counts count Begin p q = KeepsCounts p q ⊎ KeepsCounts (counted_begun count p) q
 Counts count Send p q = KeepsCounts (counted_sent p) q
 Counts count Skip p q = KeepsCounts p q ⊎ KeepsCounts (counted_sent p) q
@@ -59,7 +60,7 @@ moved_counts plan commands action s act =
     kept s.progress _ (ap (λ (x : Model). x.progress.turns) is) (ap (λ (x : Model). x.progress.left) is) (ap (λ (x : Model). x.progress.unsent) is)
 
 -- the loss of requests, all or none, changes no progress
-pub losing_progress : (b : Bool) (s : Model) → (losing b s).progress ≡ s.progress
+pub losing_progress : (all : Bool) (s : Model) → (losing all s).progress ≡ s.progress
 losing_progress true s = refl
 losing_progress false s = refl
 
@@ -68,7 +69,7 @@ pub ended_progress : (s : Model) → (ended s).progress ≡ s.progress
 ended_progress s = losing_progress (loses_all s.progress) s
 
 -- the loss of requests, all or none, leaves no command out
-losing_passes : (b : Bool) (s : Model) → (losing b s).passes ≡ s.passes
+losing_passes : (all : Bool) (s : Model) → (losing all s).passes ≡ s.passes
 losing_passes true s = refl
 losing_passes false s = refl
 
@@ -80,7 +81,8 @@ ended_passes s = losing_passes (loses_all s.progress) s
 pub turns_kept : (plan : Plan) (commands : List Task) (action : Action) (s : Model) (act : Act) → (moved plan commands action s act).progress.turns ≡ s.progress.turns
 turns_kept plan commands action s act = ap (λ (x : Model). x.progress.turns) (moved_changed plan commands action s act)
 
--- no more commands are unsent after an act than a cycle has, if no more were before
+-- where the counts change from p to q as `Counts` says, q has no more commands unsent than a cycle has (`count`), if p has no
+-- more
 counts_within : (count : ℕ) (action : Action) (p q : Progress) → Counts count action p q → p.unsent ≤ count → q.unsent ≤ count
 counts_within count Begin p q (inl same) h = omega (arith, same.unsent, h)
 counts_within count Begin p q (inr began) h = omega (arith, began.unsent)
@@ -90,7 +92,7 @@ counts_within count Pass p q (inl same) h = omega (arith, same.unsent, h)
 counts_within count Pass p q (inr passed) h = omega (arith, passed.unsent, h)
 counts_within count action p q is h = omega (arith, is.unsent, h)
 
--- no more commands are unsent after an act than there are, if no more were before
+-- no more commands are unsent after an act than a cycle has, if no more were before
 pub unsent_within : (plan : Plan) (commands : List Task) (action : Action) (s : Model) (act : Act) → s.progress.unsent ≤ cycle_length plan commands
     → (moved plan commands action s act).progress.unsent ≤ cycle_length plan commands
 unsent_within plan commands action s act h = counts_within (cycle_length plan commands) action s.progress (moved plan commands action s act).progress (moved_counts plan commands action s act) h

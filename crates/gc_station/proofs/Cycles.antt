@@ -14,7 +14,8 @@ use Rattle.gc_station.specs.Progressing.{turned, moment_noted, cycle_begun, cycl
 use Rattle.gc_station.specs.Reasons.{HoldsBefore, MayGo}
 use Rattle.gc_station.specs.Runs.{state_after}
 use Rattle.gc_station.specs.Scopes.{Scope}
-use Rattle.gc_station.specs.Model.{Model, opening, action_at, waiting_of, cycles_begun, place_next, is_chained, is_chained_after_next, is_chained_after, is_heard, with_progress, with_moment, lines_completed, piece_at, moved, Performs, Runs, cycle_length}
+use Rattle.gc_station.specs.Model.{Model, opening, action_at, waiting_of, is_heard, with_progress, with_moment, lines_completed, piece_at, moved, Performs, Runs, cycle_length}
+use Rattle.gc_station.specs.NextCommand.{cycles_begun, place_next, is_chained, is_chained_after}
 use Rattle.gc_station.specs.declared.cause.Cause.{Cause}
 use Rattle.gc_station.specs.declared.cause.Cause.TheVariants as cause
 use Rattle.gc_station.specs.declared.plan.Plan.{Plan}
@@ -27,14 +28,44 @@ use Rattle.gc_station.specs.declared.progress.Waiting.{Waiting}
 use Rattle.gc_station.specs.Silences.{latest}
 use Rattle.gc_station.proofs.Interleaving.{drop_past}
 use Rattle.gc_station.proofs.Closings.{runs_split, needs_of}
-use Rattle.gc_station.proofs.Always.{always, progress_behind}
+use Rattle.gc_station.proofs.Always.{always, progress_after_act}
 use Rattle.gc_station.proofs.EachRun.{invariant_holds}
-use Rattle.gc_station.proofs.Facts.{action_for}
+use Rattle.gc_station.proofs.Facts.{action_for, or_second, and_second}
 use Rattle.gc_station.proofs.Invariant.{Invariant}
 use Rattle.gc_station.proofs.Walk.{asked_along, came_along, quieted_along, closed_along, moved_changed, walk}
-use Rattle.gc_station.proofs.Ticking.{or_second, and_second, Ticks, ticked, rises_front, rises_last, latest_more, last_ticks}
+use Rattle.gc_station.proofs.Ticking.{Ticks, ticked, rises_front, rises_last, latest_more, last_ticks}
 use Rattle.gc_station.proofs.Due.{begin_due}
 use Rattle.gc_station.proofs.Staying.{Stays, stays}
+
+-- Acts that stay in their cycle.
+
+-- from p to q an act stays in the cycle, and reads moments as `Ticks` says
+abbrev pub StaysAndTicks : Progress → Act → Progress → Type 0
+StaysAndTicks p act q = Stays p q × Ticks p act q
+
+-- a read that gave bytes stays in its cycle, and reads its moment as `Ticks` says
+gave_same : (plan : Plan) (commands : List Task) (until : Until) (s : Model) (bytes : List ℕ) (m : Moment) → StaysAndTicks s.progress (Gave bytes m) (piece_at plan until bytes m s).progress
+gave_same plan commands until s bytes m =
+    let mid = with_moment m (with_progress (moment_noted m) s) in
+    let heard_there = is_heard s.progress.phase in
+    let is = moved_changed plan commands (actions.Read until) s (Gave bytes m) in (
+      stays s.progress _ (ap (λ (x : Model). x.progress.left) is) (ap (λ (x : Model). x.progress.unsent) is) (ap (λ (x : Model). x.progress.missed) is) (ap (λ (x : Model). x.progress.due) is)
+          (ap (λ (x : Model). x.progress.next_is_chained) is) (inl (ap (λ (x : Model). x.progress.chain_unbroken) is)),
+      came_along (λ (x : Model). (x.progress.moment ≡ m) × (x.progress.began ≡ min s.progress.began m.elapsed)) (λ x line e. e) heard_there s.progress.word bytes mid (refl, refl)
+          (asked_along (λ (q : Progress). (q.moment ≡ m) × (q.began ≡ min s.progress.began m.elapsed)) (λ q line e. e) mid.progress (lines_completed s.rest bytes) (refl, refl)) (refl, refl),
+    )
+
+-- a read that gave nothing stays in its cycle, and reads its moment as `Ticks` says
+silent_same : (plan : Plan) (at : Phase) (p : Progress) (until : Until) (m : Moment) → StaysAndTicks p (Silent m) (quieted plan at (time_passed until m p))
+silent_same plan at p until m =
+    quieted_along (λ (q : Progress). StaysAndTicks p (Silent m) q) plan at (time_passed until m p)
+    (stays p _ refl refl refl refl refl (inl refl), (refl, refl)) (stays p _ refl refl refl refl refl (inl refl), (refl, refl)) (stays p _ refl refl refl refl refl (inl refl), (refl, refl))
+
+-- a close stays in its cycle, and reads no moment, as `Ticks` says
+closed_same : (plan : Plan) (s : Model) (why : Cause) → StaysAndTicks s.progress Closed (closed plan (waiting_of s) why s.progress)
+closed_same plan s why =
+    closed_along (λ (q : Progress). StaysAndTicks s.progress Closed q) plan (waiting_of s) why s.progress
+    (stays s.progress _ refl refl refl refl refl (inr refl), (refl, refl)) (stays s.progress _ refl refl refl refl refl (inr refl), (refl, refl))
 
 -- What every run keeps of its cycles.
 
@@ -43,8 +74,10 @@ module _ (plan : Plan) (commands : List Task) (scope : Scope) (some : 0 < plan.e
   abbrev pub WaitsForAnswer : Progress → Type 0
   WaitsForAnswer p = (p.missed ≡ true) ⊎ ((plan.setup < place_next commands p) × (is_chained (drop (place_next commands p) commands) ≡ true))
 
-  -- with the progress p a station is within a cycle: which one (how many came before it, `earlier`), when it began (`moment`),
-  -- how long after its due moment (`late`), and what the fields on missed cycles and chains mean
+  -- with the progress p a station is within a cycle: `earlier` came before it, it began at `moment`, `late` milliseconds after it
+  -- was due; and the fields of p on it are right. `began` is its due moment, which isn't later than the moment read last, and
+  -- `due` the same by the clock of time stamps; `missed` says whether the next cycle was due by `moment`. If it is missed, each
+  -- command counts as chained, and no chain goes on; and a command counts as chained only for a reason (`WaitsForAnswer`)
   pub record Cycling (acts : List Act) (p : Progress) : Type 0 where
     pub earlier : ℕ
     pub moment : Moment
@@ -77,8 +110,8 @@ module _ (plan : Plan) (commands : List Task) (scope : Scope) (some : 0 < plan.e
   pub late_more : (acts more : List Act) (n : ℕ) (m : Moment) (late : ℕ) → BeginsLate plan commands scope acts n m late → BeginsLate plan commands scope (acts ++ more) n m late
   late_more acts more n m late b = record { first = b.first; first_begins = at_more acts more 0 b.first b.first_begins; begins = at_more acts more n m b.begins; grid = b.grid }
 
-  -- `Cycling` is preserved by an act that stays in its cycle, and reads moments as `Ticks` says, if the clock doesn't go back, and
-  -- the fields on missed cycles and chains go on to mean what they do
+  -- `Cycling` is preserved by an act that stays in its cycle, and reads moments as `Ticks` says, if the clock doesn't go back,
+  -- and what `Cycling` says of missed cycles and chains (`held`, `chained`) holds after the act
   cycling_on : (acts : List Act) (act : Act) (p q : Progress) (left : q.left ≡ p.left) (missed : q.missed ≡ p.missed) (due : q.due ≡ p.due) (ticks : Ticks p act q)
       (rises : ClockRises p.moment.elapsed (act ∷ [])) (held : p.missed ≡ true → (q.next_is_chained ≡ true) × (q.chain_unbroken ≡ false)) (chained : q.next_is_chained ≡ true → WaitsForAnswer q)
       → Cycling acts p → Cycling (acts ++ act ∷ []) q
@@ -116,44 +149,31 @@ module _ (plan : Plan) (commands : List Task) (scope : Scope) (some : 0 < plan.e
         by_chain (inl missed) at same = inl (same ∙ missed)
         by_chain (inr (above, is)) at same = inr (subst (λ (x : ℕ). plan.setup < x) (sym at) above, ap (λ (x : ℕ). is_chained (drop x commands)) at ∙ is)
 
-  -- `Begun` is preserved by an act that sends or leaves out the next command, if the command after that waits for its answer as
-  -- `is_chained_after_next` says
-  pub begun_next : (acts : List Act) (act : Act) (p q : Progress) (left : q.left ≡ p.left) (unsent : q.unsent ≡ p.unsent - 1) (missed : q.missed ≡ p.missed) (due : q.due ≡ p.due)
-      (next_is_chained : q.next_is_chained ≡ is_chained_after_next commands p) (chain_unbroken : p.missed ≡ true → q.chain_unbroken ≡ false) (ticks : Ticks p act q)
-      (rises : ClockRises p.moment.elapsed (act ∷ [])) (here : 0 < p.unsent) (within : p.unsent ≤ cycle_length plan commands) → Begun acts p → Begun (acts ++ act ∷ []) q
-  begun_next acts act p q left unsent missed due next_is_chained chain_unbroken t rises here within (inl none) = let nothing = none.1 in absurd (omega (arith, nothing, here))
-  begun_next acts act p q left unsent missed due next_is_chained chain_unbroken t rises here within (inr c) =
-      let at : place_next commands q ≡ place_next commands p + 1 = omega (arith, unsent, here, within) in
-      inr (cycling_on acts act p q left missed due t rises
-      (λ was. (next_is_chained ∙ or_left p.missed (is_chained (drop (place_next commands p + 1) commands)) was, chain_unbroken was))
-      (λ e. by_missed p.missed refl (sym next_is_chained ∙ e) at (omega (arith, here, within))) c) where
-        -- what makes the new next command wait: its cycle is missed (`true`), or the text chains it
-        by_missed : (b : Bool) → p.missed ≡ b → is_chained_after_next commands p ≡ true → place_next commands q ≡ place_next commands p + 1 → plan.setup ≤ place_next commands p → WaitsForAnswer q
-        by_missed true is e at low = inl (missed ∙ is)
-        by_missed false is e at low =
-            inr (omega (arith, at, low), ap (λ (x : ℕ). is_chained (drop x commands)) at ∙ or_second p.missed (is_chained (drop (place_next commands p + 1) commands)) e is)
-
-  -- `Begun` is preserved by an act that leaves out the further attempts of a chain
-  pub begun_past : (acts : List Act) (act : Act) (p q : Progress) (left : q.left ≡ p.left) (unsent : q.unsent ≡ p.unsent - p.next_others) (missed : q.missed ≡ p.missed) (due : q.due ≡ p.due)
-      (next_is_chained : q.next_is_chained ≡ is_chained_after p.next_others commands p) (more : 0 < p.next_others) (chain_unbroken : p.missed ≡ true → q.chain_unbroken ≡ false)
+  -- `Begun` is preserved by an act with which the next `count` commands of the cycle had their turn, at least one, if the clock
+  -- doesn't go back and the act reads moments as `Ticks` says. Before the act a command was unsent, and no more than a cycle has;
+  -- after it no chain goes on if the cycle is missed, and whether the next command waits for the answer of the one before it is
+  -- what `is_chained_after` says
+  pub begun_next : (acts : List Act) (act : Act) (count : ℕ) (p q : Progress) (left : q.left ≡ p.left) (unsent : q.unsent ≡ p.unsent - count) (missed : q.missed ≡ p.missed) (due : q.due ≡ p.due)
+      (next_is_chained : q.next_is_chained ≡ is_chained_after count commands p) (more : 0 < count) (chain_unbroken : p.missed ≡ true → q.chain_unbroken ≡ false)
       (ticks : Ticks p act q) (rises : ClockRises p.moment.elapsed (act ∷ [])) (here : 0 < p.unsent) (within : p.unsent ≤ cycle_length plan commands) → Begun acts p
       → Begun (acts ++ act ∷ []) q
-  begun_past acts act p q left unsent missed due next_is_chained more chain_unbroken t rises here within (inl none) = let nothing = none.1 in absurd (omega (arith, nothing, here))
-  begun_past acts act p q left unsent missed due next_is_chained more chain_unbroken t rises here within (inr c) =
+  begun_next acts act count p q left unsent missed due next_is_chained more chain_unbroken t rises here within (inl none) = let nothing = none.1 in absurd (omega (arith, nothing, here))
+  begun_next acts act count p q left unsent missed due next_is_chained more chain_unbroken t rises here within (inr c) =
       let above : plan.setup < place_next commands q = omega (arith, unsent, here, within, more) in
-      let at : drop (place_next commands p + p.next_others) commands ≡ drop (place_next commands q) commands =
-      drop_past commands p.unsent p.next_others (omega (arith, within)) ∙ ap (λ (x : ℕ). drop (length commands - x) commands) (sym unsent) in
+      let at : drop (place_next commands p + count) commands ≡ drop (place_next commands q) commands =
+      drop_past commands p.unsent count (omega (arith, within)) ∙ ap (λ (x : ℕ). drop (length commands - x) commands) (sym unsent) in
       inr (cycling_on acts act p q left missed due t rises
-      (λ was. (next_is_chained ∙ or_left p.missed (is_chained (drop (place_next commands p + p.next_others) commands)) was, chain_unbroken was))
+      (λ was. (next_is_chained ∙ or_left p.missed (is_chained (drop (place_next commands p + count) commands)) was, chain_unbroken was))
       (λ e. by_missed p.missed refl (sym next_is_chained ∙ e) above at) c) where
         -- what makes the new next command wait: its cycle is missed (`true`), or the text chains it
-        by_missed : (b : Bool) → p.missed ≡ b → is_chained_after p.next_others commands p ≡ true → plan.setup < place_next commands q
-            → drop (place_next commands p + p.next_others) commands ≡ drop (place_next commands q) commands → WaitsForAnswer q
+        by_missed : (b : Bool) → p.missed ≡ b → is_chained_after count commands p ≡ true → plan.setup < place_next commands q
+            → drop (place_next commands p + count) commands ≡ drop (place_next commands q) commands → WaitsForAnswer q
         by_missed true is e above at = inl (missed ∙ is)
         by_missed false is e above at =
-            inr (above, ap is_chained (sym at) ∙ or_second p.missed (is_chained (drop (place_next commands p + p.next_others) commands)) e is)
+            inr (above, ap is_chained (sym at) ∙ or_second p.missed (is_chained (drop (place_next commands p + count) commands)) e is)
 
-  -- `Cycling` holds after the act that begins a cycle at the moment m, if the cycle counts as begun at b and b is its due moment
+  -- `Cycling` holds after the act that begins a cycle at the moment m, if a cycle was left, and the cycle counts as begun at b,
+  -- which is its due moment and isn't later than m
   pub begins_cycle : (acts : List Act) (m : Moment) (p : Progress) (n : ℕ) (b : ℕ) → (is_start : cycle_start plan m p ≡ b) → (past : b ≤ m.elapsed) → (number : cycles_begun plan p ≡ n)
       → (unbegun : 0 < p.left) → (within : p.left ≤ plan.cycles)
       → BeginsLate plan commands scope (acts ++ Told m ∷ []) n m (m.elapsed - b) → Cycling (acts ++ Told m ∷ []) (cycle_begun plan (cycle_length plan commands) m p)
@@ -172,13 +192,13 @@ module _ (plan : Plan) (commands : List Task) (scope : Scope) (some : 0 < plan.e
     chained = λ e. inl e;
   }
 
-  -- the act that begins a cycle is among the acts up to it
+  -- of the acts up to the one that begins a cycle at the moment m, `BeginsAt` holds
   pub begins_here : (acts : List Act) (m : Moment) (n : ℕ) → action_at plan (state_after plan commands scope acts) ≡ actions.Begin
       → cycles_begun plan (state_after plan commands scope acts).progress ≡ n → BeginsAt plan commands scope (acts ++ Told m ∷ []) n m
   begins_here acts m n is number = record { before = acts; behind = []; order = refl; begins = is; number = number }
 
-  -- what is known of a cycle that is begun at the moment m: how many came before it (`earlier`), and the moment that counts as its
-  -- start (`start`), which is its due moment
+  -- what is known of a cycle that is begun at the moment m: `earlier` came before it, and the moment that counts as its beginning
+  -- (`start`) is its due moment, and isn't later than m
   pub record Start (acts : List Act) (m : Moment) (p : Progress) : Type 0 where
     pub earlier : ℕ
     pub start : ℕ
@@ -203,7 +223,8 @@ module _ (plan : Plan) (commands : List Task) (scope : Scope) (some : 0 < plan.e
         late = record { first = m; first_begins = here; begins = here; grid = omega arith };
       }
 
-  -- a later cycle has a `Start`: it is due `every` milliseconds after the one before it was due, and begins then or later
+  -- a later cycle that begins when it is due, if the clock doesn't go back, has a `Start`: it is due `every` milliseconds after
+  -- the one before it was due, and begins then or later
   pub start_more : (acts : List Act) (m : Moment) (p : Progress) → (begins : action_at plan (state_after plan commands scope acts) ≡ actions.Begin)
       → (same : cycles_begun plan (state_after plan commands scope acts).progress ≡ cycles_begun plan p)
       → (due : is_due plan p ≡ true) → (rises : ClockRises p.moment.elapsed (Told m ∷ [])) → Cycling acts p → Start acts m p
@@ -229,14 +250,14 @@ module _ (plan : Plan) (commands : List Task) (scope : Scope) (some : 0 < plan.e
         late = record { first = c.begins.first; first_begins = at_more acts (Told m ∷ []) 0 c.begins.first c.begins.first_begins; begins = here; grid = omega (arith, last, long, past, now) };
       }
 
-  -- a cycle that begins, the first or a further one, has a `Start`
+  -- a cycle that begins when it is due, the first or a further one, has a `Start`, if the clock doesn't go back
   pub starts : (acts : List Act) (m : Moment) (p : Progress) → (begins : action_at plan (state_after plan commands scope acts) ≡ actions.Begin)
       → (same : cycles_begun plan (state_after plan commands scope acts).progress ≡ cycles_begun plan p)
       → (due : is_due plan p ≡ true) → (rises : ClockRises p.moment.elapsed (Told m ∷ [])) → Begun acts p → Start acts m p
   starts acts m p is same due rises (inl none) = start_first acts m p is same none.0
   starts acts m p is same due rises (inr c) = start_more acts m p is same due rises c
 
-  -- `Begun` holds after the act that begins a cycle
+  -- if `Begun` holds, `Cycling` holds after the act that begins a cycle when it is due, if the clock doesn't go back
   pub begun_begins : (acts : List Act) (m : Moment) (p : Progress) → (begins : action_at plan (state_after plan commands scope acts) ≡ actions.Begin)
       → (same : cycles_begun plan (state_after plan commands scope acts).progress ≡ cycles_begun plan p)
       → (due : is_due plan p ≡ true) → (unbegun : 0 < p.left) → (within : p.left ≤ plan.cycles) → (rises : ClockRises p.moment.elapsed (Told m ∷ [])) → Begun acts p
@@ -256,15 +277,12 @@ module _ (plan : Plan) (commands : List Task) (scope : Scope) (some : 0 < plan.e
   abbrev pub KeepsBegunOf : List Act → Progress → Act → Model → Type 0
   KeepsBegunOf acts p act t = KeepsBegun acts p act t.progress
 
-  -- from p to q an act stays in the cycle, and reads moments as `Ticks` says
-  abbrev pub StaysAndTicks : Progress → Act → Progress → Type 0
-  StaysAndTicks p act q = Stays p q × Ticks p act q
-
   -- an act that stays in its cycle, as `StaysAndTicks` says, does what `KeepsBegun` says
   pub on_same : (acts : List Act) (p : Progress) (act : Act) (q : Progress) → Begun acts p → StaysAndTicks p act q → KeepsBegun acts p act q
   on_same acts p act q h same = (last_ticks p q act same.1, λ rises. begun_stays acts act p q same.0 same.1 rises h)
 
-  -- a call that failed does what `KeepsBegunOf` says
+  -- where `Begun` holds, an act that only notes a failure does what `KeepsBegunOf` says, if `Ticks` holds of the act with the
+  -- progress as it was
   pub begun_after_failure : (acts : List Act) (s : Model) (act : Act) (why : Cause) → Begun acts s.progress → Ticks s.progress act s.progress
       → KeepsBegunOf acts s.progress act (with_progress (failing why) s)
   begun_after_failure acts s act why h t = (
@@ -278,31 +296,7 @@ module _ (plan : Plan) (commands : List Task) (scope : Scope) (some : 0 < plan.e
     ticks_failing (Silent m) e = e
     ticks_failing a e = e
 
-  -- a read that gave bytes stays in its cycle
-  pub gave_same : (until : Until) (s : Model) (bytes : List ℕ) (m : Moment) → StaysAndTicks s.progress (Gave bytes m) (piece_at plan until bytes m s).progress
-  gave_same until s bytes m =
-      let mid = with_moment m (with_progress (moment_noted m) s) in
-      let heard_there = is_heard s.progress.phase in
-      let is = moved_changed plan commands (actions.Read until) s (Gave bytes m) in (
-        stays s.progress _ (ap (λ (x : Model). x.progress.left) is) (ap (λ (x : Model). x.progress.unsent) is) (ap (λ (x : Model). x.progress.missed) is) (ap (λ (x : Model). x.progress.due) is)
-            (ap (λ (x : Model). x.progress.next_is_chained) is) (inl (ap (λ (x : Model). x.progress.chain_unbroken) is)),
-        came_along (λ (x : Model). (x.progress.moment ≡ m) × (x.progress.began ≡ min s.progress.began m.elapsed)) (λ x line e. e) heard_there s.progress.word bytes mid (refl, refl)
-            (asked_along (λ (q : Progress). (q.moment ≡ m) × (q.began ≡ min s.progress.began m.elapsed)) (λ q line e. e) mid.progress (lines_completed s.rest bytes) (refl, refl)) (refl, refl),
-      )
-
-  -- a read that gave nothing stays in its cycle
-  pub silent_same : (at : Phase) (p : Progress) (until : Until) (m : Moment) → StaysAndTicks p (Silent m) (quieted plan at (time_passed until m p))
-  silent_same at p until m =
-      quieted_along (λ (q : Progress). StaysAndTicks p (Silent m) q) plan at (time_passed until m p)
-      (stays p _ refl refl refl refl refl (inl refl), (refl, refl)) (stays p _ refl refl refl refl refl (inl refl), (refl, refl)) (stays p _ refl refl refl refl refl (inl refl), (refl, refl))
-
-  -- a close stays in its cycle
-  pub closed_same : (s : Model) (why : Cause) → StaysAndTicks s.progress Closed (closed plan (waiting_of s) why s.progress)
-  closed_same s why =
-      closed_along (λ (q : Progress). StaysAndTicks s.progress Closed q) plan (waiting_of s) why s.progress
-      (stays s.progress _ refl refl refl refl refl (inr refl), (refl, refl)) (stays s.progress _ refl refl refl refl refl (inr refl), (refl, refl))
-
-  -- if a command may be sent, its cycle isn't missed
+  -- where `Begun` holds, if a command is left that may be sent (`MayGo`), its cycle isn't missed
   pub not_missed : (acts : List Act) (p : Progress) (w : Waiting) → 0 < p.unsent → MayGo p w → Begun acts p → p.missed ≡ false
   not_missed acts p w here may (inl none) = let nothing = none.1 in absurd (omega (arith, nothing, here))
   not_missed acts p w here may (inr c) = by_test p.missed refl may where
@@ -347,8 +341,8 @@ module _ (plan : Plan) (commands : List Task) (scope : Scope) (some : 0 < plan.e
       let s = with_progress turned (state_after plan commands scope acts) in
       let free = not_missed acts s.progress (waiting_of (state_after plan commands scope acts)) needs.2 needs.4 h in
       walk plan commands (KeepsBegunOf acts s.progress) actions.Send s act o (
-        λ m. (refl, λ rises. begun_next acts _ s.progress _ refl refl refl refl refl (λ e. absurd (both_ways s.progress.missed free e)) (refl, refl) rises needs.2 fine.unsent h),
-        λ n. (refl, λ rises. begun_next acts _ s.progress _ refl refl refl refl refl (λ e. absurd (both_ways s.progress.missed free e)) (refl, refl) rises needs.2 fine.unsent h),
+        λ m. (refl, λ rises. begun_next acts _ 1 s.progress _ refl refl refl refl refl (omega arith) (λ e. absurd (both_ways s.progress.missed free e)) (refl, refl) rises needs.2 fine.unsent h),
+        λ n. (refl, λ rises. begun_next acts _ 1 s.progress _ refl refl refl refl refl (omega arith) (λ e. absurd (both_ways s.progress.missed free e)) (refl, refl) rises needs.2 fine.unsent h),
       )
   on_moved acts actions.Prepare act is o fine needs h =
       let s = with_progress turned (state_after plan commands scope acts) in
@@ -359,7 +353,7 @@ module _ (plan : Plan) (commands : List Task) (scope : Scope) (some : 0 < plan.e
   on_moved acts actions.Skip act is o fine needs h =
       let s = with_progress turned (state_after plan commands scope acts) in
       walk plan commands (KeepsBegunOf acts s.progress) actions.Skip s act o (
-        λ m. (refl, λ rises. begun_next acts (Told m) s.progress _ refl refl refl refl refl (λ e. refl) (refl, refl) rises needs.2 fine.unsent h),
+        λ m. (refl, λ rises. begun_next acts (Told m) 1 s.progress _ refl refl refl refl refl (omega arith) (λ e. refl) (refl, refl) rises needs.2 fine.unsent h),
         λ n. begun_after_failure acts s Untold cause.Clock h (refl, refl),
       )
   on_moved acts actions.Pass act is o fine needs h =
@@ -367,7 +361,7 @@ module _ (plan : Plan) (commands : List Task) (scope : Scope) (some : 0 < plan.e
       walk plan commands (KeepsBegunOf acts s.progress) actions.Pass s act o (
         λ m. (
           refl,
-          λ rises. begun_past acts (Told m) s.progress _ refl refl refl refl refl needs.4 (λ e. refl)
+          λ rises. begun_next acts (Told m) s.progress.next_others s.progress _ refl refl refl refl refl needs.4 (λ e. refl)
               (refl, refl) rises needs.2 fine.unsent h,
         ),
         λ n. begun_after_failure acts s Untold cause.Clock h (refl, refl),
@@ -375,15 +369,15 @@ module _ (plan : Plan) (commands : List Task) (scope : Scope) (some : 0 < plan.e
   on_moved acts (actions.Read until) act is o fine needs h =
       let s = with_progress turned (state_after plan commands scope acts) in
       walk plan commands (KeepsBegunOf acts s.progress) (actions.Read until) s act o (
-        λ bytes m. on_same acts s.progress (Gave bytes m) (piece_at plan until bytes m s).progress h (gave_same until s bytes m),
-        λ m. on_same acts s.progress (Silent m) (moved plan commands (actions.Read until) s (Silent m)).progress h (silent_same s.progress.phase s.progress until m),
+        λ bytes m. on_same acts s.progress (Gave bytes m) (piece_at plan until bytes m s).progress h (gave_same plan commands until s bytes m),
+        λ m. on_same acts s.progress (Silent m) (moved plan commands (actions.Read until) s (Silent m)).progress h (silent_same plan s.progress.phase s.progress until m),
         begun_after_failure acts s Ended cause.End h (refl, refl),
         begun_after_failure acts s Broke cause.Read h (refl, refl),
         begun_after_failure acts s Untold cause.Clock h (refl, refl),
       )
   on_moved acts (actions.Close why) act is o fine needs h =
       let s = with_progress turned (state_after plan commands scope acts) in
-      walk plan commands (KeepsBegunOf acts s.progress) (actions.Close why) s act o (on_same acts s.progress Closed _ h (closed_same s why))
+      walk plan commands (KeepsBegunOf acts s.progress) (actions.Close why) s act o (on_same acts s.progress Closed _ h (closed_same plan s why))
   on_moved acts (actions.Stop why) act is o fine needs h = absurd o
   on_moved acts next act is o fine needs h =
       let s = with_progress turned (state_after plan commands scope acts) in
@@ -430,7 +424,7 @@ module _ (plan : Plan) (commands : List Task) (scope : Scope) (some : 0 < plan.e
       let old = h (rises_front 0 done act rises) in
       let on = on_moved done (action_at plan s) act refl o (invariant_holds plan commands scope done) (action_for plan s.progress (waiting_of s)) (begun_turned done s.progress old.1) in
       let t = moved plan commands (action_at plan s) (with_progress turned s) act in
-      let there = progress_behind plan commands scope done act in (
+      let there = progress_after_act plan commands scope done act in (
         ap (λ (p : Progress). p.moment.elapsed) there ∙ on.0 ∙ ap (λ (n : ℕ). latest n (act ∷ [])) old.0 ∙ sym (latest_more 0 done act),
         subst (λ (p : Progress). Begun (done ++ act ∷ []) p) (sym there) (on.1 (rises_here done act rises old.0)),
       )
@@ -439,7 +433,8 @@ module _ (plan : Plan) (commands : List Task) (scope : Scope) (some : 0 < plan.e
   pub begun_if_clock_rises : (acts : List Act) → Runs plan commands (opening plan scope) acts → BegunIfClockRises acts
   begun_if_clock_rises acts runs = always plan commands (opening plan scope) (λ (xs : List Act) (t : Model). BegunIfClockRises xs) begun_step (λ rises. (refl, inl (refl, refl))) acts runs
 
-  -- a cycle that isn't missed is the last that began, and began in time
+  -- if the cycle that a station is within (`Cycling`) isn't missed, it is the last that began, and it began before the next one
+  -- was due
   pub last_began : (acts : List Act) (p : Progress) → p ≡ (state_after plan commands scope acts).progress → (c : Cycling acts p) → p.missed ≡ false
       → (last : LastBegan plan commands scope acts) × (last.late < plan.every)
   last_began acts p is c free = (
@@ -447,7 +442,7 @@ module _ (plan : Plan) (commands : List Task) (scope : Scope) (some : 0 < plan.e
     leb-false plan.every c.late (sym c.missed ∙ free),
   )
 
-  -- if a command is sent, its cycle began before the next one was due
+  -- if a command is sent, its cycle began before the next one was due, if the clock doesn't go back
   pub sent_in_time : (acts : List Act) → Runs plan commands (opening plan scope) acts → ClockRises 0 acts
       → action_at plan (state_after plan commands scope acts) ≡ actions.Send → (last : LastBegan plan commands scope acts) × (last.late < plan.every)
   sent_in_time acts runs rises is =
@@ -473,10 +468,11 @@ module _ (plan : Plan) (commands : List Task) (scope : Scope) (some : 0 < plan.e
       let x = starts acts m s.progress is refl (begin_due plan s.progress (waiting_of s) is) (rises_here acts (Told m) rises old.0) old.1 in
       (m.elapsed - x.start, subst (λ (k : ℕ). BeginsLate plan commands scope (acts ++ Told m ∷ []) k m (m.elapsed - x.start)) (sym x.number) x.late)
 
--- each cycle begins at or after its due moment
+-- the law: a cycle begins at or after its due moment, where cycles have due moments and the clock doesn't go back
 pub begin_when_due : CyclesBeginWhenDue
 begin_when_due plan commands scope acts later m some runs rises is = begins_due plan commands scope some acts later m runs rises is
 
--- a command is sent only in a cycle that isn't missed
+-- the law: if a command is sent, its cycle began before the next one was due, where cycles have due moments and the clock doesn't
+-- go back
 pub sent_only_in_time : SentOnlyInTime
 sent_only_in_time plan commands scope acts some runs rises is = sent_in_time plan commands scope some acts runs rises is

@@ -19,7 +19,7 @@ abbrev pub BeginsDue : Plan → Progress → Action → Type 0
 BeginsDue plan p next = next ≡ actions.Begin → is_due plan p ≡ true
 
 module _ (plan : Plan) (p : Progress) (w : Waiting) where
-  -- no cycle begins if a station waits
+  -- `BeginsDue` holds of `action_waiting`, which begins no cycle
   pub waits_not : BeginsDue plan p (action_waiting plan p w)
   waits_not =
       cond_both (is_dead plan p w) (actions.Close cause.Dead) (if nat_eq w.current 0 then actions.Renew else actions.Read Limit) (BeginsDue plan p) (λ d b. cc)
@@ -30,11 +30,15 @@ module _ (plan : Plan) (p : Progress) (w : Waiting) where
   pub room_not : (next : Action) → BeginsDue plan p next → BeginsDue plan p (action_room plan p w next)
   room_not next not = cond_both (has_room plan w) next (action_waiting plan p w) (BeginsDue plan p) (λ e. not) (λ e. waits_not)
 
-  -- no cycle begins if the next command may be sent
-  pub next_not : BeginsDue plan p (action_next plan p w actions.Send)
-  next_not =
-      cond_both (nat_lt p.behind WINDOW) (action_room plan p w actions.Send) _ (BeginsDue plan p) (λ e. room_not actions.Send (λ b. cc))
-      (λ e. cond_both (nat_eq w.current 0) (action_room plan p w actions.Flush) (action_waiting plan p w) (BeginsDue plan p) (λ d. room_not actions.Flush (λ b. cc)) (λ d. waits_not))
+  -- `BeginsDue` holds where a null procedure is sent once all outstanding requests have timed out, and the station waits until
+  -- then: that begins no cycle
+  pub flush_not : BeginsDue plan p (if nat_eq w.current 0 then action_room plan p w actions.Flush else action_waiting plan p w)
+  flush_not = cond_both (nat_eq w.current 0) (action_room plan p w actions.Flush) (action_waiting plan p w) (BeginsDue plan p) (λ e. room_not actions.Flush (λ b. cc)) (λ e. waits_not)
+
+  -- `action_next` is the action `next` if it may be made now, and else sends a null procedure or waits. It begins a cycle only
+  -- when one is due, if `next` does
+  pub next_not : (next : Action) → BeginsDue plan p next → BeginsDue plan p (action_next plan p w next)
+  next_not next not = cond_both (nat_lt p.behind WINDOW) (action_room plan p w next) _ (BeginsDue plan p) (λ e. room_not next not) (λ e. flush_not)
 
   -- if each command of the cycle is settled, the next cycle begins only when it is due
   pub done_due : BeginsDue plan p (action_done plan p)
@@ -47,24 +51,21 @@ module _ (plan : Plan) (p : Progress) (w : Waiting) where
   settled_due =
       cond_both (nat_eq p.unsent 0) (action_done plan p) _ (BeginsDue plan p) (λ e. done_due)
       (λ e. cond_both (nat_lt 0 p.next_others) (action_again plan p w) (if may_go p w then action_next plan p w actions.Send else actions.Skip) (BeginsDue plan p)
-      (λ more. cond_both (w.listed && not p.next_is_chained) (action_next plan p w actions.Send) actions.Pass (BeginsDue plan p) (λ d. next_not) (λ d b. cc))
-      (λ none. cond_both (may_go p w) (action_next plan p w actions.Send) actions.Skip (BeginsDue plan p) (λ d. next_not) (λ d b. cc)))
+      (λ more. cond_both (w.listed && not p.next_is_chained) (action_next plan p w actions.Send) actions.Pass (BeginsDue plan p) (λ d. next_not actions.Send (λ b. cc)) (λ d b. cc))
+      (λ none. cond_both (may_go p w) (action_next plan p w actions.Send) actions.Skip (BeginsDue plan p) (λ d. next_not actions.Send (λ b. cc)) (λ d b. cc)))
 
-  -- if no command may be sent, the next cycle begins only when it is due
+  -- if no command may be sent before those that were sent are settled, the next cycle begins only when it is due
   pub sent_due : BeginsDue plan p (action_sent plan p w)
   sent_due =
       cond_both (nat_eq w.commands 0) (action_settled plan p w) (if nat_eq w.current 0 then action_room plan p w actions.Flush else action_waiting plan p w) (BeginsDue plan p) (λ e. settled_due)
-      (λ e. cond_both (nat_eq w.current 0) (action_room plan p w actions.Flush) (action_waiting plan p w) (BeginsDue plan p) (λ d. room_not actions.Flush (λ b. cc)) (λ d. waits_not))
+      (λ e. flush_not)
 
-  -- no cycle begins if it is the turn of a command of the setup
+  -- `BeginsDue` holds of `action_next_of_setup`, which begins no cycle
   pub turn_not : BeginsDue plan p (action_next_of_setup plan p w)
   turn_not =
-      cond_both (nat_lt p.prepared plan.setup) (action_next plan p w actions.Prepare) (actions.Read Limit) (BeginsDue plan p)
-      (λ n. cond_both (nat_lt p.behind WINDOW) (action_room plan p w actions.Prepare) _ (BeginsDue plan p) (λ e. room_not actions.Prepare (λ b. cc))
-      (λ e. cond_both (nat_eq w.current 0) (action_room plan p w actions.Flush) (action_waiting plan p w) (BeginsDue plan p) (λ d. room_not actions.Flush (λ b. cc)) (λ d. waits_not)))
-      (λ n b. cc)
+      cond_both (nat_lt p.prepared plan.setup) (action_next plan p w actions.Prepare) (actions.Read Limit) (BeginsDue plan p) (λ n. next_not actions.Prepare (λ b. cc)) (λ n b. cc)
 
-  -- no cycle begins while the setup isn't done
+  -- `BeginsDue` holds of `action_preparing`, which begins no cycle
   pub preparing_not : BeginsDue plan p (action_preparing plan p w)
   preparing_not =
       let B = BeginsDue plan p in
@@ -72,12 +73,12 @@ module _ (plan : Plan) (p : Progress) (w : Waiting) where
       (λ e. cond_both (is_idle plan p) (actions.Read Due) _ B (λ d b. cc)
       (λ d. cond_both (nat_eq p.prepared 0) _ _ B (λ f. turn_not)
       (λ f. cond_both (nat_eq w.commands 0) _ _ B (λ g. cond_both w.well _ (actions.Close cause.SetUp) B (λ h. turn_not) (λ h b. cc))
-      (λ g. cond_both (nat_eq w.current 0) (action_room plan p w actions.Flush) (action_waiting plan p w) B (λ h. room_not actions.Flush (λ b. cc)) (λ h. waits_not)))))
+      (λ g. flush_not))))
 
   -- once the setup is done, a cycle begins only when it is due
   pub cycle_due : BeginsDue plan p (action_cycle plan p w)
   cycle_due =
-      cond_both (nat_lt 0 p.unsent && not (waits_for_all p)) (action_next plan p w actions.Send) (action_sent plan p w) (BeginsDue plan p) (λ d. next_not) (λ d. sent_due)
+      cond_both (nat_lt 0 p.unsent && not (waits_for_all p)) (action_next plan p w actions.Send) (action_sent plan p w) (BeginsDue plan p) (λ d. next_not actions.Send (λ b. cc)) (λ d. sent_due)
 
   -- once the station has synchronized, a cycle begins only when it is due
   pub begun_due : BeginsDue plan p (action_begun plan p w)
@@ -85,11 +86,11 @@ module _ (plan : Plan) (p : Progress) (w : Waiting) where
       cond_both (is_held_back p w) (action_waiting plan p w) _ (BeginsDue plan p) (λ h. waits_not)
       (λ h. cond_both (is_preparing plan p w) (action_preparing plan p w) (action_cycle plan p w) (BeginsDue plan p) (λ on. preparing_not) (λ done. cycle_due))
 
-  -- no cycle begins if a null procedure is sent or is waited for
+  -- `BeginsDue` holds where a null procedure is sent, or is waited for: that begins no cycle
   pub asks_not : BeginsDue plan p (if nat_le p.again p.moment.elapsed then actions.Ask else actions.Read Limit)
   asks_not = cond_both (nat_le p.again p.moment.elapsed) actions.Ask (actions.Read Limit) (BeginsDue plan p) (λ e b. cc) (λ e b. cc)
 
-  -- no cycle begins while the station synchronizes
+  -- `BeginsDue` holds of `action_beginning`, which begins no cycle
   pub beginning_due : BeginsDue plan p (action_beginning plan p w)
   beginning_due =
       cond_both (is_finished w.commands p) (actions.Close cause.Done) _ (BeginsDue plan p) (λ e b. cc)
@@ -110,7 +111,7 @@ module _ (plan : Plan) (p : Progress) (w : Waiting) where
   told_due (phase.Closing why) = λ b. cc
   told_due (phase.Over why) = λ b. cc
 
-  -- no cycle begins if all turns are used up
+  -- `BeginsDue` holds of `action_without_turns`, which begins no cycle
   pub up_due : (up : Bool) → BeginsDue plan p (action_without_turns up)
   up_due true = λ b. cc
   up_due false = λ b. cc

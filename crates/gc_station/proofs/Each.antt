@@ -1,6 +1,6 @@
--- The records and the outstanding commands are, in order, the commands that had their turn, whatever the link does. (`sent`
--- stands for these commands, whether they were sent or were left out.) A mark says which command an outstanding request is of,
--- or `None` of a null procedure.
+-- The records and the outstanding commands are, in order, the commands that had their turn, but for those of attempts that were
+-- left out, whatever the link does. (`sent` stands for these commands, whether they were sent or recorded without being sent.) A
+-- mark says which command an outstanding request is of, or `None` of a null procedure.
 use Rattle.std.proofs.Common.{◌≡◌, ℕ, zero, suc, ◌+◌, ◌-◌, ◌<◌, ◌≤◌, Bool, true, false, nat_eq, List, [], ◌∷◌, ◌++◌, length, take, drop, map, Option, Some, None, refl, sym, ap, ◌∙◌, arith, append_assoc, append-nil}
 use Rattle.std.proofs.lemmas.List.{length-map, length-drop, map-append, take_all, drop-append-le}
 use Rattle.gc_catalogue.specs.declared.answer.Reading.{Reading}
@@ -8,6 +8,7 @@ use Rattle.gc_catalogue.specs.declared.asked.Asked.{Asked}
 use Rattle.gc_client.specs.declared.pending.Pending.{Pending}
 use Rattle.gc_client.specs.Rule.{Settlement, expired}
 use Rattle.gc_client.specs.OneForOne.{Wanted, of_settled, of_pending}
+use Rattle.gc_client.proofs.Lists.{head_of_drop, take_turn}
 use Rattle.gc_client.proofs.OneForOne.{expired_parts}
 use Rattle.gc_texts.specs.declared.near.Expected.{Expected}
 use Rattle.gc_texts.specs.declared.tasks.Task.{Task}
@@ -16,7 +17,7 @@ use Rattle.gc_station.specs.Lists.{with_unless}
 use Rattle.gc_station.specs.EachOnce.{Request, requests, of_task, all_cycles, commands_reached, of_record, of_waiting, still_waiting, of_cycles, of_text, in_text}
 use Rattle.gc_station.specs.Requests.{asked_at, of_command}
 use Rattle.gc_station.proofs.Timing.{asked_text, unsent_text}
-use Rattle.gc_station.proofs.Ticking.{not_none}
+use Rattle.gc_station.proofs.Facts.{not_none}
 use Rattle.gc_station.specs.Marks.{commands_in, record_of, records_of}
 use Rattle.gc_station.specs.Records.{Record}
 
@@ -59,7 +60,8 @@ marked_append (m ∷ ms) [] ys = refl
 marked_append (None ∷ ms) (x ∷ xs) ys = marked_append ms xs ys
 marked_append (Some mark ∷ ms) (x ∷ xs) ys = ap (λ rs. record { cycle = mark.cycle; place = mark.place; asked = x } ∷ rs) (marked_append ms xs ys)
 
--- one mark more, with what it asks, adds its request after the others, if it is of a command
+-- where there are as many marks as requests, one mark more, with what it asks, adds its request after the others, if the mark is
+-- of a command
 marked_more : (ms : List (Option Mark)) (asks : List (Wanted Asked)) (m : Option Mark) (a : Wanted Asked) → length ms ≡ length asks
     → marked (ms ++ m ∷ []) (asks ++ a ∷ []) ≡ marked ms asks ++ marked (m ∷ []) (a ∷ [])
 marked_more [] [] m a e = refl
@@ -88,15 +90,15 @@ cycles_append (x ∷ xs) ys = by_cycle (nat_eq x.cycle 0) (cycles_append xs ys) 
 pub listed_append : (commands : List Task) (xs ys : List Request) → of_text commands (xs ++ ys) ≡ of_text commands xs ++ of_text commands ys
 listed_append commands xs ys = ap (map (in_text commands)) (cycles_append xs ys) ∙ map-append (in_text commands) (of_cycles xs) (of_cycles ys)
 
--- the requests of one cycle are all requests of cycles, none of the setup
+-- `of_cycles` keeps all requests of a cycle other than 0, which is the setup
 cycles_all : (cycle place : ℕ) (asks : List (Wanted Asked)) → 0 < cycle → of_cycles (requests cycle place asks) ≡ requests cycle place asks
 cycles_all cycle place [] some = refl
 cycles_all cycle place (a ∷ others) some =
     let one : Request = record { cycle = cycle; place = place; asked = a } in
     ap (λ b. with_unless b one (of_cycles (requests cycle (place + 1) others))) (not_none cycle some) ∙ ap (λ xs. one ∷ xs) (cycles_all cycle (place + 1) others some)
 
--- the requests of the records, followed by those of the outstanding commands (by the marks and the outstanding requests), are,
--- as far as they are of a cycle, and as the text has them, the requests given last
+-- the records `rs`, and after them the outstanding commands (the requests `ws` with their marks `ms`), are of the requests
+-- `sent`, as far as they are of a cycle, and as the text has them
 abbrev pub EachIs : List Task → List (Option Mark) → List (Pending Asked) → List Record → List Request → Type 0
 EachIs commands ms ws rs sent = of_text commands (map of_record rs ++ still_waiting ms ws) ≡ sent
 
@@ -104,28 +106,28 @@ EachIs commands ms ws rs sent = of_text commands (map of_record rs ++ still_wait
 abbrev pub row : List (Option Mark) → List (Pending Asked) → List Record → List Request
 row ms ws rs = map of_record rs ++ still_waiting ms ws
 
--- a moment that times requests out leaves the row
+-- a moment, at which requests may time out, leaves the row
 pub row_moment : (ms : List (Option Mark)) (ws : List (Pending Asked)) (rs : List Record) (m : ℕ) → row ms (map (expired m) ws) rs ≡ row ms ws rs
 row_moment ms ws rs m = ap (λ xs. map of_record rs ++ xs) (waiting_marked ms (map (expired m) ws) ∙ ap (marked ms) (expired_parts m ws) ∙ sym (waiting_marked ms ws))
 
--- a moment that times requests out preserves `EachIs`
+-- a moment, at which requests may time out, preserves `EachIs`
 pub each_moment : (commands : List Task) (ms : List (Option Mark)) (ws : List (Pending Asked)) (rs : List Record) (sent : List Request) (m : ℕ)
     → EachIs commands ms ws rs sent → EachIs commands ms (map (expired m) ws) rs sent
 each_moment commands ms ws rs sent m h = ap (of_text commands) (row_moment ms ws rs m) ∙ h
 
--- if no command is outstanding, the records alone are what was sent
+-- if no command is outstanding, and `EachIs` holds, the records alone are of the requests `sent`
 pub each_settled : (commands : List Task) (ms : List (Option Mark)) (ws : List (Pending Asked)) (rs : List Record) (sent : List Request)
     → commands_in ms ≡ 0 → EachIs commands ms ws rs sent → of_text commands (map of_record rs) ≡ sent
 each_settled commands ms ws rs sent none h =
     ap (of_text commands) (sym (append-nil (map of_record rs)) ∙ sym (ap (λ xs. map of_record rs ++ xs) (waiting_marked ms ws ∙ marked_none ms (map of_pending ws) none))) ∙ h
 
--- if no command is outstanding, and the records are what was sent, `EachIs` holds
+-- if no command is outstanding, and the records are of the requests `sent`, `EachIs` holds
 pub each_nothing : (commands : List Task) (ms : List (Option Mark)) (ws : List (Pending Asked)) (rs : List Record) (sent : List Request)
     → commands_in ms ≡ 0 → of_text commands (map of_record rs) ≡ sent → EachIs commands ms ws rs sent
 each_nothing commands ms ws rs sent none h =
     ap (of_text commands) (ap (λ xs. map of_record rs ++ xs) (waiting_marked ms ws ∙ marked_none ms (map of_pending ws) none) ∙ append-nil (map of_record rs)) ∙ h
 
--- if nothing is outstanding, the records alone are what was sent, whatever the marks
+-- if nothing is outstanding, and `EachIs` holds, the records alone are of the requests `sent`, whatever the marks
 pub each_empty : (commands : List Task) (ms : List (Option Mark)) (ws : List (Pending Asked)) (rs : List Record) (sent : List Request)
     → ws ≡ [] → EachIs commands ms ws rs sent → of_text commands (map of_record rs) ≡ sent
 each_empty commands ms ws rs sent none h =
@@ -155,7 +157,8 @@ pub each_settles : (reads : Asked → List ℕ → Reading) (commands : List Tas
     → EachIs commands ms ws rs sent → EachIs commands (drop (length ss) ms) left (rs ++ records_of reads utc ms ss) sent
 each_settles reads commands utc ms ws left ss rs sent parts h = ap (of_text commands) (row_settles reads utc ms ws left ss rs parts) ∙ h
 
--- if one more request is outstanding after the others, its command, if it has one, is added after the outstanding commands
+-- where each outstanding request has a mark: if one more request is outstanding after the others, its command, if it has one, is
+-- added after the outstanding commands
 pub more_waiting : (ms : List (Option Mark)) (ws : List (Pending Asked)) (m : Option Mark) (p : Pending Asked) → length ms ≡ length ws
     → still_waiting (ms ++ m ∷ []) (ws ++ p ∷ []) ≡ still_waiting ms ws ++ marked (m ∷ []) (of_pending p ∷ [])
 more_waiting ms ws m p paired =
@@ -164,20 +167,15 @@ more_waiting ms ws m p paired =
     waiting_marked (ms ++ m ∷ []) (ws ++ p ∷ []) ∙ ap (marked (ms ++ m ∷ [])) (map-append of_pending ws (p ∷ []))
     ∙ marked_more ms asked m (of_pending p) count ∙ ap (λ xs. xs ++ marked (m ∷ []) (of_pending p ∷ [])) (sym (waiting_marked ms ws))
 
--- a null procedure that is sent preserves `EachIs`
+-- a null procedure that is sent preserves `EachIs`, where each outstanding request has a mark
 pub each_null : (commands : List Task) (ms : List (Option Mark)) (ws : List (Pending Asked)) (p : Pending Asked) (rs : List Record) (sent : List Request) → length ms ≡ length ws
     → EachIs commands ms ws rs sent → EachIs commands (ms ++ None ∷ []) (ws ++ p ∷ []) rs sent
 each_null commands ms ws p rs sent paired h = ap (λ xs. of_text commands (map of_record rs ++ xs)) (more_waiting ms ws None p paired ∙ append-nil (still_waiting ms ws)) ∙ h
 
 -- the commands before the next place are those before this place, and the one at it
 take_next : (commands : List Task) (place : ℕ) (task : Task) (others : List Task) → drop place commands ≡ task ∷ others → take (place + 1) commands ≡ take place commands ++ task ∷ []
-take_next [] zero task others e = cc
-take_next [] (suc n) task others e = cc
-take_next (c ∷ cs) zero task others e = ap (λ x. x ∷ []) (head_is e) where
-  -- equal lists have the same first command
-  head_is : c ∷ cs ≡ task ∷ others → c ≡ task
-  head_is e = cc
-take_next (c ∷ cs) (suc n) task others e = let at : suc n + 1 ≡ suc (n + 1) = omega arith in rw at (ap (λ x. c ∷ x) (take_next cs n task others e))
+take_next commands place task others e =
+    let next : place + 1 ≡ suc place = omega arith in ap (λ n. take n commands) next ∙ take_turn commands place task (head_of_drop commands place task others e)
 
 -- before a place at which there is a command, there are as many commands as the place says
 take_place : (commands : List Task) (place : ℕ) (task : Task) (others : List Task) → drop place commands ≡ task ∷ others → length (take place commands) ≡ place
@@ -185,7 +183,7 @@ take_place commands zero task others e = refl
 take_place [] (suc n) task others e = cc
 take_place (c ∷ cs) (suc n) task others e = ap suc (take_place cs n task others e)
 
--- a command of the setup that is sent preserves `EachIs`
+-- a command of the setup (its mark has the cycle 0) that is sent preserves `EachIs`, where each outstanding request has a mark
 pub each_prepared : (commands : List Task) (mark : Mark) (ms : List (Option Mark)) (ws : List (Pending Asked)) (p : Pending Asked) (rs : List Record) (sent : List Request) → mark.cycle ≡ 0
     → length ms ≡ length ws → EachIs commands ms ws rs sent → EachIs commands (ms ++ Some mark ∷ []) (ws ++ p ∷ []) rs sent
 each_prepared commands mark ms ws p rs sent none paired h =
@@ -205,7 +203,8 @@ none_taken zero (suc p) commands e = absurd (omega (arith, e))
 none_taken (suc s) (suc p) [] e = refl
 none_taken (suc s) (suc p) (c ∷ cs) e = none_taken s p cs (omega (arith, e))
 
--- the commands that had their turn, with the next one after them, are those that had their turn one place later
+-- at a place after the setup, in a cycle that has begun: the commands that had their turn, with the next one after them, are
+-- those that had their turn one place later
 pub sent_next : (setup : ℕ) (commands : List Task) (begun place : ℕ) (task : Task) (others : List Task) → drop place commands ≡ task ∷ others → setup ≤ place → 0 < begun
     → commands_reached setup commands begun place ++ requests begun place (of_task task ∷ []) ≡ commands_reached setup commands begun (place + 1)
 sent_next setup commands zero place task others at within some = absurd (omega (arith, some))
@@ -224,7 +223,8 @@ sent_next setup commands (suc n) place task others at within some =
     ∙ ap (λ xs. cycles ++ xs) (sym (requests-append (suc n) setup taken one))
     ∙ ap (λ xs. cycles ++ requests (suc n) setup xs) (sym (map-append of_task front (task ∷ [])) ∙ ap (map of_task) (sym more))
 
--- a command that is sent preserves `EachIs`
+-- if `EachIs` holds of the requests `kept`, and each outstanding request has a mark, it holds after the next command of a cycle
+-- is sent, with the request of that command after `kept`
 pub each_sent : (commands : List Task) (begun place utc : ℕ) (expected : Expected) (ms : List (Option Mark)) (ws : List (Pending Asked)) (p : Pending Asked) (rs : List Record)
     (task : Task) (others : List Task)
     → (paired : length ms ≡ length ws) → (there : drop place commands ≡ task ∷ others) → (asks : of_pending p ≡ asked_at utc task) → (above : 0 < begun)
@@ -242,7 +242,8 @@ each_sent commands begun place utc expected ms ws p rs task others paired at is 
     ∙ ap (λ x. of_text commands (front ++ waits) ++ x ∷ []) (asked_text commands begun place utc task others at)
     ∙ ap (λ xs. xs ++ requests begun place (of_task task ∷ [])) h
 
--- a command that isn't sent preserves `EachIs`: its record is added after the others, and no command is outstanding then
+-- if `EachIs` holds of the requests `kept`, and no command is outstanding, it holds after the next command of a cycle is recorded
+-- without being sent, with the request of that command after `kept`, and its record after `rs`
 pub each_skipped : (commands : List Task) (begun place : ℕ) (ms : List (Option Mark)) (ws : List (Pending Asked)) (rs : List Record) (r : Record) (task : Task) (others : List Task)
     → (none : commands_in ms ≡ 0) → (there : drop place commands ≡ task ∷ others) → (own : of_record r ∷ [] ≡ requests begun place (of_command task.command ∷ [])) → (above : 0 < begun)
     → (kept : List Request) → EachIs commands ms ws rs kept → EachIs commands ms ws (rs ++ r ∷ []) (kept ++ requests begun place (of_task task ∷ []))

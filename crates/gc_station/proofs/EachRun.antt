@@ -5,6 +5,7 @@
 use Rattle.std.proofs.Common.{◌≡◌, ℕ, ◌++◌, ◌-◌, ◌<◌, ◌⊎◌, inl, inr, ◌||◌, ◌&&◌, Bool, true, false, not, List, [], ◌∷◌, length, drop, map, nat_eq, Option, refl, sym, ap, ◌∙◌, subst, arith, append-nil, if◌then◌else◌}
 use Rattle.std.proofs.lemmas.List.{length-drop}
 use Rattle.std.proofs.lemmas.Bool.{both_ways}
+use Rattle.gc_client.proofs.Lists.{head_of_drop}
 use Rattle.gc_catalogue.specs.declared.asked.Asked.TheVariants.{Table}
 use Rattle.gc_catalogue.specs.declared.call.Call.TheVariants.{NullProc}
 use Rattle.gc_texts.specs.declared.tasks.Task.{Task}
@@ -29,16 +30,17 @@ use Rattle.gc_station.specs.Records.{Record}
 use Rattle.gc_station.specs.Runs.{state_after}
 use Rattle.gc_station.specs.Tasked.{EachRecordIsOfItsTask}
 use Rattle.gc_texts.specs.Endings.{Skipped, Missed}
-use Rattle.gc_station.specs.Model.{Model, opening, action_at, waiting_of, place_next, expected_first, mark_next, with_progress, asks_null, asks_first, asks_next, is_chained_after_next, others_after_next, is_chained_after, others_after, next_left_out, with_passes, with_listed, listed_after_skip, after_pass, with_records, unsent_record, first_unsent_record, after_clock, moved, after, after_all, cycle_length, mark_setup, asks_or_null, asks_setup}
+use Rattle.gc_station.specs.Model.{Model, opening, action_at, waiting_of, with_progress, asks_null, asks_first, asks_next, next_left_out, with_passes, with_listed, listed_after_skip, after_pass, with_records, unsent_record, first_unsent_record, after_clock, moved, after, after_all, cycle_length, asks_or_null, asks_setup}
+use Rattle.gc_station.specs.NextCommand.{place_next, expected_first, mark_next, is_chained_after_next, others_after_next, is_chained_after, others_after, mark_setup}
 use Rattle.gc_station.proofs.Acting.{mid_fail, mid_moment, mid_clock, mid_put, mid_open, mid_close, mid_read}
 use Rattle.gc_station.proofs.Each.{each_empty, sent_whole}
 use Rattle.gc_station.proofs.Facts.{action_for}
 use Rattle.gc_station.proofs.Invariant.{Invariant, is_bare, says_done}
 use Rattle.gc_station.proofs.Midway.{Placed, Mid, mid_of, sound_null, sound_sent, sound_skipped, sound_passed, sound_begun, invariant_ended, sound_prepared}
-use Rattle.gc_station.proofs.Tasked.{at_place, unsent_end}
+use Rattle.gc_station.proofs.Tasked.{unsent_end}
 use Rattle.gc_station.specs.Scopes.{Scope}
 
--- no records after the others preserve `Mid`
+-- `Mid` is preserved if no record is added
 mid_nothing : (plan : Plan) (commands : List Task) (s : Model) → Mid plan commands s → Mid plan commands (with_records [] s)
 mid_nothing plan commands s mid = subst (λ (rs : List Record). Mid plan commands (record s { records = rs })) (sym (append-nil s.records)) mid
 
@@ -46,17 +48,17 @@ mid_nothing plan commands s mid = subst (λ (rs : List Record). Mid plan command
 going_placed : (phase : Phase) (left unsent : ℕ) (rest : List ℕ) (marks : List (Option Mark)) → phase ≡ Ready → Placed phase left unsent rest marks
 going_placed phase left unsent rest marks is = record { empty = λ e. absurd (both_ways (is_bare phase) (ap is_bare is) e); finished = λ e. absurd (both_ways (says_done phase) (ap says_done is) e) }
 
--- the beginning of a cycle preserves `Mid`
-mid_begun : (plan : Plan) (commands : List Task) (s : Model) (m : Moment) → (is_ready : s.progress.phase ≡ Ready) → (none_unsent : s.progress.unsent ≡ 0) → (settled : commands_in s.marks ≡ 0)
+-- the beginning of a cycle preserves `Mid`, in the phase `Ready`, if a cycle is left and no command of the one before is unsent
+mid_begun : (plan : Plan) (commands : List Task) (s : Model) (m : Moment) → (is_ready : s.progress.phase ≡ Ready) → (none_unsent : s.progress.unsent ≡ 0)
     → (some : 0 < s.progress.left) → Mid plan commands s
     → Mid plan commands (with_progress (cycle_begun plan (cycle_length plan commands) m) s)
-mid_begun plan commands s m is none settled some mid =
+mid_begun plan commands s m is none some mid =
     let p = s.progress in (
       sound_begun plan commands p.left p.unsent s.client s.marks s.records s.passes none some mid.0,
       going_placed p.phase (p.left - 1) (cycle_length plan commands) s.rest s.marks is,
     )
 
--- a line feed that was sent preserves `Mid`
+-- a line feed that was sent in the phase `Clearing` preserves `Mid`
 mid_cleared : (plan : Plan) (commands : List Task) (s : Model) → s.progress.phase ≡ Clearing → Mid plan commands s → Mid plan commands (with_progress cleared s)
 mid_cleared plan commands s is mid = (mid.0, by_word (has_begun s.progress)) where
   -- the lemma above, whether the station has synchronized (`true`) or is synchronizing
@@ -64,7 +66,7 @@ mid_cleared plan commands s is mid = (mid.0, by_word (has_begun s.progress)) whe
   by_word true = record { empty = λ e. mid.1.empty (ap is_bare is); finished = λ e. cc }
   by_word false = record { empty = λ e. cc; finished = λ e. cc }
 
--- a null procedure that is sent after commands preserves `Mid`
+-- a null procedure that is sent in the phase `Ready`, and for which there is room, preserves `Mid`
 mid_flushed : (plan : Plan) (commands : List Task) (s : Model) → s.progress.phase ≡ Ready → length s.client.waiting < 7 → Mid plan commands s
     → Mid plan commands (with_progress request_noted (asks_null plan s))
 mid_flushed plan commands s is room mid =
@@ -73,15 +75,16 @@ mid_flushed plan commands s is room mid =
       going_placed p.phase p.left p.unsent s.rest (asks_null plan s).marks is,
     )
 
--- the first of these commands, if it is sent as the next one, preserves `Mid`
-mid_first : (plan : Plan) (commands : List Task) (next_is_chained : Bool) (behind : ℕ) (s : Model) (left : List Task) → (there : drop (place_next commands s.progress) commands ≡ left)
+-- of the commands `left`, from the cycle's next one on, the first, if it is sent in the phase `Ready`, with a command unsent and
+-- room for a request, preserves `Mid`
+mid_first : (plan : Plan) (commands : List Task) (next_is_chained : Bool) (next_others : ℕ) (s : Model) (left : List Task) → (there : drop (place_next commands s.progress) commands ≡ left)
     → (is_ready : s.progress.phase ≡ Ready) → (some : 0 < s.progress.unsent) → (room : length s.client.waiting < 7) → Mid plan commands s
-    → Mid plan commands (with_progress (sent next_is_chained behind) (asks_first (mark_next plan commands s.progress) left s))
-mid_first plan commands next_is_chained behind s [] at is some room mid =
+    → Mid plan commands (with_progress (sent next_is_chained next_others) (asks_first (mark_next plan commands s.progress) left s))
+mid_first plan commands next_is_chained next_others s [] at is some room mid =
     let sound = mid.0 in
     let n : length commands - place_next commands s.progress ≡ 0 = sym (length-drop (place_next commands s.progress) commands) ∙ ap length at in
     absurd (omega (arith, n, some, sound.unsents))
-mid_first plan commands next_is_chained behind s (task ∷ others) at is some room mid =
+mid_first plan commands next_is_chained next_others s (task ∷ others) at is some room mid =
     let p = s.progress in
     let t = asks_first (mark_next plan commands p) (task ∷ others) s in (
       sound_sent plan commands p.left p.unsent s.client s.marks s.records s.passes p.moment.utc (later p.moment.elapsed task.deadline)
@@ -89,56 +92,56 @@ mid_first plan commands next_is_chained behind s (task ∷ others) at is some ro
       going_placed p.phase p.left (p.unsent - 1) s.rest t.marks is,
     )
 
--- the next command, if it is sent, preserves `Mid`
-mid_sent : (plan : Plan) (commands : List Task) (next_is_chained : Bool) (behind : ℕ) (s : Model) → s.progress.phase ≡ Ready → 0 < s.progress.unsent
-    → length s.client.waiting < 7 → Mid plan commands s → Mid plan commands (with_progress (sent next_is_chained behind) (asks_next plan commands s))
-mid_sent plan commands next_is_chained behind s is some room mid = mid_first plan commands next_is_chained behind s (drop (place_next commands s.progress) commands) refl is some room mid
+-- the next command of a cycle, if it is sent in the phase `Ready`, with a command unsent and room for a request, preserves `Mid`
+mid_sent : (plan : Plan) (commands : List Task) (next_is_chained : Bool) (next_others : ℕ) (s : Model) → s.progress.phase ≡ Ready → 0 < s.progress.unsent
+    → length s.client.waiting < 7 → Mid plan commands s → Mid plan commands (with_progress (sent next_is_chained next_others) (asks_next plan commands s))
+mid_sent plan commands next_is_chained next_others s is some room mid = mid_first plan commands next_is_chained next_others s (drop (place_next commands s.progress) commands) refl is some room mid
 
--- the first of these commands, if it is sent as the next one of the setup, preserves `Mid`
+-- of the commands `left`, from the setup's next one on, the first, if it is sent in the phase `Ready` and with room for a
+-- request, preserves `Mid`; and so does a null procedure in its place, if there is none
 mid_prepares : (plan : Plan) (commands : List Task) (s : Model) (left : List Task) → drop s.progress.prepared commands ≡ left → s.progress.phase ≡ Ready
     → length s.client.waiting < 7 → Mid plan commands s
     → Mid plan commands (with_progress (setup_sent plan) (asks_or_null plan (mark_setup commands s.progress) left s))
-mid_prepares plan commands s [] at is room mid =
-    let p = s.progress in (
-      sound_null plan commands p.left p.unsent s.client s.marks s.records s.passes 0 (Table NullProc) (later p.moment.elapsed plan.deadline) room refl mid.0,
-      going_placed p.phase p.left p.unsent s.rest (asks_null plan s).marks is,
-    )
+mid_prepares plan commands s [] at is room mid = mid_flushed plan commands s is room mid
 mid_prepares plan commands s (task ∷ others) at is room mid =
     let p = s.progress in
     let t = asks_or_null plan (mark_setup commands p) (task ∷ others) s in (
       sound_prepared plan commands p.left p.unsent s.client s.marks s.records s.passes (later p.moment.elapsed task.deadline) (mark_setup commands p) task room refl
-          (at_place p.prepared commands task others at) mid.0,
+          (head_of_drop commands p.prepared task others at) mid.0,
       going_placed p.phase p.left p.unsent s.rest t.marks is,
     )
 
--- the first of these commands, if it is left out as the next one, preserves `Mid`
-mid_skips : (plan : Plan) (commands : List Task) (next_is_chained : Bool) (behind : ℕ) (s : Model) (m : Moment) (left : List Task) → (there : drop (place_next commands s.progress) commands ≡ left)
+-- of the commands `left`, from the cycle's next one on, the first, if it is recorded without being sent in the phase `Ready`,
+-- with a command unsent and none outstanding, preserves `Mid`
+mid_skips : (plan : Plan) (commands : List Task) (next_is_chained : Bool) (next_others : ℕ) (s : Model) (m : Moment) (left : List Task)
+    → (there : drop (place_next commands s.progress) commands ≡ left)
     → (is_ready : s.progress.phase ≡ Ready) → (some : 0 < s.progress.unsent) → (settled : commands_in s.marks ≡ 0) → Mid plan commands s
-    → Mid plan commands (with_progress (λ p. early_noted plan (commands_in s.marks) (skipped next_is_chained behind m p))
+    → Mid plan commands (with_progress (λ p. early_noted plan (commands_in s.marks) (skipped next_is_chained next_others m p))
     (with_records (first_unsent_record s.progress m (mark_next plan commands s.progress) left) s))
-mid_skips plan commands next_is_chained behind s m [] at is some none mid =
+mid_skips plan commands next_is_chained next_others s m [] at is some none mid =
     let sound = mid.0 in
     let n : length commands - place_next commands s.progress ≡ 0 = sym (length-drop (place_next commands s.progress) commands) ∙ ap length at in
     absurd (omega (arith, n, some, sound.unsents))
-mid_skips plan commands next_is_chained behind s m (task ∷ others) at is some none mid =
+mid_skips plan commands next_is_chained next_others s m (task ∷ others) at is some none mid =
     let p = s.progress in (
       sound_skipped plan commands p.left p.unsent s.client s.marks s.records s.passes (skipped_at m p) (if p.missed then Missed else Skipped)
           (mark_next plan commands p).expected.turn task others none some at (unsent_end p.missed) mid.0,
       going_placed p.phase p.left (p.unsent - 1) s.rest s.marks is,
     )
 
--- the next command, if it isn't sent, preserves `Mid`
-mid_skip : (plan : Plan) (commands : List Task) (next_is_chained : Bool) (behind : ℕ) (s : Model) (act : Act) → s.progress.phase ≡ Ready → 0 < s.progress.unsent
+-- an act that is to record the next command of a cycle without sending it preserves `Mid`, in the phase `Ready`, with a command
+-- unsent and none outstanding
+mid_skip : (plan : Plan) (commands : List Task) (next_is_chained : Bool) (next_others : ℕ) (s : Model) (act : Act) → s.progress.phase ≡ Ready → 0 < s.progress.unsent
     → commands_in s.marks ≡ 0 → Mid plan commands s
-    → Mid plan commands (after_clock (λ m p. early_noted plan (commands_in s.marks) (skipped next_is_chained behind m p))
+    → Mid plan commands (after_clock (λ m p. early_noted plan (commands_in s.marks) (skipped next_is_chained next_others m p))
     (with_listed (listed_after_skip plan commands s act) (with_records (unsent_record plan commands s.progress act) s)) act)
-mid_skip plan commands next_is_chained behind s (Told m) is some none mid =
-    mid_moment plan commands (with_progress (λ p. early_noted plan (commands_in s.marks) (skipped next_is_chained behind m p))
+mid_skip plan commands next_is_chained next_others s (Told m) is some none mid =
+    mid_moment plan commands (with_progress (λ p. early_noted plan (commands_in s.marks) (skipped next_is_chained next_others m p))
     (with_listed (listed_after_skip plan commands s (Told m)) (with_records (unsent_record plan commands s.progress (Told m)) s))) m
-    (mid_skips plan commands next_is_chained behind s m (drop (place_next commands s.progress) commands) refl is some none mid)
-mid_skip plan commands next_is_chained behind s act is some none mid = mid_fail plan commands (with_records [] s) cause.Clock refl (mid_nothing plan commands s mid)
+    (mid_skips plan commands next_is_chained next_others s m (drop (place_next commands s.progress) commands) refl is some none mid)
+mid_skip plan commands next_is_chained next_others s act is some none mid = mid_fail plan commands (with_records [] s) cause.Clock refl (mid_nothing plan commands s mid)
 
--- the attempts of a chain that are left out preserve `Mid`
+-- an act that leaves out the further attempts of a chain preserves `Mid`, in the phase `Ready`, if a command is unsent
 mid_pass : (plan : Plan) (commands : List Task) (s : Model) (act : Act) → s.progress.phase ≡ Ready → 0 < s.progress.unsent → Mid plan commands s → Mid plan commands (after_pass plan commands s act)
 mid_pass plan commands s (Told m) is some mid =
     let p = s.progress in
@@ -157,7 +160,7 @@ close_done plan commands s w cause.Done fine (up, inl phase) is = let it = fine.
 close_done plan commands s w cause.Done fine (up, inr end) is = (end.0, end.1)
 close_done plan commands s w why fine for_it is = cc
 
--- each act preserves `Mid`, before what is outstanding is lost
+-- from a model with the invariant, each act of an action whose conditions hold leads to `Mid`, before what is outstanding is lost
 pub mid_moved : (plan : Plan) (commands : List Task) (s : Model) (action : Action) (act : Act) → Invariant plan commands s → HoldsBefore plan s.progress (waiting_of s) action
     → Mid plan commands (moved plan commands action (with_progress turned s) act)
 mid_moved plan commands s action.ReadClock act fine is =
@@ -168,7 +171,7 @@ mid_moved plan commands s action.Renew act fine is =
 mid_moved plan commands s action.Begin act fine is =
     let t = with_progress turned s in
     let mid = mid_of plan commands s fine in
-    mid_clock plan commands (cycle_begun plan (cycle_length plan commands)) t act mid (λ m. mid_begun plan commands t m is.0 is.2 is.3 is.4 mid)
+    mid_clock plan commands (cycle_begun plan (cycle_length plan commands)) t act mid (λ m. mid_begun plan commands t m is.0 is.2 is.4 mid)
 mid_moved plan commands s action.Open act fine is = mid_open plan commands (with_progress turned s) act is (mid_of plan commands s fine)
 mid_moved plan commands s action.Clear act fine is =
     let t = with_progress turned s in mid_put plan commands _ (with_progress cleared) t act (mid_cleared plan commands t is (mid_of plan commands s fine))
@@ -229,7 +232,7 @@ invariant_opening plan commands scope =
 pub invariant_holds : (plan : Plan) (commands : List Task) (scope : Scope) (acts : List Act) → Invariant plan commands (state_after plan commands scope acts)
 invariant_holds plan commands scope acts = invariant_all plan commands (opening plan scope) acts (invariant_opening plan commands scope)
 
--- if a run stops no act follows
+-- if the conditions of a stop hold the run is over (`is_over`): no act follows
 pub stop_over : (plan : Plan) (p : Progress) (w : Waiting) (why : Cause) → HoldsBefore plan p w (action.Stop why) → is_over p ≡ true
 stop_over plan p w why (down, inl over) = ap (λ (phase : Phase). is_over_in phase || (not (is_up phase) && nat_eq p.turns 0)) over
 stop_over plan p w why (down, inr turns) = either_way (is_over_in p.phase) (is_up p.phase) (nat_eq p.turns 0) down (ap (λ (n : ℕ). nat_eq n 0) turns.1) where
@@ -240,8 +243,8 @@ stop_over plan p w why (down, inr turns) = either_way (is_over_in p.phase) (is_u
   either_way false false false d n = cc
   either_way false true none d n = cc
 
--- if a run stops nothing is outstanding, and the records, with the attempts that were left out (`passes`) between them, are of the
--- commands that had their turn, in order; if it stops as done, no cycle and no command is left
+-- if a run stops nothing is outstanding, and the records, with the attempts that were left out (`passes`) between them, are of
+-- the commands that had their turn, in order; if it stops as done, no cycle and no command is left
 pub stopped : (plan : Plan) (commands : List Task) (s : Model) (why : Cause) → Invariant plan commands s → action_at plan s ≡ action.Stop why
     → (s.client.waiting ≡ []) × Interleave (of_text commands (map of_record s.records)) s.passes (commands_reached plan.setup commands (plan.cycles - s.progress.left) (place_next commands s.progress))
     × (why ≡ cause.Done → (s.progress.left ≡ 0) × (s.progress.unsent ≡ 0))
@@ -260,7 +263,8 @@ stopped plan commands s why fine stop =
       by_reason (inl over) e = let it = fine.finished (ap says_done (over ∙ ap Over e)) in (it.0, it.1)
       by_reason (inr turns) e = let other : cause.Turns ≡ cause.Done = sym turns.0 ∙ e in cc
 
--- the records and the outstanding commands are the commands that had their turn, after any acts
+-- after any acts the records and the outstanding commands are the commands that had their turn, but for those left out
+-- (`EachOnce`)
 pub each_once : (plan : Plan) (commands : List Task) (scope : Scope) (acts : List Act) → EachOnce plan commands scope acts
 each_once plan commands scope acts =
     let s = state_after plan commands scope acts in

@@ -14,14 +14,25 @@ use Rattle.gc_station.specs.declared.progress.Action.TheVariants as action
 use Rattle.gc_station.specs.declared.progress.Progress.{Progress}
 use Rattle.gc_station.specs.declared.progress.Until.TheVariants.{Limit, Due}
 use Rattle.gc_station.specs.declared.progress.Waiting.{Waiting}
-use Rattle.gc_station.specs.Reasons.{HoldsBefore, IsHeld, HasRoom, MayGo, MayRetry, NothingMayGo, IsResting, StaysInItsChain, HasConnectionFor, MayPrepare}
+use Rattle.gc_station.specs.Reasons.{HoldsBefore, IsFinished, IsHeld, HasRoom, MayGo, MayRetry, NothingMayGo, IsResting, StaysInItsChain, HasConnectionFor, MayPrepare, WantsNull}
 use Rattle.gc_station.specs.Deciding.{width_of, has_begun, is_up, is_dead, is_due, is_idle, is_finished, has_room, action_of, action_in, action_on, action_of_phase, may_go, waits_for_all, action_again, action_ready, action_begun, action_beginning, action_sent, action_settled, action_done, action_next, action_room, action_waiting, action_without_turns, is_stale, is_between, is_resting, is_stopping, is_held_back, action_cycle, action_next_of_setup, action_preparing, is_preparing}
 use Rattle.gc_station.specs.Stations.{IsFitting}
+
+-- Tests.
 
 -- if one of two tests holds, and the second doesn't, the first does
 pub or_first : (a b : Bool) → (a || b) ≡ true → b ≡ false → a ≡ true
 or_first true b e none = refl
 or_first false b e none = cc
+
+-- if one of two tests holds, and the first doesn't, the second does
+pub or_second : (a b : Bool) → (a || b) ≡ true → a ≡ false → b ≡ true
+or_second true b e none = cc
+or_second false b e none = e
+
+-- if the first of two tests holds, both do exactly if the second does
+pub and_second : (a b : Bool) → a ≡ true → (a && b) ≡ b
+and_second a b e = ap (λ (c : Bool). c && b) e
 
 -- a number that isn't above 0 is 0
 pub none_left : (n : ℕ) → nat_lt 0 n ≡ false → n ≡ 0
@@ -30,6 +41,12 @@ none_left n e = grind (arith, nat_tests, e)
 -- a number that isn't 0 is above 0
 pub some_left : (n : ℕ) → nat_eq n 0 ≡ false → 0 < n
 some_left n e = grind (arith, nat_tests, e)
+
+-- a number above 0 isn't 0
+pub not_none : (n : ℕ) → 0 < n → nat_eq n 0 ≡ false
+not_none n some = grind (arith, nat_tests, some)
+
+-- Room for a request.
 
 -- where `has_room` says so, there is room
 room_there : (plan : Plan) (w : Waiting) → has_room plan w ≡ true → HasRoom plan w
@@ -40,14 +57,15 @@ no_room : (plan : Plan) (p : Progress) (w : Waiting) → (nat_lt w.current (widt
 no_room plan p w (inl e) = inr (inl (ltb-false w.current (width_of plan) e))
 no_room plan p w (inr e) = inr (inr (inl (ltb-false w.all WINDOW e)))
 
--- The moment is read again after each act that makes it out of date (`clock_due`); and nothing is read before a new connection was
--- cleared.
+-- The moment is read again after each act that makes it out of date (`clock_due`); and nothing is read before a new connection
+-- was cleared.
 
 -- a read may be made: the moment was read, and the connection isn't to be cleared
 abbrev pub CanRead : Progress → Type 0
 CanRead p = (p.clock_due ≡ false) × (p.phase ≡ Clearing → ⊥)
 
--- if this action reads the clock alone, the moment is out of date; if it connects or reads, it isn't
+-- if this action reads the clock alone, the moment is out of date; if it connects, the moment was read; and if it reads, a read
+-- may be made (`CanRead`)
 abbrev pub Timely : Progress → Action → Type 0
 Timely p action.ReadClock = p.clock_due ≡ true
 Timely p action.Open = p.clock_due ≡ false
@@ -61,8 +79,8 @@ Timely p _ = Unit {0}
 abbrev pub Awake : Progress → Type 0
 Awake p = (p.clock_due ≡ false) × (p.phase ≡ Ready)
 
--- if this action sends a request, resynchronizes, or closes a dead line, `Awake` holds; or the phase has said already that the
--- line is to be closed
+-- if this action sends a request, resynchronizes, or closes a dead line, `Awake` holds; or, for that close, the phase says
+-- already that the connection is to be closed
 abbrev pub Wakes : Progress → Action → Type 0
 Wakes p action.Renew = Awake p
 Wakes p action.Ask = Awake p
@@ -72,7 +90,8 @@ Wakes p action.Flush = Awake p
 Wakes p (action.Close cause.Dead) = (p.phase ≡ Closing cause.Dead) ⊎ Awake p
 Wakes p _ = Unit {0}
 
--- what holds if this action is next: its conditions (`HoldsBefore`), and whether the moment was read before it (`Timely`, `Wakes`)
+-- what holds if this action is next: its conditions (`HoldsBefore`), and whether the moment was read before it (`Timely`,
+-- `Wakes`)
 abbrev Holds : Plan → Progress → Waiting → Action → Type 0
 Holds plan p w next = HoldsBefore plan p w next × Timely p next × Wakes p next
 
@@ -88,8 +107,8 @@ awake_reads p (now, is) = (now, λ c. let other : Ready ≡ Clearing = sym is �
 abbrev SevenIfAllTimedOut : Waiting → Type 0
 SevenIfAllTimedOut w = w.current ≡ 0 → WINDOW ≤ w.all
 
--- for a station that is `Awake` and has synchronized `Holds` is true of `action_waiting`, if nothing may be sent (`NothingMayGo`), and
--- seven requests are outstanding if all have timed out
+-- for a station that is `Awake` and has synchronized `Holds` is true of `action_waiting`, if nothing may be sent
+-- (`NothingMayGo`), and seven requests are outstanding if all have timed out
 waits : (plan : Plan) (p : Progress) (w : Waiting) → Awake p → has_begun p ≡ true → NothingMayGo plan p w → SevenIfAllTimedOut w → Holds plan p w (action_waiting plan p w)
 waits plan p w awake begun nothing full =
     let P = Holds plan p w in
@@ -107,26 +126,33 @@ no_room_full : (plan : Plan) (w : Waiting) → (nat_lt w.current (width_of plan)
 no_room_full plan w (inl e) none = let few : width_of plan ≤ w.current = ltb-false w.current (width_of plan) e in absurd (omega (arith, none, few, some_wide plan))
 no_room_full plan w (inr e) none = ltb-false w.all WINDOW e
 
--- `action_room` is the action o if there is room for a request, and the action of a station that waits if there is none.
--- `Holds` is true of it, if it is true of o if there is room
+-- `action_room` is the action o if there is room for a request, and the action of a station that waits if there is none. For a
+-- station that is `Awake` and has synchronized `Holds` is true of it, if `Holds` is true of o where there is room
 room_for : (plan : Plan) (p : Progress) (w : Waiting) (o : Action) → Awake p → has_begun p ≡ true → (HasRoom plan w → Holds plan p w o) → Holds plan p w (action_room plan p w o)
 room_for plan p w o awake begun step =
     cond_both (has_room plan w) o _ (Holds plan p w) (λ e. step (room_there plan w e))
     (λ e. let none = and_cases (nat_lt w.current (width_of plan)) (nat_lt w.all WINDOW) e in waits plan p w awake begun (no_room plan p w none) (no_room_full plan w none))
 
--- for a station that is `Awake` and has synchronized `Holds` is true of `action_next` with `Send`, if a command is unsent that may be sent
--- (`MayGo`, `MayRetry`), it goes on with its chain if the end of the run was asked for, and the station isn't preparing
+-- for a station that is `Awake` and has synchronized `Holds` is true of `action_next` with the action o, if it is true of o where
+-- there is room and the count `behind` is below seven, and a null procedure is wanted where it isn't
+next_as : (plan : Plan) (p : Progress) (w : Waiting) (o : Action) → (awake : Awake p) → (begun : has_begun p ≡ true) → (near : p.behind < WINDOW → HasRoom plan w → Holds plan p w o)
+    → (far : WINDOW ≤ p.behind → WantsNull plan p w) → Holds plan p w (action_next plan p w o)
+next_as plan p w o awake begun near far =
+    let P = Holds plan p w in
+    cond_both (nat_lt p.behind WINDOW) _ _ P (λ below. room_for plan p w o awake begun (near (ltb-true p.behind WINDOW below)))
+    (λ above. let many = ltb-false p.behind WINDOW above in cond_both (nat_eq w.current 0) _ _ P
+    (λ given. room_for plan p w action.Flush awake begun (λ room. ((awake.1, begun, far many, eqb-true w.current 0 given, room), tt, awake)))
+    (λ current. let under = some_left w.current current in
+    waits plan p w awake begun (inr (inr (inr (inr (inl (many, under)))))) (λ none. absurd (omega (arith, none, under)))))
+
+-- for a station that is `Awake` and has synchronized `Holds` is true of `action_next` with `Send`, if a command is unsent that
+-- may be sent (`MayGo`, `MayRetry`), it goes on with its chain if the end of the run was asked for, and the station isn't
+-- preparing
 next_for : (plan : Plan) (p : Progress) (w : Waiting) → (awake : Awake p) → (begun : has_begun p ≡ true) → (some : 0 < p.unsent) → (may : MayGo p w) → (retry : MayRetry p w)
     → (stays : StaysInItsChain p) → (set_up : is_preparing plan p w ≡ false)
     → Holds plan p w (action_next plan p w action.Send)
 next_for plan p w awake begun some may retry stays ready =
-    let P = Holds plan p w in
-    cond_both (nat_lt p.behind WINDOW) _ _ P
-    (λ near. room_for plan p w action.Send awake begun (λ room. ((awake.1, begun, some, room, may, ltb-true p.behind WINDOW near, retry, stays, ready), tt, awake)))
-    (λ far. let many = ltb-false p.behind WINDOW far in cond_both (nat_eq w.current 0) _ _ P
-    (λ given. room_for plan p w action.Flush awake begun (λ room. ((awake.1, begun, inr (inl (some, may), many), eqb-true w.current 0 given, room), tt, awake)))
-    (λ current. let under = some_left w.current current in
-    waits plan p w awake begun (inr (inr (inr (inr (inl (many, under)))))) (λ none. absurd (omega (arith, none, under)))))
+    next_as plan p w action.Send awake begun (λ near room. ((awake.1, begun, some, room, may, near, retry, stays, ready), tt, awake)) (λ many. inr (inl (some, may), many))
 
 -- If the end of the run was asked for.
 
@@ -134,12 +160,13 @@ next_for plan p w awake begun some may retry stays ready =
 abbrev IsInChainIfStopping : Progress → Type 0
 IsInChainIfStopping p = p.stops ≡ true → (0 < p.unsent) × (p.next_is_chained ≡ true) × (p.preparing ≡ false)
 
--- if no command is left, the end of the run wasn't asked for
+-- where `IsInChainIfStopping` holds, if no command is left, the end of the run wasn't asked for
 none_asked : (p : Progress) → IsInChainIfStopping p → p.unsent ≡ 0 → p.stops ≡ false
 none_asked p only none = false_from_ne_true p.stops (λ stops. let some = (only stops).0 in absurd (omega (arith, none, some)))
 
--- if there is a connection, the station has synchronized, the end of the run was asked for, and neither does the run end nor is
--- a further chain held back, the station isn't between two chains
+-- if there is a connection, the station has synchronized, the end of the run was asked for, and neither does the run end nor is a
+-- further chain held back, the station isn't between two chains (`between`). `none` says that no request is in flight, and `some`
+-- that one is
 not_between : (stops up begun none between some : Bool) → (connected : up ≡ true) → (synchronized : begun ≡ true) → (goes_on : (stops && ((not up || not begun) || (none && between))) ≡ false)
     → (not_held : ((stops && between) && some) ≡ false) → (in_flight : none ≡ false → some ≡ true) → (asked : stops ≡ true) → between ≡ false
 not_between stops up begun none false some u b e f g is = refl
@@ -164,13 +191,15 @@ midway n chained prepares e = by_test (nat_eq n 0) chained prepares refl e where
   by_test false true true is f = cc
   by_test false false b is f = cc
 
--- if the run doesn't end, and no further chain is held back, `IsInChainIfStopping` holds
+-- if there is a connection, the station has synchronized, the run doesn't end, and no further chain is held back,
+-- `IsInChainIfStopping` holds
 goes_only : (p : Progress) (w : Waiting) → is_up p.phase ≡ true → has_begun p ≡ true → is_stopping p w ≡ false → is_held_back p w ≡ false → IsInChainIfStopping p
 goes_only p w up begun goes free stops =
     midway p.unsent p.next_is_chained p.preparing
     (not_between p.stops (is_up p.phase) (has_begun p) (nat_eq w.current 0) (is_between p) (nat_lt 0 w.current) up begun goes free (above_none w.current) stops)
 
--- a station that is between two chains, by its test, is
+-- if the test says that the station is between two chains, it is: no command is left, or the next one isn't chained, or a setup
+-- comes first
 between_so : (n : ℕ) (chained prepares : Bool) → ((nat_eq n 0 || not chained) || prepares) ≡ true → (n ≡ 0) ⊎ ((chained ≡ false) ⊎ (prepares ≡ true))
 between_so n chained prepares e = by_test (nat_eq n 0) chained prepares refl e where
   -- the lemma above, by whether a command is left
@@ -206,8 +235,8 @@ held_back_for plan p w awake begun held =
     let under : 0 < w.current = ltb-true 0 w.current it.1 in
     waits plan p w awake begun (inr (inr (inr (inr (inr (asked.0, between_so p.unsent p.next_is_chained p.preparing asked.1, under)))))) (λ none. absurd (omega (arith, none, under)))
 
--- for a station that is `Awake` and has synchronized `Holds` is true of `action_done`, if each command of the cycle is settled, the end of
--- the run wasn't asked for, and it isn't preparing
+-- for a station that is `Awake` and has synchronized `Holds` is true of `action_done`, if each command of the cycle is settled,
+-- the end of the run wasn't asked for, and it isn't preparing
 done_for : (plan : Plan) (p : Progress) (w : Waiting) → (awake : Awake p) → (begun : has_begun p ≡ true) → (none_unsent : p.unsent ≡ 0) → (settled : w.commands ≡ 0) → (unasked : p.stops ≡ false)
     → (set_up : is_preparing plan p w ≡ false)
     → Holds plan p w (action_done plan p)
@@ -223,8 +252,9 @@ chained p (inl none) e first = let some : 0 < p.unsent = some_left p.unsent e in
 chained p (inr (inl next_is_chained)) e first = next_is_chained
 chained p (inr (inr more)) e first = absurd (omega (arith, more, first))
 
--- for a station that is `Awake` and has synchronized `Holds` is true of `action_again`, if the next command begins a further attempt, each
--- command that was sent is settled, the next one goes on with its chain if the end of the run was asked for, and it isn't preparing
+-- for a station that is `Awake` and has synchronized `Holds` is true of `action_again`, if the next command begins a further
+-- attempt, each command that was sent is settled, the next one goes on with its chain if the end of the run was asked for, and it
+-- isn't preparing
 again_for : (plan : Plan) (p : Progress) (w : Waiting) → (awake : Awake p) → (begun : has_begun p ≡ true) → (some : 0 < p.unsent) → (settled : w.commands ≡ 0) → (more : 0 < p.next_others)
     → (stays : StaysInItsChain p)
     → (set_up : is_preparing plan p w ≡ false) → Holds plan p w (action_again plan p w)
@@ -238,8 +268,8 @@ again_for plan p w awake begun some settled more stays ready =
       by_test (inl none) = inl none
       by_test (inr bound) = inr (not-false p.next_is_chained bound)
 
--- for a station that is `Awake` and has synchronized `Holds` is true of `action_settled`, if the next command waits for those before it
--- (`IsHeld`), each command that was sent is settled, a chain goes on if the end of the run was asked for, and it isn't preparing
+-- for a station that is `Awake` and has synchronized `Holds` is true of `action_settled`, if `IsHeld` holds, each command that
+-- was sent is settled, a chain goes on if the end of the run was asked for, and it isn't preparing
 settled_for : (plan : Plan) (p : Progress) (w : Waiting) → (awake : Awake p) → (begun : has_begun p ≡ true) → (held : IsHeld p) → (settled : w.commands ≡ 0) → (only : IsInChainIfStopping p)
     → (set_up : is_preparing plan p w ≡ false)
     → Holds plan p w (action_settled plan p w)
@@ -251,8 +281,8 @@ settled_for plan p w awake begun held settled only ready =
     (λ well. let it = and_parts w.well p.chain_unbroken well in next_for plan p w awake begun (some_left p.unsent e) (inr (settled, it.0, it.1)) (inl none) (λ stops. (only stops).1) ready)
     (λ broken. ((awake.1, begun, some_left p.unsent e, settled, chained p held e none, broken, ready), tt, tt))))
 
--- for a station that is `Awake` and has synchronized `Holds` is true of `action_sent`, if the next command waits for those before it
--- (`IsHeld`), a chain goes on if the end of the run was asked for, and it isn't preparing
+-- for a station that is `Awake` and has synchronized `Holds` is true of `action_sent`, if `IsHeld` holds, a chain goes on if the
+-- end of the run was asked for, and it isn't preparing
 sent_for : (plan : Plan) (p : Progress) (w : Waiting) → (awake : Awake p) → (begun : has_begun p ≡ true) → (held : IsHeld p) → (only : IsInChainIfStopping p)
     → (set_up : is_preparing plan p w ≡ false) → Holds plan p w (action_sent plan p w)
 sent_for plan p w awake begun held only ready =
@@ -262,7 +292,7 @@ sent_for plan p w awake begun held only ready =
     (λ given. room_for plan p w action.Flush awake begun (λ room. ((awake.1, begun, inl (inl held, some_left w.commands e), eqb-true w.current 0 given, room), tt, awake)))
     (λ some. let many = some_left w.current some in waits plan p w awake begun (inr (inr (inr (inl (inl held, some_left w.commands e, many))))) (λ none. absurd (omega (arith, none, many)))))
 
--- a command that may not be sent at once waits for those before it (`IsHeld`)
+-- if no command is left, or the next one is sent only once all are settled, `IsHeld` holds
 held_so : (p : Progress) → (nat_lt 0 p.unsent && not (waits_for_all p)) ≡ false → IsHeld p
 held_so p e = by_half (and_cases (nat_lt 0 p.unsent) (not (waits_for_all p)) e) where
   -- the lemma above for a command to wait for all, by which of the two tests holds: that it is chained, or that it begins a
@@ -286,8 +316,8 @@ free_both p e = by_test p.next_is_chained (nat_lt 0 p.next_others) refl refl e w
   by_test false true bound more e = cc
   by_test false false bound more e = (bound, none_left p.next_others more)
 
--- `Holds` is true once the station has synchronized and its setup is done, if the end of the run wasn't asked for or the next
--- command continues a chain that has begun (`IsInChainIfStopping`)
+-- for a station that is `Awake` and has synchronized `Holds` is true of `action_cycle`, if its setup is done, and the end of the
+-- run wasn't asked for or the next command goes on with a chain that has begun (`IsInChainIfStopping`)
 cycle_for : (plan : Plan) (p : Progress) (w : Waiting) → Awake p → has_begun p ≡ true → IsInChainIfStopping p → is_preparing plan p w ≡ false → Holds plan p w (action_cycle plan p w)
 cycle_for plan p w awake begun only ready =
     cond_both (nat_lt 0 p.unsent && not (waits_for_all p)) _ _ (Holds plan p w)
@@ -296,27 +326,21 @@ cycle_for plan p w awake begun only ready =
     next_for plan p w awake begun (ltb-true 0 p.unsent it.0) (inl free.0) (inl free.1) (λ stops. (only stops).1) ready)
     (λ none. sent_for plan p w awake begun (held_so p none) only ready)
 
--- what `is_finished` says: no cycle and no command is left, and none is outstanding
-pub finished_so : (commands : ℕ) (p : Progress) → is_finished commands p ≡ true → (p.left ≡ 0) × (p.unsent ≡ 0) × (commands ≡ 0)
+-- if the test says that all is done, `IsFinished` holds: no cycle and no command is left, and none is outstanding
+pub finished_so : (commands : ℕ) (p : Progress) → is_finished commands p ≡ true → IsFinished commands p
 finished_so commands p e =
     let it = and_parts (nat_eq p.left 0 && nat_eq p.unsent 0) (nat_eq commands 0) e in
     let sent = and_parts (nat_eq p.left 0) (nat_eq p.unsent 0) it.0 in
     (eqb-true p.left 0 sent.0, eqb-true p.unsent 0 sent.1, eqb-true commands 0 it.1)
 
--- for a station that is `Awake` and has synchronized `Holds` is true of `action_next` with `Prepare`, if the next command of the setup may
--- be sent (`MayPrepare`), and the end of the run wasn't asked for
+-- for a station that is `Awake` and has synchronized `Holds` is true of `action_next` with `Prepare`, if the next command of the
+-- setup may be sent (`MayPrepare`), and the end of the run wasn't asked for
 prepare_for : (plan : Plan) (p : Progress) (w : Waiting) → Awake p → has_begun p ≡ true → p.stops ≡ false → MayPrepare plan p w → Holds plan p w (action_next plan p w action.Prepare)
 prepare_for plan p w awake begun unasked may =
-    let P = Holds plan p w in
-    cond_both (nat_lt p.behind WINDOW) _ _ P
-    (λ near. room_for plan p w action.Prepare awake begun (λ room. ((awake.1, begun, may, room, ltb-true p.behind WINDOW near, unasked), tt, awake)))
-    (λ far. let many = ltb-false p.behind WINDOW far in cond_both (nat_eq w.current 0) _ _ P
-    (λ given. room_for plan p w action.Flush awake begun (λ room. ((awake.1, begun, inr (inr may, many), eqb-true w.current 0 given, room), tt, awake)))
-    (λ current. let under = some_left w.current current in
-    waits plan p w awake begun (inr (inr (inr (inr (inl (many, under)))))) (λ none. absurd (omega (arith, none, under)))))
+    next_as plan p w action.Prepare awake begun (λ near room. ((awake.1, begun, may, room, near, unasked), tt, awake)) (λ many. inr (inr may, many))
 
--- for a station that is `Awake` and has synchronized `Holds` is true of `action_next_of_setup`, if it is preparing, the next command of the
--- setup is the first or those before it are settled and answered well, and the end of the run wasn't asked for
+-- for a station that is `Awake` and has synchronized `Holds` is true of `action_next_of_setup`, if it is preparing, the next
+-- command of the setup is the first or those before it are settled and answered well, and the end of the run wasn't asked for
 turn_for : (plan : Plan) (p : Progress) (w : Waiting) → (awake : Awake p) → (begun : has_begun p ≡ true) → (unasked : p.stops ≡ false) → (preparing : is_preparing plan p w ≡ true)
     → (turn : (p.prepared ≡ 0) ⊎ ((w.commands ≡ 0) × (w.well ≡ true)))
     → Holds plan p w (action_next_of_setup plan p w)
@@ -324,8 +348,8 @@ turn_for plan p w awake begun unasked on first =
     cond_both (nat_lt p.prepared plan.setup) _ (action.Read Limit) (Holds plan p w) (λ e. prepare_for plan p w awake begun unasked (on, ltb-true p.prepared plan.setup e, first))
     (λ e. (tt, awake_reads p awake, tt))
 
--- for a station that is `Awake` and has synchronized `Holds` is true of `action_preparing`, if it is preparing, and the end of the run
--- wasn't asked for
+-- for a station that is `Awake` and has synchronized `Holds` is true of `action_preparing`, if it is preparing, and the end of
+-- the run wasn't asked for
 preparing_for : (plan : Plan) (p : Progress) (w : Waiting) → Awake p → has_begun p ≡ true → p.stops ≡ false → is_preparing plan p w ≡ true → Holds plan p w (action_preparing plan p w)
 preparing_for plan p w awake begun unasked on =
     let P = Holds plan p w in
@@ -340,7 +364,8 @@ preparing_for plan p w awake begun unasked on =
     (λ some. let many = some_left w.current some in
     waits plan p w awake begun (inr (inr (inr (inl (inr (on, some_left p.prepared sent), some_left w.commands waiting, many))))) (λ none. absurd (omega (arith, none, many))))))))
 
--- `Holds` is true once the station has synchronized, unless the run ends because that was asked for (`is_stopping`)
+-- for a station that is `Awake` and has synchronized `Holds` is true of `action_begun`, unless the run ends because that was
+-- asked for (`is_stopping`)
 begun_for : (plan : Plan) (p : Progress) (w : Waiting) → Awake p → has_begun p ≡ true → is_stopping p w ≡ false → Holds plan p w (action_begun plan p w)
 begun_for plan p w awake begun goes =
     cond_both (is_held_back p w) (action_waiting plan p w) _ (Holds plan p w) (λ held. held_back_for plan p w awake begun held)
@@ -350,7 +375,7 @@ begun_for plan p w awake begun goes =
       unasked : IsInChainIfStopping p → p.preparing ≡ true → p.stops ≡ false
       unasked only on = false_from_ne_true p.stops (λ stops. let ready = (only stops).2 in let both : true ≡ false = sym on ∙ ready in cc)
 
--- `Holds` is true while the station synchronizes
+-- for a station that is `Awake` and synchronizes `Holds` is true of `action_beginning`
 beginning_for : (plan : Plan) (p : Progress) (w : Waiting) → Awake p → has_begun p ≡ false → Holds plan p w (action_beginning plan p w)
 beginning_for plan p w awake begun =
     let P = Holds plan p w in
@@ -360,7 +385,7 @@ beginning_for plan p w awake begun =
     (λ d. cond_both (nat_le p.again p.moment.elapsed) action.Ask (action.Read Limit) P
     (λ e. ((awake.1, begun, leb-true p.again p.moment.elapsed e, busy), tt, awake)) (λ e. (tt, awake_reads p awake, tt)))))
 
--- `Holds` is true in the phase `Ready`, unless the run ends because that was asked for (`is_stopping`)
+-- for a station that is `Awake` `Holds` is true of `action_ready`, unless the run ends because that was asked for (`is_stopping`)
 ready : (plan : Plan) (p : Progress) (w : Waiting) → Awake p → is_stopping p w ≡ false → Holds plan p w (action_ready plan p w)
 ready plan p w awake goes = cond_both (has_begun p) _ _ (Holds plan p w) (λ begun. begun_for plan p w awake begun goes) (λ begun. beginning_for plan p w awake begun)
 
@@ -369,7 +394,8 @@ closing_wakes : (p : Progress) (why : Cause) → p.phase ≡ Closing why → Wak
 closing_wakes p cause.Dead is = inl is
 closing_wakes p why is = tt
 
--- `Holds` is true in each phase, if the moment was read, unless the run ends because that was asked for (`is_stopping`)
+-- `Holds` is true of `action_of_phase` in each phase, if the moment was read, unless the run ends because that was asked for
+-- (`is_stopping`)
 told_for : (plan : Plan) (phase : Phase) (p : Progress) (w : Waiting) → p.phase ≡ phase → p.clock_due ≡ false → is_stopping p w ≡ false → Holds plan p w (action_of_phase plan phase p w)
 told_for plan Down p w is now goes = (is, now, tt)
 told_for plan Pausing p w is now goes = (tt, (now, λ c. let other : Pausing ≡ Clearing = sym is ∙ c in cc), tt)
@@ -394,7 +420,7 @@ on_for plan p w =
     (λ asked. let it = and_parts p.stops (is_resting p w) asked in ((tt, inr (it.0, resting_so p w it.1)), tt, tt))
     (λ goes. cond_both p.clock_due action.ReadClock _ P (λ old. (tt, old, tt)) (λ now. told_for plan p.phase p w refl now goes))))
 
--- `Holds` is true in each phase
+-- `Holds` is true of `action_in` in each phase
 in_for : (plan : Plan) (phase : Phase) (p : Progress) (w : Waiting) → p.phase ≡ phase → Holds plan p w (action_in phase plan p w)
 in_for plan (Closing why) p w is = ((has_one why p (ap is_up is), inl is), tt, closing_wakes p why is)
 in_for plan (Over why) p w is = ((ap is_up is, inl is), tt, tt)
@@ -404,15 +430,17 @@ in_for plan phase p w is = on_for plan p w
 pub action_for : (plan : Plan) (p : Progress) (w : Waiting) → HoldsBefore plan p w (action_of plan p w)
 action_for plan p w = (in_for plan p.phase p w refl).0
 
--- the action that is next is `Timely`: it reads the clock if the moment is out of date, and connects or reads if it isn't
+-- the action that is next is `Timely`: it reads the clock alone only if the moment is out of date, connects only if the moment
+-- was read, and reads only if a read may be made (`CanRead`)
 pub order_timely : (plan : Plan) (p : Progress) (w : Waiting) → Timely p (action_of plan p w)
 order_timely plan p w = (in_for plan p.phase p w refl).1
 
--- if a request, a new synchronization or the close of a dead line is next, requests may be sent, and the moment was read
+-- the action that is next is as `Wakes` says: it sends a request, resynchronizes or closes a dead line only if requests may be
+-- sent and the moment was read, or the phase says already that the dead line is to be closed
 pub order_wakes : (plan : Plan) (p : Progress) (w : Waiting) → Wakes p (action_of plan p w)
 order_wakes plan p w = (in_for plan p.phase p w refl).2
 
--- the conditions of an action give what the call needs: room for a request, and a command for one of a command
+-- the conditions of an action give what its call needs (`IsFitting`)
 fits : (plan : Plan) (p : Progress) (w : Waiting) (next : Action) → HoldsBefore plan p w next → IsFitting p w.all next
 fits plan p w action.Ask is = is.1
 fits plan p w action.Prepare is = is.3.1

@@ -26,8 +26,8 @@ use Rattle.gc_station.proofs.Parting.{Leads, leads, keeps_action}
 use Rattle.gc_station.proofs.Readings.{moved_reads, losing_reads}
 use Rattle.gc_station.proofs.Records.{records-none}
 
--- the steps of these parts, from this client, these marks and these records on, lead to the model `end`: after each part but
--- the last the client restarts, and what is outstanding is recorded as lost
+-- there is a part, and the steps of these parts, from this client, these marks and these records on, lead to the model `end`:
+-- after each part but the last the client restarts, and what is outstanding is recorded as lost
 abbrev pub BooksInParts : (Asked → List ℕ → Reading) → List Task → ById Asked → List (Option Mark) → List Record → List Part → Model → Type 0
 BooksInParts reads commands c ms rs [] end = ⊥
 BooksInParts reads commands c ms rs (p ∷ []) end = Books reads commands c ms rs p end.client end.marks (sent_of end.records)
@@ -41,13 +41,15 @@ joined_assoc p q r =
     ∙ ap (λ (steps : List (Step Asked)). record { turns = p.turns ++ (q.turns ++ r.turns); steps = steps; marks = (p.marks ++ q.marks) ++ r.marks }) (append_assoc p.steps q.steps r.steps)
     ∙ ap (λ (marks : List (Option Mark)). record { turns = p.turns ++ (q.turns ++ r.turns); steps = p.steps ++ (q.steps ++ r.steps); marks = marks }) (append_assoc p.marks q.marks r.marks)
 
--- `BooksInParts` is preserved by one more part before the others, after which the client restarts
+-- if the part p and a restart lead to a new client, no marks and the records `mid` (`Books`), and `BooksInParts` holds of the
+-- parts `ps` from there on, it holds of p and the parts after it
 follows_cut : (reads : Asked → List ℕ → Reading) (commands : List Task) (c : ById Asked) (ms : List (Option Mark)) (rs mid : List Record) (p : Part) (ps : List Part) (end : Model)
     → Books reads commands c ms rs (joined p restarting) fresh [] mid → BooksInParts reads commands fresh [] mid ps end → BooksInParts reads commands c ms rs (p ∷ ps) end
 follows_cut reads commands c ms rs mid p [] end h g = absurd g
 follows_cut reads commands c ms rs mid p (q ∷ ps) end h g = (mid, h, g)
 
--- `BooksInParts` is preserved by a part that is joined to the front of the first one
+-- if the part p leads to the client c1, with its marks and records (`Books`), and `BooksInParts` holds of the parts `ps` from
+-- there on, it holds of these with p joined to the front of the first one
 follows_on : (reads : Asked → List ℕ → Reading) (commands : List Task) (c c1 : ById Asked) (ms ms1 : List (Option Mark)) (rs rs1 : List Record) (p : Part) (ps : List Part) (end : Model)
     → Books reads commands c ms rs p c1 ms1 rs1 → BooksInParts reads commands c1 ms1 rs1 ps end → BooksInParts reads commands c ms rs (in_front p false ps) end
 follows_on reads commands c c1 ms ms1 rs rs1 p [] end h g = absurd g
@@ -58,8 +60,8 @@ follows_on reads commands c c1 ms ms1 rs rs1 p (q ∷ next ∷ ps) end h g =
 
 -- After an act.
 
--- if all outstanding requests are lost, the client restarts
-leads_lost : (commands : List Task) (t : Model) (b : Bool) → b ≡ true → length t.marks ≡ length t.client.waiting → Leads commands t restarting (losing b t)
+-- if each outstanding request has a mark, and all are lost (`all`), the restart of the client leads to the model after the loss
+leads_lost : (commands : List Task) (t : Model) (all : Bool) → all ≡ true → length t.marks ≡ length t.client.waiting → Leads commands t restarting (losing all t)
 leads_lost commands t true is paired =
     subst (λ (rs : List Record). Books t.reads commands t.client t.marks (sent_of t.records) restarting fresh
     (drop (length (map lost t.client.waiting)) t.marks) rs) (sym (sent_records t.reads t.records t.progress.moment.utc t.marks (map lost t.client.waiting)))
@@ -67,16 +69,17 @@ leads_lost commands t true is paired =
 leads_lost commands t false is paired = cc
 
 -- if all outstanding requests are lost, the client is new
-lost_fresh : (t : Model) (b : Bool) → b ≡ true → (losing b t).client ≡ fresh
+lost_fresh : (t : Model) (all : Bool) → all ≡ true → (losing all t).client ≡ fresh
 lost_fresh t true is = refl
 lost_fresh t false is = cc
 
 -- if nothing is lost, the model stays
-kept_same : (t : Model) (b : Bool) → b ≡ false → losing b t ≡ t
+kept_same : (t : Model) (all : Bool) → all ≡ false → losing all t ≡ t
 kept_same t true is = cc
 kept_same t false is = refl
 
--- if the client is new nothing is outstanding, so a restart records nothing
+-- if the client is new, nothing is outstanding, so the part in which nothing happens leads to the marks and the records after the
+-- loss of what is outstanding
 leads_idle : (reads : Asked → List ℕ → Reading) (commands : List Task) (c : ById Asked) (ms : List (Option Mark)) (rs : List Record) (utc : ℕ) → c ≡ fresh
     → Books reads commands c ms (sent_of rs) nothing fresh (drop (length (map lost c.waiting)) ms) (sent_of (rs ++ records_of reads utc ms (map lost c.waiting)))
 leads_idle reads commands c ms rs utc is =
@@ -85,7 +88,7 @@ leads_idle reads commands c ms rs utc is =
     (sym (ap (λ l. rs ++ l) (records-none reads utc ms) ∙ append-nil rs)) (books_nothing reads commands fresh ms (sent_of rs)))
 
 -- if the client is new, a loss of what is outstanding leads on by the part in which nothing happens
-idle_lost : (commands : List Task) (t : Model) (b : Bool) → t.client ≡ fresh → Leads commands t nothing (losing b t)
+idle_lost : (commands : List Task) (t : Model) (all : Bool) → t.client ≡ fresh → Leads commands t nothing (losing all t)
 idle_lost commands t true is = leads_idle t.reads commands t.client t.marks t.records t.progress.moment.utc is
 idle_lost commands t false is = books_nothing t.reads commands t.client t.marks (sent_of t.records)
 
@@ -105,7 +108,8 @@ leads_by : (reads : Asked → List ℕ → Reading) (commands : List Task) (s : 
 leads_by reads commands s p t is h = subst (λ (r : Asked → List ℕ → Reading). LeadsBy r commands s p t) is h
 
 module _ (plan : Plan) (commands : List Task) (reads : Asked → List ℕ → Reading) where
-  -- if the client is new, as while the station synchronizes, `LeadsBy` holds after the loss, too
+  -- if `LeadsBy` holds from s to t, and the client of t is new, as while the station synchronizes, `LeadsBy` holds from s to the
+  -- model after the loss, too
   leads_idly : (s : Model) (p : Part) (t : Model) → t.reads ≡ reads → t.client ≡ fresh → LeadsBy reads commands s p t → LeadsBy reads commands s p (losing (loses_all t.progress) t)
   leads_idly s p t same is h =
       let u = losing (loses_all t.progress) t in
@@ -118,18 +122,18 @@ module _ (plan : Plan) (commands : List Task) (reads : Asked → List ℕ → Re
   -- all that is outstanding is lost, and else the front of the first part of `ps`
   one_more : (s : Model) (p : Part) (t : Model) (ps : List Part) (end : Model) (begun lost_all : Bool) → (same_reads : t.reads ≡ reads) → (is_begun : has_begun s.progress ≡ begun)
       → (is_lost : loses_all t.progress ≡ lost_all)
-      → (fine : Invariant plan commands s) → (fine_after : Invariant plan commands (losing (loses_all t.progress) t)) → (paired : length t.marks ≡ length t.client.waiting)
+      → (fine_after : Invariant plan commands (losing (loses_all t.progress) t)) → (paired : length t.marks ≡ length t.client.waiting)
       → (led : LeadsBy reads commands s p t) → (led_idle : has_begun s.progress ≡ false → LeadsBy reads commands s p (losing (loses_all t.progress) t))
       → (let u = losing (loses_all t.progress) t in BooksInParts reads commands u.client u.marks (sent_of u.records) ps end)
       → BooksInParts reads commands s.client s.marks (sent_of s.records) (in_front p (begun && lost_all) ps) end
-  one_more s p t ps end false lost_all same w l fine later paired h k others =
+  one_more s p t ps end false lost_all same w l later paired h k others =
       let u = losing (loses_all t.progress) t in
       follows_on reads commands s.client u.client s.marks u.marks (sent_of s.records) (sent_of u.records) p ps end (k w) others
-  one_more s p t ps end true false same w l fine later paired h k others =
+  one_more s p t ps end true false same w l later paired h k others =
       let kept = kept_same t (loses_all t.progress) l in
       follows_on reads commands s.client t.client s.marks t.marks (sent_of s.records) (sent_of t.records) p ps end h
       (subst (λ (u : Model). BooksInParts reads commands u.client u.marks (sent_of u.records) ps end) kept others)
-  one_more s p t ps end true true same w l fine later paired h k others =
+  one_more s p t ps end true true same w l later paired h k others =
       let u = losing (loses_all t.progress) t in
       let new : u.client ≡ fresh = lost_fresh t (loses_all t.progress) l in
       let none : u.marks ≡ [] = nil_from_length u.marks (later.paired ∙ ap (λ (c : ById Asked). length c.waiting) new) in
@@ -141,7 +145,7 @@ module _ (plan : Plan) (commands : List Task) (reads : Asked → List ℕ → Re
       (subst (λ (ms : List (Option Mark)). BooksInParts reads commands fresh ms (sent_of u.records) ps end) none
       (subst (λ (c : ById Asked). BooksInParts reads commands c u.marks (sent_of u.records) ps end) new others))
 
-  -- the records of a run are those that its parts record
+  -- the client's steps of the parts of acts, from the model s on, lead to the model after these acts (`BooksInParts`)
   pub follows : (s : Model) (acts : List Act) → s.reads ≡ reads → Invariant plan commands s → Runs plan commands s acts
       → BooksInParts reads commands s.client s.marks (sent_of s.records) (parts_of plan commands s acts) (after_all plan commands s acts)
   follows s [] is_so fine runs = books_nothing reads commands s.client s.marks (sent_of s.records)
@@ -157,6 +161,6 @@ module _ (plan : Plan) (commands : List Task) (reads : Asked → List ℕ → Re
       let same : t.reads ≡ reads = moved_reads plan commands o (with_progress turned s) act ∙ is_so in
       let h = leads_by reads commands s p t is_so (leads plan commands s o act fine is runs.0) in
       subst (λ b. BooksInParts reads commands s.client s.marks (sent_of s.records) (in_front p (has_begun s.progress && b) ps) end) (sym (ap loses_all (losing_progress (loses_all t.progress) t)))
-      (one_more s p t ps end (has_begun s.progress) (loses_all t.progress) same refl refl fine later (mid_moved plan commands s o act fine is).0.paired h
+      (one_more s p t ps end (has_begun s.progress) (loses_all t.progress) same refl refl later (mid_moved plan commands s o act fine is).0.paired h
       (λ w. leads_idly s p t same (keeps_action plan commands s o act is runs.0 w (fine.begins w)).0 h)
       (follows u acts (losing_reads (loses_all t.progress) t ∙ same) later runs.1))

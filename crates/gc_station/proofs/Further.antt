@@ -21,14 +21,15 @@ use Rattle.gc_station.proofs.Invariant.{Invariant}
 use Rattle.gc_station.specs.Scopes.{Scope}
 
 -- no fewer cycles began by q than by p, and in the same cycle no fewer commands had their turn
-abbrev NotBack : Progress → Progress → Type 0
+abbrev NotBack : (p q : Progress) → Type 0
 NotBack p q = (q.left < p.left) ⊎ ((q.left ≡ p.left) × (q.unsent ≤ p.unsent))
 
--- if the counts are kept, the progress doesn't go back
+-- if t is at the cycle and the place of p, and the counts are kept from t to q, `NotBack` holds from p to q
 not_back_if_kept : (p t q : Progress) → t.left ≡ p.left → t.unsent ≡ p.unsent → KeepsCounts t q → NotBack p q
 not_back_if_kept p t q left unsent k = inr (k.left ∙ left, omega (arith, k.unsent, unsent))
 
--- an act that changes the counts as `Counts` says doesn't go back, from before its turn is taken on
+-- an act of an action whose conditions hold at p, and that changes the counts of t as `Counts` says, doesn't go back from p,
+-- where t is in the cycle of p with as many commands unsent (it is p once the turn was taken)
 not_back_by_counts : (plan : Plan) (count : ℕ) (w : Waiting) (o : Action) (p t q : Progress) → t.left ≡ p.left → t.unsent ≡ p.unsent → HoldsBefore plan p w o → Counts count o t q → NotBack p q
 not_back_by_counts plan count w action.Begin p t q left unsent needs (inl k) = not_back_if_kept p t q left unsent k
 not_back_by_counts plan count w action.Begin p t q left unsent needs (inr k) = inl (omega (arith, k.left, left, needs.4))
@@ -60,7 +61,7 @@ not_back_all plan commands s [] = inr (refl, omega arith)
 not_back_all plan commands s (act ∷ acts) = not_back_twice s.progress (after plan commands s act).progress (after_all plan commands s (act ∷ acts)).progress
     (not_back_after plan commands s act) (not_back_all plan commands (after plan commands s act) acts)
 
--- after an act that makes one command less unsent (q), and further acts that don't go back (t), a station is further than before
+-- after an act that makes one command fewer unsent (q), and further acts that don't go back (t), a station is further than before
 -- (s)
 further : (plan : Plan) (commands : List Task) (s t : Model) (q : Progress) → Invariant plan commands s → Invariant plan commands t → (some : 0 < s.progress.unsent)
     → (left : q.left ≡ s.progress.left) → (unsent : q.unsent ≡ s.progress.unsent - 1) → NotBack q t.progress → IsFurther plan commands s t

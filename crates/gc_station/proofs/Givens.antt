@@ -22,7 +22,8 @@ rest_with heard (Gave piece m) rest = if heard then rest_behind rest piece else 
 rest_with heard Closed rest = []
 rest_with heard act rest = rest
 
--- the bytes of a line that are kept after a piece
+-- after a piece that is heard, the bytes of a line that are kept are those that `rest_behind` gives, of the bytes kept before and
+-- the piece; after one that isn't heard, they are those kept before
 came_rest : (heard : Bool) (word piece : List ℕ) (s : Model) → (after_piece heard word piece s).rest ≡ (if heard then rest_behind s.rest piece else s.rest)
 came_rest true [] piece s = lines_along (λ (t : Model). t.rest ≡ rest_behind s.rest piece) (λ t line e. e) (with_rest (rest_behind s.rest piece) s) (lines_completed s.rest piece) refl
 came_rest true (asked ∷ others) piece s = refl
@@ -58,7 +59,8 @@ rest_one_more true (Gave piece m) bytes = sym (rest-append [] bytes piece)
 rest_one_more false (Gave piece m) bytes = refl
 rest_one_more heard act bytes = refl
 
--- if the bytes that are kept are the rest of `bytes`, after any acts they are the rest of what `bytes_heard_from` makes of `bytes`
+-- if the bytes that are kept are the rest of `bytes`, after any acts they are the rest of what `bytes_heard_from` makes of
+-- `bytes`
 along_given : (plan : Plan) (commands : List Task) (s : Model) (bytes : List ℕ) (acts : List Act) → s.rest ≡ rest_of bytes → Runs plan commands s acts
     → (after_all plan commands s acts).rest ≡ rest_of (bytes_heard_from plan commands s bytes acts)
 along_given plan commands s bytes [] same runs = same
@@ -67,7 +69,8 @@ along_given plan commands s bytes (act ∷ acts) same runs =
     along_given plan commands (after plan commands s act) (bytes_heard_with heard act bytes) acts
     (after_rest plan commands s act runs.0 ∙ ap (λ r. rest_with heard act r) same ∙ rest_one_more heard act bytes) runs.1
 
--- the bytes of a line that a station keeps are the rest of what came on its connection
+-- the bytes of a line that a station keeps are what comes after the last line feed (`rest_of`) of what was heard on its
+-- connection
 pub rest_given : (plan : Plan) (commands : List Task) (scope : Scope) (acts : List Act) → Runs plan commands (opening plan scope) acts
     → (state_after plan commands scope acts).rest ≡ rest_of (bytes_heard plan commands scope acts)
 rest_given plan commands scope acts runs = along_given plan commands (opening plan scope) [] acts refl runs

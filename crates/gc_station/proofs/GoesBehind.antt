@@ -21,12 +21,13 @@ use Rattle.gc_station.specs.declared.progress.Action.TheVariants as action
 use Rattle.gc_station.specs.declared.progress.Progress.{Progress}
 use Rattle.gc_station.specs.Behind.{IsNearTheTable, CommandsAreSentNearTheTable}
 use Rattle.gc_station.specs.Deciding.{has_begun, is_none_left}
-use Rattle.gc_station.specs.Parts.{Part, joined, put_part, first_request_part, heard_steps, client_part, sync_part, part_of_act, in_front, parts_of, request_or_null_part}
+use Rattle.gc_station.specs.Parts.{Part, joined, put_part, first_request_part, heard_steps, client_part, sync_part, part_of_act, in_front, parts_of, request_or_null_part, client_after}
 use Rattle.gc_station.specs.Progressing.{one_more_in_window, turned, moment_noted, time_passed, loses_all}
 use Rattle.gc_station.specs.Reasons.{HoldsBefore}
-use Rattle.gc_station.specs.Model.{Model, opening, action_at, waiting_of, place_next, mark_next, is_heard, with_progress, with_moment, with_rest, line_came, lines_came, lines_completed, after_piece, moved, losing, after, Performs, Runs, mark_setup}
+use Rattle.gc_station.specs.Model.{Model, opening, action_at, waiting_of, is_heard, with_progress, with_moment, with_rest, line_came, lines_came, lines_completed, after_piece, moved, losing, after, Performs, Runs}
+use Rattle.gc_station.specs.NextCommand.{place_next, mark_next, mark_setup}
 use Rattle.gc_station.proofs.Behind.{behind_by, CountsBehind, counts_steps, near_so, reached, course_append}
-use Rattle.gc_station.proofs.Booking.{client_after, sent_by, course_sent, course_client, sent_append, of_length}
+use Rattle.gc_station.proofs.Booking.{sent_by, course_sent, course_client, sent_append, of_length}
 use Rattle.gc_station.proofs.Counts.{losing_progress}
 use Rattle.gc_station.proofs.EachRun.{invariant_after, invariant_opening}
 use Rattle.gc_station.proofs.Facts.{action_for}
@@ -43,19 +44,20 @@ lines_counted : (s : Model) (lines : List (List ℕ)) → (lines_came s lines).p
 lines_counted s [] = refl
 lines_counted s (line ∷ others) = lines_counted (line_came s line) others
 
--- a piece changes the count as the steps that hear its lines do
-came_counted : (h : Bool) (word piece : List ℕ) (s : Model) → is_none_left word ≡ true
-    → (after_piece h word piece s).progress.behind ≡ behind_by s.client s.progress.behind (heard_steps h s.rest piece)
+-- once the station has synchronized, a piece changes the count as the steps that hear its lines do
+came_counted : (heard : Bool) (word piece : List ℕ) (s : Model) → is_none_left word ≡ true
+    → (after_piece heard word piece s).progress.behind ≡ behind_by s.client s.progress.behind (heard_steps heard s.rest piece)
 came_counted true (asked ∷ others) piece s begun = cc
 came_counted true [] piece s begun = lines_counted (with_rest (rest_behind s.rest piece) s) (lines_completed s.rest piece)
 came_counted false word piece s begun = refl
 
--- the step that sends the first of some commands counts one request more
+-- the step that sends the first of some commands, at least one, counts one request more, up to seven
 first_counted : (c : ById Asked) (b now : ℕ) (mark : Mark) (left : List Task) → 0 < length left → one_more_in_window b ≡ behind_by c b (first_request_part now mark left).steps
 first_counted c b now mark [] some = absurd (omega (arith, some))
 first_counted c b now mark (task ∷ others) some = refl
 
--- the step that sends the first of some commands of the setup, or a null procedure if there is none, counts one request more
+-- the step that sends the first of some commands of the setup, or a null procedure if there is none, counts one request more, up
+-- to seven
 setup_counted : (plan : Plan) (c : ById Asked) (b now : ℕ) (mark : Mark) (left : List Task) → one_more_in_window b ≡ behind_by c b (request_or_null_part plan now mark left).steps
 setup_counted plan c b now mark [] = refl
 setup_counted plan c b now mark (task ∷ others) = refl
@@ -115,48 +117,52 @@ hears_nothing [] = tt
 hears_nothing (line ∷ others) = (tt, hears_nothing others)
 
 -- a piece that is heard, or discarded, sends nothing
-hearing_nothing : (h : Bool) (rest piece : List ℕ) → AllByRecursion SendsNothing (heard_steps h rest piece)
+hearing_nothing : (heard : Bool) (rest piece : List ℕ) → AllByRecursion SendsNothing (heard_steps heard rest piece)
 hearing_nothing true rest piece = hears_nothing (lines_completed rest piece)
 hearing_nothing false rest piece = tt
 
--- a list of one step has nothing before that step
+-- in a list of one step, no step comes before a send
 one_step : (x : Step Asked) (front later : List (Step Asked)) (target : ℕ) (call : Asked) (deadline : ℕ) → x ∷ [] ≡ front ++ Send target call deadline ∷ later → front ≡ []
 one_step x [] later target call deadline e = refl
 one_step x (f ∷ []) later target call deadline e = cc
 one_step x (f ∷ g ∷ front) later target call deadline e = cc
 
+-- this action sends a command: of a cycle, or of the setup
+abbrev SendsCommand : Action → Type 0
+SendsCommand o = (o ≡ action.Send) ⊎ (o ≡ action.Prepare)
+
 module _ (plan : Plan) (commands : List Task) (s : Model) (k : ById Asked) (more : List (Option Mark)) (front later : List (Step Asked)) (target : ℕ) (call : Asked) (deadline : ℕ) (mark : Mark) where
-  -- in this part a command is sent after the steps `front`
+  -- in this part, with the marks `more` of later requests after its own, a command with the mark `mark` is sent after the steps
+  -- `front`
   abbrev GoesOut : Part → Type 0
   GoesOut p = (p.steps ≡ front ++ Send target call deadline ∷ later) × (slice_get (p.marks ++ more) (length (sent_by k front)) ≡ Some (Some mark))
 
-  -- if one of some commands is sent, it is the first
+  -- in the part of a request for the first of some commands, no step comes before the send of a command
   first_so : (now : ℕ) (its : Mark) (left : List Task) → GoesOut (first_request_part now its left) → front ≡ []
   first_so now its [] h = absurd (no_send [] front later target call deadline tt h.0)
   first_so now its (task ∷ others) h = one_step _ front later target call deadline h.0
 
-  -- if one of some commands of the setup is sent, or a null procedure for it, it is the first
+  -- in the part of a request for the first of some commands of the setup, or of a null procedure in place of one, no step comes
+  -- before the send of a command
   setup_so : (now : ℕ) (its : Mark) (left : List Task) → GoesOut (request_or_null_part plan now its left) → front ≡ []
   setup_so now its [] h = one_step _ front later target call deadline h.0
   setup_so now its (task ∷ others) h = one_step _ front later target call deadline h.0
 
-  -- this action sends a command: of a cycle, or of the setup
-  abbrev Sends : Action → Type 0
-  Sends o = (o ≡ action.Send) ⊎ (o ≡ action.Prepare)
-
-  -- a null procedure isn't a command
+  -- with no step before it, the request of a null procedure isn't one with the mark of a command
   null_not : front ≡ [] → slice_get ((None ∷ []) ++ more) (length (sent_by k front)) ≡ Some (Some mark) → ⊥
   null_not e at = let first : ◌≡◌ {A = Option (Option Mark)} (Some None) (Some (Some mark)) = ap (λ l. slice_get ((None ∷ []) ++ more) (length (sent_by k l))) (sym e) ∙ at in cc
 
-  -- an act that puts bytes, and with them a command, sends the next command
-  put_so : (o : Action) → GoesOut (put_part plan commands s o) → (front ≡ []) × Sends o
+  -- if a command is sent in the part of an action that puts bytes, no step of the part comes before the send, and the action
+  -- sends a command
+  put_so : (o : Action) → GoesOut (put_part plan commands s o) → (front ≡ []) × SendsCommand o
   put_so action.Flush h = absurd (null_not (one_step _ front later target call deadline h.0) h.1)
   put_so action.Send h = (first_so s.progress.moment.elapsed (mark_next plan commands s.progress) (drop (place_next commands s.progress) commands) h, inl refl)
   put_so action.Prepare h = (setup_so s.progress.moment.elapsed (mark_setup commands s.progress) (drop s.progress.prepared commands) h, inr refl)
   put_so o h = absurd (no_send [] front later target call deadline tt h.0)
 
-  -- an act at which a command is sent, once the station has synchronized, sends the next command
-  do_so : (o : Action) (act : Act) → GoesOut (client_part plan commands s o act) → (front ≡ []) × Sends o
+  -- if a command is sent in the part of an act, once the station has synchronized, no step of the part comes before the send, and
+  -- the action sends a command
+  do_so : (o : Action) (act : Act) → GoesOut (client_part plan commands s o act) → (front ≡ []) × SendsCommand o
   do_so o (Told m) h = absurd (no_send (Expire m.elapsed ∷ []) front later target call deadline (tt, tt) h.0)
   do_so o (Silent m) h = absurd (no_send (Expire m.elapsed ∷ []) front later target call deadline (tt, tt) h.0)
   do_so o (Gave piece m) h =
@@ -174,8 +180,9 @@ module _ (plan : Plan) (commands : List Task) (s : Model) (k : ById Asked) (more
   begin_not (action.Read until) act h = no_send [] front later target call deadline tt h.0
   begin_not o act h = no_send [] front later target call deadline tt h.0
 
-  -- an act at which a command is sent sends the next command
-  act_so : (o : Action) (act : Act) (b : Bool) → GoesOut (if b then client_part plan commands s o act else sync_part s o act) → (front ≡ []) × Sends o
+  -- if a command is sent in the part of an act, whether the station has synchronized (`begun`) or not, no step of the part comes
+  -- before the send, and the action sends a command
+  act_so : (o : Action) (act : Act) (begun : Bool) → GoesOut (if begun then client_part plan commands s o act else sync_part s o act) → (front ≡ []) × SendsCommand o
   act_so o act true h = do_so o act h
   act_so o act false h = absurd (begin_not o act h)
 
@@ -185,7 +192,7 @@ module _ (plan : Plan) (commands : List Task) (s : Model) (k : ById Asked) (more
 abbrev Splits : {A : Type 0} → (xs ys front : List A) → A → List A → Type 0
 Splits {A} xs ys front a later = ((mid : List A) × (xs ≡ front ++ a ∷ mid)) ⊎ ((rest : List A) × (front ≡ xs ++ rest) × (ys ≡ rest ++ a ∷ later))
 
--- `Splits` holds of any two lists
+-- `Splits` holds of two lists that are, in a row, `front`, a and `later`
 split : {A : Type 0} (xs ys front : List A) (a : A) (later : List A) → xs ++ ys ≡ front ++ a ∷ later → Splits xs ys front a later
 split [] ys front a later e = inr (front, refl, e)
 split (x ∷ xs) ys [] a later e = let same : x ≡ a = cc in inl (xs, ap (λ y. y ∷ xs) same)
@@ -200,7 +207,7 @@ split (x ∷ xs) ys (f ∷ front) a later e =
 
 -- Runs.
 
--- wherever a command is sent in a part, after the steps `done` of the same part, a call of the table is near that a reply ended
+-- `IsNearTheTable` holds wherever a command is sent in this part, if the steps `done` of the same part come before those of p
 abbrev IsNear : List (Step Asked) → Part → Type 0
 IsNear done p =
     (front later : List (Step Asked)) (target : ℕ) (call : Asked) (deadline : ℕ) (mark : Mark) → p.steps ≡ front ++ Send target call deadline ∷ later
@@ -227,7 +234,7 @@ module _ (plan : Plan) (commands : List Task) (s : Model) (o : Action) (act : Ac
   led : Leads commands s p (moved plan commands o (with_progress turned s) act)
   led = leads plan commands s o act fine is obeys
 
-  -- a command is sent at the act, or after it, only near a call of the table
+  -- `IsNearTheTable` holds where the act sends a command. `more` are marks of requests after those of the act
   sends_near : (more : List (Option Mark)) (front later : List (Step Asked)) (target : ℕ) (call : Asked) (deadline : ℕ) (mark : Mark) → p.steps ≡ front ++ Send target call deadline ∷ later
       → slice_get (p.marks ++ more) (length (sent_by (reached done).client front)) ≡ Some (Some mark) → IsNearTheTable (reached (done ++ front))
   sends_near more front later target call deadline mark e at =
@@ -235,7 +242,7 @@ module _ (plan : Plan) (commands : List Task) (s : Model) (o : Action) (act : Ac
       let near = by_action so.1 in
       subst (λ (l : List (Step Asked)). IsNearTheTable (reached l)) (sym (ap (λ l. done ++ l) so.0 ∙ append-nil done))
       (near_so (reached done) s.progress.behind counts near) where
-        -- if a command is sent next, fewer than seven requests were sent after the last call of the table that was answered
+        -- if a command is sent next, fewer than seven requests were sent after the last call of the table that a reply ended
         by_action : (o ≡ action.Send) ⊎ (o ≡ action.Prepare) → s.progress.behind < 7
         by_action (inl sends) = (subst (λ (x : Action). HoldsBefore plan s.progress (waiting_of s) x) sends is).5
         by_action (inr prepares) = (subst (λ (x : Action). HoldsBefore plan s.progress (waiting_of s) x) prepares is).4
@@ -267,7 +274,7 @@ module _ (plan : Plan) (commands : List Task) (s : Model) (o : Action) (act : Ac
   alone_near front later target call deadline mark e at =
       sends_near [] front later target call deadline mark e (ap (λ l. slice_get l (length (sent_by (reached done).client front))) (append-nil p.marks) ∙ at)
 
-  -- `AreNear` holds with the part of the act joined to the first of the others
+  -- `AreNear` holds with the part of the act joined to the first of the others, if it holds of these after the steps of the act
   front_near : (ps : List Part) → AreNear (done ++ p.steps) ps → AreNear done (in_front p false ps)
   front_near [] h = (alone_near, tt)
   front_near (q ∷ ps) h = (joined_near q h.0, h.1)
@@ -277,7 +284,7 @@ none_sent : (b : ℕ) → CountsBehind (reached []) b
 none_sent b low = inl (omega arith)
 
 -- a client that is new stays new, whether what is outstanding is lost or not
-new_client : (t : Model) (b : Bool) → t.client ≡ fresh → (losing b t).client ≡ fresh
+new_client : (t : Model) (all : Bool) → t.client ≡ fresh → (losing all t).client ≡ fresh
 new_client t true e = refl
 new_client t false e = e
 
@@ -309,18 +316,19 @@ module _ (plan : Plan) (commands : List Task) (s : Model) (act : Act) (done : Li
   part_is : (b : Bool) → has_begun s.progress ≡ b → part.steps ≡ (if b then client_part plan commands s o act else sync_part s o act).steps
   part_is b w = ap (λ (x : Bool). (if x then client_part plan commands s o act else sync_part s o act).steps) w
 
-  -- the act changes the count as the steps of its part do
+  -- if the station has synchronized before the act and after it, the act changes the count as the steps of its part do
   part_counted : has_begun s.progress ≡ true → has_begun t.progress ≡ true → t.progress.behind ≡ behind_by (reached done).client s.progress.behind part.steps
   part_counted w still =
       counted plan commands s o act fine its obeys w still ∙ ap (behind_by s.client s.progress.behind) (sym (part_is true w)) ∙ ap (λ (c : ById Asked). behind_by c s.progress.behind part.steps) client
 
-  -- the client after the act is that of the course after its steps
+  -- the client after the act, before what is outstanding is lost, is that of the course after the steps of the act's part
   part_client : (reached (done ++ part.steps)).client ≡ t.client
   part_client =
       ap (λ y. y.client) (course_append WINDOW done part.steps begun) ∙ course_client part.steps (reached done) ∙ ap (λ (c : ById Asked). client_after c part.steps) (sym client)
       ∙ (led plan commands s o act done fine its obeys client counts).client
 
-  -- if `AreNear` holds of the parts after the act, it holds with the act's part before them
+  -- if `AreNear` holds of the parts after the act, it holds with the act's part before them; by whether the station had
+  -- synchronized before the act (`started`), and whether what is outstanding is lost at its end (`all`)
   by_case : (started all : Bool) → has_begun s.progress ≡ started → loses_all t.progress ≡ all
       → ((later : List (Step Asked)) → u.client ≡ (reached later).client → (has_begun u.progress ≡ false → later ≡ []) → CountsBehind (reached later) u.progress.behind → AreNear later ps)
       → AreNear done (in_front part (started && all) ps)
@@ -328,7 +336,7 @@ module _ (plan : Plan) (commands : List Task) (s : Model) (act : Act) (done : Li
       (alone_near plan commands s o act done fine its obeys client counts, near_all ps (next [] (ap (λ b. (losing b t).client) l) (λ e. refl) (none_sent u.progress.behind)))
   by_case true false w l next =
       let same : u ≡ t = ap (λ b. losing b t) l in
-      let still = goes_begun plan commands t l in
+      let still = goes_begun t l in
       front_near plan commands s o act done fine its obeys client counts ps
       (next (done ++ part.steps) (ap (λ (x : Model). x.client) same ∙ sym part_client)
       (λ e. absurd (both_ways (has_begun t.progress) (ap (λ (x : Model). has_begun x.progress) (sym same) ∙ e) still))
@@ -336,14 +344,15 @@ module _ (plan : Plan) (commands : List Task) (s : Model) (act : Act) (done : Li
       (subst (λ (n : ℕ). CountsBehind (reached (done ++ part.steps)) n) (sym (part_counted w still)) (counts_steps done part.steps s.progress.behind counts))))
   by_case false all w l next =
       let kept = keeps_action plan commands s o act its obeys w (fine.begins w) in
-      let steps : part.steps ≡ [] = part_is false w ∙ steps_none plan commands s o act in
+      let steps : part.steps ≡ [] = part_is false w ∙ steps_none s o act in
       let none_done : done ++ part.steps ≡ [] = ap (λ l. l ++ part.steps) (new w) ∙ steps in
       front_near plan commands s o act done fine its obeys client counts ps
       (subst (λ (l : List (Step Asked)). AreNear l ps) (sym none_done)
       (next [] (new_client t (loses_all t.progress) kept.0) (λ e. refl) (none_sent u.progress.behind)))
 
 module _ (plan : Plan) (commands : List Task) where
-  -- wherever a command is sent, a call of the table is near that a reply ended
+  -- `AreNear` holds of the parts of a run from the model s on, if s has the client of the course after the steps `done`, its
+  -- count is right for that course, and `done` is empty if the station hasn't synchronized in s
   near_from : (s : Model) (acts : List Act) (done : List (Step Asked)) → Invariant plan commands s → (runs : Runs plan commands s acts) → (same : s.client ≡ (reached done).client)
       → (none_done : has_begun s.progress ≡ false → done ≡ []) → CountsBehind (reached done) s.progress.behind → AreNear done (parts_of plan commands s acts)
   near_from s [] done fine runs client new counts = ((λ front later target call deadline mark e at. absurd (no_send [] front later target call deadline tt e)), tt)
@@ -354,7 +363,8 @@ module _ (plan : Plan) (commands : List Task) where
       (by_case plan commands s act done fine runs.0 client new counts ps (has_begun s.progress) (loses_all t.progress) refl refl
       (λ later. near_from (after plan commands s act) acts later (invariant_after plan commands s act fine) runs.1))
 
--- the law: each command is sent after a call of the table that a reply ended, or after the synchronization
+-- the law: wherever a command is sent, one of the seven requests before it is a call of the table that a reply ended, or the last
+-- null procedure of the synchronization
 pub behind_the_table : CommandsAreSentNearTheTable
 behind_the_table plan commands scope acts runs i part at front later target call deadline mark e its =
     let all = near_all (parts_of plan commands (opening plan scope) acts)

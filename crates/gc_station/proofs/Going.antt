@@ -3,8 +3,7 @@
 -- primes; each is `None` if it isn't known. `text` is how a record is written.
 use Rattle.std.proofs.Common.{◌≡◌, ℕ, ◌<◌, ◌≤◌, List, [], ◌∷◌, ◌++◌, length, Option, Some, None, Result, Ok, Err, refl, sym, ap, ◌∙◌, subst, append-nil, ◌-◌}
 use Rattle.std.specs.Io.KnownBytes.{Appends, Keeps}
-use Rattle.std.proofs.KnownBytes.{Appends-kept, Keeps-refl}
-use Rattle.gc_lines.proofs.Known.{Appends-nil}
+use Rattle.std.proofs.KnownBytes.{Appends-kept, Appends-nil, Keeps-refl}
 use Rattle.gc_texts.specs.declared.tasks.Task.{Task}
 use Rattle.gc_station.specs.declared.plan.Plan.{Plan}
 use Rattle.gc_station.specs.declared.cause.Cause.{Cause}
@@ -16,14 +15,14 @@ use Rattle.gc_links.specs.Acts.{Act, Closed, Tells}
 use Rattle.gc_station.specs.Progressing.{turned, loses_all}
 use Rattle.gc_station.specs.Records.{Record, texts_of}
 use Rattle.gc_station.specs.Runs.{state_after, FailedAtRecord, FailedAtSync}
-use Rattle.gc_station.specs.Model.{Model, opening, action_at, Performs, after, after_all, moved, ended, Runs, with_progress}
-use Rattle.gc_station.specs.Stations.{waiting_in, Refines, Took, Makes, Breaks, Made, ComesTo, stepped, OnCall, seen}
+use Rattle.gc_station.specs.Model.{Model, opening, action_at, Performs, after, after_all, moved, ended, stepped, Runs, with_progress}
+use Rattle.gc_station.specs.Stations.{waiting_in, Refines, Took, Makes, Breaks, Made, ComesTo, OnCall, seen}
 use Rattle.gc_station.specs.Deciding.{action_of}
 use Rattle.gc_station.proofs.Counts.{unsent_within, ended_progress}
 use Rattle.gc_station.proofs.Growing.{losing_records, moved_grew}
 use Rattle.gc_station.proofs.Hearing.{tells_more}
 use Rattle.gc_station.proofs.Making.{refines_with}
-use Rattle.gc_station.proofs.Readings.{moved_reads, losing_reads, reads_as_in_scope, are_same}
+use Rattle.gc_station.proofs.Readings.{losing_reads, stepped_reads, reads_as_in_scope, are_same}
 use Rattle.gc_station.proofs.Records.{part_grew, part_grows}
 use Rattle.gc_station.proofs.Turns.{left_to_do, less_stepped}
 use Rattle.gc_station.specs.Scopes.{Scope, AreReadings}
@@ -92,12 +91,6 @@ breaks_step plan commands action text told told' taken taken' station p e breaks
       );
 }
 
--- no act changes what replies say
-pub stepped_reads : (plan : Plan) (commands : List Task) (action : Action) (s : Model) (act : Act) → (stepped plan commands action s act).reads ≡ s.reads
-stepped_reads plan commands action s act =
-    let mid : Model = moved plan commands action (with_progress turned s) act in
-    losing_reads (loses_all mid.progress) mid ∙ moved_reads plan commands action (with_progress turned s) act
-
 -- Many turns.
 
 -- what was done so far: the acts of a run that the link recorded, the records that the book took, and a station that is as the
@@ -114,7 +107,7 @@ pub tells_none : (a : Option (List Act)) → Tells a a []
 tells_none None = tt
 tells_none (Some a) = sym (append-nil a)
 
--- `Went` holds if nothing was done
+-- `Went` holds if nothing was done, and the station is as the model at the start
 abbrev pub went_nothing : (plan : Plan) (commands : List Task) (scope : Scope) (text : Record → List ℕ) (told : Option (List Act)) (taken : Option (List ℕ)) (station : Station)
     → Refines station (opening plan scope) → Went plan commands scope text told told taken taken station
 went_nothing plan commands scope text told taken station stands = record {
@@ -137,7 +130,7 @@ went_kept plan commands scope text told told' taken taken' taken'' station keeps
   took = Appends-kept taken taken' taken'' (texts_of text (state_after plan commands scope w.acts).records) w.took keeps;
 }
 
--- `Went` is preserved if a book took nothing more
+-- `Went` is preserved if what a book has taken is the same
 abbrev pub went_same : (plan : Plan) (commands : List Task) (scope : Scope) (text : Record → List ℕ) (told told' : Option (List Act))
     (taken taken' taken'' : Option (List ℕ)) (station : Station) → taken'' ≡ taken'
     → Went plan commands scope text told told' taken taken' station → Went plan commands scope text told told' taken taken'' station
@@ -159,7 +152,7 @@ pub after_all-append : (plan : Plan) (commands : List Task) (s : Model) (xs ys :
 after_all-append plan commands s [] ys = refl
 after_all-append plan commands s (x ∷ xs) ys = after_all-append plan commands (after plan commands s x) xs ys
 
--- the acts after the first of a run are a run from there on
+-- of a run, the acts `ys` after its first ones (`xs`) are a run from the model after these on
 pub runs_behind : (plan : Plan) (commands : List Task) (s : Model) (xs ys : List Act) → Runs plan commands s (xs ++ ys) → Runs plan commands (after_all plan commands s xs) ys
 runs_behind plan commands s [] ys runs = runs
 runs_behind plan commands s (x ∷ xs) ys runs = runs_behind plan commands (after plan commands s x) xs ys runs.1
@@ -169,7 +162,8 @@ pub runs-append : (plan : Plan) (commands : List Task) (s : Model) (xs ys : List
 runs-append plan commands s [] ys p q = q
 runs-append plan commands s (x ∷ xs) ys p q = (p.0, runs-append plan commands (after plan commands s x) xs ys p.1 q)
 
--- `Went` is preserved by one act more
+-- `Went` is preserved by one turn more of the action that is next (`Makes`), if the scope has the readings of all lines
+-- (`AreReadings`)
 abbrev pub went_on : (plan : Plan) (commands : List Task) (scope : Scope) (text : Record → List ℕ) (told told' told'' : Option (List Act))
     (taken taken' taken'' : Option (List ℕ)) (station new : Station) (action : Action)
     → (w : Went plan commands scope text told told' taken taken' station)
@@ -214,7 +208,7 @@ went_wrong plan commands scope text told told' told'' told''' taken taken' taken
       took = rw (whole, ← is) took;
     }
 
--- an act leaves no more commands unsent than there are, and less to be done than before (`left_to_do`), so that a run ends
+-- an act leaves no more commands unsent than a cycle has, and less to be done than before (`left_to_do`), so that a run ends
 pub record IsNearer (plan : Plan) (commands : List Task) (from to : Progress) : Type 0 where
   pub within : to.unsent ≤ length commands - plan.setup
   pub less : left_to_do to < left_to_do from
@@ -230,7 +224,8 @@ has_model_on plan commands text told told' taken taken' station new action makes
     let one = makes.goes some.0 None some.1 (λ are. tt) in
     (stepped plan commands action some.0 makes.act, one.1)
 
--- a turn leaves a station nearer to the end
+-- a turn of the action that is next leaves a station nearer to the end (`IsNearer`), if the station stands for some model, and no
+-- more commands were unsent than a cycle has
 pub went_nearer : (plan : Plan) (commands : List Task) (text : Record → List ℕ) (told told' : Option (List Act)) (taken taken' : Option (List ℕ)) (station new : Station) (action : Action)
     → action ≡ action_of plan station.progress (waiting_in station) → HasModel station
     → Makes commands action (stepped plan commands action) (seen told text taken station) (seen told' text taken' new)

@@ -23,7 +23,7 @@ lines_records s (line ∷ others) =
     (added ++ more.0, more.1 ∙ append_assoc s.records added more.0)
 
 -- the loss of what is outstanding only adds records
-pub losing_records : (b : Bool) (s : Model) → Grew s.records (losing b s).records
+pub losing_records : (all : Bool) (s : Model) → Grew s.records (losing all s).records
 losing_records true s = (records_of s.reads s.progress.moment.utc s.marks (map lost s.client.waiting), refl)
 losing_records false s = grew_none s.records
 

@@ -1,9 +1,9 @@
--- Hearing a piece frame by frame: to hear what is left of it comes to the same as to hear the whole piece. And what a station
--- records of the settlements of a line. An act is one call on the link, with its result. A book had taken `start` before the
--- records of the model, and has taken `taken` (and later `taken'`) with them; `text` is how a record is written. `left` is what
--- is not heard yet of the piece, `rest` the bytes since the last line feed. A piece is the bytes that one read gave, and a
--- frame what a line feed ends. `Refines station s`: the station stands for the model s. `Hearing` and `Asking` say how far a
--- piece was heard, once the station has synchronized and while it synchronizes.
+-- Hearing a piece frame by frame: to hear what is left of it, after the frames so far, comes to the same as to hear the whole
+-- piece. And what a station records of the settlements of a line. An act is one call on the link, with its result. A book had
+-- taken `start` before the records of the model, and has taken `taken` (and later `taken'`) with them; `text` is how a record is
+-- written. `left` is what is not heard yet of the piece, `rest` the bytes since the last line feed. A piece is the bytes that one
+-- read gave, and a frame what a line feed ends. `Refines station s`: the station stands for the model s. `Hearing` and `Asking`
+-- say how far a piece was heard, once the station has synchronized and while it synchronizes.
 use Rattle.std.proofs.Common.{◌≡◌, ℕ, zero, suc, ◌+◌, ◌-◌, min, List, [], ◌∷◌, ◌++◌, Bool, true, false, length, drop, map, Option, Some, None, Result, Ok, Err, OnOk, refl, sym, ap, ◌∙◌, subst, append_assoc, length-drop, arith}
 use Rattle.std.specs.List.{filter_map}
 use Rattle.std.specs.Option.{option_to_list}
@@ -21,7 +21,7 @@ use Rattle.gc_lines.proofs.Passing.{Takes}
 use Rattle.gc_catalogue.specs.declared.answer.Reading.{Reading}
 use Rattle.gc_catalogue.specs.declared.asked.Asked.{Asked}
 use Rattle.gc_client.specs.declared.pending.Pending.{Pending}
-use Rattle.gc_client.specs.Rule.{ById, Windowed, Settled, Settlement, hears, id_settled, settle, lost, restarts, place_in, expires, expired}
+use Rattle.gc_client.specs.Rule.{ById, Settled, Settlement, hears, id_settled, settle, lost, restarts, place_in, expires, expired}
 use Rattle.gc_links.specs.Acts.{Act, Tells}
 use Rattle.gc_links.specs.declared.link.Moment.{Moment}
 use Rattle.gc_station.specs.declared.mark.Mark.{Mark}
@@ -38,7 +38,7 @@ use Rattle.gc_station.specs.Deciding.{is_none_left}
 use Rattle.gc_station.specs.Progressing.{caught_up, line_noted, bytes_noted, early_noted, after_failure, closed, lines_synchronizing, line_synchronizing}
 use Rattle.gc_station.specs.Records.{Record, texts_of, WritesPart, WritesAll}
 use Rattle.gc_station.specs.Model.{Model, line_came, lines_came, lines_completed, with_rest, with_progress, with_moment, waiting_of, settles, piece_came, piece_synchronizing, after_piece}
-use Rattle.gc_station.specs.Stations.{waiting_in, Refines, Took, TookPart, ComesTo}
+use Rattle.gc_station.specs.Stations.{waiting_in, Refines, Took, TookPart, ComesTo, station_expiring}
 use Rattle.gc_station.specs.Scopes.{AreReadings}
 use Rattle.gc_station.specs.Tallies.{nothing_yet, tallied}
 use Rattle.gc_station.proofs.Growing.{lines_records}
@@ -65,7 +65,7 @@ pub lines_came-append : (s : Model) (xs ys : List (List ℕ)) → lines_came s (
 lines_came-append s [] ys = refl
 lines_came-append s (x ∷ xs) ys = lines_came-append (line_came s x) xs ys
 
--- hearing lines leaves the bytes since the last line feed
+-- to set the bytes since the last line feed before lines are heard, or after, comes to the same
 pub lines_rest : (s : Model) (rest : List ℕ) (lines : List (List ℕ)) → lines_came (with_rest rest s) lines ≡ with_rest rest (lines_came s lines)
 lines_rest s rest [] = refl
 lines_rest s rest (line ∷ others) = lines_rest (line_came s line) rest others
@@ -79,7 +79,8 @@ pub record Hearing (text : Record → List ℕ) (start taken : Option (List ℕ)
   pub grown : Grew s.records now.records
   pub goes : piece_came left now ≡ piece_came piece s
 
--- hearing what is left of a piece is hearing its first frame's line, and then the rest
+-- hearing what is left of a piece is hearing the line of its first frame, if that is a line, and then what comes after that frame
+-- (`later`)
 pub frame_first : (s : Model) (left later rest : List ℕ) (frame : Frame)
     → frames_behind s.rest left ≡ completed frame ++ frames_behind rest later → rest_behind s.rest left ≡ rest_behind rest later
     → piece_came left s ≡ piece_came later (lines_came (with_rest rest s) (option_to_list (line_in frame)))
@@ -96,7 +97,8 @@ frame_first s left later rest frame seen rests =
       rest_kept : (rest : List ℕ) (line : List (List ℕ)) → (lines_came (with_rest rest s) line).rest ≡ rest
       rest_kept rest line = ap (λ (x : Model). x.rest) (lines_rest s rest line)
 
--- `Hearing` is preserved by one frame more
+-- `Hearing` is preserved by one frame more, if the station is as the model that has heard the line of the frame, where the frame
+-- is a line, and the book has taken the records of that model
 pub hearing_on : (text : Record → List ℕ) (start taken taken' : Option (List ℕ)) (station station' : Station) (s : Model) (piece left : List ℕ) (used : ℕ) (frame : Frame) (kept : Kept)
     → (h : Hearing text start taken station s piece left) → (t : Takes h.now.rest left used frame kept)
     → (Refines station' (lines_came (with_rest t.now h.now) (option_to_list (line_in frame))) × Took text start taken' (lines_came (with_rest t.now h.now) (option_to_list (line_in frame))))
@@ -124,7 +126,8 @@ hearing_part text start taken taken' station s piece left used frame kept h t pa
     part_grew text s.records h.now.records (piece_came piece s).records start taken' h.grown
     (subst (λ (x : Model). WritesPart text h.now.records x.records start taken') whole all)
 
--- if nothing is left of the piece, the station is as the model after the whole piece
+-- if nothing is left of the piece, the station is as the model after the whole piece, and the book has taken the records of that
+-- model
 pub hearing_end : (text : Record → List ℕ) (start taken : Option (List ℕ)) (station : Station) (s : Model) (piece : List ℕ)
     → Hearing text start taken station s piece []
     → Refines station (piece_came piece s) × Took text start taken (piece_came piece s)
@@ -161,7 +164,8 @@ settle_less (suc k) line (p ∷ ps) = let more = settle_less k line ps in omega 
 abbrev pub StayPaired : List (Option Mark) → Settled Asked (ById Asked) → Type 0
 StayPaired marks x = length (drop (length x.settlements) marks) ≡ length x.client.waiting
 
--- `StayPaired` holds after a line, whether it has the id of the request at place k (`b`) or no id that waits
+-- if each request had a mark, `StayPaired` holds after a line, whether it has the id of the request at place k (`b`) or no id
+-- that waits
 settled_paired : (marks : List (Option Mark)) (c : ById Asked) (line : List ℕ) (k : ℕ) (b : Bool) → length marks ≡ length c.waiting → StayPaired marks (id_settled c line k b)
 settled_paired marks c line k true is =
     let less = settle_less k line c.waiting in
@@ -170,12 +174,12 @@ settled_paired marks c line k true is =
     omega (arith, is, less, left, right)
 settled_paired marks c line k false is = is
 
--- `StayPaired` holds after any line
+-- if each request had a mark, `StayPaired` holds after any line
 pub hears_paired : (marks : List (Option Mark)) (c : ById Asked) (line : List ℕ) (id : Option ℕ) → length marks ≡ length c.waiting → StayPaired marks (hears c line id)
 hears_paired marks c line None is = is
 hears_paired marks c line (Some id) is = settled_paired marks c line (place_in c id) _ is
 
--- `StayPaired` holds after a restart
+-- if each request had a mark, `StayPaired` holds after a restart
 pub restarts_paired : (marks : List (Option Mark)) (c : ById Asked) → length marks ≡ length c.waiting → StayPaired marks (restarts c)
 restarts_paired marks c is =
     let many = length-map c.waiting lost in
@@ -190,10 +194,10 @@ pub record Between (old mid : Station) (ids : ById Asked) : Type 0 where
   pub marks : mid.marks ≡ old.marks
   pub assembler : mid.assembler ≡ old.assembler
   pub progress : mid.progress ≡ old.progress
-  pub tally : mid.tally ≡ old.tally
-  pub well : mid.well ≡ old.well
-  pub listed : mid.listed ≡ old.listed
-  pub fresh : mid.fresh ≡ old.fresh
+  pub tally : mid.recorded.tally ≡ old.recorded.tally
+  pub well : mid.recorded.well ≡ old.recorded.well
+  pub listed : mid.recorded.listed ≡ old.recorded.listed
+  pub fresh : mid.recorded.fresh ≡ old.recorded.fresh
 
 -- the records that a station is to write (`Between`) are those that the model has for these settlements
 records_same : (old mid : Station) (s : Model) (ids : ById Asked) (xs ys : List (Settlement Asked)) → Refines old s → Between old mid ids → xs ≡ ys
@@ -203,30 +207,34 @@ records_same old mid s ids xs ys stands between e =
     ∙ ap (λ (ms : List (Option Mark)). records_of s.reads s.progress.moment.utc ms xs) (ap (λ ms. ms.items) between.marks ∙ stands.marks)
     ∙ ap (records_of s.reads s.progress.moment.utc s.marks) e
 
--- between these two stations the tally counts the records of these settlements
-abbrev pub UpdatesTally : Station → Station → List (Settlement Asked) → Type 0
-UpdatesTally mid new xs = (reads : Asked → List ℕ → Reading) → AreReadings reads → new.tally ≡ tallied mid.tally (records_of reads mid.progress.moment.utc mid.marks.items xs)
+-- from `mid` to `new` the tally counts the records of these settlements
+abbrev pub UpdatesTally : (mid new : Station) → List (Settlement Asked) → Type 0
+UpdatesTally mid new xs = (reads : Asked → List ℕ → Reading) → AreReadings reads → new.recorded.tally ≡ tallied mid.recorded.tally (records_of reads mid.progress.moment.utc mid.marks.items xs)
 
--- between these two stations `well` becomes whether the last command of these settlements was answered well
-abbrev pub UpdatesWell : Station → Station → List (Settlement Asked) → Type 0
-UpdatesWell mid new xs = (reads : Asked → List ℕ → Reading) → AreReadings reads → new.well ≡ last_well mid.well (records_of reads mid.progress.moment.utc mid.marks.items xs)
+-- from `mid` to `new` the field `well` becomes whether the last command of these settlements was answered well; it stays if none
+-- of them is of a command
+abbrev pub UpdatesWell : (mid new : Station) → List (Settlement Asked) → Type 0
+UpdatesWell mid new xs = (reads : Asked → List ℕ → Reading) → AreReadings reads → new.recorded.well ≡ last_well mid.recorded.well (records_of reads mid.progress.moment.utc mid.marks.items xs)
 
--- between these two stations `listed` becomes whether a command of the attempt that was settled last ended as its rule names
-abbrev pub UpdatesListed : Station → Station → List (Settlement Asked) → Type 0
-UpdatesListed mid new xs = (reads : Asked → List ℕ → Reading) → AreReadings reads → new.listed ≡ listed_by reads mid.listed mid.marks.items xs
+-- from `mid` to `new` the field `listed` becomes whether a command of the attempt that was settled last ended as its rule names;
+-- it stays if none of these settlements is of a command
+abbrev pub UpdatesListed : (mid new : Station) → List (Settlement Asked) → Type 0
+UpdatesListed mid new xs = (reads : Asked → List ℕ → Reading) → AreReadings reads → new.recorded.listed ≡ listed_by reads mid.recorded.listed mid.marks.items xs
 
--- between these two stations `fresh` becomes the moment read last, if a command of these settlements was answered well
-abbrev pub UpdatesFresh : Station → Station → List (Settlement Asked) → Type 0
+-- from `mid` to `new` the field `fresh` becomes the moment read last, if a command of these settlements was answered well; else
+-- it stays
+abbrev pub UpdatesFresh : (mid new : Station) → List (Settlement Asked) → Type 0
 UpdatesFresh mid new xs = (reads : Asked → List ℕ → Reading) → AreReadings reads
-    → new.fresh ≡ fresh_after mid.progress.moment.elapsed mid.fresh (records_of reads mid.progress.moment.utc mid.marks.items xs)
+    → new.recorded.fresh ≡ fresh_after mid.progress.moment.elapsed mid.recorded.fresh (records_of reads mid.progress.moment.utc mid.marks.items xs)
 
--- between these two stations the marks of `count` settlements were taken out; of the other fields, only those changed that records
+-- from `mid` to `new` the marks of `count` settlements were taken out; of the other fields, only those changed that records
 -- change
-abbrev pub TakesMarks : Station → Station → ℕ → Type 0
+abbrev pub TakesMarks : (mid new : Station) → ℕ → Type 0
 TakesMarks mid new count =
-    new ≡ record mid { marks = record { items = drop count mid.marks.items }; tally = new.tally; well = new.well; listed = new.listed; fresh = new.fresh }
+    new ≡ record mid { marks = record { items = drop count mid.marks.items }; recorded = new.recorded }
 
--- if the records of settlements were written, the station is as the model after them
+-- if the records of settlements were written, the station is as the model after them, and the book has taken the records of that
+-- model
 pub settles_ok : (text : Record → List ℕ) (old mid new : Station) (s : Model) (x : Settled Asked (ById Asked)) (xs : List (Settlement Asked)) (n : ℕ) (start taken' : Option (List ℕ))
     → (stands : Refines old s) → (between : Between old mid x.client) → (same : xs ≡ x.settlements) → (many : n ≡ length x.settlements) → (paired : StayPaired s.marks x)
     → (wrote : AreReadings s.reads → Appends start taken' (texts_of text (s.records ++ records_of s.reads mid.progress.moment.utc mid.marks.items xs)))
@@ -264,7 +272,8 @@ pub settles_part : (text : Record → List ℕ) (old mid : Station) (s : Model) 
 settles_part text old mid s x xs start taken' stands between e wrote are =
     subst (λ (rs : List Record). WritesPart text s.records (s.records ++ rs) start taken') (records_same old mid s x.client xs x.settlements stands between e) (wrote are)
 
--- if the records of settlements were written the station is as the model after them; or the book failed at one of them
+-- if the records of settlements were written, the station is as the model after them, and the book has taken the records of that
+-- model; or the book failed at one of the new ones (`ComesTo`)
 pub settles_either : {X E : Type 0} (text : Record → List ℕ) (old mid new : Station) (s : Model) (x : Settled Asked (ById Asked)) (xs : List (Settlement Asked)) (n : ℕ)
     (start taken' : Option (List ℕ)) (result : Result X E)
     → (stands : Refines old s) → (between : Between old mid x.client) → (same : xs ≡ x.settlements) → (many : n ≡ length x.settlements) → (paired : StayPaired s.marks x)
@@ -295,23 +304,22 @@ pub with_caught : (mid : Station) (p : Progress) (t t' : Bool) (n n' : ℕ) (s :
 with_caught mid p t t' n n' s stands e f is =
     refines_with mid p (caught_up t' n') s stands (is ∙ ap (λ b. caught_up b n mid.progress) e ∙ ap (λ m. caught_up t' m mid.progress) f)
 
--- a station whose requests timed out at a moment is as the model at that moment
-pub refines_expired : (station : Station) (p q : Progress) (client : Windowed Asked) (fresh : ℕ) (m : Moment) (s : Model) → Refines station s → p ≡ q
-    → client ≡ record station.client { ids = expires station.client.ids m.elapsed }
-    → fresh ≡ min station.fresh m.elapsed
-    → Refines (record station { progress = p; client = client; fresh = fresh }) (with_moment m (with_progress (λ x. q) s))
-refines_expired station p q client fresh m s stands e is less = record {
+-- a station whose progress changed, and whose requests timed out at a moment, is as the model at that moment
+pub refines_expired : (station new : Station) (p q : Progress) (m : Moment) (s : Model) → Refines station s → p ≡ q
+    → new ≡ station_expiring m.elapsed (record station { progress = p })
+    → Refines new (with_moment m (with_progress (λ x. q) s))
+refines_expired station new p q m s stands e is = subst (λ (x : Station). Refines x (with_moment m (with_progress (λ x. q) s))) (sym is) (record {
   progress = e;
-  ids = ap (λ (w : Windowed Asked). w.ids) is ∙ ap (λ ids. expires ids m.elapsed) stands.ids;
-  width = ap (λ (w : Windowed Asked). w.width) is ∙ stands.width;
+  ids = ap (λ ids. expires ids m.elapsed) stands.ids;
+  width = stands.width;
   marks = stands.marks;
   paired = stands.paired ∙ sym (length-map s.client.waiting (expired m.elapsed));
   assembles = stands.assembles;
   tally = stands.tally;
   well = stands.well;
   listed = stands.listed;
-  fresh = λ are. less ∙ ap (λ f. min f m.elapsed) (stands.fresh are);
-}
+  fresh = λ are. ap (λ f. min f m.elapsed) (stands.fresh are);
+})
 
 -- as many requests are outstanding at a station as in its model
 pub all_same : (station : Station) (s : Model) → Refines station s → (waiting_in station).all ≡ (waiting_of s).all
@@ -357,7 +365,8 @@ pub record Asking (station : Station) (s : Model) (piece left : List ℕ) : Type
   pub stands : Refines station now
   pub goes : piece_synchronizing left now ≡ piece_synchronizing piece s
 
--- hearing what is left of a piece while the station synchronizes is hearing its first frame's line, and then the rest
+-- while the station synchronizes, hearing what is left of a piece is hearing the line of its first frame, if that is a line, and
+-- then what comes after that frame (`later`)
 pub asked_first : (s : Model) (left later rest : List ℕ) (frame : Frame)
     → frames_behind s.rest left ≡ completed frame ++ frames_behind rest later → rest_behind s.rest left ≡ rest_behind rest later
     → piece_synchronizing left s ≡ piece_synchronizing later (with_progress (λ p. lines_synchronizing p (option_to_list (line_in frame))) (with_rest rest s))
@@ -371,7 +380,8 @@ asked_first s left later rest frame seen rests =
       shown : List ℕ → Progress → Model
       shown r p = record s { rest = r; progress = p }
 
--- `Asking` is preserved by one frame more
+-- `Asking` is preserved by one frame more, if the station has kept the bytes after the frame, and noted the line of the frame,
+-- where the frame is a line
 pub asking_on : (station station' : Station) (s : Model) (piece left : List ℕ) (used : ℕ) (frame : Frame) (kept : Kept)
     → (h : Asking station s piece left) → (t : Takes h.now.rest left used frame kept)
     → station' ≡ record station { assembler = kept; progress = lines_synchronizing station.progress (option_to_list (line_in frame)) }

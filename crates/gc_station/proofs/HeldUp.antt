@@ -4,7 +4,7 @@
 use Rattle.std.proofs.Common.{◌≡◌, ℕ, zero, suc, ◌+◌, ◌-◌, ◌<◌, ◌≤◌, Bool, true, false, List, [], ◌∷◌, length, map, drop, Option, Some, None, refl, sym, ap, ◌∙◌, subst, arith, if◌then◌else◌, nat_lt, nat_eq, length-drop}
 use Rattle.std.specs.Prelude.{slice_get}
 use Rattle.std.specs.List.{AllByRecursion}
-use Rattle.std.proofs.lemmas.Bool.{ltb-true, ltb-false, eqb-true, both_ways, and_right}
+use Rattle.std.proofs.lemmas.Bool.{ltb-true, lt-ltb, eqb-true, both_ways, and_right, cond-true}
 use Rattle.std.proofs.lemmas.Bool.Decides.{nat_tests}
 use Rattle.std.proofs.lemmas.List.{length-map, length-append}
 use Rattle.gc_catalogue.specs.Asked.{is_of_table}
@@ -15,6 +15,7 @@ use Rattle.gc_client.specs.OneForOne.{Step, Send, Hear, Expire, Restart, sent_on
 use Rattle.gc_client.specs.Rule.{ById, fresh, heard, hears, id_settled, id_send, settle, expired, pending_of}
 use Rattle.gc_client.specs.declared.pending.Pending.{Pending}
 use Rattle.gc_client.specs.declared.window.TheConstants.{WINDOW}
+use Rattle.gc_client.proofs.OneForOne.{length-settle}
 use Rattle.gc_texts.specs.Stamps.{date_time}
 use Rattle.gc_texts.specs.Tasks.{call_at}
 use Rattle.gc_texts.specs.declared.tasks.Task.{Task}
@@ -28,20 +29,19 @@ use Rattle.gc_station.specs.declared.progress.Progress.{Progress}
 use Rattle.gc_station.specs.declared.progress.Waiting.{Waiting}
 use Rattle.gc_station.specs.Behind.{AreOfTable, TheTableIsNeverHeldUp}
 use Rattle.gc_station.specs.Deciding.{has_begun, is_none_left, action_next, action_room, action_waiting, width_of}
-use Rattle.gc_station.specs.Parts.{put_part, first_request_part, heard_steps, client_part, sync_part, part_of_act, request_or_null_part}
+use Rattle.gc_station.specs.Parts.{put_part, first_request_part, heard_steps, client_part, sync_part, part_of_act, request_or_null_part, client_stepped, client_after, course_at}
 use Rattle.gc_station.specs.Progressing.{one_more_in_window, turned, moment_noted, time_passed, is_over, loses_all}
 use Rattle.gc_station.specs.Reasons.{HoldsBefore}
 use Rattle.gc_station.specs.Runs.{state_after}
-use Rattle.gc_station.specs.Model.{Model, opening, action_at, waiting_of, place_next, mark_next, is_some_of_table, ends_with_table, is_heard, with_progress, with_moment, with_rest, lines_completed, after_piece, moved, losing, after, Performs, mark_setup}
+use Rattle.gc_station.specs.Model.{Model, opening, action_at, waiting_of, is_some_of_table, ends_with_table, is_heard, with_progress, with_moment, with_rest, lines_completed, after_piece, moved, losing, after, Performs}
+use Rattle.gc_station.specs.NextCommand.{place_next, mark_next, mark_setup}
 use Rattle.gc_station.proofs.Always.{always}
 use Rattle.gc_station.proofs.Behind.{behind_by, behind_step}
-use Rattle.gc_station.proofs.Booking.{stepped, client_after, course_at}
 use Rattle.gc_station.proofs.Counts.{losing_progress}
 use Rattle.gc_station.proofs.EachRun.{invariant_holds}
 use Rattle.gc_station.proofs.Facts.{action_for}
 use Rattle.gc_station.proofs.GoesBehind.{counted}
 use Rattle.gc_station.proofs.Invariant.{Invariant}
-use Rattle.gc_station.proofs.Meets.{settle_length}
 use Rattle.gc_station.proofs.Parting.{leads, keeps_action}
 use Rattle.gc_station.proofs.Turns.{over_stays}
 use Rattle.gc_station.proofs.Walk.{asked_along, quieted_along, closed_along, walk}
@@ -55,21 +55,21 @@ use Rattle.gc_station.proofs.Lists.{all_drop, all_append}
 abbrev IsTableCall : Pending Asked → Type 0
 IsTableCall p = is_of_table p.call ≡ true
 
--- a step sends calls of the table alone
+-- a step sends calls of the table alone, and isn't a restart
 abbrev SendsTableCalls : Step Asked → Type 0
 SendsTableCalls (Send target call deadline) = is_of_table call ≡ true
 SendsTableCalls (Hear line) = Unit {0}
 SendsTableCalls (Expire now) = Unit {0}
 SendsTableCalls Restart = ⊥
 
--- only calls of the table wait at the client c, at most seven, and `b`, which counts the requests after the last call of the table
--- that a reply ended, is how many wait
+-- only calls of the table wait at the client c, at most seven, and `b`, which counts the requests after the last call of the
+-- table that a reply ended, is how many wait
 record Level (c : ById Asked) (b : ℕ) : Type 0 where
   tables : AllByRecursion IsTableCall c.waiting
   few : length c.waiting ≤ 7
   same : b ≡ length c.waiting
 
--- a request that has timed out is for what it was for before
+-- requests that are calls of the table still are once they may have timed out
 expired_tables : (now : ℕ) (ps : List (Pending Asked)) → AllByRecursion IsTableCall ps → AllByRecursion IsTableCall (map (expired now) ps)
 expired_tables now [] all = tt
 expired_tables now (p ∷ ps) all = (all.0, expired_tables now ps all.1)
@@ -80,15 +80,11 @@ settle_tables k line [] low all = absurd (omega (arith, low))
 settle_tables zero line (p ∷ ps) low all = all.0
 settle_tables (suc k) line (p ∷ ps) low all = settle_tables k line ps (omega (arith, low)) all.1
 
--- `one_more_in_window` of a number below seven is that number and 1
+-- `one_more_in_window` of a number below seven is that number plus 1
 more_is : (n : ℕ) → n < 7 → one_more_in_window n ≡ n + 1
-more_is n low = by_test (nat_lt n WINDOW) refl where
-  -- the lemma above, by whether n is below the window
-  by_test : (b : Bool) → nat_lt n WINDOW ≡ b → (if b then n + 1 else n) ≡ n + 1
-  by_test true e = refl
-  by_test false e = let high : 7 ≤ n = ltb-false n WINDOW e in absurd (omega (arith, low, high))
+more_is n low = cond-true (nat_lt n WINDOW) (n + 1) n (lt-ltb n WINDOW low)
 
--- a send to a window that isn't full preserves `Level`; one to a full window changes nothing
+-- a send of a call of the table preserves `Level`, whether the window is full (`full`), so that the send is refused, or not
 level_sent : (c : ById Asked) (b target : ℕ) (call : Asked) (deadline : ℕ) → is_of_table call ≡ true → Level c b → (full : Bool) → nat_eq (length c.waiting) 7 ≡ full
     → Level (sent_on (course_at c) target call (id_send c target call deadline full)).client (one_more_in_window b)
 level_sent c b target call deadline table h true e =
@@ -107,7 +103,8 @@ level_sent c b target call deadline table h false e =
       less : (n : ℕ) → n ≤ 7 → nat_eq n 7 ≡ false → n < 7
       less n few other = grind (arith, nat_tests, few, other)
 
--- a line preserves `Level`
+-- a line preserves `Level`, with the count after it: how many requests wait then, if the line settled requests of which the last
+-- is a call of the table; and else b
 level_heard : (c : ById Asked) (b : ℕ) (line : List ℕ) (o : Option ℕ) → Level c b
     → Level (hears c line o).client (if ends_with_table (hears c line o).settlements then length (hears c line o).client.waiting else b)
 level_heard c b line None h = h
@@ -118,7 +115,7 @@ level_heard c b line (Some id) h = by_test _ _ refl where
   by_test k false e = h
   by_test k true e =
       let low = ltb-true k (length c.waiting) e in
-      let many = settle_length k line c.waiting low in
+      let many = length-settle k line c.waiting low in
       let at : length (settle k line c.waiting) - 1 ≡ k = omega (arith, many) in
       let ends : ends_with_table (settle k line c.waiting) ≡ true = ap (λ n. is_some_of_table (slice_get (settle k line c.waiting) n)) at ∙ settle_tables k line c.waiting low h.tables in
       let left = length-drop (k + 1) c.waiting in
@@ -130,7 +127,7 @@ level_heard c b line (Some id) h = by_test _ _ refl where
       }
 
 -- a step that sends calls of the table alone preserves `Level`
-level_step : (c : ById Asked) (b : ℕ) (step : Step Asked) → SendsTableCalls step → Level c b → Level (stepped c step) (behind_step c b step)
+level_step : (c : ById Asked) (b : ℕ) (step : Step Asked) → SendsTableCalls step → Level c b → Level (client_stepped c step) (behind_step c b step)
 level_step c b (Send target call deadline) table h = level_sent c b target call deadline table h (nat_eq (length c.waiting) 7) refl
 level_step c b (Hear line) table h = level_heard c b line (heard line) h
 level_step c b (Expire now) table h =
@@ -141,7 +138,7 @@ level_step c b Restart table h = absurd table
 -- steps that send calls of the table alone preserve `Level`
 level_steps : (c : ById Asked) (b : ℕ) (steps : List (Step Asked)) → AllByRecursion SendsTableCalls steps → Level c b → Level (client_after c steps) (behind_by c b steps)
 level_steps c b [] all h = h
-level_steps c b (step ∷ steps) all h = level_steps (stepped c step) (behind_step c b step) steps all.1 (level_step c b step all.0 h)
+level_steps c b (step ∷ steps) all h = level_steps (client_stepped c step) (behind_step c b step) steps all.1 (level_step c b step all.0 h)
 
 -- Acts.
 
@@ -151,7 +148,7 @@ hears_tables [] = tt
 hears_tables (line ∷ others) = (tt, hears_tables others)
 
 -- the steps for a piece, which is heard or discarded, send calls of the table alone, as they send nothing
-hearing_tables : (h : Bool) (rest piece : List ℕ) → AllByRecursion SendsTableCalls (heard_steps h rest piece)
+hearing_tables : (heard : Bool) (rest piece : List ℕ) → AllByRecursion SendsTableCalls (heard_steps heard rest piece)
 hearing_tables true rest piece = hears_tables (lines_completed rest piece)
 hearing_tables false rest piece = tt
 
@@ -168,49 +165,33 @@ first_tables : (now : ℕ) (mark : Mark) (left : List Task) → AreOfTable left 
 first_tables now mark [] all = tt
 first_tables now mark (task ∷ others) all = (table_at task mark.sent all.0, tt)
 
--- the step that sends the first of these commands of the setup, or a null procedure if there is none, sends a call of the table, if
--- all of them are
+-- the step that sends the first of these commands of the setup, or a null procedure if there is none, sends a call of the table,
+-- if all of them are
 setup_tables : (plan : Plan) (now : ℕ) (mark : Mark) (left : List Task) → AreOfTable left → AllByRecursion SendsTableCalls (request_or_null_part plan now mark left).steps
 setup_tables plan now mark [] all = (refl, tt)
 setup_tables plan now mark (task ∷ others) all = (table_at task mark.sent all.0, tt)
 
-module _ (plan : Plan) (commands : List Task) (all : AreOfTable commands) where
-  -- an act that puts bytes sends calls of the table alone
-  put_tables : (s : Model) (o : Action) → AllByRecursion SendsTableCalls (put_part plan commands s o).steps
-  put_tables s action.Flush = (refl, tt)
-  put_tables s action.Prepare =
-      setup_tables plan s.progress.moment.elapsed (mark_setup commands s.progress) (drop s.progress.prepared commands)
-      (all_drop (λ task. is_of_table task.command.call ≡ true) s.progress.prepared commands all)
-  put_tables s action.Send =
-      first_tables s.progress.moment.elapsed (mark_next plan commands s.progress) (drop (place_next commands s.progress) commands)
-      (all_drop (λ task. is_of_table task.command.call ≡ true) (place_next commands s.progress) commands all)
-  put_tables s o = tt
+-- what every run of calls of the table keeps. `behind` counts the requests after the last call of the table that a reply ended:
+-- while the station synchronizes it is 0; afterwards, until the run is over, it is the number of outstanding requests
+record CountsWaiting (s : Model) : Type 0 where
+  begins : has_begun s.progress ≡ false → s.progress.behind ≡ 0
+  level : has_begun s.progress ≡ true → is_over s.progress ≡ false → Level s.client s.progress.behind
 
-  -- an act sends calls of the table alone
-  do_tables : (s : Model) (o : Action) (act : Act) → AllByRecursion SendsTableCalls (client_part plan commands s o act).steps
-  do_tables s o (Told m) = (tt, tt)
-  do_tables s o (Silent m) = (tt, tt)
-  do_tables s o (Gave piece m) = (tt, hearing_tables (is_heard s.progress.phase) s.rest piece)
-  do_tables s o (Put bytes) = put_tables s o
-  do_tables s o (Cut bytes count) = put_tables s o
-  do_tables s o act = tt
+-- after an act the count (`behind`) is 0
+abbrev NoneBehind : Act → Model → Type 0
+NoneBehind act t = t.progress.behind ≡ 0
 
-  -- what every run of calls of the table keeps. `behind` counts the requests after the last call of the table that a reply ended:
-  -- while the station synchronizes it is 0; afterwards, until the run is over, it is the number of outstanding requests
-  record CountsWaiting (s : Model) : Type 0 where
-    begins : has_begun s.progress ≡ false → s.progress.behind ≡ 0
-    level : has_begun s.progress ≡ true → is_over s.progress ≡ false → Level s.client s.progress.behind
+-- while the station synchronizes, a piece, heard or discarded, leaves the count at 0
+came_none : (heard : Bool) (word piece : List ℕ) (s : Model) → is_none_left word ≡ false → s.progress.behind ≡ 0 → (after_piece heard word piece s).progress.behind ≡ 0
+came_none true [] piece s begins e = cc
+came_none true (asked ∷ others) piece s begins e = asked_along (λ (q : Progress). q.behind ≡ 0) (λ q line e. e) s.progress (lines_completed s.rest piece) e
+came_none false word piece s begins e = e
 
-  -- after an act the count (`behind`) is 0
-  abbrev NoneBehind : Act → Model → Type 0
-  NoneBehind act t = t.progress.behind ≡ 0
+-- if the station has synchronized, and the run isn't over, the client stays at the end of an act, as nothing is lost
+kept_client : (t : Model) → has_begun t.progress ≡ true → is_over t.progress ≡ false → (losing (loses_all t.progress) t).client ≡ t.client
+kept_client t begun going = ap (λ (b : Bool). (losing b t).client) (loses_nothing (has_begun t.progress) (is_over t.progress) begun going)
 
-  -- while the station synchronizes, a piece, heard or discarded, leaves the count at 0
-  came_none : (h : Bool) (word piece : List ℕ) (s : Model) → is_none_left word ≡ false → s.progress.behind ≡ 0 → (after_piece h word piece s).progress.behind ≡ 0
-  came_none true [] piece s begins e = cc
-  came_none true (asked ∷ others) piece s begins e = asked_along (λ (q : Progress). q.behind ≡ 0) (λ q line e. e) s.progress (lines_completed s.rest piece) e
-  came_none false word piece s begins e = e
-
+module _ (plan : Plan) (commands : List Task) where
   -- while the station synchronizes, an act leaves the count at 0
   none_behind : (s : Model) (o : Action) (act : Act) → HoldsBefore plan s.progress (waiting_of s) o → Performs commands s o act → has_begun s.progress ≡ false → s.progress.behind ≡ 0
       → NoneBehind act (moved plan commands o (with_progress turned s) act)
@@ -237,13 +218,30 @@ module _ (plan : Plan) (commands : List Task) (all : AreOfTable commands) where
 
   -- if the station resynchronizes, the count is 0
   renewed_none : (s : Model) (o : Action) (act : Act) (m : Moment) → o ≡ action.Renew → act ≡ Told m → (moved plan commands o (with_progress turned s) act).progress.behind ≡ 0
-  renewed_none s o act m is moment_noted =
+  renewed_none s o act m is told =
       ap (λ (x : Action). (moved plan commands x (with_progress turned s) act).progress.behind) is
-      ∙ ap (λ (x : Act). (moved plan commands action.Renew (with_progress turned s) x).progress.behind) moment_noted
+      ∙ ap (λ (x : Act). (moved plan commands action.Renew (with_progress turned s) x).progress.behind) told
 
-  -- where what is outstanding isn't lost, the client is as before
-  kept_client : (t : Model) → has_begun t.progress ≡ true → is_over t.progress ≡ false → (losing (loses_all t.progress) t).client ≡ t.client
-  kept_client t begun going = ap (λ (b : Bool). (losing b t).client) (loses_nothing (has_begun t.progress) (is_over t.progress) begun going)
+module _ (plan : Plan) (commands : List Task) (all : AreOfTable commands) where
+  -- an act that puts bytes sends calls of the table alone
+  put_tables : (s : Model) (o : Action) → AllByRecursion SendsTableCalls (put_part plan commands s o).steps
+  put_tables s action.Flush = (refl, tt)
+  put_tables s action.Prepare =
+      setup_tables plan s.progress.moment.elapsed (mark_setup commands s.progress) (drop s.progress.prepared commands)
+      (all_drop (λ task. is_of_table task.command.call ≡ true) s.progress.prepared commands all)
+  put_tables s action.Send =
+      first_tables s.progress.moment.elapsed (mark_next plan commands s.progress) (drop (place_next commands s.progress) commands)
+      (all_drop (λ task. is_of_table task.command.call ≡ true) (place_next commands s.progress) commands all)
+  put_tables s o = tt
+
+  -- an act sends calls of the table alone
+  do_tables : (s : Model) (o : Action) (act : Act) → AllByRecursion SendsTableCalls (client_part plan commands s o act).steps
+  do_tables s o (Told m) = (tt, tt)
+  do_tables s o (Silent m) = (tt, tt)
+  do_tables s o (Gave piece m) = (tt, hearing_tables (is_heard s.progress.phase) s.rest piece)
+  do_tables s o (Put bytes) = put_tables s o
+  do_tables s o (Cut bytes count) = put_tables s o
+  do_tables s o act = tt
 
   module _ (s : Model) (act : Act) (fine : Invariant plan commands s) (obeys : Performs commands s (action_at plan s) act) (h : CountsWaiting s) where
     -- the action that the act performs
@@ -266,8 +264,8 @@ module _ (plan : Plan) (commands : List Task) (all : AreOfTable commands) where
     same_progress : u.progress ≡ t.progress
     same_progress = losing_progress (loses_all t.progress) t
 
-    -- `Level` holds after the act, before what is outstanding is lost, if the station has synchronized before it and after it, and
-    -- the run wasn't over before it
+    -- `Level` holds after the act, before what is outstanding is lost, if the station has synchronized before it and after it,
+    -- and the run wasn't over before it
     moves : has_begun s.progress ≡ true → has_begun t.progress ≡ true → is_over s.progress ≡ false → Level t.client t.progress.behind
     moves begun still going =
         let steps = (client_part plan commands s o act).steps in
@@ -288,7 +286,7 @@ module _ (plan : Plan) (commands : List Task) (all : AreOfTable commands) where
     counts_waiting_so true begun = record {
       begins = λ anew.
           let it = renews_only plan commands s o act obeys begun (sym (ap has_begun same_progress) ∙ anew) in
-          ap (λ (p : Progress). p.behind) same_progress ∙ renewed_none s o act it.1 it.0 it.2;
+          ap (λ (p : Progress). p.behind) same_progress ∙ renewed_none plan commands s o act it.1 it.0 it.2;
       level = λ still going.
           let now = sym (ap has_begun same_progress) ∙ still in
           let on = sym (ap is_over same_progress) ∙ going in
@@ -296,7 +294,7 @@ module _ (plan : Plan) (commands : List Task) (all : AreOfTable commands) where
           (subst (λ (p : Progress). Level t.client p.behind) (sym same_progress) (moves begun now (wasnt_over (is_over s.progress) refl)));
     }
     counts_waiting_so false begins =
-        let none = none_behind s o act its obeys begins (h.begins begins) in
+        let none = none_behind plan commands s o act its obeys begins (h.begins begins) in
         let kept = keeps_action plan commands s o act its obeys begins (fine.begins begins) in
         record {
           begins = λ anew. ap (λ (p : Progress). p.behind) same_progress ∙ none;
@@ -312,12 +310,12 @@ module _ (plan : Plan) (commands : List Task) (all : AreOfTable commands) where
   counts_waiting_after : (s : Model) (act : Act) → Invariant plan commands s → Performs commands s (action_at plan s) act → CountsWaiting s → CountsWaiting (after plan commands s act)
   counts_waiting_after s act fine obeys h = counts_waiting_so s act fine obeys h (has_begun s.progress) refl
 
--- if the window is full, no request is sent
+-- if the window is full, `action_room` is the action of a station that waits
 full_waits : (plan : Plan) (p : Progress) (w : Waiting) (o : Action) → nat_lt w.all WINDOW ≡ false → action_room plan p w o ≡ action_waiting plan p w
 full_waits plan p w o full = ap (λ (b : Bool). if b then o else action_waiting plan p w) (and_right (nat_lt w.current (width_of plan)) (nat_lt w.all WINDOW) full)
 
--- if as many requests were sent after the last call of the table that a reply ended (`behind`) as are outstanding, the command
--- `o`, which may be sent, is sent as soon as there is room
+-- if as many requests were sent after the last call of the table that a reply ended (`behind`) as are outstanding, `action_next`
+-- is the action o as soon as there is room (`action_room`)
 sends_on : (plan : Plan) (p : Progress) (w : Waiting) (o : Action) → p.behind ≡ w.all → action_next plan p w o ≡ action_room plan p w o
 sends_on plan p w o e = by_test (nat_lt p.behind WINDOW) refl where
   -- the lemma above, by whether the count is below seven
@@ -332,11 +330,12 @@ sends_on plan p w o e = by_test (nat_lt p.behind WINDOW) refl where
         either_way true f = f
         either_way false f = refl
 
--- the law: a text without raw commands is never held up
+-- the law: if all commands are calls of the table, the outstanding requests are those sent after the last such call that a reply
+-- ended; so a command that may be sent is sent as soon as there is room
 pub never_held_up : TheTableIsNeverHeldUp
 never_held_up plan commands scope acts runs all begun going =
     let s = state_after plan commands scope acts in
-    let free : CountsWaiting plan commands all s = always plan commands (opening plan scope) (λ (done : List Act) (t : Model). CountsWaiting plan commands all t)
+    let free : CountsWaiting s = always plan commands (opening plan scope) (λ (done : List Act) (t : Model). CountsWaiting t)
     (λ done act before obeys h. counts_waiting_after plan commands all (state_after plan commands scope done) act (invariant_holds plan commands scope done) obeys h)
     (record { begins = λ e. refl; level = λ e f. cc }) acts runs in
     let level = free.level begun going in

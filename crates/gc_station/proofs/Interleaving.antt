@@ -1,5 +1,5 @@
--- What had its turn is what was kept and what was left out, each in order (`Interleave`): one list grows with each command that had
--- its turn, and so does one of the other two.
+-- What had its turn is what was kept and what was left out, each in order (`Interleave`): one list grows with each command that
+-- had its turn, and so does one of the other two.
 use Rattle.std.proofs.Common.{Bool, true, false, nat_lt, ◌≡◌, ◌⊎◌, inl, inr, ℕ, zero, suc, ◌+◌, ◌-◌, ◌<◌, ◌≤◌, List, [], ◌∷◌, ◌++◌, length, take, drop, map, refl, sym, ap, ◌∙◌, subst, arith, append_assoc, take-add}
 use Rattle.std.proofs.lemmas.List.{length-map, length-drop, length-take, map-append, nil_from_length, take_all, drop-append-le}
 use Rattle.std.proofs.lemmas.Bool.{ltb-true, ltb-false}
@@ -8,6 +8,7 @@ use Rattle.gc_catalogue.specs.declared.asked.Asked.{Asked}
 use Rattle.gc_client.specs.OneForOne.{Wanted}
 use Rattle.gc_texts.specs.declared.tasks.Task.{Task}
 use Rattle.gc_station.specs.EachOnce.{Interleave, Request, requests, of_task, all_cycles, commands_reached}
+use Rattle.gc_station.specs.Links.{IsBefore}
 use Rattle.gc_station.proofs.Each.{requests-append}
 use Rattle.gc_station.proofs.Lists.{all_append, all_on}
 
@@ -21,13 +22,13 @@ interleave_passed : {A : Type 0} (us : List A) → Interleave [] us us
 interleave_passed [] = (refl, refl)
 interleave_passed (u ∷ us) = inr (us, refl, interleave_passed us)
 
--- what had its turn grows by what is kept
+-- `Interleave` is preserved if what was kept and what had its turn both grow by the same elements at their ends
 pub interleave_more : {A : Type 0} (xs ys zs us : List A) → Interleave xs ys zs → Interleave (xs ++ us) ys (zs ++ us)
 interleave_more {A} xs ys [] us h = subst (λ (l : List A). Interleave (l ++ us) ys us) (sym h.0) (subst (λ (l : List A). Interleave us l us) (sym h.1) (interleave_kept us))
 interleave_more {A} xs ys (z ∷ zs) us (inl k) = inl (k.0 ++ us, ap (λ (l : List A). l ++ us) k.1, interleave_more k.0 ys zs us k.2)
 interleave_more {A} xs ys (z ∷ zs) us (inr k) = inr (k.0, k.1, interleave_more xs k.0 zs us k.2)
 
--- what had its turn grows by what is left out
+-- `Interleave` is preserved if what was left out and what had its turn both grow by the same elements at their ends
 pub interleave_past : {A : Type 0} (xs ys zs us : List A) → Interleave xs ys zs → Interleave xs (ys ++ us) (zs ++ us)
 interleave_past {A} xs ys [] us h = subst (λ (l : List A). Interleave xs (l ++ us) us) (sym h.1) (subst (λ (l : List A). Interleave l us us) (sym h.0) (interleave_passed us))
 interleave_past {A} xs ys (z ∷ zs) us (inl k) = inl (k.0, k.1, interleave_past k.0 ys zs us k.2)
@@ -45,8 +46,8 @@ interleave_all P xs ys [] h all = subst (AllByRecursion P) (sym h.1) tt
 interleave_all P xs ys (z ∷ zs) (inl k) all = interleave_all P k.0 ys zs k.2 all.1
 interleave_all P xs ys (z ∷ zs) (inr k) all = subst (AllByRecursion P) (sym k.1) (all.0, interleave_all P xs k.0 zs k.2 all.1)
 
--- the commands that had their turn, with the next `count` ones after them, are those that had their turn at a place `count` further
--- on, or at the end of the list if that is nearer
+-- from a place after the setup on, in a cycle that has begun: the commands that had their turn, with the next `count` ones after
+-- them, are those that had their turn at a place `count` further on, or at the end of the list if that is nearer
 pub sent_past : (setup : ℕ) (commands : List Task) (begun place count place' : ℕ) → setup ≤ place → place ≤ length commands → 0 < begun
     → (place' ≡ place + count) ⊎ ((place' ≡ length commands) × (length commands ≤ place + count))
     → commands_reached setup commands begun place ++ requests begun place (map of_task (take count (drop place commands))) ≡ commands_reached setup commands begun place'
@@ -69,7 +70,7 @@ sent_past setup commands (suc n) place count place' low within some at =
       as_many (inl is) = ap (λ (k : ℕ). take k commands) (sym is)
       as_many (inr is) = take_all (place + count) commands is.1 ∙ sym (take_all place' commands (omega (arith, is.0)))
 
--- the commands that are left after `count` more are the same by the place of the next one and by how many are unsent
+-- the commands after the next `count` ones are the same, counted from the place of the next one or by how many are unsent
 pub drop_past : (commands : List Task) (unsent count : ℕ) → unsent ≤ length commands → drop ((length commands - unsent) + count) commands ≡ drop (length commands - (unsent - count)) commands
 drop_past commands unsent count within = by_count (nat_lt unsent count) refl where
   -- the lemma above, by whether fewer than `count` are unsent (`true`): then both lists are empty
@@ -82,7 +83,7 @@ drop_past commands unsent count within = by_count (nat_lt unsent count) refl whe
       ∙ sym (nil_from_length (drop (length commands - (unsent - count)) commands) (omega (arith, y, more)))
   by_count false e = let few = ltb-false unsent count e in ap (λ (n : ℕ). drop n commands) (omega (arith, few, within))
 
--- the requests of a cycle are of it, and of places from the first one on
+-- the requests of a cycle are of it, and of places below the first one's plus their number
 requests_before : (cycle place : ℕ) (asks : List (Wanted Asked)) → AllByRecursion (λ (r : Request). (r.cycle ≡ cycle) × (r.place < place + length asks)) (requests cycle place asks)
 requests_before cycle place [] = tt
 requests_before cycle place (a ∷ others) =
@@ -94,10 +95,10 @@ requests_before cycle place (a ∷ others) =
       all_by cycle a m b n (r ∷ rs) e all = ((all.0.0, omega (arith, all.0.1, e)), all_by cycle a m b n rs e all.1)
 
 -- a request is of a place before this one: in an earlier cycle, or in the same one
-abbrev pub IsInFront : ℕ → ℕ → Request → Type 0
-IsInFront cycle place r = (r.cycle < cycle) ⊎ ((r.cycle ≡ cycle) × (r.place < place))
+abbrev pub IsInFront : (cycle place : ℕ) → Request → Type 0
+IsInFront cycle place r = IsBefore r.cycle r.place cycle place
 
--- the requests of the first cycles are before any place of a later one
+-- the requests of the first n cycles are before any place of the cycle after them
 cycles_before : (setup : ℕ) (commands : List Task) (n place : ℕ) → AllByRecursion (IsInFront (suc n) place) (all_cycles setup commands n)
 cycles_before setup commands zero place = tt
 cycles_before setup commands (suc n) place =
@@ -125,7 +126,7 @@ sent_before setup commands (suc n) place low =
           let t = length-take place commands in
           omega (arith, less, m, d, t, low)
 
--- if the last of what had its turn isn't among what was left out, it is the last of what was kept
+-- if the last of what had its turn isn't the last of what was left out, it is the last of what was kept
 pub interleave_last : {A : Type 0} (x : A) (xs ys zs : List A) → Interleave xs ys (zs ++ x ∷ []) → ((front : List A) → ys ≡ front ++ x ∷ [] → ⊥) → (front : List A) × (xs ≡ front ++ x ∷ [])
 interleave_last x xs ys [] (inl k) not = ([], k.1 ∙ ap (λ l. x ∷ l) k.2.0)
 interleave_last x xs ys [] (inr k) not = absurd (not [] (k.1 ∙ ap (λ l. x ∷ l) k.2.1))

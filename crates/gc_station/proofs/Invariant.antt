@@ -15,6 +15,7 @@ use Rattle.gc_station.specs.Progressing.{is_over}
 use Rattle.gc_station.specs.EachOnce.{IsEachOnce}
 use Rattle.gc_station.specs.Model.{Model}
 use Rattle.gc_station.specs.Parts.{MarksAsk}
+use Rattle.gc_station.specs.Reasons.{IsFinished}
 use Rattle.gc_station.specs.Tasked.{IsOfItsTask}
 
 -- whether a phase is without a connection, or before requests are sent: no byte of a line is kept in it
@@ -52,7 +53,7 @@ pub record Invariant (plan : Plan) (commands : List Task) (s : Model) : Type 0 w
   pub begins : has_begun s.progress ≡ false → s.client ≡ fresh
   pub rest : is_bare s.progress.phase ≡ true → s.rest ≡ []
   pub over : is_over s.progress ≡ true → s.client.waiting ≡ []
-  pub finished : says_done s.progress.phase ≡ true → (s.progress.left ≡ 0) × (s.progress.unsent ≡ 0) × (commands_in s.marks ≡ 0)
+  pub finished : says_done s.progress.phase ≡ true → IsFinished (commands_in s.marks) s.progress
   pub each : IsEachOnce plan commands s
   -- each outstanding request asks what its mark says, and each record is of its task
   pub own : MarksAsk commands s.marks (map of_pending s.client.waiting)

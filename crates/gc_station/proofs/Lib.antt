@@ -17,7 +17,7 @@ pub mod Invariant
 pub mod Following
 mod Further
 pub mod Givens
-mod Going
+pub mod Going
 mod Growing
 pub mod Hearing
 pub mod Lists

@@ -1,8 +1,8 @@
 -- Chains by the parts of a run (a part reaches from one synchronization to the next): of two commands that are sent, the later
 -- one has a later place or cycle; and the commands of a chain are requests of one part. An act is one call on the link, with
 -- its result. A mark says which command a request is of, or `None` of a null procedure. Places, parts and requests count from
--- 0. `Back` says of an earlier command that it was sent, was answered well, and is of the part that still goes on.
-use Rattle.std.proofs.Common.{◌≡◌, ◌⊎◌, inl, inr, ℕ, zero, suc, ◌+◌, ◌-◌, ◌<◌, ◌≤◌, Bool, true, false, List, [], ◌∷◌, ◌++◌, length, drop, Option, Some, if◌then◌else◌, refl, sym, ◌∙◌, ap, subst, arith, append_assoc, append-nil}
+-- 0. `AnsweredInPart` says of an earlier command that it was sent, was answered well, and is of the part that still goes on.
+use Rattle.std.proofs.Common.{◌≡◌, ◌⊎◌, inl, inr, ℕ, zero, suc, ◌+◌, ◌-◌, ◌<◌, ◌≤◌, Bool, true, false, List, [], ◌∷◌, ◌++◌, length, drop, Some, if◌then◌else◌, refl, sym, ◌∙◌, ap, subst, arith, append_assoc, append-nil}
 use Rattle.std.specs.Prelude.{slice_get, unwrap_or}
 use Rattle.std.proofs.lemmas.List.{length-drop, append_cancel_left}
 use Rattle.std.proofs.lemmas.Option.{none-some, same_Some}
@@ -16,18 +16,13 @@ use Rattle.gc_links.specs.Acts.{Act, Put, Cut}
 use Rattle.gc_station.specs.Chains.{IsLinked}
 use Rattle.gc_station.specs.Deciding.{has_begun}
 use Rattle.gc_station.specs.EachOnce.{IsFurther}
-use Rattle.gc_station.specs.Links.{AreChained, IsBefore, IsAnsweredEarlier, ChainsStay, MarksGoOn, parts}
+use Rattle.gc_station.specs.Links.{AreChained, IsBefore, WasAnsweredWell, IsAnsweredEarlier, ChainsStay, MarksGoOn, parts}
 use Rattle.gc_station.specs.Parts.{Part, joined, first_request_part, client_part, sync_part, part_of_act, ends_part, in_front, parts_of, mark_of}
-use Rattle.gc_station.specs.Records.{Record}
 use Rattle.gc_station.specs.Runs.{state_after}
 use Rattle.gc_station.specs.Scopes.{Scope}
-use Rattle.gc_station.specs.Qualities.{IsOfQuality, accepted_at}
 use Rattle.gc_station.specs.ActKinds.{Puts}
-use Rattle.gc_station.specs.Model.{Model, Runs, opening, action_at, place_next, cycles_begun, cycle_to_send, expected_first, mark_next, after, after_all}
-use Rattle.gc_texts.specs.Endings.{Answered}
-use Rattle.gc_texts.specs.Qualities.{is_good}
-use Rattle.gc_texts.specs.declared.quality.Quality.{Quality}
-use Rattle.gc_catalogue.specs.declared.answer.Answer.{Answer}
+use Rattle.gc_station.specs.Model.{Model, Runs, opening, action_at, cycle_to_send, after, after_all}
+use Rattle.gc_station.specs.NextCommand.{place_next, cycles_begun, expected_first, mark_next}
 use Rattle.gc_station.proofs.Chaining.{StaysBegun, PreparesNothing, prepares_none, chain_whole}
 use Rattle.gc_station.proofs.EachRun.{invariant_holds}
 use Rattle.gc_station.proofs.Outs.{of_a_cycle, send_cycle, send_place, sends_of_cycle}
@@ -49,7 +44,8 @@ apart i j m n (inr l) (inl k) = let same : i ≡ j = l.0 in omega (arith, same, 
 apart i j m n (inr l) (inr k) = let less : m < n = l.1 in let le : n ≤ m = k.1 in omega (arith, less, le)
 
 module _ (plan : Plan) (commands : List Task) (scope : Scope) where
-  -- after a send, and at least one act, the station is further than before it
+  -- if a command of a cycle is to be sent after the acts `xs`, the station is further (`IsFurther`) after the act that sends it
+  -- and any acts more (`ys`) than after `xs`
   further_on : (xs ys more : List Act) → action_at plan (state_after plan commands scope xs) ≡ Send → ys ≡ xs ++ more → (more ≡ [] → ⊥)
       → IsFurther plan commands (state_after plan commands scope xs) (state_after plan commands scope ys)
   further_on xs ys [] sends e some = absurd (some refl)
@@ -66,7 +62,7 @@ module _ (plan : Plan) (commands : List Task) (scope : Scope) where
         | inr h ↦ absurd (behind h.0 h.1)
       ]
     where
-      -- the first command isn't sent after the second one
+      -- the first command isn't sent at the act that sends the second one, or after it
       behind : (more : List Act) → x.before ≡ y.before ++ more → ⊥
       behind more e =
           let front = subst (λ l. IsFront (parts_of plan commands (opening plan scope) y.before) (parts_of plan commands (opening plan scope) l)) (sym e)
@@ -80,7 +76,8 @@ module _ (plan : Plan) (commands : List Task) (scope : Scope) where
             | inr k ↦ (let le : length y.first.marks ≤ length x.first.marks = k.1 in inr (k.0, omega (arith, le, counts_x, counts_y)))
           ])
 
-  -- of two commands that were sent, as above, the second one is of a later place or cycle
+  -- of two commands that were sent (x before y, in the order of parts and requests), the first one by `Send`, the second one is
+  -- of a later place or cycle
   further_than : (acts : List Act) (i j m n : ℕ) (a b : Mark) → IsBefore i m j n → (x : SentAt plan commands (opening plan scope) acts i m a)
       → action_at plan (state_after plan commands scope x.before) ≡ Send → (y : SentAt plan commands (opening plan scope) acts j n b)
       → IsFurther plan commands (state_after plan commands scope x.before) (state_after plan commands scope y.before)
@@ -99,12 +96,13 @@ marks_go_on plan commands scope acts runs i j m n p q a b e f g h l above below 
 
 -- The mark of a request.
 
--- the part of the first of these commands, if there is one, has its mark
+-- the part that sends the first of these commands, if there is one, has its mark first
 asked_mark : (now : ℕ) (mark : Mark) (left : List Task) → 0 < length left → slice_get (first_request_part now mark left).marks 0 ≡ Some (Some mark)
 asked_mark now mark [] some = absurd (omega (arith, some))
 asked_mark now mark (task ∷ others) some = refl
 
--- the part of an act that puts bytes if a command is next has the mark of that command
+-- once the station has synchronized, the part of an act that puts bytes for `Send` has the mark of the cycle's next command
+-- first, if there is one
 put_asks : (plan : Plan) (commands : List Task) (s : Model) (act : Act) (bytes : List ℕ) → Puts bytes act → has_begun s.progress ≡ true → 0 < length (drop (place_next commands s.progress) commands)
     → slice_get (part_of_act plan commands s Send act).marks 0 ≡ Some (Some (mark_next plan commands s.progress))
 put_asks plan commands s act bytes puts begun some = subst (λ (b : Bool). slice_get
@@ -121,7 +119,7 @@ abbrev HasMark : List Part → ℕ → Mark → Type 0
 HasMark ps i mark = (part : Part) × (slice_get ps i ≡ Some part) × (m : ℕ) × (slice_get part.marks m ≡ Some (Some mark))
 
 -- if the first request of an act's part has a mark, the first of the parts with the act before them has a request with it
-first_has : (p : Part) (b : Bool) (ps : List Part) (mark : Mark) → slice_get p.marks 0 ≡ Some (Some mark) → HasMark (in_front p b ps) 0 mark
+first_has : (p : Part) (ends : Bool) (ps : List Part) (mark : Mark) → slice_get p.marks 0 ≡ Some (Some mark) → HasMark (in_front p ends ps) 0 mark
 first_has p true ps mark e = (p, refl, 0, e)
 first_has p false [] mark e = (p, refl, 0, e)
 first_has p false (q ∷ ps) mark e = (joined p q, refl, 0, get_more p.marks q.marks 0 (Some mark) e)
@@ -136,15 +134,15 @@ on_has p (y ∷ qs) (suc i) mark h = h
 
 -- `ps` are the parts of some first acts, and `qs` those of all acts. If the part of `qs` at the place of the last part of `ps`
 -- has a request with a mark, it still has it once one act more, whose part is p, is put before both
-step_has : (p : Part) (b : Bool) (ps qs : List Part) (i k : ℕ) (mark : Mark) → length ps ≡ suc k → length (in_front p b ps) ≡ suc i
-    → ((j : ℕ) → length ps ≡ suc j → HasMark qs j mark) → HasMark (in_front p b qs) i mark
+step_has : (p : Part) (ends : Bool) (ps qs : List Part) (i k : ℕ) (mark : Mark) → length ps ≡ suc k → length (in_front p ends ps) ≡ suc i
+    → ((j : ℕ) → length ps ≡ suc j → HasMark qs j mark) → HasMark (in_front p ends qs) i mark
 step_has p true ps qs zero k mark some size has = absurd (omega (arith, some, size))
 step_has p true ps qs (suc i) k mark some size has = has i (omega (arith, size))
 step_has p false [] qs i k mark some size has = absurd (omega (arith, some))
 step_has p false (x ∷ ps) qs i k mark some size has = on_has p qs i mark (has i size)
 
 -- with an act before it there is at least one part
-front_some : (p : Part) (b : Bool) (ps : List Part) → (k : ℕ) × (length (in_front p b ps) ≡ suc k)
+front_some : (p : Part) (ends : Bool) (ps : List Part) → (k : ℕ) × (length (in_front p ends ps) ≡ suc k)
 front_some p true ps = (length ps, refl)
 front_some p false [] = (0, refl)
 front_some p false (q ∷ ps) = (length ps, refl)
@@ -154,7 +152,8 @@ parts_some : (plan : Plan) (commands : List Task) (s : Model) (acts : List Act) 
 parts_some plan commands s [] = (0, refl)
 parts_some plan commands s (act ∷ acts) = front_some (part_of_act plan commands s (action_at plan s) act) (ends_part plan commands s act) (parts_of plan commands (after plan commands s act) acts)
 
--- the mark of an act that sends is in the last part of the acts, after those of the acts before it
+-- part i is the last one after the acts `start`. If the part of the act that follows has the next command's mark first, part i of
+-- all acts (`start`, that act and `rest`) has that mark, too
 mark_there : (plan : Plan) (commands : List Task) (s : Model) (start : List Act) (act : Act) (rest : List Act) (i : ℕ) → length (parts_of plan commands s start) ≡ suc i
     → slice_get (part_of_act plan commands (after_all plan commands s start) (action_at plan (after_all plan commands s start)) act).marks 0 ≡ Some
     (Some (mark_next plan commands (after_all plan commands s start).progress))
@@ -199,67 +198,56 @@ module _ (plan : Plan) (commands : List Task) (scope : Scope) where
           absurd (not_further (cycles_begun plan (at zs).progress) (place_next commands (at zs).progress) (cycles_begun plan (at ws).progress) (place_next commands (at ws).progress)
           (subst (λ l. IsFurther plan commands (at zs) (at l)) (sym is) (send_goes_on plan commands scope zs more act go)) c p)
 
-  -- the command at place a of this cycle was sent among these acts, at `act`, and has a record that was answered well; and from
-  -- then on all acts are of the same part
-  record Back (before : List Act) (cycle a : ℕ) : Type 0 where
-    -- the place of the command's record, `answer`, among the records
-    k : ℕ
-    answer : Record
-    among : slice_get (at before).records k ≡ Some answer
-    own_cycle : answer.cycle ≡ cycle
-    own_place : answer.place ≡ a
-    line : List ℕ
-    quality : Quality
-    said : Option Answer
-    answered : answer.end ≡ Answered quality said line
-    well : is_good quality ≡ true
-    says : IsOfQuality scope.reads (accepted_at commands a) answer.command.call quality said line
+  -- the command at place a of this cycle was answered well among the acts `before`, as a request of the part that still goes on:
+  -- after the acts `start` it was sent by `act`, with the mark of its record; since then no part ended, and no command of the
+  -- setup was sent
+  record AnsweredInPart (before : List Act) (cycle a : ℕ) : Type 0 where
+    its : WasAnsweredWell scope.reads commands (at before).records cycle a
     start : List Act
     act : Act
     rest : List Act
     order : before ≡ start ++ act ∷ rest
     sends : action_at plan (at start) ≡ Send
-    mark : mark_of (expected_first (drop (place_next commands (at start).progress) commands)) answer ≡ mark_next plan commands (at start).progress
+    mark : mark_of (expected_first (drop (place_next commands (at start).progress) commands)) its.answer ≡ mark_next plan commands (at start).progress
     same : length (parts plan commands scope before) ≡ length (parts plan commands scope start)
-    cycles : PreparesNothing plan commands (at start) (act ∷ rest)
+    no_setup : PreparesNothing plan commands (at start) (act ∷ rest)
 
-  -- the command before a chained one was sent in the same part
+  -- no part ended since the command before a chained one was sent (`IsLinked`), if the station has synchronized after each act
+  -- since
   same_link : (acts : List Act) → Runs plan commands (opening plan scope) acts → action_at plan (at acts) ≡ Send → (l : IsLinked plan commands scope acts)
       → StaysBegun plan commands (at l.before) (l.request ∷ l.between) → length (parts plan commands scope acts) ≡ length (parts plan commands scope l.before)
   same_link acts runs next l keeps =
       subst (λ xs. length (parts plan commands scope xs) ≡ length (parts plan commands scope l.before)) (sym l.order)
       (same_part plan commands scope l.before l.between l.request (subst
-      (λ xs. Runs plan commands (opening plan scope) xs) l.order runs) l.sends keeps (subst (λ xs. action_at plan (at xs) ≡ Send) l.order next))
+      (λ xs. Runs plan commands (opening plan scope) xs) l.order runs) keeps (subst (λ xs. action_at plan (at xs) ≡ Send) l.order next))
 
-  -- after acts if a chained command is to be sent, `Back` holds of the command before it
+  -- if a chained command is to be sent, at place a + 1, `AnsweredInPart` holds of the command before it (`IsLinked`), if since
+  -- the send of that one the station has synchronized after each act, and no command of the setup was sent
   one_back : (acts : List Act) (a : ℕ) → (runs : Runs plan commands (opening plan scope) acts) → (sends : action_at plan (at acts) ≡ Send)
       → (place : place_next commands (at acts).progress ≡ a + 1) → (l : IsLinked plan commands scope acts)
       → (keeps : StaysBegun plan commands (at l.before) (l.request ∷ l.between)) → PreparesNothing plan commands (at l.before) (l.request ∷ l.between)
-      → Back acts (cycles_begun plan (at acts).progress) a
-  one_back acts a runs next place l keeps cycles =
+      → AnsweredInPart acts (cycles_begun plan (at acts).progress) a
+  one_back acts a runs next place l keeps no_setup =
       let t = l.in_time in
       let b = at l.before in
       let some_cycle = (invariant_holds plan commands scope l.before).begun (needs_of plan b Send l.sends).2 in
       let own : l.answer.cycle ≡ cycles_begun plan b.progress = l.own_cycle in
-      let its : l.answer.cycle ≡ cycle_to_send plan (at t.before) = t.own.cycle in
-      let sends = sends_of_cycle plan (at t.before) t.own.sends (omega (arith, own, its, some_cycle)) in
-      let one : t.before ≡ l.before = same_send acts t.before _ l.before (l.request ∷ l.between) t.order l.order sends l.sends
-      (sym (send_cycle plan (at t.before) sends) ∙ sym t.own.cycle ∙ l.own_cycle) (sym (send_place plan commands (at t.before) sends) ∙ sym t.own.place ∙ l.own_place) in
-      let utc : l.answer.sent ≡ Some (at l.before).progress.moment.utc = t.own.sent ∙ ap (λ xs. Some (at xs).progress.moment.utc) one in
+      let its : l.answer.cycle ≡ cycle_to_send plan (at t.its.before) = t.its.own.cycle in
+      let sends = sends_of_cycle plan (at t.its.before) t.its.own.sends (omega (arith, own, its, some_cycle)) in
+      let one : t.its.before ≡ l.before = same_send acts t.its.before _ l.before (l.request ∷ l.between) t.its.order l.order sends l.sends
+      (sym (send_cycle plan (at t.its.before) sends) ∙ sym t.its.own.cycle ∙ l.own_cycle) (sym (send_place plan commands (at t.its.before) sends) ∙ sym t.its.own.place ∙ l.own_place) in
+      let utc : l.answer.sent ≡ Some (at l.before).progress.moment.utc = t.its.own.sent ∙ ap (λ xs. Some (at xs).progress.moment.utc) one in
       let before_place : place_next commands (at acts).progress ≡ place_next commands (at l.before).progress + 1 = l.place in
       let here : place_next commands (at l.before).progress ≡ a = omega (arith, before_place, place) in
       record {
-        k = length l.earlier;
-        answer = l.answer;
-        among = ap (λ xs. slice_get xs (length l.earlier)) l.last ∙ get_push l.earlier l.answer;
-        own_cycle = l.own_cycle ∙ sym l.cycle;
-        own_place = l.own_place ∙ here;
-        line = l.line;
-        quality = l.quality;
-        said = l.said;
-        answered = l.answered;
-        well = l.well;
-        says = subst (λ p. IsOfQuality scope.reads (accepted_at commands p) l.answer.command.call l.quality l.said l.line) (l.own_place ∙ here) l.says;
+        its = record {
+          k = length l.earlier;
+          answer = l.answer;
+          among = ap (λ xs. slice_get xs (length l.earlier)) l.last ∙ get_push l.earlier l.answer;
+          own_cycle = l.own_cycle ∙ sym l.cycle;
+          own_place = l.own_place ∙ here;
+          good = l.good;
+        };
         start = l.before;
         act = l.request;
         rest = l.between;
@@ -271,29 +259,27 @@ module _ (plan : Plan) (commands : List Task) (scope : Scope) where
             ∙ ap (λ p. record { cycle = cycles_begun plan (at l.before).progress; place = p; sent = unwrap_or l.answer.sent 0; expected = expected }) l.own_place
             ∙ ap (λ o. record { cycle = cycles_begun plan (at l.before).progress; place = place_next commands (at l.before).progress; sent = unwrap_or o 0; expected = expected }) utc;
         same = same_link acts runs next l keeps;
-        cycles = cycles;
+        no_setup = no_setup;
       }
 
-  -- `l` has the acts before the command that precedes the next one (`l.before`). If `Back` holds there of an earlier command of
-  -- the chain, it holds of it still if the next one is to be sent
+  -- `l` has the acts before the command that precedes the next one (`l.before`). If `AnsweredInPart` holds after these acts of an
+  -- earlier command of the cycle, it holds of that command still when the next one is to be sent, if since `l.before` the station
+  -- has synchronized after each act, and no command of the setup was sent
   more_back : (acts : List Act) (a : ℕ) → (runs : Runs plan commands (opening plan scope) acts) → (sends : action_at plan (at acts) ≡ Send)
       → (l : IsLinked plan commands scope acts) → (keeps : StaysBegun plan commands (at l.before) (l.request ∷ l.between))
-      → (cycles : PreparesNothing plan commands (at l.before) (l.request ∷ l.between))
-      → Back l.before (cycles_begun plan (at l.before).progress) a → Back acts (cycles_begun plan (at acts).progress) a
-  more_back acts a runs next l keeps cycles h =
+      → (no_setup : PreparesNothing plan commands (at l.before) (l.request ∷ l.between))
+      → AnsweredInPart l.before (cycles_begun plan (at l.before).progress) a → AnsweredInPart acts (cycles_begun plan (at acts).progress) a
+  more_back acts a runs next l keeps no_setup h =
       let grown = records_stay plan commands scope l.before (l.request ∷ l.between) in
       record {
-        k = h.k;
-        answer = h.answer;
-        among = ap (λ xs. slice_get (at xs).records h.k) l.order ∙ ap (λ rs. slice_get rs h.k) grown.1 ∙ get_more (at l.before).records grown.0 h.k h.answer h.among;
-        own_cycle = h.own_cycle ∙ sym l.cycle;
-        own_place = h.own_place;
-        line = h.line;
-        quality = h.quality;
-        said = h.said;
-        answered = h.answered;
-        well = h.well;
-        says = h.says;
+        its = record {
+          k = h.its.k;
+          answer = h.its.answer;
+          among = ap (λ xs. slice_get (at xs).records h.its.k) l.order ∙ ap (λ rs. slice_get rs h.its.k) grown.1 ∙ get_more (at l.before).records grown.0 h.its.k h.its.answer h.its.among;
+          own_cycle = h.its.own_cycle ∙ sym l.cycle;
+          own_place = h.its.own_place;
+          good = h.its.good;
+        };
         start = h.start;
         act = h.act;
         rest = h.rest ++ l.request ∷ l.between;
@@ -301,17 +287,18 @@ module _ (plan : Plan) (commands : List Task) (scope : Scope) where
         sends = h.sends;
         mark = h.mark;
         same = same_link acts runs next l keeps ∙ h.same;
-        cycles =
+        no_setup =
             let back = after_all-append plan commands (opening plan scope) h.start (h.act ∷ h.rest) in
             let here : after_all plan commands (at h.start) (h.act ∷ h.rest) ≡ at l.before = sym back ∙ ap at (sym h.order) in
-            prepares_none plan commands (at h.start) (h.act ∷ h.rest) (l.request ∷ l.between) h.cycles
-            (subst (λ (x : Model). PreparesNothing plan commands x (l.request ∷ l.between)) (sym here) cycles);
+            prepares_none plan commands (at h.start) (h.act ∷ h.rest) (l.request ∷ l.between) h.no_setup
+            (subst (λ (x : Model). PreparesNothing plan commands x (l.request ∷ l.between)) (sym here) no_setup);
       }
 
-  -- if a command is to be sent, `Back` holds of each earlier command of its chain, which is d + 1 places before it
+  -- if a command is to be sent, `AnsweredInPart` holds of the command d + 1 places before it, at place a, if that is one of a
+  -- cycle, and all commands after it up to the next one are chained
   back_to : (d a : ℕ) (acts : List Act) → (runs : Runs plan commands (opening plan scope) acts) → (sends : action_at plan (at acts) ≡ Send)
       → (place : place_next commands (at acts).progress ≡ a + suc d) → (low : plan.setup ≤ a) → AreChained commands a (place_next commands (at acts).progress)
-      → Back acts (cycles_begun plan (at acts).progress) a
+      → AnsweredInPart acts (cycles_begun plan (at acts).progress) a
   back_to zero a acts runs next place low chained =
       let x = chain_whole plan commands scope acts runs next (omega (arith, place, low), chained (place_next commands (at acts).progress) (omega (arith, place)) (omega arith)) in
       one_back acts a runs next (omega (arith, place)) x.0 x.1 x.2
@@ -333,18 +320,18 @@ module _ (plan : Plan) (commands : List Task) (scope : Scope) where
       no_prepare (after plan commands s x) xs ys zs act h.1 (cons_tail x y xs (ys ++ act ∷ zs) e)
       (subst (λ (a : Act). action_at plan (after_all plan commands (after plan commands s a) ys) ≡ Prepare) (sym (cons_head x y xs (ys ++ act ∷ zs) e)) is)
 
-  -- of the part that still goes on, each command after the one that `Back` speaks of, which is request m, is of a cycle: one of
-  -- the setup would be sent by an act after that one
-  cycles_behind : (acts : List Act) (i m cycle a : ℕ) (first : Part) → (there : slice_get (parts plan commands scope acts) i ≡ Some first) → (h : Back acts cycle a)
-      → (mark_there : slice_get first.marks m ≡ Some (Some (mark_next plan commands (at h.start).progress))) → (sends : action_at plan (at h.start) ≡ Send)
+  -- of the part that still goes on, each command after the one that `AnsweredInPart` speaks of, which is request m, is of a
+  -- cycle: one of the setup would be sent by an act after that one
+  cycles_behind : (acts : List Act) (i m cycle a : ℕ) (first : Part) → (there : slice_get (parts plan commands scope acts) i ≡ Some first) → (h : AnsweredInPart acts cycle a)
+      → (mark_there : slice_get first.marks m ≡ Some (Some (mark_next plan commands (at h.start).progress)))
       → (some : 0 < cycles_begun plan (at h.start).progress)
       → (x : ℕ) (mark : Mark) → (behind : m < x) → slice_get first.marks x ≡ Some (Some mark) → 0 < mark.cycle
-  cycles_behind acts i m cycle a first of_parts h got sends many x mark later found =
+  cycles_behind acts i m cycle a first of_parts h got many x mark later found =
       let own = mark_next plan commands (at h.start).progress in
       let p = sent_at plan commands (opening plan scope) acts i m first own of_parts got in
       let q = sent_at plan commands (opening plan scope) acts i x first mark of_parts found in
       let p_is = of_a_cycle plan commands (at p.before) (action_at plan (at p.before)) own p.its many in
-      let one : p.before ≡ h.start = same_send acts p.before (p.act ∷ p.rest) h.start (h.act ∷ h.rest) p.order h.order p_is.0 sends
+      let one : p.before ≡ h.start = same_send acts p.before (p.act ∷ p.rest) h.start (h.act ∷ h.rest) p.order h.order p_is.0 h.sends
       (ap (λ (k : Mark). k.cycle) (sym p_is.1)) (ap (λ (k : Mark). k.place) (sym p_is.1)) in
       let more = goes_before plan commands scope acts i i m x own mark (inr (refl, later)) p q in
       let behind : q.before ≡ h.start ++ more.0 = more.1 ∙ ap (λ xs. xs ++ more.0) one in
@@ -357,12 +344,12 @@ module _ (plan : Plan) (commands : List Task) (scope : Scope) where
             let below = (invariant_holds plan commands scope q.before).begun (needs_of plan (at q.before) Send it.0).2 in
             omega (arith, own, below)
             )
-        | inr it ↦ absurd (no_prepare (at h.start) (h.act ∷ h.rest) more.0 q.rest q.act h.cycles rest (ap (action_at plan) (sym there) ∙ it.0))
+        | inr it ↦ absurd (no_prepare (at h.start) (h.act ∷ h.rest) more.0 q.rest q.act h.no_setup rest (ap (action_at plan) (sym there) ∙ it.0))
       ]
 
-  -- where `Back` holds of a command, `IsAnsweredEarlier` does: its request is one of the last part
+  -- where `AnsweredInPart` holds of a command, `IsAnsweredEarlier` does: its request is one of the last part
   in_part : (acts : List Act) (i cycle a : ℕ) (first : Part) → Runs plan commands (opening plan scope) acts
-      → slice_get (parts plan commands scope acts) i ≡ Some first → length (parts plan commands scope acts) ≡ suc i → Back acts cycle a
+      → slice_get (parts plan commands scope acts) i ≡ Some first → length (parts plan commands scope acts) ≡ suc i → AnsweredInPart acts cycle a
       → IsAnsweredEarlier plan commands scope acts first cycle a
   in_part acts i cycle a first runs of_parts last h =
       let s = at h.start in
@@ -376,24 +363,14 @@ module _ (plan : Plan) (commands : List Task) (scope : Scope) where
       let has = mark_there plan commands (opening plan scope) h.start h.act h.rest i (sym h.same ∙ last) asks_here in
       let same : has.0 ≡ first = same_Some has.0 first (sym has.1 ∙ ap (λ xs. slice_get (parts plan commands scope xs) i) (sym h.order) ∙ of_parts) in
       record {
-        k = h.k;
-        answer = h.answer;
-        among = h.among;
-        own_cycle = h.own_cycle;
-        own_place = h.own_place;
-        line = h.line;
-        quality = h.quality;
-        said = h.said;
-        answered = h.answered;
-        well = h.well;
-        says = h.says;
+        its = h.its;
         m = has.2;
         expected = expected_first (drop (place_next commands s.progress) commands);
         mark =
-            subst (λ (p : Part). slice_get p.marks has.2 ≡ Some (Some (mark_of (expected_first (drop (place_next commands s.progress) commands)) h.answer))) same
+            subst (λ (p : Part). slice_get p.marks has.2 ≡ Some (Some (mark_of (expected_first (drop (place_next commands s.progress) commands)) h.its.answer))) same
             (subst (λ (k : Mark). slice_get has.0.marks has.2 ≡ Some (Some k)) (sym h.mark) has.3);
         of_cycles =
-            cycles_behind acts i has.2 cycle a first of_parts h (subst (λ (p : Part). slice_get p.marks has.2 ≡ Some (Some (mark_next plan commands s.progress))) same has.3) h.sends
+            cycles_behind acts i has.2 cycle a first of_parts h (subst (λ (p : Part). slice_get p.marks has.2 ≡ Some (Some (mark_next plan commands s.progress))) same has.3)
             (let below = fine.begun unsent in omega (arith, below));
       }
 

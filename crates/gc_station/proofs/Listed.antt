@@ -9,7 +9,7 @@ use Rattle.gc_catalogue.specs.declared.answer.Reading.{Reading}
 use Rattle.gc_catalogue.specs.declared.asked.Asked.{Asked}
 use Rattle.gc_client.specs.Rule
 use Rattle.gc_texts.specs.Again.{repeats_after, has_code}
-use Rattle.gc_texts.specs.Endings.{End, Answered, Unreadable, Elsewhere, Late, Lost, Skipped, Missed}
+use Rattle.gc_texts.specs.Endings.{End, Answered, Unreadable, Elsewhere, Late, Lost, Skipped, Missed, line_of}
 use Rattle.gc_texts.specs.Zeroed.{as_zero}
 use Rattle.gc_texts.specs.declared.again.Again.{Again}
 use Rattle.gc_texts.specs.declared.near.Expected.{Expected}
@@ -17,18 +17,17 @@ use Rattle.gc_texts.specs.declared.quality.Quality.{Quality}
 use Rattle.gc_texts.specs.declared.tasks.Task.{Task}
 use Rattle.gc_station.specs.Attempts.{code_in, code_of}
 use Rattle.gc_station.specs.Marks.{end_of, answer_as}
-use Rattle.gc_station.specs.Model.{in_attempt}
+use Rattle.gc_station.specs.NextCommand.{in_attempt}
 use Rattle.gc_station.specs.Records.{Record}
 use Rattle.gc_station.specs.Retries.{turn_as, rule_as, code_of_end, is_listed, HasListed}
-use Rattle.gc_station.specs.Answers.{answer_of}
 use Rattle.gc_station.proofs.Facts.{or_first}
 use Rattle.gc_station.proofs.Meets.{answer_line}
 
 -- Which ends a rule names.
 
--- an answered command ended by the line of its reply
+-- if the reply `line` ends a command as answered, the line l of that end is `line`
 answered_line : (expected : Expected) (x zeroed : Reading) (q : Quality) (line l : List ℕ) (said : Option Answer) → answer_as expected x zeroed line ≡ Answered q said l → line ≡ l
-answered_line expected x zeroed q line l said e = same_Some line l (sym (answer_line expected x zeroed line) ∙ ap answer_of e)
+answered_line expected x zeroed q line l said e = same_Some line l (sym (answer_line expected x zeroed line) ∙ ap line_of e)
 
 -- if a request ended as answered by the line l, the code of its outcome is the code in that line
 pub code_there : (reads : Asked → List ℕ → Reading) (expected : Expected) (call : Asked) (outcome : Rule.Outcome) (q : Quality) (said : Option Answer) (l : List ℕ)
@@ -52,7 +51,9 @@ named_by reads again call code Missed is = refl
 
 -- What records list.
 
--- whether a command of the attempt that the last of these records is of ended as its rule names; if there is none, b
+-- whether a command of the last attempt among these records ended as its rule names, where a record with link 0 begins an
+-- attempt. b says whether one had before these records, and counts as long as none of them begins an attempt; so it is b if there
+-- are no records
 abbrev pub any_listed : (Asked → List ℕ → Reading) → List Task → Bool → List Record → Bool
 any_listed reads commands b [] = b
 any_listed reads commands b (r ∷ rs) = any_listed reads commands ((if nat_eq r.turn.link 0 then false else b) || is_listed reads commands r) rs
@@ -67,7 +68,8 @@ any_append reads commands (x ∷ xs) ys b = any_append reads commands xs ys ((if
 abbrev BeginNoAttempt : List Record → Type 0
 BeginNoAttempt rs = AllByRecursion (λ (r : Record). r.turn.link ≡ 0 → ⊥) rs
 
--- if `any_listed` holds of records, one of them ended as its rule names, or none begins an attempt and b is true
+-- if `any_listed` holds of records, one of them ended as its rule names, with no attempt begun after it (`HasListed`); or b is
+-- true, and none of them begins an attempt
 has_of : (reads : Asked → List ℕ → Reading) (commands : List Task) (rs : List Record) (b : Bool) → any_listed reads commands b rs ≡ true
     → ((b ≡ true) × BeginNoAttempt rs) ⊎ HasListed reads commands rs
 has_of reads commands [] b e = inl (e, tt)
@@ -85,7 +87,8 @@ has_of reads commands (r ∷ rs) b e = by_rest (has_of reads commands rs ((if na
   by_rest (inl it) = by_tests (nat_eq r.turn.link 0) (is_listed reads commands r) refl refl it.0 it.1
   by_rest (inr h) = inr (record { front = r ∷ h.front; one = h.one; behind = h.behind; order = ap (λ xs. r ∷ xs) h.order; listed = h.listed; same = h.same })
 
--- if `any_listed` holds of records, with none before them, one of them ended as its rule names
+-- if `any_listed` holds of records, with none before them, one of them ended as its rule names, with no attempt begun after it
+-- (`HasListed`)
 pub listed_has : (reads : Asked → List ℕ → Reading) (commands : List Task) (rs : List Record) → any_listed reads commands false rs ≡ true → HasListed reads commands rs
 listed_has reads commands rs e = by_case (has_of reads commands rs false e) where
   -- the lemma above, of which one case can't be
@@ -117,11 +120,11 @@ expected_as true attempt expected = in_attempt attempt expected
 expected_as false attempt expected = expected
 
 -- the turn in `expected_as` is that of the command (`turn_as`)
-pub turn_expected : (b : Bool) (attempt : ℕ) (expected : Expected) → (expected_as b attempt expected).turn ≡ turn_as b attempt expected.turn
+pub turn_expected : (is_setup : Bool) (attempt : ℕ) (expected : Expected) → (expected_as is_setup attempt expected).turn ≡ turn_as is_setup attempt expected.turn
 turn_expected true attempt expected = refl
 turn_expected false attempt expected = refl
 
 -- the rule in `expected_as` is that of the command (`rule_as`)
-pub rule_expected : (b : Bool) (attempt : ℕ) (expected : Expected) → (expected_as b attempt expected).again ≡ rule_as b expected.again
+pub rule_expected : (is_setup : Bool) (attempt : ℕ) (expected : Expected) → (expected_as is_setup attempt expected).again ≡ rule_as is_setup expected.again
 rule_expected true attempt expected = refl
 rule_expected false attempt expected = refl

@@ -1,17 +1,11 @@
 -- Lists: facts of each element alone (`AllByRecursion`), by its place and the element beside it in another list (`AllAt`), or
--- with a rising number besides (`Rows`); and lists cut at an element.
+-- with a rising number besides (`AllRisingAt`); and lists cut at an element.
 use Rattle.std.proofs.Common.{◌≡◌, ℕ, zero, suc, ◌+◌, ◌<◌, ◌≤◌, List, [], ◌∷◌, ◌++◌, length, drop, map, Some, refl, sym, ap, ◌∙◌, subst, arith, append_assoc, ◌⊎◌, inl, inr}
 use Rattle.std.specs.Prelude.{slice_get}
 use Rattle.std.specs.List.{AllByRecursion}
-pub use Rattle.gc_lines.proofs.Lists.{all_append, all_on, get_more}
+pub use Rattle.gc_lines.proofs.Lists.{all_append, all_on, all_at, get_more, cons_head, cons_tail}
 
--- what holds of each element of a list holds of the one at a place
-pub all_at : {A : Type 0} (P : A → Type 0) (xs : List A) (i : ℕ) (x : A) → AllByRecursion P xs → slice_get xs i ≡ Some x → P x
-all_at P [] i x all e = cc
-all_at P (y ∷ xs) zero x all e = let same : y ≡ x = cc in subst P same all.0
-all_at P (y ∷ xs) (suc i) x all e = all_at P xs i x all.1 e
-
--- place n of two lists in a row is place k of the second list, if k places of it come after the first list
+-- what is at place n of two lists in a row is what is at place k of the second, if n is k more than the length of the first
 pub get_behind : {A : Type 0} (xs ys : List A) (n k : ℕ) → n ≡ length xs + k → slice_get (xs ++ ys) n ≡ slice_get ys k
 get_behind [] ys n k e = let same : n ≡ k = omega (arith, e) in ap (slice_get ys) same
 get_behind (x ∷ xs) ys zero k e = absurd (omega (arith, e))
@@ -30,8 +24,8 @@ all_drop P zero xs all = all
 all_drop P (suc n) [] all = tt
 all_drop P (suc n) (x ∷ xs) all = all_drop P n xs all.1
 
--- if one fact follows from another for an element with what comes before and after it, it holds of all elements if the other
--- does
+-- if Q follows from P for each element of the list `all`, with what comes before and after it there, and P holds of all elements
+-- of `xs`, with which `all` ends, Q holds of them, too
 pub all_split : {A : Type 0} (P Q : A → Type 0) (front xs all : List A) → front ++ xs ≡ all
     → ((earlier : List A) (x : A) (later : List A) → earlier ++ x ∷ later ≡ all → P x → Q x) → AllByRecursion P xs → AllByRecursion Q xs
 all_split P Q front [] all e step p = tt
@@ -46,102 +40,101 @@ AllAt P k (x ∷ xs) (y ∷ ys) = P k x y × AllAt P (suc k) xs ys
 
 -- P holds of each element of the first list, with a number, its place (k for the first one) and the element beside it in the
 -- second list, which must have one. The numbers are at least `low`, and rise
-abbrev pub Rows : {A B : Type 0} → (ℕ → ℕ → A → B → Type 0) → ℕ → ℕ → List A → List B → Type 0
-Rows P low k [] ys = Unit {0}
-Rows P low k (x ∷ xs) [] = ⊥
-Rows P low k (x ∷ xs) (y ∷ ys) = (n : ℕ) × (low ≤ n) × P n k x y × Rows P (suc n) (suc k) xs ys
+abbrev pub AllRisingAt : {A B : Type 0} → (ℕ → ℕ → A → B → Type 0) → (low k : ℕ) → List A → List B → Type 0
+AllRisingAt P low k [] ys = Unit {0}
+AllRisingAt P low k (x ∷ xs) [] = ⊥
+AllRisingAt P low k (x ∷ xs) (y ∷ ys) = (n : ℕ) × (low ≤ n) × P n k x y × AllRisingAt P (suc n) (suc k) xs ys
 
--- `Rows` holds with a lower bound `low` of the numbers, too
-pub rows_from : {A B : Type 0} (P : ℕ → ℕ → A → B → Type 0) (low high k : ℕ) (xs : List A) (ys : List B) → low ≤ high → Rows P high k xs ys → Rows P low k xs ys
-rows_from P low high k [] ys le p = tt
-rows_from P low high k (x ∷ xs) [] le p = absurd p
-rows_from P low high k (x ∷ xs) (y ∷ ys) le p = let from : low ≤ p.0 = omega (arith, le, p.1) in (p.0, from, p.2, p.3)
+-- `AllRisingAt` holds with a bound `low` that isn't above `high` in place of `high`, too
+pub rising_from : {A B : Type 0} (P : ℕ → ℕ → A → B → Type 0) (low high k : ℕ) (xs : List A) (ys : List B) → low ≤ high → AllRisingAt P high k xs ys → AllRisingAt P low k xs ys
+rising_from P low high k [] ys le p = tt
+rising_from P low high k (x ∷ xs) [] le p = absurd p
+rising_from P low high k (x ∷ xs) (y ∷ ys) le p = let from : low ≤ p.0 = omega (arith, le, p.1) in (p.0, from, p.2, p.3)
 
--- `Rows` of one property gives `Rows` of another that follows from it
-pub rows_follow : {A B : Type 0} (P Q : ℕ → ℕ → A → B → Type 0) (low k : ℕ) (xs : List A) (ys : List B) → ((n j : ℕ) (x : A) (y : B) → P n j x y → Q n j x y) → Rows P low k xs ys → Rows Q low k xs ys
-rows_follow P Q low k [] ys step p = tt
-rows_follow P Q low k (x ∷ xs) [] step p = absurd p
-rows_follow P Q low k (x ∷ xs) (y ∷ ys) step p = (p.0, p.1, step p.0 k x y p.2, rows_follow P Q (suc p.0) (suc k) xs ys step p.3)
+-- `AllRisingAt` of one property gives `AllRisingAt` of another that follows from it
+pub rising_follow : {A B : Type 0} (P Q : ℕ → ℕ → A → B → Type 0) (low k : ℕ) (xs : List A) (ys : List B)
+    → ((n j : ℕ) (x : A) (y : B) → P n j x y → Q n j x y) → AllRisingAt P low k xs ys → AllRisingAt Q low k xs ys
+rising_follow P Q low k [] ys step p = tt
+rising_follow P Q low k (x ∷ xs) [] step p = absurd p
+rising_follow P Q low k (x ∷ xs) (y ∷ ys) step p = (p.0, p.1, step p.0 k x y p.2, rising_follow P Q (suc p.0) (suc k) xs ys step p.3)
 
--- `Rows` of one property, at places that are higher by d, gives `Rows` of another that follows from it
-pub rows_on : {A B : Type 0} (P Q : ℕ → ℕ → A → B → Type 0) (d low k : ℕ) (xs : List A) (ys : List B)
-    → ((n j : ℕ) (x : A) (y : B) → j < k + length xs → P n (d + j) x y → Q n j x y) → Rows P low (d + k) xs ys → Rows Q low k xs ys
-rows_on P Q d low k [] ys step p = tt
-rows_on P Q d low k (x ∷ xs) [] step p = absurd p
-rows_on P Q d low k (x ∷ xs) (y ∷ ys) step p =
-    let next : suc (d + k) ≡ d + suc k = omega arith in
-    (p.0, p.1, step p.0 k x y (omega arith) p.2, rows_on P Q d (suc p.0) (suc k) xs ys (λ n j a b below. step n j a b (omega (arith, below))) (subst (λ (i : ℕ). Rows P (suc p.0) i xs ys) next p.3))
+-- `AllRisingAt` of one property, at places that are higher by d, gives `AllRisingAt` of another that follows from it
+pub rising_on : {A B : Type 0} (P Q : ℕ → ℕ → A → B → Type 0) (d low k : ℕ) (xs : List A) (ys : List B)
+    → ((n j : ℕ) (x : A) (y : B) → j < k + length xs → P n (d + j) x y → Q n j x y) → AllRisingAt P low (d + k) xs ys → AllRisingAt Q low k xs ys
+rising_on P Q d low k [] ys step p = tt
+rising_on P Q d low k (x ∷ xs) [] step p = absurd p
+rising_on P Q d low k (x ∷ xs) (y ∷ ys) step p =
+    let next : suc (d + k) ≡ d + suc k = omega arith in (
+      p.0,
+      p.1,
+      step p.0 k x y (omega arith) p.2,
+      rising_on P Q d (suc p.0) (suc k) xs ys (λ n j a b below. step n j a b (omega (arith, below)))
+          (subst (λ (i : ℕ). AllRisingAt P (suc p.0) i xs ys) next p.3),
+    )
 
--- `Rows` of P gives `Rows` of Q over the list with its elements mapped by f, if Q follows from P
-pub rows_map : {A B C : Type 0} (P : ℕ → ℕ → A → C → Type 0) (Q : ℕ → ℕ → B → C → Type 0) (f : A → B) (low k : ℕ) (xs : List A) (ys : List C)
+-- `AllRisingAt` of P gives `AllRisingAt` of Q over the list with its elements mapped by f, if Q follows from P
+pub rising_map : {A B C : Type 0} (P : ℕ → ℕ → A → C → Type 0) (Q : ℕ → ℕ → B → C → Type 0) (f : A → B) (low k : ℕ) (xs : List A) (ys : List C)
     → ((n j : ℕ) (x : A) (y : C) → j < k + length xs → P n j x y → Q n j (f x) y)
-    → Rows P low k xs ys → Rows Q low k (map f xs) ys
-rows_map P Q f low k [] ys step p = tt
-rows_map P Q f low k (x ∷ xs) [] step p = absurd p
-rows_map P Q f low k (x ∷ xs) (y ∷ ys) step p = (p.0, p.1, step p.0 k x y (omega arith) p.2, rows_map P Q f (suc p.0) (suc k) xs ys (λ n j a b below. step n j a b (omega (arith, below))) p.3)
+    → AllRisingAt P low k xs ys → AllRisingAt Q low k (map f xs) ys
+rising_map P Q f low k [] ys step p = tt
+rising_map P Q f low k (x ∷ xs) [] step p = absurd p
+rising_map P Q f low k (x ∷ xs) (y ∷ ys) step p = (p.0, p.1, step p.0 k x y (omega arith) p.2, rising_map P Q f (suc p.0) (suc k) xs ys (λ n j a b below. step n j a b (omega (arith, below))) p.3)
 
--- `Rows` holds without the first d elements of both lists
-pub rows_drop : {A B : Type 0} (P : ℕ → ℕ → A → B → Type 0) (d low k : ℕ) (xs : List A) (ys : List B) → Rows P low k xs ys → Rows P low (d + k) (drop d xs) (drop d ys)
-rows_drop P zero low k xs ys p = let here : 0 + k ≡ k = omega arith in subst (λ (i : ℕ). Rows P low i xs ys) (sym here) p
-rows_drop P (suc d) low k [] ys p = tt
-rows_drop P (suc d) low k (x ∷ xs) [] p = absurd p
-rows_drop P (suc d) low k (x ∷ xs) (y ∷ ys) p =
+-- `AllRisingAt` holds without the first d elements of both lists, at the places from d + k on
+pub rising_drop : {A B : Type 0} (P : ℕ → ℕ → A → B → Type 0) (d low k : ℕ) (xs : List A) (ys : List B) → AllRisingAt P low k xs ys → AllRisingAt P low (d + k) (drop d xs) (drop d ys)
+rising_drop P zero low k xs ys p = let here : 0 + k ≡ k = omega arith in subst (λ (i : ℕ). AllRisingAt P low i xs ys) (sym here) p
+rising_drop P (suc d) low k [] ys p = tt
+rising_drop P (suc d) low k (x ∷ xs) [] p = absurd p
+rising_drop P (suc d) low k (x ∷ xs) (y ∷ ys) p =
     let next : d + suc k ≡ suc d + k = omega arith in
     let from : low ≤ suc p.0 = omega (arith, p.1) in
-    rows_from P low (suc p.0) (suc d + k) (drop d xs) (drop d ys) from (subst (λ (i : ℕ). Rows P (suc p.0) i (drop d xs) (drop d ys)) next (rows_drop P d (suc p.0) (suc k) xs ys p.3))
+    rising_from P low (suc p.0) (suc d + k) (drop d xs) (drop d ys) from (subst (λ (i : ℕ). AllRisingAt P (suc p.0) i (drop d xs) (drop d ys)) next (rising_drop P d (suc p.0) (suc k) xs ys p.3))
 
--- `Rows` of Q for lists with one more element at their ends, which has the number `last` and the place `place`: P holds of the
--- other rows (`Rows`), and gives Q and a number below `last` for each
-pub rows_more : {A B : Type 0} (P Q : ℕ → ℕ → A → B → Type 0) (low k last place : ℕ) (xs : List A) (ys : List B) (x : A) (y : B) → (is_place : place ≡ k + length xs) → (same : length ys ≡ length xs)
+-- `AllRisingAt` of Q for lists with one more element at their ends, which has the number `last` and the place `place`: P holds of
+-- the other elements, and gives Q and a number below `last` for each
+pub rising_more : {A B : Type 0} (P Q : ℕ → ℕ → A → B → Type 0) (low k last place : ℕ) (xs : List A) (ys : List B) (x : A) (y : B) → (is_place : place ≡ k + length xs) → (same : length ys ≡ length xs)
     → (from : low ≤ last)
-    → (step : (n j : ℕ) (a : A) (b : B) → j < k + length xs → P n j a b → (n < last) × Q n j a b) → Rows P low k xs ys → (one : Q last place x y) → Rows Q low k (xs ++ x ∷ []) (ys ++ y ∷ [])
-rows_more P Q low k last place [] [] x y is same from step p one = let here : place ≡ k = omega (arith, is) in (last, from, subst (λ (i : ℕ). Q last i x y) here one, tt)
-rows_more P Q low k last place [] (b ∷ ys) x y is same from step p one = absurd (omega (arith, same))
-rows_more P Q low k last place (a ∷ xs) [] x y is same from step p one = absurd p
-rows_more P Q low k last place (a ∷ xs) (b ∷ ys) x y is same from step p one =
+    → (step : (n j : ℕ) (a : A) (b : B) → j < k + length xs → P n j a b → (n < last) × Q n j a b)
+    → AllRisingAt P low k xs ys → (one : Q last place x y) → AllRisingAt Q low k (xs ++ x ∷ []) (ys ++ y ∷ [])
+rising_more P Q low k last place [] [] x y is same from step p one = let here : place ≡ k = omega (arith, is) in (last, from, subst (λ (i : ℕ). Q last i x y) here one, tt)
+rising_more P Q low k last place [] (b ∷ ys) x y is same from step p one = absurd (omega (arith, same))
+rising_more P Q low k last place (a ∷ xs) [] x y is same from step p one = absurd p
+rising_more P Q low k last place (a ∷ xs) (b ∷ ys) x y is same from step p one =
     let next : place ≡ suc k + length xs = omega (arith, is) in
     let fewer : length ys ≡ length xs = omega (arith, same) in
     let here = step p.0 k a b (omega arith) p.2 in
     let above : suc p.0 ≤ last = omega (arith, here.0) in
-    (p.0, p.1, here.1, rows_more P Q (suc p.0) (suc k) last place xs ys x y next fewer above (λ n j c d below. step n j c d (omega (arith, below))) p.3 one)
+    (p.0, p.1, here.1, rising_more P Q (suc p.0) (suc k) last place xs ys x y next fewer above (λ n j c d below. step n j c d (omega (arith, below))) p.3 one)
 
--- a row at this place: an element, the one beside it, and their number, which is at least `low`
-pub record RowAt {A B : Type 0} (P : ℕ → ℕ → A → B → Type 0) (low place : ℕ) : Type 0 where
+-- P holds of an element at this place, with the one beside it and a number, which is at least `low`
+pub record RisingAt {A B : Type 0} (P : ℕ → ℕ → A → B → Type 0) (low place : ℕ) : Type 0 where
   pub number : ℕ
   pub least : low ≤ number
   pub one : A
   pub beside : B
   pub holds : P number place one beside
 
--- where `Rows` holds, there is a row (`RowAt`) at each place within the list
-pub row_at : {A B : Type 0} (P : ℕ → ℕ → A → B → Type 0) (low k j place : ℕ) (xs : List A) (ys : List B) → place ≡ k + j → j < length xs → Rows P low k xs ys → RowAt P low place
-row_at P low k j place [] ys is below p = absurd (omega (arith, below))
-row_at P low k j place (x ∷ xs) [] is below p = absurd p
-row_at P low k zero place (x ∷ xs) (y ∷ ys) is below p = let here : k ≡ place = omega (arith, is) in
+-- where `AllRisingAt` holds, `RisingAt` holds of each place within the list
+pub rising_at : {A B : Type 0} (P : ℕ → ℕ → A → B → Type 0) (low k j place : ℕ) (xs : List A) (ys : List B) → place ≡ k + j → j < length xs → AllRisingAt P low k xs ys → RisingAt P low place
+rising_at P low k j place [] ys is below p = absurd (omega (arith, below))
+rising_at P low k j place (x ∷ xs) [] is below p = absurd p
+rising_at P low k zero place (x ∷ xs) (y ∷ ys) is below p = let here : k ≡ place = omega (arith, is) in
     record { number = p.0; least = p.1; one = x; beside = y; holds = subst (λ (i : ℕ). P p.0 i x y) here p.2 }
-row_at P low k (suc j) place (x ∷ xs) (y ∷ ys) is below p =
+rising_at P low k (suc j) place (x ∷ xs) (y ∷ ys) is below p =
     let next : place ≡ suc k + j = omega (arith, is) in
     let low_next : j < length xs = omega (arith, below) in
-    let found = row_at P (suc p.0) (suc k) j place xs ys next low_next p.3 in
+    let found = rising_at P (suc p.0) (suc k) j place xs ys next low_next p.3 in
     let from : low ≤ found.number = omega (arith, p.1, found.least) in
     record { number = found.number; least = from; one = found.one; beside = found.beside; holds = found.holds }
 
--- `Rows` gives `AllAt` of a property that follows from it, for the elements mapped by f
-pub rows_all : {A B C : Type 0} (P : ℕ → ℕ → A → B → Type 0) (Q : ℕ → C → B → Type 0) (f : A → C) (low k : ℕ) (xs : List A) (ys : List B)
-    → ((n j : ℕ) (x : A) (y : B) → P n j x y → Q j (f x) y) → Rows P low k xs ys → AllAt Q k (map f xs) ys
-rows_all P Q f low k [] ys step p = tt
-rows_all P Q f low k (x ∷ xs) [] step p = tt
-rows_all P Q f low k (x ∷ xs) (y ∷ ys) step p = (step p.0 k x y p.2, rows_all P Q f (suc p.0) (suc k) xs ys step p.3)
+-- `AllRisingAt` gives `AllAt` of a property that follows from it, for the elements mapped by f
+pub rising_all : {A B C : Type 0} (P : ℕ → ℕ → A → B → Type 0) (Q : ℕ → C → B → Type 0) (f : A → C) (low k : ℕ) (xs : List A) (ys : List B)
+    → ((n j : ℕ) (x : A) (y : B) → P n j x y → Q j (f x) y) → AllRisingAt P low k xs ys → AllAt Q k (map f xs) ys
+rising_all P Q f low k [] ys step p = tt
+rising_all P Q f low k (x ∷ xs) [] step p = tt
+rising_all P Q f low k (x ∷ xs) (y ∷ ys) step p = (step p.0 k x y p.2, rising_all P Q f (suc p.0) (suc k) xs ys step p.3)
 
 -- Lists cut at an element.
-
--- the first elements of equal lists are equal
-pub cons_head : {A : Type 0} (x y : A) (xs ys : List A) → x ∷ xs ≡ y ∷ ys → x ≡ y
-cons_head x y xs ys e = cc
-
--- the rests of equal lists, after their first elements, are equal
-pub cons_tail : {A : Type 0} (x y : A) (xs ys : List A) → x ∷ xs ≡ y ∷ ys → xs ≡ ys
-cons_tail x y xs ys e = cc
 
 -- of two fronts of the same list, one is a front of the other
 pub fronts : {A : Type 0} (xs ys fs gs : List A) → xs ++ ys ≡ fs ++ gs → ((more : List A) × (fs ≡ xs ++ more)) ⊎ ((more : List A) × (xs ≡ fs ++ more))
@@ -194,7 +187,7 @@ cut_at (a ∷ xs) (b ∷ front) behind last x e = on (cut_at xs front behind las
   others : xs ++ last ∷ [] ≡ front ++ x ∷ behind
   others = cc
 
-  -- the lemma above with one more element before it
+  -- the lemma above with one more element at the front of both lists
   on : Cut xs last front behind x → Cut (a ∷ xs) last (b ∷ front) behind x
   on (AtEnd same) = AtEnd (ap (λ z. z ∷ xs) head ∙ ap (λ zs. b ∷ zs) same)
   on (Before between at tail) = Before between (ap (λ z. z ∷ xs) head ∙ ap (λ zs. b ∷ zs) at) tail

@@ -1,4 +1,4 @@
--- All that wait are lost only for a cause: after the act the station resynchronizes, or no act follows. An act is one call on
+-- All that wait are lost only for a cause: at that act the station resynchronizes, or no act follows it. An act is one call on
 -- the link, with its result.
 use Rattle.std.proofs.Common.{◌≡◌, ◌⊎◌, inl, inr, ℕ, ◌&&◌, ◌||◌, Bool, true, false, not, List, [], ◌∷◌, ◌++◌, length, map, Option, Some, if◌then◌else◌, nat_eq, refl, sym, ap, ◌∙◌, subst, append_assoc}
 use Rattle.std.specs.List.{AllByRecursion}
@@ -31,13 +31,14 @@ use Rattle.gc_station.specs.Reasons.{HoldsBefore}
 use Rattle.gc_station.specs.Records.{Record}
 use Rattle.gc_station.specs.Runs.{state_after}
 use Rattle.gc_station.specs.ActKinds.{Puts}
-use Rattle.gc_station.specs.Model.{Model, opening, action_at, waiting_of, request_text, Performs, with_progress, asks_next, is_chained_after_next, others_after_next, after_put, moved, losing, ended, after, IsSending, asks_setup}
+use Rattle.gc_station.specs.Model.{Model, opening, action_at, waiting_of, request_text, Performs, with_progress, asks_next, after_put, moved, losing, ended, after, IsSending, asks_setup}
+use Rattle.gc_station.specs.NextCommand.{is_chained_after_next, others_after_next}
 use Rattle.gc_station.proofs.Counts.{ended_progress}
 use Rattle.gc_station.proofs.Facts.{action_for, or_first}
 use Rattle.gc_station.proofs.Invariant.{Invariant}
 use Rattle.gc_station.proofs.Going.{after_all-append}
 use Rattle.gc_station.proofs.Growing.{moved_grew}
-use Rattle.gc_station.proofs.Lists.{all_append, all_split, Cut as CutOf, AtEnd, Before, cut_at, rows_all}
+use Rattle.gc_station.proofs.Lists.{all_append, all_split, Cut as CutOf, AtEnd, Before, cut_at, rising_all}
 use Rattle.gc_station.proofs.Meets.{IsRecordOf, records_all, was_answered, was_late}
 use Rattle.gc_station.proofs.Waiting.{WasAsked, Stayed, Waits, IsJustified, IsHonest}
 use Rattle.gc_station.proofs.Parting.{keeps_action}
@@ -45,7 +46,7 @@ use Rattle.gc_station.proofs.Walk.{is_sent, moved_changed, is_prepared}
 use Rattle.gc_station.proofs.Words.{renews_only, renews_needs}
 use Rattle.gc_station.specs.Scopes.{Scope}
 
--- none of these marks is a command's, so that no record is written
+-- with these marks no record is written, whatever is settled
 abbrev Unwritten : List (Option Mark) → Type 0
 Unwritten marks = (reads : Asked → List ℕ → Reading) (utc : ℕ) (settlements : List (Settlement Asked)) → records_of reads utc marks settlements ≡ []
 
@@ -69,8 +70,8 @@ over_stops plan p w over = by_phase p.phase refl over where
   by_phase (Over why) is e = (why, refl)
   by_phase phase is e = cc
 
--- if all outstanding requests are lost at an act, the station resynchronizes there, or no act follows; or no command is
--- outstanding
+-- if all outstanding requests are lost at an act, the station resynchronizes there, or no act follows; or no record is written of
+-- them (`Unwritten`)
 loses_why : (plan : Plan) (commands : List Task) (scope : Scope) (acts : List Act) (act : Act) → Invariant plan commands (state_after plan commands scope acts)
     → Performs commands (state_after plan commands scope acts) (action_at plan (state_after plan commands scope acts)) act
     → loses_all (moved plan commands (action_at plan (state_after plan commands scope acts)) (with_progress turned (state_after plan commands scope acts)) act).progress ≡ true
@@ -130,33 +131,33 @@ pub loses_nothing : (a b : Bool) → a ≡ true → b ≡ false → (not a || b)
 loses_nothing true b x y = y
 loses_nothing false b x y = cc
 
--- nothing is lost if a command is sent
-send_loses_none : (plan : Plan) (commands : List Task) (s : Model) (act : Act) → Invariant plan commands s → HoldsBefore plan s.progress (waiting_of s) actions.Send
+-- nothing is lost if a command of a cycle is sent
+send_loses_none : (plan : Plan) (commands : List Task) (s : Model) (act : Act) → HoldsBefore plan s.progress (waiting_of s) actions.Send
     → loses_all (moved plan commands actions.Send (with_progress turned s) act).progress ≡ false
-send_loses_none plan commands s act fine needs =
+send_loses_none plan commands s act needs =
     let t = with_progress turned s in
     let f = λ (x : Model). with_progress (sent (is_chained_after_next commands x.progress) (others_after_next commands x.progress)) (asks_next plan commands x) in
     loses_nothing (has_begun (moved plan commands actions.Send t act).progress) _ (ap (λ (x : Model). has_begun x.progress) (moved_changed plan commands actions.Send t act) ∙ needs.1)
     (put_goes _ f t act (sym (ap (λ (x : Model). x.progress.phase) (is_sent plan commands t)) ∙ needs.0))
 
 -- nothing is lost if a command of the setup is sent
-prepare_loses_none : (plan : Plan) (commands : List Task) (s : Model) (act : Act) → Invariant plan commands s → HoldsBefore plan s.progress (waiting_of s) actions.Prepare
+prepare_loses_none : (plan : Plan) (commands : List Task) (s : Model) (act : Act) → HoldsBefore plan s.progress (waiting_of s) actions.Prepare
     → loses_all (moved plan commands actions.Prepare (with_progress turned s) act).progress ≡ false
-prepare_loses_none plan commands s act fine needs =
+prepare_loses_none plan commands s act needs =
     let t = with_progress turned s in
     let f = λ (x : Model). with_progress (setup_sent plan) (asks_setup plan commands x) in
     loses_nothing (has_begun (moved plan commands actions.Prepare t act).progress) _ (ap (λ (x : Model). has_begun x.progress) (moved_changed plan commands actions.Prepare t act) ∙ needs.1)
     (put_goes _ f t act (sym (ap (λ (x : Model). x.progress.phase) (is_prepared plan commands t)) ∙ needs.0))
 
 -- nothing is lost if a command is sent, of a cycle or of the setup
-sending_loses_none : (plan : Plan) (commands : List Task) (s : Model) (act : Act) → Invariant plan commands s → IsSending plan s
+sending_loses_none : (plan : Plan) (commands : List Task) (s : Model) (act : Act) → IsSending plan s
     → loses_all (moved plan commands (action_at plan s) (with_progress turned s) act).progress ≡ false
-sending_loses_none plan commands s act fine (inl sends) =
+sending_loses_none plan commands s act (inl sends) =
     let needs = subst (λ (o : Action). HoldsBefore plan s.progress (waiting_of s) o) sends (action_for plan s.progress (waiting_of s)) in
-    ap (λ (o : Action). loses_all (moved plan commands o (with_progress turned s) act).progress) sends ∙ send_loses_none plan commands s act fine needs
-sending_loses_none plan commands s act fine (inr sends) =
+    ap (λ (o : Action). loses_all (moved plan commands o (with_progress turned s) act).progress) sends ∙ send_loses_none plan commands s act needs
+sending_loses_none plan commands s act (inr sends) =
     let needs = subst (λ (o : Action). HoldsBefore plan s.progress (waiting_of s) o) sends (action_for plan s.progress (waiting_of s)) in
-    ap (λ (o : Action). loses_all (moved plan commands o (with_progress turned s) act).progress) sends ∙ prepare_loses_none plan commands s act fine needs
+    ap (λ (o : Action). loses_all (moved plan commands o (with_progress turned s) act).progress) sends ∙ prepare_loses_none plan commands s act needs
 
 -- The records of those that are lost.
 
@@ -177,12 +178,11 @@ IsLostRecord plan commands scope acts r = (mark : Mark) × (y : Settlement Asked
 -- if all outstanding requests are lost because the station resynchronizes or no act follows, each record that the act writes of
 -- them is true (`IsJustified`)
 lost_true : (plan : Plan) (commands : List Task) (scope : Scope) (acts : List Act) (act : Act) (r : Record) (news earlier later : List Record)
-    → Invariant plan commands (state_after plan commands scope acts)
     → (loses : loses_all (moved plan commands (action_at plan (state_after plan commands scope acts)) (with_progress turned (state_after plan commands scope acts)) act).progress ≡ true)
     → (why : Resynchronizes plan commands scope acts act ⊎ IsLast plan commands scope acts act [])
     → (ends : (state_after plan commands scope (acts ++ act ∷ [])).records ≡ ((state_after plan commands scope acts).records ++ news) ++ (earlier ++ r ∷ later))
     → IsLostRecord plan commands scope (acts ++ act ∷ []) r → IsJustified plan commands scope (acts ++ act ∷ []) r
-lost_true plan commands scope acts act r news earlier later fine loses why ends it = record {
+lost_true plan commands scope acts act r news earlier later loses why ends it = record {
   answered = λ line e. absurd (not_answered line (sym outcome ∙ was_answered r it.1 it.5 line e));
   late = λ e. absurd (not_late (sym outcome ∙ was_late r it.1 it.5 e));
   lost = λ e. on (cut_at acts a.before a.between act a.request a.order);
@@ -220,29 +220,32 @@ lost_true plan commands scope acts act r news earlier later fine loses why ends 
   on (AtEnd same) =
       let s = state_after plan commands scope acts in
       let sends : IsSending plan s = subst (λ (xs : List Act). IsSending plan (state_after plan commands scope xs)) (sym same) (a.its it.0 refl).sends in
-      absurd (both_ways (loses_all (moved plan commands (action_at plan s) (with_progress turned s) act).progress) (sending_loses_none plan commands s act fine sends) loses)
+      absurd (both_ways (loses_all (moved plan commands (action_at plan s) (with_progress turned s) act).progress) (sending_loses_none plan commands s act sends) loses)
   on (Before between at rest) =
       let its = a.its it.0 refl in
       record {
-        before = a.before;
-        request = a.request;
-        between = between;
         act = act;
-        behind = [];
-        order = a.order ∙ ap (λ xs. a.before ++ a.request ∷ xs) rest;
-        own = record {
-          sends = its.sends;
-          cycle = it.2 ∙ its.cycle;
-          place = it.3 ∙ its.place;
-          sent = it.4 ∙ ap Some its.sent;
-          put = subst (λ (y : Asked). Puts (request_text (state_after plan commands scope a.before).client y) a.request)
-              (sym (ap (λ (y : Wish). y.call) it.5.command ∙ ap (λ (y : Settlement Asked). y.call) x.is)) a.put;
+        its = record {
+          before = a.before;
+          request = a.request;
+          between = between;
+          behind = [];
+          order = a.order ∙ ap (λ xs. a.before ++ a.request ∷ xs) rest;
+          own = record {
+            sends = its.sends;
+            cycle = it.2 ∙ its.cycle;
+            place = it.3 ∙ its.place;
+            sent = it.4 ∙ ap Some its.sent;
+            put = subst (λ (y : Asked). Puts (request_text (state_after plan commands scope a.before).client y) a.request)
+                (sym (ap (λ (y : Wish). y.call) it.5.command ∙ ap (λ (y : Settlement Asked). y.call) x.is)) a.put;
+          };
+          written = subst (λ (xs : List Act). IsWrittenAt plan commands scope xs act r) at here;
         };
-        written = subst (λ (xs : List Act). IsWrittenAt plan commands scope xs act r) at here;
         shown = inr (subst (λ (xs : List Act). Resynchronizes plan commands scope xs act ⊎ IsLast plan commands scope xs act []) at why);
       }
 
--- `IsHonest` holds after an act whether all outstanding requests are lost or not, if it holds before that
+-- if `IsHonest` holds after an act before what is outstanding is lost, it holds after the whole act, whether all outstanding
+-- requests are lost or not
 pub losing_honest : (plan : Plan) (commands : List Task) (scope : Scope) (acts : List Act) (act : Act) → Invariant plan commands (state_after plan commands scope acts)
     → Performs commands (state_after plan commands scope acts) (action_at plan (state_after plan commands scope acts)) act
     → IsHonest plan commands scope (acts ++ act ∷ []) (acts ++ act ∷ [])
@@ -275,7 +278,7 @@ losing_honest plan commands scope acts act fine obeys h = by_test (loses_all t.p
   of_lost =
       records_all (λ (k : ℕ). LostOf plan commands scope all) (IsLostRecord plan commands scope all) t.reads t.progress.moment.utc 0 (map lost t.client.waiting) t.marks
       (λ i x mark is. (mark, x, refl, refl, refl, record { reads = t.reads; expected = mark.expected; command = refl; ended = refl }, is))
-      (rows_all (Waits plan commands scope all t.client.next (length t.client.waiting)) (λ (k : ℕ). LostOf plan commands scope all) lost 0 0 t.client.waiting t.marks
+      (rising_all (Waits plan commands scope all t.client.next (length t.client.waiting)) (λ (k : ℕ). LostOf plan commands scope all) lost 0 0 t.client.waiting t.marks
       (λ n j p mark w. record { number = n; at = j; id = id_at t.client.next (length t.client.waiting) j; pending = p; is = refl; asked = w }) h.waiting)
 
   -- each of these records is true, if all are lost for a cause
@@ -286,7 +289,7 @@ losing_honest plan commands scope acts act fine obeys h = by_test (loses_all t.p
       let grew = moved_grew plan commands (action_at plan s) (with_progress turned s) act in
       all_split (IsLostRecord plan commands scope all) (IsJustified plan commands scope all) [] written written refl
       (λ (earlier : List Record) (r : Record) (later : List Record) at is.
-      lost_true plan commands scope acts act r grew.0 earlier later fine loses why (ends loses grew.0 grew.1 ∙ ap (λ xs. (s.records ++ grew.0) ++ xs) (sym at)) is) of_lost
+      lost_true plan commands scope acts act r grew.0 earlier later loses why (ends loses grew.0 grew.1 ∙ ap (λ xs. (s.records ++ grew.0) ++ xs) (sym at)) is) of_lost
 
   -- the lemma above, by whether all outstanding requests are lost (`true`)
   by_test : (b : Bool) → loses_all t.progress ≡ b → IsHonest plan commands scope all all (losing b t)

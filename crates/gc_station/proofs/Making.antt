@@ -28,13 +28,14 @@ use Rattle.gc_station.specs.Progressing.{failing, skipped_at}
 use Rattle.gc_station.specs.Records.{Record}
 use Rattle.gc_station.specs.ActKinds.{Puts, IsReading}
 use Rattle.gc_station.specs.Model.{Model, client_sent, sent_to, asks, asks_first, first_unsent_record, with_progress, with_listed, with_records, after_put, after_read, moved, asks_or_null, text_or_null, request_text}
-use Rattle.gc_station.specs.Stations.{Refines, Took, Makes, Made, ComesTo, cut_progress, seen, setup_asked}
+use Rattle.gc_station.specs.Stations.{Refines, Took, Makes, Made, ComesTo, cut_progress, seen, setup_asked, station_asking}
 use Rattle.gc_station.specs.Scopes.{AreReadings}
 use Rattle.gc_station.specs.Tallies.{nothing_yet, tallied}
 use Rattle.gc_station.specs.declared.station.sending.Outgoing.{Outgoing}
 use Rattle.gc_station.proofs.Records.{tallied-append, last-append}
 
--- a station whose progress changes is as the model whose progress changes so
+-- if a station is as the model `s`, then with the progress `p`, which is `f` of its own, it is as `s` with its progress changed
+-- by `f`
 pub refines_with : (station : Station) (p : Progress) (f : Progress → Progress) (s : Model) → Refines station s → p ≡ f station.progress → Refines (record station { progress = p }) (with_progress f s)
 refines_with station p f s stands is = record {
   progress = is ∙ ap f stands.progress;
@@ -51,12 +52,14 @@ refines_with station p f s stands is = record {
 
 -- Bytes are put.
 
--- a link that recorded a write of these bytes recorded an act that puts them
+-- the act of a write of `bytes` with the result `put`, which says that all of them were written or fewer (`IsPart`), puts the
+-- bytes `want`, whole or in part (`Puts`), if `bytes` is equal to `want`
 pub put_puts : (put : Result (Unit {0}) ℕ) (bytes want : List ℕ) → bytes ≡ want → IsPart put bytes → Puts want (put_act put bytes)
 put_puts (Ok r) bytes want is part = is
 put_puts (Err n) bytes want is part = (is, subst (λ (xs : List ℕ). n < length xs) is part)
 
--- after a write, whole or cut, the station is as the model after that write
+-- if the station `mid` is as the model `f s`, then `mid` with its progress after a write with the result `put` (`cut_progress`)
+-- is as `s` after that write, whole or cut, by which `f` changes it (`after_put`). `requests` and `wanted` are the same number
 pub put_refines : (put : Result (Unit {0}) ℕ) (bytes : List ℕ) (requests wanted : ℕ) (f : Model → Model) (s : Model) (mid new : Station) → Refines mid (f s)
     → new ≡ record mid { progress = cut_progress put requests mid.progress } → requests ≡ wanted → Refines new (after_put wanted f s (put_act put bytes))
 put_refines (Ok r) bytes requests wanted f s mid new stands is same = subst (λ (x : Station). Refines x (f s)) (sym is) stands
@@ -65,7 +68,8 @@ put_refines (Err n) bytes requests wanted f s mid new stands is same =
     subst (λ (x : Station). Refines x (with_progress (failing (cause.Write wanted n)) (f s))) (sym is)
     (refines_with mid (cut_progress (Err n) requests mid.progress) (failing (cause.Write wanted n)) (f s) stands why)
 
--- a write adds no records, so a book that has the model's records still has them
+-- a book that has the records of the model `f s` (`Took`) has those of `s` after a write, whole or cut, by which `f` changes it
+-- (`after_put`)
 pub put_took : (text : Record → List ℕ) (start taken : Option (List ℕ)) (put : Result (Unit {0}) ℕ) (bytes : List ℕ) (requests : ℕ) (f : Model → Model)
     (s : Model) → Took text start taken (f s) → Took text start taken (after_put requests f s (put_act put bytes))
 put_took text start taken (Ok r) bytes requests f s so = so
@@ -73,18 +77,15 @@ put_took text start taken (Err n) bytes requests f s so = so
 
 -- Requests are sent.
 
--- one request more waits after a send
-sent_count : (c : ById Asked) (target : ℕ) (call : Asked) (deadline : ℕ) (b : Bool) → b ≡ false → length (client_sent c (id_send c target call deadline b)).waiting ≡ length c.waiting + 1
+-- if the window isn't full (`full` is false), one request more waits after a send
+sent_count : (c : ById Asked) (target : ℕ) (call : Asked) (deadline : ℕ) (full : Bool) → full ≡ false → length (client_sent c (id_send c target call deadline full)).waiting ≡ length c.waiting + 1
 sent_count c target call deadline true e = cc
 sent_count c target call deadline false e = length-append c.waiting _
 
--- a station that sent a request is as the model that sent it
+-- if the station `old` is as the model `s`, and there is room for a request, then `old` after it sent `command`
+-- (`station_asking`) is as `s` after it sent the same (`other`)
 pub asks_refines : (old new : Station) (s : Model) (wait : ℕ) (command other : Wish) (mark : Option Mark) → Refines old s → length old.client.ids.waiting < WINDOW → command ≡ other
-    → new ≡ record old {
-      client = record old.client { ids = sent_to old.client.width old.client.ids command old.progress.moment.elapsed wait };
-      marks = record { items = old.marks.items ++ mark ∷ [] };
-    }
-    → Refines new (asks wait other.target other.call mark s)
+    → new ≡ station_asking command wait mark old → Refines new (asks wait other.target other.call mark s)
 asks_refines old new s wait command other mark stands room e is =
     let elapsed = old.progress.moment.elapsed in
     let fewer : length s.client.waiting < WINDOW = subst (λ (c : ById Asked). length c.waiting < WINDOW) stands.ids room in
@@ -102,37 +103,39 @@ asks_refines old new s wait command other mark stands room e is =
       marks = ap (λ (n : Station). n.marks.items) is ∙ ap (λ ms. ms ++ mark ∷ []) stands.marks;
       paired = marks ∙ ap (λ n. n + 1) stands.paired ∙ sym more;
       assembles = subst (λ (x : Station). StandsFor x.assembler s.rest) (sym is) stands.assembles;
-      tally = λ are. ap (λ (n : Station). n.tally) is ∙ stands.tally are;
-      well = λ are. ap (λ (n : Station). n.well) is ∙ stands.well are;
-      listed = λ are. ap (λ (n : Station). n.listed) is ∙ stands.listed are;
-      fresh = λ are. ap (λ (n : Station). n.fresh) is ∙ stands.fresh are;
+      tally = λ are. ap (λ (n : Station). n.recorded.tally) is ∙ stands.tally are;
+      well = λ are. ap (λ (n : Station). n.recorded.well) is ∙ stands.well are;
+      listed = λ are. ap (λ (n : Station). n.recorded.listed) is ∙ stands.listed are;
+      fresh = λ are. ap (λ (n : Station). n.recorded.fresh) is ∙ stands.fresh are;
     }
 
--- without its first i elements a list begins with the one at place i
+-- a list with more than i elements, whose element at place i is x, begins with x without its first i elements
 pub drop_here : {A : Type 0} (xs : List A) (i : ℕ) (x : A) → i < length xs → x ≡ get_or xs i x → (others : List A) × (drop i xs ≡ x ∷ others)
 drop_here [] i x below e = absurd (omega (arith, below))
 drop_here (y ∷ ys) zero x below e = (ys, ap (λ z. z ∷ ys) (sym e))
 drop_here (y ∷ ys) (suc i) x below e = drop_here ys i x (omega (arith, below)) e
 
--- without its first i elements a longer list still has some
+-- a list with more than i elements still has some without its first i
 pub drop_some : {A : Type 0} (xs : List A) (i : ℕ) → i < length xs → (x : A) × (others : List A) × (drop i xs ≡ x ∷ others)
 drop_some [] i below = absurd (omega (arith, below))
 drop_some (y ∷ ys) zero below = (y, ys, refl)
 drop_some (y ∷ ys) (suc i) below = drop_some ys i (omega (arith, below))
 
--- a station that sent the first of these commands is as the model that sent it
+-- a station that is as the model `s` after it sent `task` with `mark` is as `s` after it sent the first of the commands in `list`
+-- with `mark'`, if `list` begins with `task` and the two marks are equal
 pub first_refines : (new : Station) (s : Model) (mark mark' : Mark) (list : List Task) (task : Task) (others : List Task) → list ≡ task ∷ others → mark ≡ mark'
     → Refines new (asks task.deadline task.command.target (call_at task mark.sent) (Some mark) s) → Refines new (asks_first mark' list s)
 first_refines new s mark mark' list task others is e stands =
     subst (λ (ts : List Task). Refines new (asks_first mark' ts s)) (sym is) (subst (λ (m : Mark). Refines new (asks task.deadline task.command.target (call_at task m.sent) (Some m) s)) e stands)
 
--- a send adds no records, so a book that has the model's records still has them
+-- a book that has the records of the model `s` (`Took`) has those of `s` after it sent the first of the commands in `list`, if
+-- there is one: the send adds no record
 pub first_took : (text : Record → List ℕ) (start taken : Option (List ℕ)) (s : Model) (mark : Mark) (list : List Task) → Took text start taken s → Took text start taken (asks_first mark list s)
 first_took text start taken s mark [] so = so
 first_took text start taken s mark (task ∷ others) so = so
 
--- the model that sent what `setup_asked` says is that which sent the first of these commands of the setup, or a null procedure
--- if there is none
+-- a station that is as the model `s` after it sent what `setup_asked` says is as `s` after it sent the first of these commands of
+-- the setup, or a null procedure if there is none
 pub setup_refines : (plan : Plan) (station : Station) (s : Model) (asking : Outgoing) (mark : Mark) (list : List Task) → asking ≡ setup_asked plan mark list
     → Refines station (asks asking.wait asking.command.target asking.command.call asking.mark s) → Refines station (asks_or_null plan mark list s)
 setup_refines plan station s asking mark list is stands =
@@ -144,14 +147,14 @@ setup_refines plan station s asking mark list is stands =
       by_list [] = refl
       by_list (task ∷ others) = refl
 
--- the bytes of the request that `setup_asked` says are those of the first of these commands of the setup, or of a null procedure if
--- there is none
+-- the bytes of the request that `setup_asked` says are those of the first of these commands of the setup, or of a null procedure
+-- if there is none
 pub setup_text : (plan : Plan) (client : ById Asked) (mark : Mark) (list : List Task) → request_text client (setup_asked plan mark list).command.call ≡ text_or_null mark.sent client list
 setup_text plan client mark [] = refl
 setup_text plan client mark (task ∷ others) = refl
 
--- a book that has a model's records has those of the model that sent the first of these commands of the setup, as that adds
--- none
+-- a book that has the records of the model `s` (`Took`) has those of `s` after it sent the first of these commands of the setup,
+-- or a null procedure if there is none: the send adds no record
 pub setup_took : (plan : Plan) (text : Record → List ℕ) (start taken : Option (List ℕ)) (s : Model) (mark : Mark) (list : List Task) → Took text start taken s
     → Took text start taken (asks_or_null plan mark list s)
 setup_took plan text start taken s mark [] so = so
@@ -159,8 +162,8 @@ setup_took plan text start taken s mark (task ∷ others) so = so
 
 -- A command is skipped.
 
--- the record that the code writes of `task`, the first of the commands in `list`, which isn't sent, is the one that the model
--- adds (`first_unsent_record`)
+-- if `list` begins with `task`, and the two marks are equal, the record of `task` as missed or skipped (`end`), with the moment
+-- of `skipped_at`, is the one record that the model adds (`first_unsent_record`)
 pub skips_as : (p : Progress) (m : Moment) (mark mark' : Mark) (utc : ℕ) (end : End) (list : List Task) (task : Task) (others : List Task)
     → list ≡ task ∷ others → mark ≡ mark' → utc ≡ skipped_at m p → end ≡ (if p.missed then Missed else Skipped)
     → record { sent = None; utc = utc; cycle = mark.cycle; place = mark.place; turn = mark.expected.turn; command = task.command; end = end } ∷ [] ≡ first_unsent_record p m mark' list
@@ -170,19 +173,22 @@ skips_as p m mark mark' utc end list task others is e at ends =
     ∙ ap (λ (x : End). record { sent = None; utc = skipped_at m p; cycle = mark'.cycle; place = mark'.place; turn = mark'.expected.turn; command = task.command; end = x } ∷ []) ends
     ∙ sym (ap (first_unsent_record p m mark') is)
 
--- a command that isn't sent wasn't answered well
-unwell_end : (b : Bool) → is_well (if b then Missed else Skipped) ≡ false
+-- neither ending of a command that isn't sent, as missed or as skipped, is that of one that was answered well
+unwell_end : (missed : Bool) → is_well (if missed then Missed else Skipped) ≡ false
 unwell_end true = refl
 unwell_end false = refl
 
--- after the record of a command that isn't sent, the last command wasn't answered well
-pub skips_unwell : (b : Bool) (p : Progress) (m : Moment) (mark : Mark) (list : List Task) (task : Task)
-    (others : List Task) → list ≡ task ∷ others → last_well b (first_unsent_record p m mark list) ≡ false
+-- after the record of the first of the commands in `list`, of which there is one, as not sent, the last command wasn't answered
+-- well
+pub skips_unwell : (well : Bool) (p : Progress) (m : Moment) (mark : Mark) (list : List Task) (task : Task)
+    (others : List Task) → list ≡ task ∷ others → last_well well (first_unsent_record p m mark list) ≡ false
 skips_unwell b p m mark list task others is = ap (λ ts. last_well b (first_unsent_record p m mark ts)) is ∙ unwell_end p.missed
 
--- a station that counted the record of a command that isn't sent is as the model with that record
+-- if the station `old` is as the model `s`, and after the records `rs` the last command wasn't answered well, whatever it was
+-- before them, then `old` with these records counted, and `b` as `listed`, is as `s` with these records, and b' as `listed`. b
+-- and b' are equal if what `s` has for `reads` is right (`AreReadings`)
 pub skipped_refines : (old new : Station) (s : Model) (rs : List Record) (b b' : Bool) → Refines old s → ((b : Bool) → last_well b rs ≡ false) → (AreReadings s.reads → b ≡ b')
-    → new ≡ record old { tally = tallied old.tally rs; well = false; listed = b } → Refines new (with_listed b' (with_records rs s))
+    → new ≡ record old { recorded = record old.recorded { tally = tallied old.recorded.tally rs; well = false; listed = b } } → Refines new (with_listed b' (with_records rs s))
 skipped_refines old new s rs b b' stands unwell same is = record {
   progress = ap (λ (n : Station). n.progress) is ∙ stands.progress;
   ids = ap (λ (n : Station). n.client.ids) is ∙ stands.ids;
@@ -190,19 +196,19 @@ skipped_refines old new s rs b b' stands unwell same is = record {
   marks = ap (λ (n : Station). n.marks.items) is ∙ stands.marks;
   paired = stands.paired;
   assembles = subst (λ (x : Station). StandsFor x.assembler s.rest) (sym is) stands.assembles;
-  tally = λ are. ap (λ (n : Station). n.tally) is ∙ ap (λ t. tallied t rs) (stands.tally are) ∙ sym (tallied-append nothing_yet s.records rs);
-  well = λ are. ap (λ (n : Station). n.well) is ∙ sym (last-append false s.records rs ∙ unwell (last_well false s.records));
-  listed = λ are. ap (λ (n : Station). n.listed) is ∙ same are;
-  fresh = λ are. ap (λ (n : Station). n.fresh) is ∙ stands.fresh are;
+  tally = λ are. ap (λ (n : Station). n.recorded.tally) is ∙ ap (λ t. tallied t rs) (stands.tally are) ∙ sym (tallied-append nothing_yet s.records rs);
+  well = λ are. ap (λ (n : Station). n.recorded.well) is ∙ sym (last-append false s.records rs ∙ unwell (last_well false s.records));
+  listed = λ are. ap (λ (n : Station). n.recorded.listed) is ∙ same are;
+  fresh = λ are. ap (λ (n : Station). n.recorded.fresh) is ∙ stands.fresh are;
 }
 
--- no records added to a model leave it as it is
-pub none_skipped : (s : Model) → with_records [] s ≡ s
-none_skipped s = ap (λ (rs : List Record). record s { records = rs }) (append-nil s.records)
+-- a model to which no records are added is as it was
+pub with_no_records : (s : Model) → with_records [] s ≡ s
+with_no_records s = ap (λ (rs : List Record). record s { records = rs }) (append-nil s.records)
 
 -- A read.
 
--- a station that made a read is as the model after the read
+-- a read was made, as `Makes` says, if after it the station is as the model after the read, and the book has that model's records
 pub makes_read : (plan : Plan) (commands : List Task) (until : Until) (text : Record → List ℕ) (told told' : Option (List Act))
     (taken taken' : Option (List ℕ)) (station new : Station) (act : Act) → Tells told told' (act ∷ []) → IsReading act
     → ((s : Model) (start : Option (List ℕ)) → Refines station s → Took text start taken s → Refines new (after_read plan until s act) × Took text start taken' (after_read plan until s act))
@@ -210,7 +216,8 @@ pub makes_read : (plan : Plan) (commands : List Task) (until : Until) (text : Re
 makes_read plan commands until text told told' taken taken' station new act tells reads goes =
     record { act = act; tells = tells; goes = λ s start stands so. let g = goes s start stands so in (reads, g.0, g.1) }
 
--- a read was made, and its records are in the book, or the book failed at one of them
+-- a read was made, as `Made` says, if after it the station is as the model after the read, and its records are in the book; or
+-- the book failed at one of them
 pub made_read : {X E : Type 0} (plan : Plan) (commands : List Task) (until : Until) (text : Record → List ℕ) (told told' : Option (List Act))
     (taken taken' : Option (List ℕ)) (station new : Station) (act : Act) (result : Result X E) → Tells told told' (act ∷ []) → IsReading act
     → ((s : Model) (start : Option (List ℕ)) → Refines station s → Took text start taken s → ComesTo text s.records new start taken' (after_read plan until s act) result)

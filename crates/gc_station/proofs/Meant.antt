@@ -16,11 +16,12 @@ use Rattle.gc_station.specs.Deciding.{later, has_begun}
 use Rattle.gc_station.specs.Parts.{Asks, Part, only_turns, nothing, request_part, first_request_part, put_part, sync_part, request_or_null_part}
 use Rattle.gc_station.specs.Reasons.{HoldsBefore}
 use Rattle.gc_station.specs.ActKinds.{Puts, ReadsClock, IsOpening, IsReading}
-use Rattle.gc_station.specs.Model.{Model, action_at, waiting_of, place_next, mark_next, request_text, null_text, first_text, Performs, mark_setup, text_or_null}
+use Rattle.gc_station.specs.Model.{Model, action_at, waiting_of, request_text, null_text, first_text, Performs, text_or_null}
+use Rattle.gc_station.specs.NextCommand.{place_next, mark_next, mark_setup}
 use Rattle.gc_station.proofs.Facts.{action_for}
 use Rattle.gc_station.proofs.Invariant.{Invariant}
 
--- the part p is that of a request that is sent, and these bytes are its line
+-- the part p is that of a request that is sent, these bytes are its line, and fewer than seven requests wait before it
 pub record IsSent (s : Model) (bytes : List ℕ) (p : Part) : Type 0 where
   pub target : ℕ
   pub call : Asked
@@ -30,7 +31,7 @@ pub record IsSent (s : Model) (bytes : List ℕ) (p : Part) : Type 0 where
   pub text : bytes ≡ request_text s.client call
   pub room : length s.client.waiting < 7
 
--- these bytes are a line feed, which is no part; or the line of a request whose part is p
+-- these bytes are a line feed, and nothing happens in the part p; or they are the line of a request whose part is p
 abbrev pub IsPut : Model → List ℕ → Part → Type 0
 IsPut s bytes p = ((bytes ≡ 10 ∷ []) × (p ≡ nothing)) ⊎ IsSent s bytes p
 
@@ -40,20 +41,32 @@ put_by (Put bytes) = Some bytes
 put_by (Cut bytes count) = Some bytes
 put_by _ = None
 
+-- the bytes that an act puts, whole or in part, are `want`, if `Puts` says so of it
+puts_same : (want bytes : List ℕ) (act : Act) → put_by act ≡ Some bytes → Puts want act → bytes ≡ want
+puts_same want bytes (Put out) e puts = cc
+puts_same want bytes (Cut out count) e puts = let same = puts.0 in cc
+puts_same want bytes act e puts = absurd puts
+
+-- an act that reads the clock, connects, reads or closes puts no bytes
+never_puts : (act : Act) (bytes : List ℕ) → put_by act ≡ Some bytes → (ReadsClock act ⊎ (IsOpening act ⊎ (IsReading act ⊎ (act ≡ Closed)))) → ⊥
+never_puts (Put out) bytes e h = elim h [ inl a ↦ a | inr b ↦ elim b [ inl c ↦ c | inr d ↦ elim d [ inl f ↦ f | inr g ↦ cc ] ] ]
+never_puts (Cut out count) bytes e h = elim h [ inl a ↦ a | inr b ↦ elim b [ inl c ↦ c | inr d ↦ elim d [ inl f ↦ f | inr g ↦ cc ] ] ]
+never_puts act bytes e h = cc
+
+-- while the station synchronizes: these bytes are a line feed, and nothing happens in the part p; or they are the null
+-- procedure of the first id that isn't answered, and p is one turn, `Asks`
+abbrev pub IsPutSynchronizing : Model → List ℕ → Part → Type 0
+IsPutSynchronizing s bytes p = ((bytes ≡ 10 ∷ []) × (p ≡ nothing)) ⊎ ((bytes ≡ null_text s.progress.word) × (p ≡ only_turns (Asks ∷ [])))
+
+-- the part of an act of the action `Ask` that puts bytes is one turn, `Asks`
+asked_turn : (s : Model) (act : Act) (bytes : List ℕ) → put_by act ≡ Some bytes → sync_part s action.Ask act ≡ only_turns (Asks ∷ [])
+asked_turn s (Put out) bytes e = refl
+asked_turn s (Cut out count) bytes e = refl
+asked_turn s act bytes e = cc
+
 module _ (plan : Plan) (commands : List Task) where
-  -- the bytes that an act puts are those that it is to put
-  puts_same : (want bytes : List ℕ) (act : Act) → put_by act ≡ Some bytes → Puts want act → bytes ≡ want
-  puts_same want bytes (Put out) e puts = cc
-  puts_same want bytes (Cut out count) e puts = let same = puts.0 in cc
-  puts_same want bytes act e puts = absurd puts
-
-  -- an act that reads the clock, connects, reads or closes puts no bytes
-  never_puts : (act : Act) (bytes : List ℕ) → put_by act ≡ Some bytes → (ReadsClock act ⊎ (IsOpening act ⊎ (IsReading act ⊎ (act ≡ Closed)))) → ⊥
-  never_puts (Put out) bytes e h = elim h [ inl a ↦ a | inr b ↦ elim b [ inl c ↦ c | inr d ↦ elim d [ inl f ↦ f | inr g ↦ cc ] ] ]
-  never_puts (Cut out count) bytes e h = elim h [ inl a ↦ a | inr b ↦ elim b [ inl c ↦ c | inr d ↦ elim d [ inl f ↦ f | inr g ↦ cc ] ] ]
-  never_puts act bytes e h = cc
-
-  -- the bytes of the next command are the line of the request of its part
+  -- if fewer than seven requests wait, the bytes of the first of these commands of a cycle, of which there is one, are the line
+  -- of the request of its part (`IsSent`)
   first_put : (s : Model) (left : List Task) (bytes : List ℕ) → 0 < length left → length s.client.waiting < 7 → bytes ≡ first_text s.progress.moment.utc s.client left
       → IsSent s bytes (first_request_part s.progress.moment.elapsed (mark_next plan commands s.progress) left)
   first_put s [] bytes some room e = absurd (omega (arith, some))
@@ -67,12 +80,14 @@ module _ (plan : Plan) (commands : List Task) where
     room = room;
   }
 
-  -- the bytes of a null procedure after commands are the line of the request of its part
+  -- if fewer than seven requests wait, the bytes of a null procedure of the station's own are the line of the request of its part
+  -- (`IsSent`)
   null_put : (s : Model) (bytes : List ℕ) → length s.client.waiting < 7 → bytes ≡ request_text s.client (Table NullProc)
       → IsSent s bytes (request_part 0 (Table NullProc) (later s.progress.moment.elapsed plan.deadline) None)
   null_put s bytes room e = record { target = 0; call = Table NullProc; deadline = later s.progress.moment.elapsed plan.deadline; mark = None; part = refl; text = e; room = room }
 
-  -- the bytes of the next command of the setup are the line of the request of its part
+  -- if fewer than seven requests wait, the bytes of the first of these commands of the setup, or of a null procedure if there is
+  -- none, are the line of the request of its part (`IsSent`)
   setup_put : (s : Model) (left : List Task) (bytes : List ℕ) → length s.client.waiting < 7 → bytes ≡ text_or_null s.progress.moment.utc s.client left
       → IsSent s bytes (request_or_null_part plan s.progress.moment.elapsed (mark_setup commands s.progress) left)
   setup_put s [] bytes room e = null_put s bytes room e
@@ -113,21 +128,9 @@ module _ (plan : Plan) (commands : List Task) where
       → has_begun s.progress ≡ true → IsPut s bytes (put_part plan commands s (action_at plan s))
   put_is s act bytes fine obeys e begun = put_order s (action_at plan s) act bytes fine (action_for plan s.progress (waiting_of s)) obeys e begun
 
-  -- while the station synchronizes: these bytes are a line feed, which is no part; or the null procedure of the first id that
-  -- isn't answered, whose part p is one turn
-  abbrev pub IsAsked : Model → List ℕ → Part → Type 0
-  IsAsked s bytes p = ((bytes ≡ 10 ∷ []) × (p ≡ nothing)) ⊎ ((bytes ≡ null_text s.progress.word) × (p ≡ only_turns (Asks ∷ [])))
-
-  -- the part of an act of the action `Ask` that puts bytes is one turn, `Asks`
-  asked_turn : (s : Model) (act : Act) (bytes : List ℕ) → put_by act ≡ Some bytes → sync_part s action.Ask act ≡ only_turns (Asks ∷ [])
-  asked_turn s (Put out) bytes e = refl
-  asked_turn s (Cut out count) bytes e = refl
-  asked_turn s act bytes e = cc
-
-  -- while the station synchronizes, bytes that an act of this action puts are a line feed or the null procedure of the first id
-  -- that isn't answered
+  -- while the station synchronizes, the bytes that an act of this action puts are as `IsPutSynchronizing` says of its part
   asked_order : (s : Model) (o : Action) (act : Act) (bytes : List ℕ) → HoldsBefore plan s.progress (waiting_of s) o → Performs commands s o act
-      → put_by act ≡ Some bytes → has_begun s.progress ≡ false → IsAsked s bytes (sync_part s o act)
+      → put_by act ≡ Some bytes → has_begun s.progress ≡ false → IsPutSynchronizing s bytes (sync_part s o act)
   asked_order s action.Clear act bytes is obeys e begins = inl (puts_same (10 ∷ []) bytes act e obeys, refl)
   asked_order s action.Ask act bytes is obeys e begins = inr (puts_same (null_text s.progress.word) bytes act e obeys, asked_turn s act bytes e)
   asked_order s action.Flush act bytes is obeys e begins = absurd (both_ways (has_begun s.progress) begins is.1)
@@ -143,8 +146,7 @@ module _ (plan : Plan) (commands : List Task) where
   asked_order s (action.Close why) act bytes is obeys e begins = absurd (never_puts act bytes e (inr (inr (inr obeys))))
   asked_order s (action.Stop why) act bytes is obeys e begins = absurd obeys
 
-  -- while the station synchronizes, bytes that an act of a run puts are a line feed or the null procedure of the first id that
-  -- isn't answered
+  -- while the station synchronizes, the bytes that an act of a run puts are as `IsPutSynchronizing` says of its part
   pub asked_is : (s : Model) (act : Act) (bytes : List ℕ) → Performs commands s (action_at plan s) act → put_by act ≡ Some bytes
-      → has_begun s.progress ≡ false → IsAsked s bytes (sync_part s (action_at plan s) act)
+      → has_begun s.progress ≡ false → IsPutSynchronizing s bytes (sync_part s (action_at plan s) act)
   asked_is s act bytes obeys e begins = asked_order s (action_at plan s) act bytes (action_for plan s.progress (waiting_of s)) obeys e begins

@@ -14,8 +14,9 @@ use Rattle.gc_client.specs.Ids
 use Rattle.gc_client.specs.Ids.{id_at, IsWithinLimits}
 use Rattle.gc_client.specs.Rule.{ById, Outcome, Settlement, Settled, Answered, Late, Lost, place_in, settled_by_line, settle, hears, id_settled}
 use Rattle.gc_client.proofs.Digits.{settling}
+use Rattle.gc_client.proofs.OneForOne.{length-settle}
 use Rattle.gc_texts.specs.declared.tasks.Task.{Task}
-use Rattle.gc_texts.specs.Endings.{End}
+use Rattle.gc_texts.specs.Endings.{End, line_of}
 use Rattle.gc_texts.specs.Endings as ends
 use Rattle.gc_texts.specs.Codes.{lists_code}
 use Rattle.gc_texts.specs.Nears.{is_elsewhere}
@@ -27,14 +28,13 @@ use Rattle.gc_texts.specs.declared.quality.Quality.TheVariants as quality
 use Rattle.gc_station.specs.declared.mark.Mark.{Mark}
 use Rattle.gc_station.specs.declared.plan.Plan.{Plan}
 use Rattle.gc_links.specs.Acts.{Act}
-use Rattle.gc_station.specs.Answers.{answer_of}
 use Rattle.gc_station.specs.Marks.{value_as, warned_as, refused_as, answer_as, end_of, command_of, record_of, records_of}
 use Rattle.gc_station.specs.Records.{Record}
-use Rattle.gc_station.proofs.Lists.{AllAt, Rows, RowAt, rows_on, rows_drop, row_at}
+use Rattle.gc_station.proofs.Lists.{AllAt, AllRisingAt, RisingAt, rising_on, rising_drop, rising_at}
 use Rattle.gc_station.proofs.Waiting.{StayedAt, WaitsAt, asked_as}
 use Rattle.gc_station.specs.Scopes.{Scope}
 
--- the id that was heard is that of the outstanding request at this place
+-- an id was heard, and this is the place (`place_in`) of the outstanding request that has it, if one has
 pub record HasPlace (c : ById Asked) (o : Option ℕ) (at : ℕ) : Type 0 where
   pub id : ℕ
   pub has : o ≡ Some id
@@ -44,7 +44,7 @@ pub record HasPlace (c : ById Asked) (o : Option ℕ) (at : ℕ) : Type 0 where
 pub record Overtakes (P : ℕ → ℕ → Pending Asked → Option Mark → Type 0) (c : ById Asked) (o : Option ℕ) (number at : ℕ) : Type 0 where
   pub place : ℕ
   pub above : at < place
-  pub found : RowAt P (suc number) place
+  pub found : RisingAt P (suc number) place
   pub heard : HasPlace c o place
 
 -- this settlement is of the outstanding request at the place `at`, with this mark. If it is an answer, it is this line, and the
@@ -59,22 +59,22 @@ pub record EndedBy (P : ℕ → ℕ → Pending Asked → Option Mark → Type 0
   pub late : x.outcome ≡ Late → (pending.given_up ≡ true) × HasPlace c o at
   pub lost : x.outcome ≡ Lost → Overtakes P c o number at
 
--- a request whose own reply comes, and that is answered by it, hasn't timed out
-met_answered : (b : Bool) (line l : List ℕ) → (if b then Late else Answered line) ≡ Answered l → (l ≡ line) × (b ≡ false)
+-- if a request whose own reply comes settles as answered by l, l is that reply's line, and the request hasn't timed out
+met_answered : (given_up : Bool) (line l : List ℕ) → (if given_up then Late else Answered line) ≡ Answered l → (l ≡ line) × (given_up ≡ false)
 met_answered true line l e = cc
 met_answered false line l e = let same : l ≡ line = cc in (same, refl)
 
--- a request whose own reply comes, and that is late, has timed out
-met_late : (b : Bool) (line : List ℕ) → (if b then Late else Answered line) ≡ Late → b ≡ true
+-- if a request whose own reply comes settles as late, it has timed out
+met_late : (given_up : Bool) (line : List ℕ) → (if given_up then Late else Answered line) ≡ Late → given_up ≡ true
 met_late true line e = refl
 met_late false line e = cc
 
 -- a request whose own reply comes isn't lost
-pub met_lost : (b : Bool) (line : List ℕ) → (if b then Late else Answered line) ≡ Lost → ⊥
+pub met_lost : (given_up : Bool) (line : List ℕ) → (if given_up then Late else Answered line) ≡ Lost → ⊥
 met_lost true line e = cc
 met_lost false line e = cc
 
--- `EndedBy` holds of the request whose own reply came
+-- where P holds of the request at the place `at`, whose id was heard, `EndedBy` holds of its settlement by the line
 met_ended : (P : ℕ → ℕ → Pending Asked → Option Mark → Type 0) (c : ById Asked) (o : Option ℕ) (line : List ℕ) (number at : ℕ) (p : Pending Asked) (mark : Option Mark)
     → HasPlace c o at → P number at p mark → EndedBy P c o line at (settled_by_line p line) mark
 met_ended P c o line number at p mark place holds = record {
@@ -87,10 +87,11 @@ met_ended P c o line number at p mark place holds = record {
   lost = λ e. absurd (met_lost p.given_up line e);
 }
 
--- `EndedBy` holds of each request up to the one whose own reply came
+-- the request at the place `there`, whose id was heard, is k places behind the first of `ps`, which is at the place `at`. Where P
+-- holds of `ps` with their marks, `EndedBy` holds of each of their settlements up to that request's
 settle_ended : (P : ℕ → ℕ → Pending Asked → Option Mark → Type 0) (c : ById Asked) (o : Option ℕ) (line : List ℕ) (there low k at : ℕ) (ps : List (Pending Asked))
     (marks : List (Option Mark)) → HasPlace c o there → there ≡ k + at → k < length ps
-    → Rows P low at ps marks → AllAt (EndedBy P c o line) at (settle k line ps) marks
+    → AllRisingAt P low at ps marks → AllAt (EndedBy P c o line) at (settle k line ps) marks
 settle_ended P c o line there low k at [] marks has is below all = absurd (omega (arith, below))
 settle_ended P c o line there low k at (p ∷ ps) [] has is below all = absurd all
 settle_ended P c o line there low zero at (p ∷ ps) (mark ∷ marks) has is below all =
@@ -107,14 +108,15 @@ settle_ended P c o line there low (suc k) at (p ∷ ps) (mark ∷ marks) has is 
         asks = refl;
         answered = λ l e. cc;
         late = λ e. cc;
-        lost = λ e. record { place = there; above = above; found = row_at P (suc all.0) (suc at) k there ps marks seen fewer all.3; heard = has };
+        lost = λ e. record { place = there; above = above; found = rising_at P (suc all.0) (suc at) k there ps marks seen fewer all.3; heard = has };
       },
       settle_ended P c o line there (suc all.0) k (suc at) ps marks has next fewer all.3,
     )
 
--- `EndedBy` holds of each request that a line settles
+-- where P holds of each outstanding request, with its mark, `EndedBy` holds of each settlement by the line, in which the id `o`
+-- was heard, if one was
 pub heard_ended : (P : ℕ → ℕ → Pending Asked → Option Mark → Type 0) (c : ById Asked) (marks : List (Option Mark)) (line : List ℕ) (o : Option ℕ)
-    → Rows P 0 0 c.waiting marks → AllAt (EndedBy P c o line) 0 (hears c line o).settlements marks
+    → AllRisingAt P 0 0 c.waiting marks → AllAt (EndedBy P c o line) 0 (hears c line o).settlements marks
 heard_ended P c marks line None all = tt
 heard_ended P c marks line (Some id) all = by_test (place_in c id) refl (nat_lt (place_in c id) (length c.waiting)) refl where
   -- the lemma above, by whether a request with this id waits (`true`)
@@ -126,7 +128,7 @@ heard_ended P c marks line (Some id) all = by_test (place_in c id) refl (nat_lt 
       settle_ended P c (Some id) line k 0 k 0 c.waiting marks (record { id = id; has = refl; is = is }) at below all
   by_test k is false fits = tt
 
--- the requests that a line leaves waiting: all but the oldest, as many as it settled
+-- `x` is what a line settled: `count` of the requests that waited, the oldest; the others wait on, and the client's next id stays
 pub record Left (c : ById Asked) (x : Settled Asked (ById Asked)) : Type 0 where
   pub count : ℕ
   pub enough : count ≤ length c.waiting
@@ -134,42 +136,37 @@ pub record Left (c : ById Asked) (x : Settled Asked (ById Asked)) : Type 0 where
   pub waiting : x.client.waiting ≡ drop count c.waiting
   pub settled : length x.settlements ≡ count
 
--- if a reply is of the request at place k, it settles k + 1 requests
-pub settle_length : (k : ℕ) (line : List ℕ) (ps : List (Pending Asked)) → k < length ps → length (settle k line ps) ≡ k + 1
-settle_length k line [] low = absurd (omega (arith, low))
-settle_length zero line (p ∷ ps) low = refl
-settle_length (suc k) line (p ∷ ps) low = let more = settle_length k line ps (omega (arith, low)) in omega (arith, more)
-
--- after a line the outstanding requests are those that `Left` says: all but the oldest, as many as it settled
+-- `Left` holds after any line
 pub heard_left : (c : ById Asked) (line : List ℕ) (o : Option ℕ) → Left c (hears c line o)
 heard_left c line None = record { count = 0; enough = omega arith; next = refl; waiting = refl; settled = refl }
 heard_left c line (Some id) = by_test (place_in c id) (nat_lt (place_in c id) (length c.waiting)) refl where
   -- the lemma above, by whether the id is of an outstanding request (`true`)
   by_test : (k : ℕ) (b : Bool) → nat_lt k (length c.waiting) ≡ b → Left c (id_settled c line k b)
-  by_test k true fits = let low = ltb-true k (length c.waiting) fits in record { count = k + 1; enough = omega (arith, low); next = refl; waiting = refl; settled = settle_length k line c.waiting low }
+  by_test k true fits = let low = ltb-true k (length c.waiting) fits in record { count = k + 1; enough = omega (arith, low); next = refl; waiting = refl; settled = length-settle k line c.waiting low }
   by_test k false fits = record { count = 0; enough = omega arith; next = refl; waiting = refl; settled = refl }
 
--- a line leaves as many requests as waited, less those that it settled
+-- where `Left` holds, as many requests wait after the line as waited before it, less the `count` that it settled
 pub left_count : (c : ById Asked) (x : Settled Asked (ById Asked)) (l : Left c x) → length x.client.waiting ≡ length c.waiting - l.count
 left_count c x l = ap length l.waiting ∙ length-drop l.count c.waiting
 
--- a line preserves `IsWithinLimits`
+-- a line after which `Left` holds preserves `IsWithinLimits`
 pub left_window : (c : ById Asked) (x : Settled Asked (ById Asked)) → Left c x → IsWithinLimits c → IsWithinLimits x.client
 left_window c x l w = let many = left_count c x l in record { digit = subst (λ (n : ℕ). n < 8) (sym l.next) w.digit; few = omega (arith, many, w.few) }
 
--- the requests that a line leaves waiting are as they were (`WaitsAt`), with the same numbers and at lower places
+-- the requests that a line leaves waiting are as they were (`WaitsAt`), with the same numbers, at places that are lower by as
+-- many requests as the line settled
 pub left_waits : (plan : Plan) (commands : List Task) (scope : Scope) (acts : List Act) (first : ById Asked) (now : ℕ) (c : ById Asked) (x : Settled Asked (ById Asked))
     (marks : List (Option Mark)) → Left c x → IsWithinLimits c
-    → Rows (WaitsAt plan commands scope acts first now c.next (length c.waiting)) 0 0 c.waiting marks
-    → Rows (WaitsAt plan commands scope acts first now x.client.next (length x.client.waiting)) 0 0 x.client.waiting (drop (length x.settlements) marks)
+    → AllRisingAt (WaitsAt plan commands scope acts first now c.next (length c.waiting)) 0 0 c.waiting marks
+    → AllRisingAt (WaitsAt plan commands scope acts first now x.client.next (length x.client.waiting)) 0 0 x.client.waiting (drop (length x.settlements) marks)
 left_waits plan commands scope acts first now c x marks l w all =
     let n = l.count in
     let d = x.client in
     let W = WaitsAt plan commands scope acts first now c.next (length c.waiting) in
-    let dropped = rows_drop W n 0 0 c.waiting marks all in
-    let there = subst (λ (ps : List (Pending Asked)). Rows W 0 (n + 0) ps (drop n marks)) (sym l.waiting) dropped in
-    let marked = subst (λ (k : ℕ). Rows W 0 (n + 0) d.waiting (drop k marks)) (sym l.settled) there in
-    rows_on W (WaitsAt plan commands scope acts first now d.next (length d.waiting)) n 0 0 d.waiting (drop (length x.settlements) marks)
+    let dropped = rising_drop W n 0 0 c.waiting marks all in
+    let there = subst (λ (ps : List (Pending Asked)). AllRisingAt W 0 (n + 0) ps (drop n marks)) (sym l.waiting) dropped in
+    let marked = subst (λ (k : ℕ). AllRisingAt W 0 (n + 0) d.waiting (drop k marks)) (sym l.settled) there in
+    rising_on W (WaitsAt plan commands scope acts first now d.next (length d.waiting)) n 0 0 d.waiting (drop (length x.settlements) marks)
     (λ number j p mark low wait.
     let many = left_count c x l in
     let enough = l.enough in
@@ -178,7 +175,8 @@ left_waits plan commands scope acts first now c x marks l w all =
     ap (λ (y : ℕ). id_at y (length d.waiting) j) l.next ∙ ap (λ (y : ℕ). id_at c.next y j) many ∙ settling c.next (length c.waiting) w.few n j below in
     (asked_as plan commands scope acts (StayedAt now) number (n + j) j _ _ p mark (λ above. omega (arith, above)) ids wait.0, subst (λ (i : ℕ). Ids.Waits first i) (sym ids) wait.1)) marked
 
--- a record is of this settlement: it has its command, and its ending by some readings of replies and some place of the target
+-- a record is of this settlement: it has its command, and its ending by some function that reads replies and by what some mark
+-- expects
 pub record IsRecordOf (r : Record) (x : Settlement Asked) : Type 0 where
   pub reads : Asked → List ℕ → Reading
   pub expected : Expected
@@ -186,35 +184,35 @@ pub record IsRecordOf (r : Record) (x : Settlement Asked) : Type 0 where
   pub ended : r.end ≡ end_of reads expected x.call x.outcome
 
 -- the ending by an answer has the reply's line, whether the answer is elsewhere or not
-value_line : (q : Quality) (away : Bool) (answer : Answer) (line : List ℕ) → answer_of (value_as q away answer line) ≡ Some line
+value_line : (q : Quality) (away : Bool) (answer : Answer) (line : List ℕ) → line_of (value_as q away answer line) ≡ Some line
 value_line q true answer line = refl
 value_line q false answer line = refl
 
 -- the ending by a reply with an accepted return code has the reply's line, whatever it says with return code 0
-warned_line : (near : Option Near) (x : Reading) (line : List ℕ) → answer_of (warned_as near x line) ≡ Some line
+warned_line : (near : Option Near) (x : Reading) (line : List ℕ) → line_of (warned_as near x line) ≡ Some line
 warned_line near (reading.Value answer) line = value_line quality.Warning (is_elsewhere near answer) answer line
 warned_line near (reading.Refused code) line = refl
 warned_line near (reading.ComFault code) line = refl
 warned_line near (reading.Unreadable fault) line = refl
 
 -- the ending by a reply with another return code than 0 has the reply's line, whether that code is accepted or not
-refused_line : (accepted : Bool) (near : Option Near) (x : Reading) (line : List ℕ) → answer_of (refused_as accepted near x line) ≡ Some line
+refused_line : (accepted : Bool) (near : Option Near) (x : Reading) (line : List ℕ) → line_of (refused_as accepted near x line) ≡ Some line
 refused_line true near x line = warned_line near x line
 refused_line false near x line = refl
 
 -- the ending by a reply in time has the reply's line, whatever it says
-pub answer_line : (expected : Expected) (x y : Reading) (line : List ℕ) → answer_of (answer_as expected x y line) ≡ Some line
+pub answer_line : (expected : Expected) (x y : Reading) (line : List ℕ) → line_of (answer_as expected x y line) ≡ Some line
 answer_line expected (reading.Value answer) y line = value_line quality.Fine (is_elsewhere expected.near answer) answer line
 answer_line expected (reading.Refused code) y line = refused_line (lists_code expected.accepted code) expected.near y line
 answer_line expected (reading.ComFault code) y line = refl
 answer_line expected (reading.Unreadable fault) y line = refl
 
 -- an ending without a line isn't that by a reply in time
-unanswered : (expected : Expected) (x y : Reading) (line : List ℕ) (end : End) → answer_of end ≡ None → answer_as expected x y line ≡ end → ⊥
-unanswered expected x y line end none e = let bad : Some line ≡ None = sym (answer_line expected x y line) ∙ ap answer_of e ∙ none in cc
+unanswered : (expected : Expected) (x y : Reading) (line : List ℕ) (end : End) → line_of end ≡ None → answer_as expected x y line ≡ end → ⊥
+unanswered expected x y line end none e = let bad : Some line ≡ None = sym (answer_line expected x y line) ∙ ap line_of e ∙ none in cc
 
--- a command whose ending has a reply's line was settled as answered, by that line
-pub answered_so : (reads : Asked → List ℕ → Reading) (expected : Expected) (call : Asked) (o : Outcome) (l : List ℕ) → answer_of (end_of reads expected call o) ≡ Some l → o ≡ Answered l
+-- if the ending of a command by `o` has the line l, `o` is an answer by l
+pub answered_so : (reads : Asked → List ℕ → Reading) (expected : Expected) (call : Asked) (o : Outcome) (l : List ℕ) → line_of (end_of reads expected call o) ≡ Some l → o ≡ Answered l
 answered_so reads expected call (Answered line) l e = let same : Some line ≡ Some l = sym (answer_line expected (reads call line) (reads call (as_zero line)) line) ∙ e in cc
 answered_so reads expected call Late l e = cc
 answered_so reads expected call Lost l e = cc
@@ -231,9 +229,9 @@ lost_so reads expected call (Answered line) e = absurd (unanswered expected (rea
 lost_so reads expected call Late e = cc
 lost_so reads expected call Lost e = refl
 
--- the settlement of a record of an answer is an answer, of the same line
-pub was_answered : (r : Record) (x : Settlement Asked) → IsRecordOf r x → (l : List ℕ) → answer_of r.end ≡ Some l → x.outcome ≡ Answered l
-was_answered r x is l e = answered_so is.reads is.expected x.call x.outcome l (ap answer_of (sym is.ended) ∙ e)
+-- if the ending of a record has a line, its settlement is an answer by that line
+pub was_answered : (r : Record) (x : Settlement Asked) → IsRecordOf r x → (l : List ℕ) → line_of r.end ≡ Some l → x.outcome ≡ Answered l
+was_answered r x is l e = answered_so is.reads is.expected x.call x.outcome l (ap line_of (sym is.ended) ∙ e)
 
 -- the settlement of a late record is late
 pub was_late : (r : Record) (x : Settlement Asked) → IsRecordOf r x → r.end ≡ ends.Late → x.outcome ≡ Late
@@ -243,8 +241,8 @@ was_late r x is e = late_so is.reads is.expected x.call x.outcome (sym is.ended 
 pub was_lost : (r : Record) (x : Settlement Asked) → IsRecordOf r x → r.end ≡ ends.Lost → x.outcome ≡ Lost
 was_lost r x is e = lost_so is.reads is.expected x.call x.outcome (sym is.ended ∙ e)
 
--- where Q of a settlement and its mark gives R of its record, and Q holds of these settlements and marks, one for one, R holds
--- of all their records
+-- where Q of a settlement, at whatever place, and of its mark, if it has one, gives R of its record, and Q holds of these
+-- settlements and marks, one for one, with places from j on, R holds of all their records
 pub records_all : (Q : ℕ → Settlement Asked → Option Mark → Type 0) (R : Record → Type 0) (reads : Asked → List ℕ → Reading) (utc j : ℕ) (xs : List (Settlement Asked)) (marks : List (Option Mark))
     → ((i : ℕ) (x : Settlement Asked) (m : Mark) → Q i x (Some m) → R (record_of reads utc m x)) → AllAt Q j xs marks → AllByRecursion R (records_of reads utc marks xs)
 records_all Q R reads utc j xs [] step all = tt

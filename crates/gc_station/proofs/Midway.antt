@@ -14,6 +14,7 @@ use Rattle.gc_client.specs.declared.pending.Pending.{Pending}
 use Rattle.gc_client.specs.Rule.{ById, Settlement, expires, expired, fresh, lost, pending_of, id_send, sends}
 use Rattle.gc_client.specs.OneForOne.{of_settled, of_pending}
 use Rattle.gc_client.proofs.OneForOne.{expired_parts, lost_parts}
+use Rattle.gc_client.proofs.Lists.{head_of_drop}
 use Rattle.gc_texts.specs.declared.turn.Turn.{Turn}
 use Rattle.gc_texts.specs.declared.near.Expected.{Expected}
 use Rattle.gc_texts.specs.Tasks.{call_at}
@@ -30,15 +31,17 @@ use Rattle.gc_station.specs.Marks.{commands_in, records_of}
 use Rattle.gc_station.specs.Progressing.{is_over_in, is_over, loses_all}
 use Rattle.gc_station.specs.Parts.{MarksAsk, MarkAsks, went_out}
 use Rattle.gc_station.specs.Records.{Record}
+use Rattle.gc_station.specs.Reasons.{IsFinished}
 use Rattle.gc_station.specs.Tasked.{IsOfItsTask}
 use Rattle.gc_station.specs.Model.{Model, client_sent, losing, ended}
 use Rattle.gc_station.proofs.Each.{each_moment, each_settles, each_null, each_sent, each_skipped, sent_next, sent_whole, sent_none, each_prepared}
 use Rattle.gc_station.proofs.Invariant.{Invariant, is_bare, says_done}
 use Rattle.gc_station.proofs.Lists.{all_append}
-use Rattle.gc_station.proofs.Tasked.{at_place, own_more, own_settled, settled_tasked, unsent_tasked}
+use Rattle.gc_station.proofs.Tasked.{own_more, own_settled, settled_tasked, unsent_tasked}
 
--- where `left` cycles haven't begun, and `unsent` commands of the present one haven't had their turn: the records, and after
--- them the outstanding commands, with the attempts that were left out (`passes`) between them, are the commands that had their
+-- where `left` cycles haven't begun, and `unsent` commands of the present one haven't had their turn: these counts lie within the
+-- plan and the commands, and none is unsent before the first cycle. The records that are of cycles, and after them the
+-- outstanding commands of cycles, with the attempts that were left out (`passes`) between them, are the commands that had their
 -- turn, in order. Each request that waits has its mark, at most 7 wait, and the next id is below 8. Each asks what its mark says,
 -- and each record is of its task
 pub record Sound (plan : Plan) (commands : List Task) (left unsent : ℕ) (client : ById Asked) (marks : List (Option Mark)) (records : List Record) (passes : List Request) : Type 0 where
@@ -52,7 +55,8 @@ pub record Sound (plan : Plan) (commands : List Task) (left unsent : ℕ) (clien
   pub own : MarksAsk commands marks (map of_pending client.waiting)
   pub tasked : AllByRecursion (IsOfItsTask commands) records
 
--- what a phase says of the counts, the bytes that are kept and the marks
+-- in a phase that `is_bare` no bytes are kept; in one that says that the run is done (`says_done`) no cycle and no command is
+-- left to be sent, and no command is outstanding unless the run is over
 pub record Placed (phase : Phase) (left unsent : ℕ) (rest : List ℕ) (marks : List (Option Mark)) : Type 0 where
   pub empty : is_bare phase ≡ true → rest ≡ []
   pub finished : says_done phase ≡ true → (left ≡ 0) × (unsent ≡ 0) × ((is_over_in phase ≡ true) ⊎ (commands_in marks ≡ 0))
@@ -95,7 +99,7 @@ mid_of plan commands s fine = (
 interleave_by_equal : (xs xs' ys zs : List Request) → xs' ≡ xs → Interleave xs ys zs → Interleave xs' ys zs
 interleave_by_equal xs xs' ys zs e h = subst (λ (l : List Request). Interleave l ys zs) (sym e) h
 
--- a moment that times requests out preserves `Sound`
+-- to time out requests at the moment m preserves `Sound`
 pub sound_moment : (plan : Plan) (commands : List Task) (left unsent : ℕ) (client : ById Asked) (marks : List (Option Mark)) (records : List Record) (passes : List Request) (m : ℕ)
     → Sound plan commands left unsent client marks records passes
     → Sound plan commands left unsent (expires client m) marks records passes
@@ -113,7 +117,8 @@ sound_moment plan commands left unsent client marks records passes m sound =
       tasked = sound.tasked;
     }
 
--- settlements of the oldest requests preserve `Sound`
+-- `Sound` is preserved by settlements `ss` of the oldest requests, with their records, if the other requests wait at the client
+-- `next`, whose next id is below 8
 pub sound_settles : (reads : Asked → List ℕ → Reading) (plan : Plan) (commands : List Task) (left unsent : ℕ) (client next : ById Asked) (marks : List (Option Mark))
     (records : List Record) (passes : List Request) (utc : ℕ) (ss : List (Settlement Asked))
     → map of_settled ss ++ map of_pending next.waiting ≡ map of_pending client.waiting → next.next < 8 → Sound plan commands left unsent client marks records passes
@@ -139,7 +144,8 @@ sound_settles reads plan commands left unsent client next marks records passes u
       tasked = all_append (IsOfItsTask commands) records _ sound.tasked (settled_tasked reads commands utc marks ss waits all);
     }
 
--- if there is room, the client after a send has the next id, and one request more that waits
+-- if there is room, a send makes the client's next id the one after it (7 is followed by 0), and adds the request to those that
+-- wait
 pub client_behind : (client : ById Asked) (target : ℕ) (call : Asked) (deadline : ℕ) → length client.waiting < 7
     → client_sent client (sends WINDOW client target call deadline) ≡ record { next = (client.next + 1) % IDS; waiting = client.waiting ++ pending_of target call deadline ∷ [] }
 client_behind client target call deadline room =
@@ -148,11 +154,11 @@ client_behind client target call deadline room =
       room_left : (n : ℕ) → n < 7 → nat_eq n 7 ≡ false
       room_left n room = grind (arith, nat_tests, room)
 
--- with one request and one mark more there are still as many
+-- if there are as many marks as requests, there still are with one more mark and one more request at the end
 one_more : (marks : List (Option Mark)) (ws : List (Pending Asked)) (m : Option Mark) (p : Pending Asked) → length marks ≡ length ws → length (marks ++ m ∷ []) ≡ length (ws ++ p ∷ [])
 one_more marks ws m p paired = length-append marks (m ∷ []) ∙ ap (λ n. n + 1) paired ∙ sym (length-append ws (p ∷ []))
 
--- a null procedure that is sent preserves `Sound`
+-- to send a null procedure for no target (`MarkAsks` without a mark), for which there is room, preserves `Sound`
 pub sound_null : (plan : Plan) (commands : List Task) (left unsent : ℕ) (client : ById Asked) (marks : List (Option Mark)) (records : List Record) (passes : List Request)
     (target : ℕ) (call : Asked) (deadline : ℕ)
     → length client.waiting < 7 → MarkAsks commands None (record { target = target; call = call }) → Sound plan commands left unsent client marks records passes
@@ -173,7 +179,7 @@ sound_null plan commands left unsent client marks records passes target call dea
       tasked = sound.tasked;
     })
 
--- a command that is sent preserves `Sound`, with one command less unsent
+-- to send the cycle's next command, `task`, for which there is room, preserves `Sound`, with one command fewer unsent
 pub sound_sent : (plan : Plan) (commands : List Task) (left unsent : ℕ) (client : ById Asked) (marks : List (Option Mark)) (records : List Record) (passes : List Request)
     (utc deadline : ℕ) (expected : Expected) (task : Task) (others : List Task)
     → length client.waiting < 7 → 0 < unsent → drop (length commands - unsent) commands ≡ task ∷ others → Sound plan commands left unsent client marks records passes
@@ -207,11 +213,11 @@ sound_sent plan commands left unsent client marks records passes utc deadline ex
       digit = mod-lt (client.next + 1) (omega arith);
       each = subst (λ (n : ℕ). Interleave (of_text commands (map of_record records ++ still_waiting (marks ++ Some mark ∷ []) (client.waiting ++ p ∷ []))) passes
           (commands_reached plan.setup commands begun n)) (sym place_is) each;
-      own = own_more commands marks client.waiting (Some mark) p sound.own (task, at_place place commands task others at, refl);
+      own = own_more commands marks client.waiting (Some mark) p sound.own (task, head_of_drop commands place task others at, refl);
       tasked = sound.tasked;
     })
 
--- a command of the setup that is sent preserves `Sound`
+-- to send `task`, a command of the setup for which there is room, with a mark of cycle 0 and of its place, preserves `Sound`
 pub sound_prepared : (plan : Plan) (commands : List Task) (left unsent : ℕ) (client : ById Asked) (marks : List (Option Mark)) (records : List Record) (passes : List Request)
     (deadline : ℕ) (mark : Mark) (task : Task)
     → length client.waiting < 7 → mark.cycle ≡ 0 → slice_get commands mark.place ≡ Some task → Sound plan commands left unsent client marks records passes
@@ -233,7 +239,8 @@ sound_prepared plan commands left unsent client marks records passes deadline ma
       tasked = sound.tasked;
     })
 
--- a command that isn't sent preserves `Sound`, with one command less unsent
+-- to record the cycle's next command, `task`, with an ending of one that isn't sent, while no command is outstanding, preserves
+-- `Sound`, with one command fewer unsent
 pub sound_skipped : (plan : Plan) (commands : List Task) (left unsent : ℕ) (client : ById Asked) (marks : List (Option Mark)) (records : List Record) (passes : List Request)
     (utc : ℕ) (end : End) (turn : Turn) (task : Task) (others : List Task)
     → (none : commands_in marks ≡ 0) → (some : 0 < unsent) → (there : drop (length commands - unsent) commands ≡ task ∷ others) → (out : went_out end ≡ false)
@@ -262,10 +269,11 @@ sound_skipped plan commands left unsent client marks records passes utc end turn
           (interleave_by_equal _ _ _ _ (each_skipped commands begun place marks client.waiting records r task others none at refl many kept refl)
           (interleave_more kept passes (commands_reached plan.setup commands begun place) one sound.each));
       own = sound.own;
-      tasked = all_append (IsOfItsTask commands) records _ sound.tasked (unsent_tasked commands utc begun place turn end task (at_place place commands task others at) out, tt);
+      tasked = all_append (IsOfItsTask commands) records _ sound.tasked (unsent_tasked commands utc begun place turn end task (head_of_drop commands place task others at) out, tt);
     }
 
--- the attempts of a chain that are left out, `count` commands, preserve `Sound`, with as many commands less unsent
+-- to leave out the next `count` commands of the cycle, or all that are unsent if they are fewer, preserves `Sound`, with as many
+-- fewer unsent; at least one has to be unsent
 pub sound_passed : (plan : Plan) (commands : List Task) (left unsent count : ℕ) (client : ById Asked) (marks : List (Option Mark)) (records : List Record) (passes : List Request)
     → 0 < unsent → Sound plan commands left unsent client marks records passes
     → Sound plan commands left (unsent - count) client marks records
@@ -296,7 +304,8 @@ sound_passed plan commands left unsent count client marks records passes some so
       by_count true e = let more = ltb-true unsent count e in inr (omega (arith, more), omega (arith, more, sound.unsents))
       by_count false e = let few = ltb-false unsent count e in inl (omega (arith, few, sound.unsents))
 
--- the beginning of a cycle preserves `Sound`
+-- the beginning of a cycle preserves `Sound`, with one cycle fewer left and all commands of the new one unsent, if a cycle is
+-- left and no command of the one before is unsent
 pub sound_begun : (plan : Plan) (commands : List Task) (left unsent : ℕ) (client : ById Asked) (marks : List (Option Mark)) (records : List Record) (passes : List Request)
     → unsent ≡ 0 → 0 < left → Sound plan commands left unsent client marks records passes → Sound plan commands (left - 1) (length commands - plan.setup) client marks records passes
 sound_begun plan commands left unsent client marks records passes none some sound =
@@ -318,19 +327,19 @@ sound_begun plan commands left unsent client marks records passes none some soun
 
 -- The end of what is outstanding.
 
--- if nothing is lost, the station has synchronized (a), and the run isn't over (o)
+-- if not all outstanding requests are to be lost (`loses_all`), the station has synchronized (a), and the run isn't over (o)
 pub kept_for : (a o : Bool) → (not a || o) ≡ false → (a ≡ true) × (o ≡ false)
 kept_for true o e = (refl, e)
 kept_for false o e = cc
 
 -- if the counts are those of a run that is done, as `Placed` has them, and the run isn't over, no command is outstanding
 still_finished : (p : Progress) (marks : List (Option Mark)) → is_over p ≡ false
-    → (p.left ≡ 0) × (p.unsent ≡ 0) × ((is_over_in p.phase ≡ true) ⊎ (commands_in marks ≡ 0)) → (p.left ≡ 0) × (p.unsent ≡ 0) × (commands_in marks ≡ 0)
+    → (p.left ≡ 0) × (p.unsent ≡ 0) × ((is_over_in p.phase ≡ true) ⊎ (commands_in marks ≡ 0)) → IsFinished (commands_in marks) p
 still_finished p marks not_over (left, unsent, inl over) = absurd (both_ways (is_over p) not_over (ap (λ b. b || (not (is_up p.phase) && nat_eq p.turns 0)) over))
 still_finished p marks not_over (left, unsent, inr none) = (left, unsent, none)
 
 -- once all that is outstanding is lost where `loses_all` says so, `Mid` gives the invariant of every run
-invariant_losing : (plan : Plan) (commands : List Task) (s : Model) (b : Bool) → loses_all s.progress ≡ b → Mid plan commands s → Invariant plan commands (losing b s)
+invariant_losing : (plan : Plan) (commands : List Task) (s : Model) (all : Bool) → loses_all s.progress ≡ all → Mid plan commands s → Invariant plan commands (losing all s)
 invariant_losing plan commands s true is (sound, placed) =
     let p = s.progress in
     let ss = map lost s.client.waiting in

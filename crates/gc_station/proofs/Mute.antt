@@ -28,7 +28,9 @@ use Rattle.gc_station.specs.Quiet.{TellsMoment, IsListening, StaysConnected}
 use Rattle.gc_station.specs.Reasons.{HoldsBefore}
 use Rattle.gc_station.specs.Runs.{state_after}
 use Rattle.gc_station.specs.Silences.{latest, IsNoReply, BringsNoReply, IsMute, WentBack, IsMuteFor}
-use Rattle.gc_station.specs.Model.{Model, request_text, null_text, first_text, opening, action_at, waiting_of, with_progress, with_moment, with_rest, lines_came, lines_completed, after_piece, is_heard, place_next, after, after_all, Runs, text_or_null}
+use Rattle.gc_station.specs.Model.{Model, request_text, null_text, first_text, opening, action_at, waiting_of, with_progress, with_moment, with_rest, lines_came, lines_completed, after_piece, is_heard, after, after_all, Runs, text_or_null}
+use Rattle.gc_station.specs.NextCommand.{place_next}
+use Rattle.gc_station.proofs.Closings.{came_phase}
 use Rattle.gc_station.proofs.Connected.{is_in_use, OnLine, on_line_always}
 use Rattle.gc_station.proofs.Since.{Since, since_now, since_on, cut_on}
 use Rattle.gc_station.proofs.EachRun.{invariant_holds}
@@ -61,40 +63,39 @@ sought_asked word again asked e =
     ap (λ b. is_none_left word || (nat_lt 0 again || b)) e
     ∙ ap (λ b. is_none_left word || b) (or_right (nat_lt 0 again) true refl) ∙ or_right (is_none_left word) true refl
 
--- which requests were sent in the acts `behind` (last), after a silence began at the moment `from`. If none is waited for
--- (`false`), none was sent; otherwise the first of these acts sent one, or the clock went back to `from` after the acts `before`
--- (the third argument)
-abbrev Asks : Bool → ℕ → List Act → List Act → Type 0
+-- of the acts `behind`, after a silence began at the moment `from`. If no request was sent after the last reply line (`false`),
+-- each of these acts only listens (`IsListening`); otherwise the first of them put all its bytes, or the clock went back to
+-- `from` after the acts `before` (`WentBack`)
+abbrev Asks : Bool → (from : ℕ) → (before behind : List Act) → Type 0
 Asks false from before behind = AllByRecursion IsListening behind
 Asks true from before behind = ((text : List ℕ) × (others : List Act) × (behind ≡ Put text ∷ others)) ⊎ WentBack from before
 
--- if a request was sent at once, or the clock went back, `Asks` is preserved by any act
+-- `Asks` with `true` is preserved by any act
 asks_still : (from : ℕ) (before behind : List Act) (act : Act) → Asks true from before behind → Asks true from before (behind ++ act ∷ [])
 asks_still from before behind act (inl put) = inl (put.0, put.1 ++ act ∷ [], ap (λ xs. xs ++ act ∷ []) put.2)
 asks_still from before behind act (inr back) = inr back
 
--- an act that puts no bytes preserves `Asks`
+-- an act that only listens (`IsListening`) preserves `Asks`
 asks_on : (asked : Bool) (from : ℕ) (before behind : List Act) (act : Act) → IsListening act → Asks asked from before behind → Asks asked from before (behind ++ act ∷ [])
 asks_on false from before behind act listens asks = all_append IsListening behind (act ∷ []) asks (listens, tt)
 asks_on true from before behind act listens asks = asks_still from before behind act asks
 
--- whether a request is waited for or not, `Asks` gives what `IsMuteFor` says of requests
+-- whether a request was sent after the last reply line (`asked`) or not, `Asks` gives what `IsMuteFor` says of requests
 asks_any : (asked : Bool) (from : ℕ) (before behind : List Act) → Asks asked from before behind
     → AllByRecursion IsListening behind ⊎ (((text : List ℕ) × (others : List Act) × (behind ≡ Put text ∷ others)) ⊎ WentBack from before)
 asks_any false from before behind asks = inl asks
 asks_any true from before behind asks = inr asks
 
 module _ (plan : Plan) (commands : List Task) (scope : Scope) where
-  -- a silence began with `start`, which reads the moment `alive`: after it no act brings a reply line or closes the connection,
-  -- requests were sent as `Asks` says, and `now` is the moment read last. The arguments are `asked`, `alive`, `now`, `before`,
-  -- `start` and `behind`
-  abbrev Mutes : Bool → ℕ → ℕ → List Act → Act → List Act → Type 0
+  -- a silence began with `start`, which reads the moment `alive`: after it no act brings a reply line, or closes the connection
+  -- or makes one, requests were sent as `Asks` says, and `now`, which isn't before `alive`, is the moment read last
+  abbrev Mutes : (asked : Bool) → (alive now : ℕ) → (before : List Act) → (start : Act) → (behind : List Act) → Type 0
   Mutes asked alive now before start behind =
       TellsMoment alive start × AllByRecursion StaysConnected behind × IsMute plan commands (state_after plan commands scope (before ++ start ∷ [])) behind
       × Asks asked alive before behind × (latest alive behind ≡ now) × (alive ≤ now)
 
-  -- one of these acts begins a silence (`Mutes`). The arguments are `asked`, `alive`, `now` and the acts
-  abbrev IsMuted : Bool → ℕ → ℕ → List Act → Type 0
+  -- one of these acts begins a silence (`Mutes`)
+  abbrev IsMuted : (asked : Bool) → (alive now : ℕ) → List Act → Type 0
   IsMuted asked alive now acts = Since (Mutes asked alive now) acts
 
   -- if acts bring no reply line, and one more brings none, all of them bring none
@@ -102,15 +103,16 @@ module _ (plan : Plan) (commands : List Task) (scope : Scope) where
   mute_more s [] act mute here = (here, tt)
   mute_more s (x ∷ xs) act mute here = (mute.0, mute_more (after plan commands s x) xs act mute.1 here)
 
-  -- a silence begins with an act that reads a moment, if `Asks` holds with nothing after it
+  -- a silence begins with an act that reads a moment, if `Asks` holds of no acts after it
   muted_from : (asked : Bool) (now : ℕ) (acts : List Act) (act : Act) → TellsMoment now act → Asks asked now acts [] → IsMuted asked now now (acts ++ act ∷ [])
   muted_from asked now acts act tells asks = let least : now ≤ now = omega arith in since_now (Mutes asked now now) acts act (tells, tt, tt, asks, refl, least)
 
-  -- a silence begins with an act that reads a moment, if no request is waited for
+  -- an act that reads a moment begins a silence, in which no request was sent yet (`asked` is false)
   muted_now : (now : ℕ) (acts : List Act) (act : Act) → TellsMoment now act → IsMuted false now now (acts ++ act ∷ [])
   muted_now now acts act tells = muted_from false now acts act tells tt
 
-  -- a silence goes on after an act that brings no reply
+  -- a silence goes on after an act that stays on the connection, brings no reply line, preserves `Asks`, and reads no moment
+  -- before `alive`
   muted_on : (asked : Bool) (alive now : ℕ) (acts : List Act) (act : Act) → (stays : StaysConnected act) → (none : BringsNoReply (state_after plan commands scope acts).rest act)
       → (asks : (before behind : List Act) → Asks asked alive before behind → Asks asked alive before (behind ++ act ∷ [])) → (least : alive ≤ latest now (act ∷ [])) → IsMuted asked alive now acts
       → IsMuted asked alive (latest now (act ∷ [])) (acts ++ act ∷ [])
@@ -129,13 +131,13 @@ module _ (plan : Plan) (commands : List Task) (scope : Scope) where
 
   -- if a request is sent, a silence begins with the act before it, which read the last moment
   muted_asking : (now : ℕ) (acts : List Act) (out : List ℕ) → LastTells now acts → IsMuted true now now (acts ++ Put out ∷ [])
-  muted_asking now acts out (front, last, action, tells) =
+  muted_asking now acts out (front, last, order, tells) =
       let least : now ≤ now = omega arith in
       record {
         before = front;
         start = last;
         behind = Put out ∷ [];
-        order = cut_on (acts ++ Put out ∷ []) acts front (last ∷ []) (Put out ∷ []) refl action;
+        order = cut_on (acts ++ Put out ∷ []) acts front (last ∷ []) (Put out ∷ []) refl order;
         holds = (tells, (tt, tt), (tt, tt), inl (out, [], refl), refl, least);
       }
 
@@ -156,8 +158,9 @@ module _ (plan : Plan) (commands : List Task) (scope : Scope) where
         later = later;
       })
 
-  -- a silence goes on after an act that reads a moment, or starts again there if the clock went back
-  muted_clock : (asked : Bool) (alive now : ℕ) (m : Moment) (acts : List Act) (act : Act) (b : Bool) → (is : nat_le alive m.elapsed ≡ b) → (tells : TellsMoment m.elapsed act)
+  -- a silence goes on after an act that reads the moment m, only listens, stays on the connection and brings no reply line; or it
+  -- starts again there if the clock went back to before `alive` (`rises` is false)
+  muted_clock : (asked : Bool) (alive now : ℕ) (m : Moment) (acts : List Act) (act : Act) (rises : Bool) → (is : nat_le alive m.elapsed ≡ rises) → (tells : TellsMoment m.elapsed act)
       → (reads_it : latest now (act ∷ []) ≡ m.elapsed) → (stays : StaysConnected act) → (listens : IsListening act)
       → (none : BringsNoReply (state_after plan commands scope acts).rest act) → IsMuted asked alive now acts → IsMuted asked (min alive m.elapsed) m.elapsed (acts ++ act ∷ [])
   muted_clock asked alive now m acts act true e tells is stays listens none q =
@@ -173,9 +176,9 @@ module _ (plan : Plan) (commands : List Task) (scope : Scope) where
 
   -- By the phase.
 
-  -- in the phase `Ready`, if a reply line is waited for (`sought`), there has been a silence since `alive`. The arguments are
-  -- `sought`, `asked`, `alive`, `now`, the phase and the acts
-  abbrev Mute : Bool → Bool → ℕ → ℕ → Phase → List Act → Type 0
+  -- in the phase `Ready`, if a reply line is waited for (`sought`), there has been a silence since `alive`; in any other phase,
+  -- nothing
+  abbrev Mute : (sought asked : Bool) → (alive now : ℕ) → Phase → List Act → Type 0
   Mute sought asked alive now phase.Ready acts = sought ≡ true → IsMuted asked alive now acts
   Mute sought asked alive now _ acts = Unit {0}
 
@@ -190,7 +193,8 @@ module _ (plan : Plan) (commands : List Task) (scope : Scope) where
   mute_none sought asked alive now phase.Ready acts none = cc
   mute_none sought asked alive now at acts none = tt
 
-  -- `Mute` is preserved by an act that reads a moment and brings no reply line
+  -- `Mute` is preserved by an act that reads the moment m, only listens, stays on the connection and brings no reply line; in
+  -- place of `sought` with any `sought'` that gives `sought` in the phase `Ready`
   mute_told : (sought sought' asked : Bool) (alive now : ℕ) (m : Moment) (at : Phase) (acts : List Act) (act : Act)
       → (back : at ≡ phase.Ready → sought' ≡ true → sought ≡ true) → (tells : TellsMoment m.elapsed act) → (reads_it : latest now (act ∷ []) ≡ m.elapsed) → (stays : StaysConnected act)
       → (listens : IsListening act)
@@ -199,7 +203,8 @@ module _ (plan : Plan) (commands : List Task) (scope : Scope) where
       λ so. muted_clock asked alive now m acts act (nat_le alive m.elapsed) refl tells is stays listens none (q (back refl so))
   mute_told sought sought' asked alive now m at acts act back tells is stays listens none q = tt
 
-  -- after a piece that is heard a silence goes on, if there is no reply line in it; otherwise one begins at its moment
+  -- after a piece that is heard there is a silence, as q says: the one before it goes on, if there was one and no reply line is
+  -- in the piece; or one begins at the piece's moment, without a request after it
   heard_mute : (s : Model) (bytes : List ℕ) (m : Moment) (acts : List Act) (q : Progress) → (state_after plan commands scope acts).rest ≡ s.rest → q.moment.elapsed ≡ m.elapsed
       → (AllByRecursion IsNoReply (lines_completed s.rest bytes) × (q.alive ≡ min s.progress.alive m.elapsed) × (q.asked ≡ s.progress.asked)
       × IsMuted s.progress.asked s.progress.alive s.progress.moment.elapsed acts)
@@ -222,11 +227,11 @@ module _ (plan : Plan) (commands : List Task) (scope : Scope) where
         (muted_clock s.progress.asked s.progress.alive s.progress.moment.elapsed m acts (Gave bytes m) (nat_le s.progress.alive m.elapsed) refl refl refl tt tt quiet none.3)
     by_alive (inr reply) = carried false m.elapsed reply.1 reply.0 (muted_now m.elapsed acts (Gave bytes m) refl)
 
-  -- a piece leaves the phase and the moment
-  came_moment : (h : Bool) (word bytes : List ℕ) (s : Model) → ((after_piece h word bytes s).progress.phase ≡ s.progress.phase) × ((after_piece h word bytes s).progress.moment ≡ s.progress.moment)
+  -- after a piece the moment read last is the same as before it
+  came_moment : (heard : Bool) (word bytes : List ℕ) (s : Model) → (after_piece heard word bytes s).progress.moment ≡ s.progress.moment
   came_moment h word bytes s =
-      came_along (λ (t : Model). (t.progress.phase ≡ s.progress.phase) × (t.progress.moment ≡ s.progress.moment)) (λ t line e. e) h word bytes s (refl, refl)
-      (asked_along (λ (q : Progress). (q.phase ≡ s.progress.phase) × (q.moment ≡ s.progress.moment)) (λ q line e. e) s.progress (lines_completed s.rest bytes) (refl, refl)) (refl, refl)
+      came_along (λ (t : Model). t.progress.moment ≡ s.progress.moment) (λ t line e. e) h word bytes s refl
+      (asked_along (λ (q : Progress). q.moment ≡ s.progress.moment) (λ q line e. e) s.progress (lines_completed s.rest bytes) refl) refl
 
   -- `Mute` is preserved by a piece in the phase `Ready`
   ready_mute : (s : Model) (bytes : List ℕ) (m : Moment) (acts : List Act) (word : List ℕ) → s.progress.word ≡ word → (state_after plan commands scope acts).rest ≡ s.rest
@@ -243,7 +248,7 @@ module _ (plan : Plan) (commands : List Task) (scope : Scope) where
         lines : List (List ℕ)
         lines = lines_completed s.rest bytes
 
-        -- none of these lines is a reply, and there was a silence before them; or one is, and the line was alive at their moment
+        -- none of these lines is a reply, and there was a silence before them; or one is, and `alive` is their moment
         by_lines : Alive mid lines (lines_came mid lines).progress
             → (AllByRecursion IsNoReply lines × ((lines_came mid lines).progress.alive ≡ min s.progress.alive m.elapsed)
             × ((lines_came mid lines).progress.asked ≡ s.progress.asked) × IsMuted s.progress.asked s.progress.alive s.progress.moment.elapsed acts)
@@ -251,7 +256,7 @@ module _ (plan : Plan) (commands : List Task) (scope : Scope) where
         by_lines (inl none) = inl (none.0, none.1, none.2, h (sought_begun s.progress.word s.progress.again s.progress.asked (ap is_none_left e)))
         by_lines (inr now) = inr now
   ready_mute s bytes m acts (first ∷ others) e rest h so = heard_mute s bytes m acts q rest
-      (ap (λ (x : Moment). x.elapsed) (came_moment true (first ∷ others) bytes mid).1) (by_lines (asked_alive mid.progress lines)) where
+      (ap (λ (x : Moment). x.elapsed) (came_moment true (first ∷ others) bytes mid)) (by_lines (asked_alive mid.progress lines)) where
         -- the model before the lines: the moment was read
         mid : Model
         mid = with_moment m (with_progress (moment_noted m) s)
@@ -264,7 +269,7 @@ module _ (plan : Plan) (commands : List Task) (scope : Scope) where
         q : Progress
         q = lines_synchronizing mid.progress lines
 
-        -- none of these lines is a reply, and there was a silence before them; or one is, and the line was alive at their moment
+        -- none of these lines is a reply, and there was a silence before them; or one is, and `alive` is their moment
         by_lines : AliveAsked mid.progress lines q
             → (AllByRecursion IsNoReply lines × (q.alive ≡ min s.progress.alive m.elapsed) × (q.asked ≡ s.progress.asked)
             × IsMuted s.progress.asked s.progress.alive s.progress.moment.elapsed acts) ⊎ ((q.alive ≡ m.elapsed) × (q.asked ≡ false))
@@ -281,21 +286,21 @@ module _ (plan : Plan) (commands : List Task) (scope : Scope) where
   gave_mute s bytes m phase.Ready acts is rest h =
       let q = (after_piece true s.progress.word bytes (with_moment m (with_progress (moment_noted m) s))).progress in
       subst (λ (x : Phase). Mute (is_sought q.word q.again q.asked) q.asked q.alive q.moment.elapsed x (acts ++ Gave bytes m ∷ []))
-      (sym ((came_moment true s.progress.word bytes (with_moment m (with_progress (moment_noted m) s))).0 ∙ is))
+      (sym (came_phase true s.progress.word bytes (with_moment m (with_progress (moment_noted m) s)) ∙ is))
       (ready_mute s bytes m acts s.progress.word refl rest h)
   gave_mute s bytes m at acts is rest h =
       let q = (after_piece (is_heard at) s.progress.word bytes (with_moment m (with_progress (moment_noted m) s))).progress in
       subst (λ (x : Phase). Mute (is_sought q.word q.again q.asked) q.asked q.alive q.moment.elapsed x (acts ++ Gave bytes m ∷ []))
-      (sym ((came_moment (is_heard at) s.progress.word bytes (with_moment m (with_progress (moment_noted m) s))).0 ∙ is)) tt
+      (sym (came_phase (is_heard at) s.progress.word bytes (with_moment m (with_progress (moment_noted m) s)) ∙ is)) tt
 
-  -- after a request the silence goes on, if a reply line was waited for already (`asked`); otherwise a silence begins with the
-  -- moment read last
+  -- after a request the silence goes on, if another one was sent after the last reply line (`asked`); otherwise a silence
+  -- begins with the moment read last
   muted_asks : (asked : Bool) (alive now : ℕ) (acts : List Act) (out : List ℕ) → LastTells now acts → (asked ≡ true → IsMuted true alive now acts)
       → IsMuted true (if asked then alive else now) now (acts ++ Put out ∷ [])
   muted_asks true alive now acts out tells q = let it = q refl in muted_on true alive now acts (Put out) tt tt (λ before behind asks. asks_still alive before behind (Put out) asks) it.holds.5 it
   muted_asks false alive now acts out tells q = muted_asking now acts out tells
 
-  -- if this action sends a request, the last of the acts recorded the progress's moment
+  -- if this action sends a request, the last of the acts read the progress's moment
   abbrev Tells : Progress → List Act → Action → Type 0
   Tells p acts actions.Ask = LastTells p.moment.elapsed acts
   Tells p acts actions.Prepare = LastTells p.moment.elapsed acts
@@ -307,13 +312,15 @@ module _ (plan : Plan) (commands : List Task) (scope : Scope) where
   in_phase : (p : Progress) (at : Phase) (acts : List Act) → p.phase ≡ at → MuteAt p acts → Mute (is_sought p.word p.again p.asked) p.asked p.alive p.moment.elapsed at acts
   in_phase p at acts is q = subst (λ (x : Phase). Mute (is_sought p.word p.again p.asked) p.asked p.alive p.moment.elapsed x acts) is q
 
-  -- `MuteAt` is preserved by an act that reads the clock
+  -- `MuteAt` is preserved by an act that reads the clock, with any `sought` for which a reply line was waited for before the act,
+  -- if the phase is `Ready`
   told_mute : (sought : Bool) (p : Progress) (m : Moment) (acts : List Act)
       → (p.phase ≡ phase.Ready → sought ≡ true → is_sought p.word p.again p.asked ≡ true) → MuteAt p acts
       → Mute sought p.asked (min p.alive m.elapsed) m.elapsed p.phase (acts ++ Told m ∷ [])
   told_mute sought p m acts back q = mute_told (is_sought p.word p.again p.asked) sought p.asked p.alive p.moment.elapsed m p.phase acts (Told m) back refl refl tt tt tt q
 
-  -- `MuteAt` is preserved by a request
+  -- after a request that is sent in the phase `Ready`, `Mute` holds, if the last act before it read the progress's moment, and
+  -- `MuteAt` held before it
   asks_mute : (sought : Bool) (p : Progress) (acts : List Act) (out : List ℕ) → p.phase ≡ phase.Ready → LastTells p.moment.elapsed acts → MuteAt p acts
       → Mute sought true (if p.asked then p.alive else p.moment.elapsed) p.moment.elapsed p.phase (acts ++ Put out ∷ [])
   asks_mute sought p acts out is tells q =
@@ -327,7 +334,8 @@ module _ (plan : Plan) (commands : List Task) (scope : Scope) where
   cleared_mute true p acts e = tt
   cleared_mute false p acts e = λ so. absurd (both_ways (is_sought p.word 0 false) (ap (λ b. b || false) e) so)
 
-  -- `Mute` is preserved if the station resynchronizes: the silence goes on, or begins with the next request
+  -- `Mute` is preserved if the station resynchronizes, where a request that was sent after the last reply line counts only if
+  -- `on`
   mute_where : (asked on : Bool) (alive now : ℕ) (at : Phase) (acts : List Act) → Mute (is_sought the_word 0 asked) asked alive now at acts
       → Mute (is_sought the_word 0 (asked && on)) (asked && on) alive now at acts
   mute_where true true alive now at acts q = q
@@ -335,7 +343,8 @@ module _ (plan : Plan) (commands : List Task) (scope : Scope) where
   mute_where true false alive now at acts q = tt
   mute_where false on alive now at acts q = q
 
-  -- `MuteAt` is preserved by an act of any action that leaves a connection in use
+  -- `MuteAt` is preserved by an act of any action that leaves a connection in use, if `HoldsBefore` and `Tells` hold of the
+  -- action
   mute_line : (next : Action) (s : Model) (acts : List Act) → HoldsBefore plan s.progress (waiting_of s) next → Tells s.progress acts next → (state_after plan commands scope acts).rest ≡ s.rest
       → MuteAt s.progress acts → OnLine plan commands MuteAt next (with_progress turned s) acts
   mute_line actions.Open s acts needs tells rest q = λ m. tt
@@ -363,7 +372,8 @@ module _ (plan : Plan) (commands : List Task) (scope : Scope) where
 
   -- Whole runs.
 
-  -- `Tells` holds of an action that is next, as the moment was read before a request is sent
+  -- `Tells` holds of an action of which `Wakes` holds, if the last of the acts read the progress's moment where the station is
+  -- `Awake`
   tells_in : (p : Progress) (acts : List Act) (next : Action) → Wakes p next → (Awake p → LastTells p.moment.elapsed acts) → Tells p acts next
   tells_in p acts actions.Ask awake last = last awake
   tells_in p acts actions.Prepare awake last = last awake

@@ -1,8 +1,9 @@
 -- Each request's mark has what its text expects of the answer: where the target is, and which return codes are accepted. Each
 -- record keeps to that: an answer that ends as answered is near the place or has no direction, one that ends as elsewhere isn't
 -- near it, and its quality is as listed. An act is one call on the link, with its result. A mark says which command an
--- outstanding request is of, and what is expected of its answer. `ExpectsPlaceAndCodes` says that a mark expects what its command's text
--- says, and `KeepsToItsText` that a record keeps to the place, the codes and the quality; `KeepsToText` says both of a model.
+-- outstanding request is of, and what is expected of its answer. `ExpectsPlaceAndCodes` says that a mark expects what its
+-- command's text says, and `KeepsToItsText` that a record keeps to the place, the codes and the quality; `KeepsToText` says both
+-- of a model.
 use Rattle.std.proofs.Common.{◌≡◌, ℕ, zero, suc, Bool, true, false, List, [], ◌∷◌, ◌++◌, drop, Option, Some, None, if◌then◌else◌, refl, sym, ap, ◌∙◌, subst}
 use Rattle.std.specs.Prelude.{slice_get}
 use Rattle.std.specs.List.{AllByRecursion}
@@ -24,7 +25,8 @@ use Rattle.gc_texts.proofs.Placing.{near_unless_elsewhere, elsewhere_is}
 use Rattle.gc_links.specs.Acts.{Act, Told, Gave, Cut}
 use Rattle.gc_links.specs.declared.link.Moment.{Moment}
 use Rattle.gc_station.specs.Marks.{record_of, records_of}
-use Rattle.gc_station.specs.Model.{Model, opening, expected_first, mark_next, place_next, action_at, asks, asks_first, with_progress, with_moment, with_rest, line_came, lines_completed, is_heard, after_piece, first_unsent_record, losing, moved, after, after_all, mark_setup, asks_or_null, asks_setup}
+use Rattle.gc_station.specs.Model.{Model, opening, action_at, asks, asks_first, with_progress, with_moment, with_rest, line_came, lines_completed, is_heard, after_piece, first_unsent_record, losing, moved, after, after_all, asks_or_null, asks_setup}
+use Rattle.gc_station.specs.NextCommand.{expected_first, mark_next, place_next, mark_setup}
 use Rattle.gc_station.specs.Nearness.{IsAtItsTarget, HasAnswer, ElsewhereIsJustified, AnswersAreAtTheirTargets}
 use Rattle.gc_station.specs.Qualities.{IsOfQuality, IsAsListed, QualitiesAreAsListed}
 use Rattle.gc_station.specs.Progressing.{turned, moment_noted, loses_all}
@@ -40,15 +42,11 @@ use Rattle.gc_station.proofs.Lists.{all_append, all_drop, all_on}
 use Rattle.gc_station.proofs.Qualified.{ended_near, ended_away, ended_quality}
 use Rattle.gc_station.proofs.Walk.{lines_along, moved_changed}
 
--- what is expected of a task's answer
-abbrev expects : Task → Expected
-expects task = record { near = task.near; accepted = task.accepted; again = task.again; turn = task.turn }
-
--- what is expected of the command at a place is what its task says
-expected_there : (commands : List Task) (k : ℕ) (task : Task) → slice_get commands k ≡ Some task → expected_first (drop k commands) ≡ expects task
+-- what is expected of the answer of the command at a place is what its task says
+expected_there : (commands : List Task) (k : ℕ) (task : Task) → slice_get commands k ≡ Some task → expected_first (drop k commands) ≡ expected_first (task ∷ [])
 expected_there [] zero task e = cc
 expected_there [] (suc k) task e = cc
-expected_there (t ∷ commands) zero task e = let same : t ≡ task = cc in ap expects same
+expected_there (t ∷ commands) zero task e = let same : t ≡ task = cc in ap (λ (x : Task). expected_first (x ∷ [])) same
 expected_there (t ∷ commands) (suc k) task e = expected_there commands k task e
 
 module _ (plan : Plan) (commands : List Task) (scope : Scope) where
@@ -58,7 +56,7 @@ module _ (plan : Plan) (commands : List Task) (scope : Scope) where
   ExpectsPlaceAndCodes (Some mark) =
       (mark.expected.near ≡ (expected_first (drop mark.place commands)).near) × (mark.expected.accepted ≡ (expected_first (drop mark.place commands)).accepted)
 
-  -- a record keeps to its text: an answer is near its target, one that is elsewhere isn't, and its quality is as listed
+  -- a record keeps to its text: `IsAtItsTarget`, `ElsewhereIsJustified` and `IsAsListed` hold of it
   abbrev KeepsToItsText : Record → Type 0
   KeepsToItsText r = IsAtItsTarget commands r × ElsewhereIsJustified scope.reads commands r × IsAsListed scope.reads commands r
 
@@ -95,13 +93,14 @@ module _ (plan : Plan) (commands : List Task) (scope : Scope) where
   records_so utc (None ∷ marks) (x ∷ others) all = records_so utc marks others all.1
   records_so utc (Some mark ∷ marks) (x ∷ others) all = (record_so utc mark x all.0, records_so utc marks others all.1)
 
-  -- a model reads replies as the scope does, each of its marks is `ExpectsPlaceAndCodes`, and each of its records `KeepsToItsText`
+  -- a model reads replies as the scope does, each of its marks is `ExpectsPlaceAndCodes`, and each of its records
+  -- `KeepsToItsText`
   record KeepsToText (s : Model) : Type 0 where
     reads : s.reads ≡ scope.reads
     marks : AllByRecursion ExpectsPlaceAndCodes s.marks
     records : AllByRecursion KeepsToItsText s.records
 
-  -- settlements that are recorded keep all records `KeepsToItsText`
+  -- if `KeepsToText` holds of `s`, its records and those of the settlements `x` after them are all `KeepsToItsText`
   settles_so : (s : Model) (x : List (Rule.Settlement Asked)) → KeepsToText s → AllByRecursion KeepsToItsText (s.records ++ records_of s.reads s.progress.moment.utc s.marks x)
   settles_so s x k =
       all_append KeepsToItsText s.records _ k.records
@@ -115,14 +114,14 @@ module _ (plan : Plan) (commands : List Task) (scope : Scope) where
       record { reads = k.reads; marks = all_drop ExpectsPlaceAndCodes _ s.marks k.marks; records = settles_so s x.settlements k }
 
   -- `KeepsToText` is preserved by a piece
-  came_so : (b : Bool) (word piece : List ℕ) (s : Model) → KeepsToText s → KeepsToText (after_piece b word piece s)
+  came_so : (heard : Bool) (word piece : List ℕ) (s : Model) → KeepsToText s → KeepsToText (after_piece heard word piece s)
   came_so true (asked ∷ others) piece s k = record { reads = k.reads; marks = k.marks; records = k.records }
   came_so true [] piece s k =
       lines_along KeepsToText line_so (with_rest (rest_behind s.rest piece) s) (lines_completed s.rest piece) (record { reads = k.reads; marks = k.marks; records = k.records })
   came_so false word piece s k = k
 
   -- `KeepsToText` is preserved by the loss of what is outstanding
-  losing_so : (b : Bool) (s : Model) → KeepsToText s → KeepsToText (losing b s)
+  losing_so : (all : Bool) (s : Model) → KeepsToText s → KeepsToText (losing all s)
   losing_so true s k = let x = restarts s.client in record { reads = k.reads; marks = all_drop ExpectsPlaceAndCodes _ s.marks k.marks; records = settles_so s x.settlements k }
   losing_so false s k = k
 
@@ -135,25 +134,25 @@ module _ (plan : Plan) (commands : List Task) (scope : Scope) where
   first_so mark [] s placed k = k
   first_so mark (task ∷ others) s placed k = asks_so task.deadline task.command.target (call_at task mark.sent) (Some mark) s placed k
 
-  -- `KeepsToText` is preserved by the send of the next command
+  -- `KeepsToText` is preserved by the send of the next command of a cycle
   next_so : (s : Model) → KeepsToText s → KeepsToText (asks_first (mark_next plan commands s.progress) (drop (place_next commands s.progress) commands) s)
   next_so s k = first_so (mark_next plan commands s.progress) (drop (place_next commands s.progress) commands) s (refl, refl) k
 
   -- `KeepsToText` is preserved by the send of the next command of the setup
   setup_so : (s : Model) → KeepsToText s → KeepsToText (asks_setup plan commands s)
   setup_so s k = by_list (drop s.progress.prepared commands) where
-    -- the lemma above, whether there is one or not
+    -- the lemma above, for the commands `left` of the setup, whether there is one or not
     by_list : (left : List Task) → KeepsToText (asks_or_null plan (mark_setup commands s.progress) left s)
     by_list [] = asks_so plan.deadline 0 (Table NullProc) None s tt k
     by_list (task ∷ others) = asks_so task.deadline task.command.target (call_at task s.progress.moment.utc) (Some (mark_setup commands s.progress)) s (refl, refl) k
 
   -- a command that isn't sent isn't answered
-  unsent_answered : (b : Bool) (quality : Quality) (said : Option Answer) (line : List ℕ) → (if b then Missed else Skipped) ≡ Answered quality said line → ⊥
+  unsent_answered : (missed : Bool) (quality : Quality) (said : Option Answer) (line : List ℕ) → (if missed then Missed else Skipped) ≡ Answered quality said line → ⊥
   unsent_answered true quality said line e = cc
   unsent_answered false quality said line e = cc
 
   -- a command that isn't sent isn't elsewhere
-  unsent_elsewhere : (b : Bool) (line : List ℕ) → (if b then Missed else Skipped) ≡ Elsewhere line → ⊥
+  unsent_elsewhere : (missed : Bool) (line : List ℕ) → (if missed then Missed else Skipped) ≡ Elsewhere line → ⊥
   unsent_elsewhere true line e = cc
   unsent_elsewhere false line e = cc
 
@@ -200,11 +199,11 @@ module _ (plan : Plan) (commands : List Task) (scope : Scope) where
   along s [] k = k
   along s (act ∷ acts) k = along (after plan commands s act) acts (after_so s act k)
 
--- each record of a run is `KeepsToItsText`
+-- after any acts, each record is `KeepsToItsText`
 all_so : (plan : Plan) (commands : List Task) (scope : Scope) (acts : List Act) → AllByRecursion (KeepsToItsText plan commands scope) (state_after plan commands scope acts).records
 all_so plan commands scope acts = (along plan commands scope (opening plan scope) acts (record { reads = refl; marks = tt; records = tt })).records
 
--- the law: each record after any acts keeps to where its target is
+-- the law: after any acts, `IsAtItsTarget` and `ElsewhereIsJustified` hold of each record
 pub at_their_targets : AnswersAreAtTheirTargets
 at_their_targets plan commands scope acts =
     all_on (KeepsToItsText plan commands scope) (λ r. IsAtItsTarget commands r × ElsewhereIsJustified scope.reads commands r) (state_after plan commands scope acts).records

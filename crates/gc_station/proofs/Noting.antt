@@ -1,6 +1,6 @@
--- A run on the way, with what was seen at each act (a `Snapshot`): what the acts before it settled is in the book then, and lasts.
--- An act is one call on the link, with its result. At the start the link had recorded `told`, the book had taken `taken`, and
--- `saw` were the turns seen; by now they are those with primes. `text` is how a record is written. `Noted` says what was done
+-- A run on the way, with what was seen at each act (a `Snapshot`): what the acts before it settled is in the book then, and
+-- lasts. An act is one call on the link, with its result. At the start the link had recorded `told`, the book had taken `taken`,
+-- and `saw` were the turns seen; by now they are those with primes. `text` is how a record is written. `Noted` says what was done
 -- and seen so far.
 use Rattle.std.proofs.Common.{◌≡◌, ℕ, Bool, true, List, [], ◌∷◌, ◌++◌, Option, Some, Err, sym, ap, ◌∙◌, subst, append-nil, append_assoc}
 use Rattle.std.specs.Io.KnownBytes.{Keeps}
@@ -18,22 +18,23 @@ use Rattle.gc_station.specs.Causes.{fault_of}
 use Rattle.gc_station.specs.Keeping.{Snapshot, IsKept, AreKept, KeepsUp, close_at_output}
 use Rattle.gc_station.specs.Records.{Record}
 use Rattle.gc_station.specs.Runs.{state_after}
-use Rattle.gc_station.specs.Model.{opening, action_at, Performs}
+use Rattle.gc_station.specs.Model.{opening, action_at, Performs, stepped}
 use Rattle.gc_station.specs.Scopes.{Scope, AreReadings}
-use Rattle.gc_station.specs.Stations.{Refines, Makes, Breaks, stepped, seen}
+use Rattle.gc_station.specs.Stations.{Refines, Makes, Breaks, seen}
 use Rattle.gc_station.specs.declared.tally.Tally.{Tally}
 use Rattle.gc_station.proofs.Going.{Went, went_nothing, went_kept, went_on, runs-append}
 use Rattle.gc_station.proofs.Hearing.{tells_more}
 
 module _ (plan : Plan) (commands : List Task) (scope : Scope) (text : Record → List ℕ) (told : Option (List Act)) (taken : Option (List ℕ)) where
-  -- what was done so far, and what was seen at each act
+  -- the station `went` through acts, before each of which one of `turns` was seen, after the turns of `saw`; and at each turn,
+  -- what the acts before it settled was kept (`kept`)
   pub record Noted (told' : Option (List Act)) (taken' : Option (List ℕ)) (station : Station) (saw saw' : List Snapshot) : Type 0 where
     pub went : Went plan commands scope text told told' taken taken' station
     pub turns : List Snapshot
     pub all : saw' ≡ saw ++ turns
     pub kept : AreKept plan commands scope text told taken [] went.acts turns
 
-  -- `AreKept` is preserved by one act more, if what all acts before that act settled was kept at its turn
+  -- `AreKept` is preserved by one act more, if what all acts before it (`done`, and then `acts`) settled was kept at its turn
   kept_more : (done acts : List Act) (turns : List Snapshot) (act : Act) (turn : Snapshot) → AreKept plan commands scope text told taken done acts turns
       → IsKept plan commands scope text told taken (done ++ acts) turn → AreKept plan commands scope text told taken done (acts ++ act ∷ []) (turns ++ turn ∷ [])
   kept_more done [] [] act turn are is = (subst (λ (xs : List Act). IsKept plan commands scope text told taken xs turn) (append-nil done) is, tt)
@@ -45,7 +46,7 @@ module _ (plan : Plan) (commands : List Task) (scope : Scope) (text : Record →
         (subst (λ (xs : List Act). IsKept plan commands scope text told taken xs turn) (sym (append_assoc done (a ∷ []) acts)) is),
   )
 
-  -- `Noted` holds if nothing was done
+  -- `Noted` holds if nothing was done, for a station that is as the model of one that has done nothing
   pub noted_nothing : (station : Station) (saw : List Snapshot) → Refines station (opening plan scope) → Noted told taken station saw saw
   noted_nothing station saw stands = record { went = went_nothing plan commands scope text told taken station stands; turns = []; all = sym (append-nil saw); kept = tt }
 
@@ -65,11 +66,12 @@ module _ (plan : Plan) (commands : List Task) (scope : Scope) (text : Record →
   abbrev now : Option (List Act) → Option (List ℕ) → Bool → Snapshot
   now told' taken' lasts = record { acts = told'; taken = taken'; lasts = lasts }
 
-  -- the turns seen so far, and one more after them
+  -- if `turns` were seen after those of `saw`, and then one turn more, what was seen after `saw` is `turns` and then that turn
   saw_more : (saw saw' saw'' turns : List Snapshot) (turn : Snapshot) → saw' ≡ saw ++ turns → saw'' ≡ saw' ++ turn ∷ [] → saw'' ≡ saw ++ (turns ++ turn ∷ [])
   saw_more saw saw' saw'' turns turn all one = one ∙ ap (λ (xs : List Snapshot). xs ++ turn ∷ []) all ∙ append_assoc saw turns (turn ∷ [])
 
-  -- `Noted` is preserved by one act more, before which the link and the book were seen, and all records lasted
+  -- `Noted` is preserved by the act of the next action (`Makes`), if replies are read as `AreReadings` says, the link and the
+  -- book were seen before the act, and all records lasted then
   pub noted_on : (told' told'' : Option (List Act)) (taken' taken'' : Option (List ℕ)) (lasts : Bool) (station new : Station) (action : Action) (saw saw' saw'' : List Snapshot)
       → (n : Noted told' taken' station saw saw')
       → (is_next : action ≡ action_at plan (state_after plan commands scope n.went.acts))
@@ -83,7 +85,7 @@ module _ (plan : Plan) (commands : List Task) (scope : Scope) (text : Record →
         kept = kept_more [] n.went.acts n.turns makes.act (now told' taken' lasts) n.kept (record { tells = n.went.tells; took = n.went.took; lasts = true_ });
       }
 
-  -- a run that stopped has kept up, and no act follows
+  -- where `Noted` holds, the run has kept up so far (`KeepsUp`), with no act after its own
   pub noted_end : (told' : Option (List Act)) (taken' : Option (List ℕ)) (station : Station) (saw saw' : List Snapshot)
       → Noted told' taken' station saw saw' → KeepsUp plan commands scope text told told' taken saw saw' []
   noted_end told' taken' station saw saw' n = record {
@@ -95,7 +97,8 @@ module _ (plan : Plan) (commands : List Task) (scope : Scope) (text : Record →
     kept = n.kept;
   }
 
-  -- a run whose records couldn't be made to last has kept up, but for the close of the connection after it
+  -- where `Noted` holds, and the link then recorded a close, as where records couldn't be made to last, the run has kept up
+  -- (`KeepsUp`), with that close after its own acts
   pub noted_left : (told' told'' : Option (List Act)) (taken' : Option (List ℕ)) (station : Station) (saw saw' : List Snapshot)
       → Noted told' taken' station saw saw' → Tells told' told'' (Closed ∷ []) → KeepsUp plan commands scope text told told'' taken saw saw' (Closed ∷ [])
   noted_left told' told'' taken' station saw saw' n closed = record {
@@ -107,7 +110,9 @@ module _ (plan : Plan) (commands : List Task) (scope : Scope) (text : Record →
     kept = n.kept;
   }
 
-  -- a run whose book refused a record of its last act has kept up, but for the close of the connection after it
+  -- where `Noted` holds, the book refused a record of the next action's act (`Breaks`), and the link then recorded a close, the
+  -- run has kept up (`KeepsUp`), with that close after its own acts; if the link and the book were seen before the act, and all
+  -- records lasted then
   pub noted_wrong : (told' told'' told''' : Option (List Act)) (taken' taken'' : Option (List ℕ)) (lasts : Bool) (station : Station) (action : Action) (saw saw' saw'' : List Snapshot)
       → (n : Noted told' taken' station saw saw')
       → (is_next : action ≡ action_at plan (state_after plan commands scope n.went.acts))
@@ -129,11 +134,11 @@ module _ (plan : Plan) (commands : List Task) (scope : Scope) (text : Record →
       }
 
   -- `KeepsUp` of this run, with the acts `others` after it
-  abbrev KeepsUpHere : Option (List Act) → List Snapshot → List Snapshot → List Act → Type 0
+  abbrev KeepsUpHere : Option (List Act) → (saw saw' : List Snapshot) → List Act → Type 0
   KeepsUpHere told' saw saw' others = KeepsUp plan commands scope text told told' taken saw saw' others
 
-  -- a run that stopped for a cause has kept up to its end, and no close follows: a close follows only if the book failed
-  -- (`Output`), which is the fault of no cause
+  -- a run that has kept up with no act after it has kept up with the close that `close_at_output` gives for the fault of a cause:
+  -- that is none, as only the fault `Output`, which no cause has, gives a close
   pub faulty_keeps : (told' : Option (List Act)) (saw saw' : List Snapshot) (cause : Cause) (why : RunFault) → fault_of cause ≡ Some why
       → KeepsUpHere told' saw saw' [] → KeepsUpHere told' saw saw' (close_at_output {X = Tally} (Err why))
   faulty_keeps told' saw saw' Done why e up = absurd (cc)

@@ -1,5 +1,5 @@
--- While a station doesn't resynchronize, all its acts are of one part: a request, and the acts after it. An act is one call on
--- the link, with its result. A part reaches from one synchronization to the next.
+-- Acts during which a station doesn't resynchronize are of one part; as are a request, and the acts after it before the command
+-- that is next then. An act is one call on the link, with its result. A part reaches from one synchronization to the next.
 use Rattle.std.proofs.Common.{◌≡◌, suc, ◌+◌, ◌-◌, ◌&&◌, ◌||◌, Bool, true, false, not, List, [], ◌∷◌, ◌++◌, length, drop, refl, sym, ap, subst, arith}
 use Rattle.gc_texts.specs.declared.tasks.Task.{Task}
 use Rattle.gc_station.specs.declared.plan.Plan.{Plan}
@@ -13,7 +13,8 @@ use Rattle.gc_station.specs.Progressing.{is_over}
 use Rattle.gc_station.specs.Runs.{state_after}
 use Rattle.gc_station.specs.Scopes.{Scope}
 use Rattle.gc_station.specs.ActKinds.{Puts}
-use Rattle.gc_station.specs.Model.{Model, Performs, Runs, opening, action_at, place_next, first_text, after, after_all}
+use Rattle.gc_station.specs.Model.{Model, Performs, Runs, opening, action_at, first_text, after, after_all}
+use Rattle.gc_station.specs.NextCommand.{place_next}
 use Rattle.gc_station.proofs.Chaining.{StaysBegun}
 use Rattle.gc_station.proofs.Going.{after_all-append, runs_behind}
 use Rattle.gc_station.proofs.Turns.{over_stays}
@@ -27,7 +28,7 @@ runs_front plan commands s [] ys h = tt
 runs_front plan commands s (act ∷ xs) ys h = (h.0, runs_front plan commands (after plan commands s act) xs ys h.1)
 
 -- if a run isn't over after acts, it isn't before them, as no act follows a run that is over
-goes_on : (plan : Plan) (commands : List Task) (u : Model) (acts : List Act) (b : Bool) → is_over u.progress ≡ b → Runs plan commands u acts
+goes_on : (plan : Plan) (commands : List Task) (u : Model) (acts : List Act) (over : Bool) → is_over u.progress ≡ over → Runs plan commands u acts
     → is_over (after_all plan commands u acts).progress ≡ false → is_over u.progress ≡ false
 goes_on plan commands u acts false e runs end = e
 goes_on plan commands u [] true e runs end = end
@@ -40,7 +41,7 @@ ends_no_part true true over a o = o
 ends_no_part true false over a o = cc
 ends_no_part false later over a o = refl
 
--- acts after each of which the station has synchronized are one part, if the run isn't over
+-- acts of a run, after each of which the station has synchronized, are one part, if the run isn't over after them
 single : (plan : Plan) (commands : List Task) (s : Model) (acts : List Act) → Runs plan commands s acts → StaysBegun plan commands s acts
     → is_over (after_all plan commands s acts).progress ≡ false → length (parts_of plan commands s acts) ≡ 1
 single plan commands s [] runs keeps end = refl
@@ -51,8 +52,8 @@ single plan commands s (act ∷ acts) runs keeps end =
     let ends : ends_part plan commands s act ≡ false = ends_no_part (has_begun s.progress) (has_begun u.progress) (is_over u.progress) keeps.0 over in
     subst (λ b. length (in_front p b (parts_of plan commands u acts)) ≡ 1) (sym ends) (joined_length p (parts_of plan commands u acts) 0 (single plan commands u acts runs.1 keeps.1 end))
 
--- lists of as many parts stay so with one act more before both
-front_length : (p : Part) (b : Bool) (ps qs : List Part) → length ps ≡ length qs → length (in_front p b ps) ≡ length (in_front p b qs)
+-- if two lists have as many parts as each other, they still do once the same part is put before both (`in_front`)
+front_length : (p : Part) (ends : Bool) (ps qs : List Part) → length ps ≡ length qs → length (in_front p ends ps) ≡ length (in_front p ends qs)
 front_length p true ps qs e = ap suc e
 front_length p false [] [] e = refl
 front_length p false [] (y ∷ qs) e = absurd (omega (arith, e))
@@ -68,18 +69,19 @@ parts_more plan commands s (act ∷ xs) ys one =
     (parts_of plan commands (after plan commands s act) (xs ++ ys)) (parts_of plan commands (after plan commands s act) xs)
     (parts_more plan commands (after plan commands s act) xs ys one)
 
--- an act that sends puts the line of the next command
+-- an act that sends the next command of a cycle puts the line of that command, whole or in part
 pub puts_text : (commands : List Task) (plan : Plan) (s : Model) (act : Act) → action_at plan s ≡ Send → Performs commands s (action_at plan s) act
     → Puts (first_text s.progress.moment.utc s.client (drop (place_next commands s.progress) commands)) act
 puts_text commands plan s act is obeys = subst (λ (o : Action). Performs commands s o act) is obeys
 
--- a request and the acts after it, in which the station doesn't resynchronize, are of one part
+-- acts (`request`, and after it `between`) after which a command of a cycle is next are of one part, if the station doesn't
+-- resynchronize in them: they add no part to those of the acts before
 pub same_part : (plan : Plan) (commands : List Task) (scope : Scope) (before between : List Act) (request : Act)
-    → Runs plan commands (opening plan scope) (before ++ request ∷ between) → action_at plan (state_after plan commands scope before) ≡ Send
+    → Runs plan commands (opening plan scope) (before ++ request ∷ between)
     → StaysBegun plan commands (state_after plan commands scope before) (request ∷ between)
     → action_at plan (state_after plan commands scope (before ++ request ∷ between)) ≡ Send
     → length (parts plan commands scope (before ++ request ∷ between)) ≡ length (parts plan commands scope before)
-same_part plan commands scope before between request runs sends keeps next =
+same_part plan commands scope before between request runs keeps next =
     let s = state_after plan commands scope before in
     let on = runs_behind plan commands (opening plan scope) before (request ∷ between) runs in
     let last = going_on (state_after plan commands scope (before ++ request ∷ between)).progress (needs_of plan (state_after plan commands scope (before ++ request ∷ between)) Send next).0 in

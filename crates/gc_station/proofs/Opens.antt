@@ -15,7 +15,8 @@ use Rattle.gc_station.specs.Deciding.{has_begun, is_up}
 use Rattle.gc_station.specs.Marks.{commands_in}
 use Rattle.gc_station.specs.Progressing.{failing, turned, moment_noted, cleared, time_passed, closed}
 use Rattle.gc_station.specs.Reasons.{HoldsBefore, HasConnectionFor}
-use Rattle.gc_station.specs.Model.{Model, commands_before, waiting_of, with_progress, with_moment, is_heard, after_open, Performs, moved}
+use Rattle.gc_station.specs.Model.{Model, waiting_of, with_progress, with_moment, is_heard, after_open, Performs, moved}
+use Rattle.gc_station.specs.NextCommand.{commands_before}
 use Rattle.gc_station.specs.Tries.{endings_in, openings_in}
 use Rattle.gc_station.proofs.Closings.{came_phase, cleared_up}
 use Rattle.gc_station.proofs.Silences.{quieted_up}
@@ -36,27 +37,27 @@ CountedAt s act t = Counted (is_up s.progress.phase) act (is_up t.progress.phase
 calm : (before behind : Bool) → behind ≡ before → 0 + up_count before ≡ 0 + up_count behind
 calm before behind same = ap (λ b. 0 + up_count b) (sym same)
 
--- a failure keeps the count of `Counted`: it leaves the connection, which is to be closed
+-- after a failure there is a connection, which is to be closed, if there was one before it, and else none
 failed : (s : Model) (why : Cause) → 0 + up_count (is_up s.progress.phase) ≡ 0 + up_count (is_up (with_progress (failing why) s).progress.phase)
 failed s why = let up = is_up s.progress.phase in calm up (is_up (if up then phase.Closing why else phase.Over why)) (failure_keeps_line up why)
 
--- a close is `Counted`: there was a connection, and there is none after it
+-- a close is `Counted`, if there was a connection before it, and there is none after it
 close_counted : (before behind : Bool) → before ≡ true → behind ≡ false → Counted before Closed behind
 close_counted before behind up down = let a : up_count before ≡ 1 = ap up_count up in let b : up_count behind ≡ 0 = ap up_count down in omega (arith, a, b)
 
--- an action ends the run whether there is a connection or not: it closes it for `Stale` or `Stopped`
+-- the action closes a connection for `Stale` or `Stopped`: that ends a run without a connection, too
 abbrev pub Quits : Action → Type 0
 Quits (actions.Close cause.Stale) = Unit {0}
 Quits (actions.Close cause.Stopped) = Unit {0}
 Quits next = ⊥
 
--- if a connection is closed for a cause that doesn't end a run without one, there is one
+-- if `HasConnectionFor` holds for a cause, and a close for this cause isn't one of `Quits`, there is a connection
 up_for : (why : Cause) (p : Progress) → HasConnectionFor why p → (Quits (actions.Close why) → ⊥) → is_up p.phase ≡ true
 up_for cause.Stale p has never = absurd (never tt)
 up_for cause.Stopped p has never = absurd (never tt)
 up_for why p has never = has
 
--- an act of each action is `Counted`, but for those that end a run whether there is a connection or not
+-- an act of each action but those of `Quits` is `Counted`, if `HoldsBefore` holds of the action
 pub counted_moved : (plan : Plan) (commands : List Task) (next : Action) (s : Model) (act : Act) → Performs commands s next act → HoldsBefore plan s.progress (waiting_of s) next → (Quits next → ⊥)
     → Counted (is_up s.progress.phase) act (is_up (moved plan commands next (with_progress turned s) act).progress.phase)
 counted_moved plan commands actions.Open s act o needs never =

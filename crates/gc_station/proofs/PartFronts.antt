@@ -1,5 +1,5 @@
--- The parts of the first acts of a run are a front of the parts of all its acts: as many or fewer, and the last of them may go on in
--- its counterpart. An act is one call on the link, with its result. A part reaches from one synchronization to the next.
+-- The parts of the first acts of a run are a front of the parts of all its acts: as many or fewer, and the last of them may go on
+-- in its counterpart. An act is one call on the link, with its result. A part reaches from one synchronization to the next.
 use Rattle.std.proofs.Common.{◌≡◌, ◌⊎◌, inl, inr, ℕ, zero, suc, ◌+◌, ◌<◌, ◌≤◌, Bool, true, false, List, [], ◌∷◌, ◌++◌, length, Some, refl, sym, ◌∙◌, ap, subst, arith}
 use Rattle.std.specs.Prelude.{slice_get}
 use Rattle.std.proofs.lemmas.List.{length-append}
@@ -13,14 +13,14 @@ use Rattle.gc_station.proofs.Following.{joined_assoc}
 
 -- the parts `ps`, at least one, are the first of the parts `qs`; but the last of them may be only the front of the part at its
 -- place
-abbrev pub IsFront : List Part → List Part → Type 0
+abbrev pub IsFront : (ps qs : List Part) → Type 0
 IsFront [] qs = ⊥
 IsFront (p ∷ ps) [] = ⊥
 IsFront (p ∷ []) (q ∷ qs) = (more : Part) × (q ≡ joined p more)
 IsFront (p ∷ next ∷ ps) (q ∷ qs) = (q ≡ p) × IsFront (next ∷ ps) qs
 
 -- `IsFront` is preserved if the same part is put before both lists
-front_more : (p : Part) (b : Bool) (ps qs : List Part) → IsFront ps qs → IsFront (in_front p b ps) (in_front p b qs)
+front_more : (p : Part) (ends : Bool) (ps qs : List Part) → IsFront ps qs → IsFront (in_front p ends ps) (in_front p ends qs)
 front_more p b [] qs h = absurd h
 front_more p true (x ∷ ps) [] h = absurd h
 front_more p false (x ∷ ps) [] h = absurd h
@@ -28,8 +28,8 @@ front_more p true (x ∷ ps) (y ∷ qs) h = (refl, h)
 front_more p false (x ∷ []) (y ∷ qs) h = (h.0, ap (joined p) h.1 ∙ sym (joined_assoc p x h.0))
 front_more p false (x ∷ next ∷ ps) (y ∷ qs) h = (ap (joined p) h.0, h.1)
 
--- the part in which nothing happens is a front of any parts
-front_none : (p : Part) (b : Bool) (ps : List Part) → IsFront (nothing ∷ []) (in_front p b ps)
+-- the part in which nothing happens, alone, is a front of any parts that have a part `p` put before them (`in_front`)
+front_none : (p : Part) (ends : Bool) (ps : List Part) → IsFront (nothing ∷ []) (in_front p ends ps)
 front_none p true ps = (p, refl)
 front_none p false [] = (p, refl)
 front_none p false (q ∷ ps) = (joined p q, refl)
@@ -44,7 +44,7 @@ front_parts plan commands s (act ∷ xs) ys =
     (parts_of plan commands (after plan commands s act) (xs ++ ys))
     (front_parts plan commands (after plan commands s act) xs ys)
 
--- the last part of a front of parts is the front of the part at its place in all
+-- if `ps` are a front of `qs`, the last part of `ps`, at place i, is the front of the part of `qs` at the same place
 pub front_last : (ps qs : List Part) (i : ℕ) (p q : Part) → IsFront ps qs → length ps ≡ suc i → slice_get ps i ≡ Some p → slice_get qs i ≡ Some q → (more : Part) × (q ≡ joined p more)
 front_last [] qs i p q h size e f = absurd h
 front_last (x ∷ ps) [] i p q h size e f = absurd h
@@ -53,8 +53,8 @@ front_last (x ∷ []) (y ∷ qs) (suc i) p q h size e f = absurd (omega (arith, 
 front_last (x ∷ next ∷ ps) (y ∷ qs) zero p q h size e f = absurd (omega (arith, size))
 front_last (x ∷ next ∷ ps) (y ∷ qs) (suc i) p q h size e f = front_last (next ∷ ps) qs i p q h.1 (omega (arith, size)) e f
 
--- if `ps` are a front of `qs`, the last part of `ps`, at place j, comes before the last part of `qs`, at place i; or j is i, and it has
--- no more requests
+-- if `ps` are a front of `qs`, the last part of `ps`, at place j, comes before the last part of `qs`, at place i; or j is i, and
+-- it has no more requests
 pub front_no_longer : (ps qs : List Part) (j i : ℕ) (p q : Part) → IsFront ps qs → (last : length ps ≡ suc j) → (last_of_all : length qs ≡ suc i) → (here : slice_get ps j ≡ Some p)
     → (there : slice_get qs i ≡ Some q) → (j < i) ⊎ ((j ≡ i) × (length p.marks ≤ length q.marks))
 front_no_longer [] qs j i p q h a b e f = absurd h

@@ -11,6 +11,7 @@ use Rattle.gc_catalogue.specs.declared.call.Call.TheVariants.{NullProc}
 use Rattle.gc_catalogue.specs.declared.asked.Asked.{Asked}
 use Rattle.gc_client.specs.OneForOne.{Hear, Expire}
 use Rattle.gc_client.specs.Rule.{ById, fresh, heard, hears, expired, expires}
+use Rattle.gc_client.proofs.Lists.{head_of_drop}
 use Rattle.gc_texts.specs.Tasks.{call_at}
 use Rattle.gc_texts.specs.declared.tasks.Task.{Task}
 use Rattle.gc_texts.specs.Endings.{Skipped, Missed}
@@ -27,8 +28,8 @@ use Rattle.gc_station.specs.Progressing.{moment_noted, turned, skipped_at}
 use Rattle.gc_station.specs.Reasons.{HoldsBefore}
 use Rattle.gc_station.specs.Records.{Record}
 use Rattle.gc_station.specs.declared.mark.Mark.{Mark}
-use Rattle.gc_station.specs.Model.{Model, waiting_of, place_next, mark_next, Performs, with_progress, with_moment, with_rest, asks_null, asks_first, unsent_record, first_unsent_record, line_came, lines_came, lines_completed, is_heard, after_piece, after_read, moved, mark_setup, asks_or_null}
-use Rattle.gc_station.proofs.Tasked.{at_place}
+use Rattle.gc_station.specs.Model.{Model, waiting_of, Performs, with_progress, with_moment, with_rest, asks_null, asks_first, unsent_record, first_unsent_record, line_came, lines_came, lines_completed, is_heard, after_piece, after_read, moved, asks_or_null}
+use Rattle.gc_station.specs.NextCommand.{place_next, mark_next, mark_setup}
 use Rattle.gc_station.proofs.Booking.{Books, books_turns, sent_both, sent_records, books_both, books_nothing, books_moment, books_line, books_send}
 use Rattle.gc_station.proofs.Invariant.{Invariant}
 use Rattle.gc_station.proofs.Hearing.{hears_paired}
@@ -43,7 +44,7 @@ abbrev pub Paired : Model → Type 0
 Paired s = length s.marks ≡ length s.client.waiting
 
 module _ (plan : Plan) (commands : List Task) where
-  -- a line that is heard leads on by the step that hears it
+  -- if each request that waits has a mark, a line that is heard leads on by the step that hears it
   heard_books : (s : Model) (line : List ℕ) → Paired s → Leads commands s (only_steps (Hear line ∷ [])) (line_came s line)
   heard_books s line paired =
       let x = hears s.client line (heard line) in
@@ -51,7 +52,7 @@ module _ (plan : Plan) (commands : List Task) where
       subst (λ (rs : List Record). Books s.reads commands s.client s.marks (sent_of s.records) (only_steps (Hear line ∷ [])) x.client (drop (length x.settlements) s.marks) rs) (sym written)
       (books_line s.reads commands s.client s.marks (sent_of s.records) s.progress.moment.utc line paired)
 
-  -- lines that are heard lead on by the steps that hear them, in order
+  -- if each request that waits has a mark, lines that are heard lead on by the steps that hear them, in order
   leads_lines : (s : Model) (lines : List (List ℕ)) → Paired s → Leads commands s (only_steps (map Hear lines)) (lines_came s lines)
   leads_lines s [] paired = books_nothing s.reads commands s.client s.marks (sent_of s.records)
   leads_lines s (line ∷ others) paired =
@@ -62,8 +63,9 @@ module _ (plan : Plan) (commands : List Task) where
       (heard_books s line paired)
       (leads_lines t others (hears_paired s.marks s.client line (heard line) paired))
 
-  -- a piece leads on by the steps that hear its lines; by none if it is discarded
-  leads_came : (h : Bool) (word piece : List ℕ) (s : Model) → is_none_left word ≡ true → Paired s → Leads commands s (only_steps (heard_steps h s.rest piece)) (after_piece h word piece s)
+  -- if each request that waits has a mark, and the station has synchronized (no id of `word` is left), a piece leads on by the
+  -- steps that hear its lines; by none if it is discarded (`heard` is false)
+  leads_came : (heard : Bool) (word piece : List ℕ) (s : Model) → is_none_left word ≡ true → Paired s → Leads commands s (only_steps (heard_steps heard s.rest piece)) (after_piece heard word piece s)
   leads_came true (asked ∷ others) piece s begun paired = cc
   leads_came true [] piece s begun paired = leads_lines (with_rest (rest_behind s.rest piece) s) (lines_completed s.rest piece) paired
   leads_came false word piece s begun paired = books_nothing s.reads commands s.client s.marks (sent_of s.records)
@@ -72,7 +74,7 @@ module _ (plan : Plan) (commands : List Task) where
   paired_told : (s : Model) (m : ℕ) → Paired s → length s.marks ≡ length (map (expired m) s.client.waiting)
   paired_told s m paired = paired ∙ sym (length-map s.client.waiting (expired m))
 
-  -- a read that gave bytes leads on by its part, once the station has synchronized
+  -- once the station has synchronized, and if each request that waits has a mark, a read that gave bytes leads on by its part
   leads_gave : (s : Model) (until : Until) (bytes : List ℕ) (m : Moment) → has_begun s.progress ≡ true → Paired s
       → Leads commands s (client_part plan commands s (action.Read until) (Gave bytes m)) (after_read plan until (with_progress turned s) (Gave bytes m))
   leads_gave s until bytes m begun paired =
@@ -83,26 +85,27 @@ module _ (plan : Plan) (commands : List Task) where
       (books_moment s.reads commands s.client s.marks (sent_of s.records) m.elapsed)
       (leads_came (is_heard s.progress.phase) s.progress.word bytes x begun (paired_told s m.elapsed paired))
 
-  -- the next command, if it is sent, leads on by the part of its request
+  -- the next command of a cycle, if there is one and room for it, leads on by the part of its request once it is sent
   leads_first : (s : Model) (left : List Task) → drop (place_next commands s.progress) commands ≡ left → 0 < length left → length s.client.waiting < 7
       → Leads commands s (first_request_part s.progress.moment.elapsed (mark_next plan commands s.progress) left) (asks_first (mark_next plan commands s.progress) left (with_progress turned s))
   leads_first s [] at some room = absurd (omega (arith, some))
   leads_first s (task ∷ others) at some room =
       books_send s.reads commands s.client s.marks (sent_of s.records) task.command.target (call_at task s.progress.moment.utc) (later s.progress.moment.elapsed task.deadline)
       (Some (mark_next plan commands s.progress)) room
-      (task, at_place (place_next commands s.progress) commands task others at, refl)
+      (task, head_of_drop commands (place_next commands s.progress) task others at, refl)
 
-  -- a null procedure after commands leads on by the part of its request
+  -- a null procedure of the station's own, if there is room for it, leads on by the part of its request once it is sent
   leads_null : (s : Model) → length s.client.waiting < 7 → Leads commands s (request_part 0 (Table NullProc) (later s.progress.moment.elapsed plan.deadline) None) (asks_null plan s)
   leads_null s room = books_send s.reads commands s.client s.marks (sent_of s.records) 0 (Table NullProc) (later s.progress.moment.elapsed plan.deadline) None room refl
 
-  -- the next command of the setup, if it is sent, leads on by the part of its request
+  -- the first of `left`, the commands from the next place of the setup on, or a null procedure if `left` is empty, leads on by
+  -- the part of its request once it is sent, if there is room for it
   leads_setup : (s : Model) (left : List Task) → drop s.progress.prepared commands ≡ left → length s.client.waiting < 7
       → Leads commands s (request_or_null_part plan s.progress.moment.elapsed (mark_setup commands s.progress) left) (asks_or_null plan (mark_setup commands s.progress) left (with_progress turned s))
   leads_setup s [] at room = leads_null s room
   leads_setup s (task ∷ others) at room =
       books_send s.reads commands s.client s.marks (sent_of s.records) task.command.target (call_at task s.progress.moment.utc) (later s.progress.moment.elapsed task.deadline)
-      (Some (mark_setup commands s.progress)) room (task, at_place s.progress.prepared commands task others at, refl)
+      (Some (mark_setup commands s.progress)) room (task, head_of_drop commands s.progress.prepared task others at, refl)
 
   -- the record of a command that isn't sent isn't among those of commands that were sent
   skips_first_unsent : (p : Progress) (m : Moment) (mark : Mark) (left : List Task) → sent_of (first_unsent_record p m mark left) ≡ []
@@ -135,7 +138,8 @@ module _ (plan : Plan) (commands : List Task) where
   moment_booked : (s : Model) (m : Moment) → Leads commands s (only_steps (Expire m.elapsed ∷ [])) (with_moment m s)
   moment_booked s m = books_moment s.reads commands s.client s.marks (sent_of s.records) m.elapsed
 
-  -- an act of each action leads on by its part, once the station has synchronized
+  -- once the station has synchronized, an act of each action leads on by its part, if `Invariant` holds before it, and
+  -- `HoldsBefore` of the action
   leads_order : (s : Model) (o : Action) (act : Act) → Invariant plan commands s → HoldsBefore plan s.progress (waiting_of s) o → Performs commands s o act → has_begun s.progress ≡ true
       → Leads commands s (client_part plan commands s o act) (moved plan commands o (with_progress turned s) act)
   leads_order s action.Open act fine is obeys begun = walk plan commands (LeadsSo action.Open s) action.Open (with_progress turned s) act obeys (λ m. none_booked s, λ n. none_booked s)
@@ -168,13 +172,13 @@ module _ (plan : Plan) (commands : List Task) where
 
   -- While the station synchronizes no step is taken.
 
-  -- from the model s to t an act leaves the client new, and the marks and the records as they are
-  abbrev Keeps : Model → Act → Model → Type 0
-  Keeps s act t = (t.client ≡ fresh) × (t.marks ≡ s.marks) × (t.records ≡ s.records)
+  -- the client of the model t is new, and t has the marks and the records of the model s, from before the act
+  abbrev KeepsNewClient : Model → Act → Model → Type 0
+  KeepsNewClient s act t = (t.client ≡ fresh) × (t.marks ≡ s.marks) × (t.records ≡ s.records)
 
   -- while the station synchronizes, a piece leaves the client new, and the marks and the records as they are
-  keeps_came : (h : Bool) (word piece : List ℕ) (s : Model) → is_none_left word ≡ false → s.client ≡ fresh
-      → ((after_piece h word piece s).client ≡ fresh) × ((after_piece h word piece s).marks ≡ s.marks) × ((after_piece h word piece s).records ≡ s.records)
+  keeps_came : (heard : Bool) (word piece : List ℕ) (s : Model) → is_none_left word ≡ false → s.client ≡ fresh
+      → ((after_piece heard word piece s).client ≡ fresh) × ((after_piece heard word piece s).marks ≡ s.marks) × ((after_piece heard word piece s).records ≡ s.records)
   keeps_came true [] piece s begins new = cc
   keeps_came true (asked ∷ others) piece s begins new = (new, refl, refl)
   keeps_came false word piece s begins new = (new, refl, refl)
@@ -183,9 +187,10 @@ module _ (plan : Plan) (commands : List Task) where
   new_told : (s : Model) (m : Moment) → s.client ≡ fresh → expires s.client m.elapsed ≡ fresh
   new_told s m new = ap (λ c. expires c m.elapsed) new
 
-  -- while the station synchronizes, an act of each action leaves the client new, and the marks and the records as they are
+  -- while the station synchronizes, an act of each action of which `HoldsBefore` holds leaves a new client new, and the marks and
+  -- the records as they are
   pub keeps_action : (s : Model) (o : Action) (act : Act) → HoldsBefore plan s.progress (waiting_of s) o → Performs commands s o act → has_begun s.progress ≡ false
-      → s.client ≡ fresh → Keeps s act (moved plan commands o (with_progress turned s) act)
+      → s.client ≡ fresh → KeepsNewClient s act (moved plan commands o (with_progress turned s) act)
   keeps_action s action.Renew act is obeys begins new = absurd (both_ways (has_begun s.progress) begins is.1)
   keeps_action s action.Begin act is obeys begins new = absurd (both_ways (has_begun s.progress) begins is.1)
   keeps_action s action.Prepare act is obeys begins new = absurd (both_ways (has_begun s.progress) begins is.1)
@@ -193,19 +198,19 @@ module _ (plan : Plan) (commands : List Task) where
   keeps_action s action.Skip act is obeys begins new = absurd (both_ways (has_begun s.progress) begins is.1)
   keeps_action s action.Pass act is obeys begins new = absurd (both_ways (has_begun s.progress) begins is.1)
   keeps_action s action.Flush act is obeys begins new = absurd (both_ways (has_begun s.progress) begins is.1)
-  keeps_action s action.ReadClock act is obeys begins new = walk plan commands (Keeps s) action.ReadClock (with_progress turned s) act obeys
+  keeps_action s action.ReadClock act is obeys begins new = walk plan commands (KeepsNewClient s) action.ReadClock (with_progress turned s) act obeys
       (λ m. (new_told s m new, refl, refl), λ n. (new, refl, refl))
   keeps_action s (action.Read until) act is obeys begins new =
-      walk plan commands (Keeps s) (action.Read until) (with_progress turned s) act obeys (
+      walk plan commands (KeepsNewClient s) (action.Read until) (with_progress turned s) act obeys (
         λ bytes m. keeps_came (is_heard s.progress.phase) s.progress.word bytes (with_moment m (with_progress (moment_noted m) (with_progress turned s))) begins (new_told s m new),
         λ m. (new_told s m new, refl, refl),
         (new, refl, refl),
         (new, refl, refl),
         (new, refl, refl),
       )
-  keeps_action s (action.Close why) act is obeys begins new = walk plan commands (Keeps s) (action.Close why) (with_progress turned s) act obeys (new, refl, refl)
+  keeps_action s (action.Close why) act is obeys begins new = walk plan commands (KeepsNewClient s) (action.Close why) (with_progress turned s) act obeys (new, refl, refl)
   keeps_action s (action.Stop why) act is obeys begins new = absurd obeys
-  keeps_action s o act is obeys begins new = walk plan commands (Keeps s) o (with_progress turned s) act obeys (λ m. (new, refl, refl), λ n. (new, refl, refl))
+  keeps_action s o act is obeys begins new = walk plan commands (KeepsNewClient s) o (with_progress turned s) act obeys (λ m. (new, refl, refl), λ n. (new, refl, refl))
 
   -- the part of an act while the station synchronizes has only turns
   only_of : (s : Model) (o : Action) (act : Act) → sync_part s o act ≡ only_turns (sync_part s o act).turns
@@ -224,7 +229,8 @@ module _ (plan : Plan) (commands : List Task) where
       (subst (λ (x : List (Option Mark)). books s.client x (sent_of t.records)) ms
       (subst (λ (x : List Record). books s.client s.marks (sent_of x)) rs (books_turns s.reads commands s.client s.marks (sent_of s.records) turns)))
 
-  -- an act of each action leads on by its part, while the station synchronizes
+  -- while the station synchronizes, an act of each action leads on by its part, if `Invariant` holds before it, and `HoldsBefore`
+  -- of the action
   leads_begins : (s : Model) (o : Action) (act : Act) → Invariant plan commands s → HoldsBefore plan s.progress (waiting_of s) o → Performs commands s o act → has_begun s.progress ≡ false
       → Leads commands s (sync_part s o act) (moved plan commands o (with_progress turned s) act)
   leads_begins s o act fine is obeys begins =
@@ -233,7 +239,7 @@ module _ (plan : Plan) (commands : List Task) where
       let k = keeps_action s o act is obeys begins new in
       subst (λ (p : Part). Leads commands s p t) (sym (only_of s o act)) (same_led s (sync_part s o act).turns t (new ∙ sym k.0) (sym k.1) (sym k.2))
 
-  -- an act of each action leads on by its part
+  -- an act of each action leads on by its part, if `Invariant` holds before it, and `HoldsBefore` of the action
   pub leads : (s : Model) (o : Action) (act : Act) → Invariant plan commands s → HoldsBefore plan s.progress (waiting_of s) o → Performs commands s o act
       → Leads commands s (part_of_act plan commands s o act) (moved plan commands o (with_progress turned s) act)
   leads s o act fine is obeys =

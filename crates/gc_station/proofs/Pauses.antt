@@ -29,7 +29,8 @@ doubled_least : (n time : ℕ) → time ≤ doubled n time
 doubled_least zero time = omega arith
 doubled_least (suc n) time = let least = doubled_least n time in omega (arith, least)
 
--- twice a bounded pause, bounded again, is twice the unbounded one, bounded
+-- a pause is bounded by cutting it to a minute and then raising it to the quiet time. If d is at least the quiet time, twice the
+-- bounded d, bounded again, is twice d, bounded
 twice_more : (d quiet : ℕ) → quiet ≤ d → max (min (min (max (min d 60000) quiet + max (min d 60000) quiet) 18446744073709551615) 60000) quiet ≡ max (min (2 * d) 60000) quiet
 twice_more d quiet least = omega (arith, least)
 
@@ -38,18 +39,19 @@ twice : (plan : Plan) (n : ℕ) → max (min (later (pause_after plan n) (pause_
 twice plan zero = twice_none plan.quiet
 twice plan (suc n) = twice_more (doubled n plan.quiet) plan.quiet (doubled_least n plan.quiet)
 
--- a failure that isn't spared makes the pause that of one failure more
+-- a failure that isn't spared makes the pause after n failures the one after n + 1
 failed : (plan : Plan) (commands n : ℕ) (why : Cause) (p : Progress) → is_spared plan why p ≡ false → p.pause ≡ pause_after plan n
     → (after_failure plan commands why p).pause ≡ pause_after plan (suc n)
 failed plan commands n why p e is =
     cond-false (is_spared plan why p) (max p.pause plan.quiet) (max (min (later p.pause p.pause) 60000) plan.quiet) e
     ∙ ap (λ x. max (min (later x x) 60000) plan.quiet) is ∙ twice plan n
 
--- a failure that isn't spared takes one try
+-- a failure that isn't spared takes one try, if at least one is left
 takes : (plan : Plan) (commands : ℕ) (why : Cause) (p : Progress) → is_spared plan why p ≡ false → 0 < p.tries → (after_failure plan commands why p).tries + 1 ≡ p.tries
 takes plan commands why p e some = let less = cond-false (is_spared plan why p) p.tries (p.tries - 1) e in omega (arith, less, some)
 
--- a failure that isn't spared, without a try left (`some`), ends the run: as done, if all is done, or for its cause
+-- a failure that isn't spared, without a try left (`some` is false), ends the run: as done, if all is done (`done`), else for its
+-- cause
 over_by : (done spared some : Bool) (why : Cause) → spared ≡ false → some ≡ false
     → ((if done then phase.Over cause.Done else if spared || some then phase.Pausing else phase.Over why) ≡ phase.Over cause.Done)
     ⊎ ((if done then phase.Over cause.Done else if spared || some then phase.Pausing else phase.Over why) ≡ phase.Over why)
@@ -58,16 +60,17 @@ over_by false true some why e f = cc
 over_by false false true why e f = cc
 over_by false false false why e f = inr refl
 
--- a failure that isn't spared, without a try left, ends the run
+-- a failure that isn't spared, without a try left, ends the run: as done, or for its cause
 none_left : (plan : Plan) (commands : ℕ) (why : Cause) (p : Progress) → is_spared plan why p ≡ false → p.tries ≡ 0
     → ((after_failure plan commands why p).phase ≡ phase.Over cause.Done) ⊎ ((after_failure plan commands why p).phase ≡ phase.Over why)
 none_left plan commands why p e none = over_by (is_finished commands p) (is_spared plan why p) (nat_lt 0 p.tries) why e (le-ltb 0 p.tries (omega (arith, none)))
 
--- a bounded pause that is at least the quiet time stays
+-- a pause that was made from d, cut to a minute and then raised to the quiet time, is the same once it is raised to the quiet
+-- time again
 spared_stays : (d quiet : ℕ) → max (max (min d 60000) quiet) quiet ≡ max (min d 60000) quiet
 spared_stays d quiet = omega arith
 
--- a spared close takes no try, and leaves a pause as it is
+-- a spared close takes no try, and leaves the pause as it is, if that is the pause after n + 1 failures
 spared : (plan : Plan) (commands n : ℕ) (why : Cause) (p : Progress) → is_spared plan why p ≡ true → p.pause ≡ pause_after plan (suc n)
     → ((after_failure plan commands why p).pause ≡ pause_after plan (suc n)) × ((after_failure plan commands why p).tries ≡ p.tries)
 spared plan commands n why p e is = (
@@ -76,7 +79,7 @@ spared plan commands n why p e is = (
   cond-true (is_spared plan why p) p.tries (p.tries - 1) e,
 )
 
--- if there was no pause, the pause after a spared close is the quiet time
+-- if there was no pause, the pause that a spared close makes, the quiet time, is the one after a first failure
 spared_none : (quiet : ℕ) → max 0 quiet ≡ max (min quiet 60000) quiet
 spared_none quiet = omega arith
 
@@ -96,7 +99,7 @@ settled plan until before after p fewer done =
     let e = and_from (nat_lt after.commands before) (not p.preparing) (lt-ltb after.commands before fewer) (not_from_false p.preparing done) in
     (cond-true (gives_back before after p) plan.retries p.tries e, cond-true (gives_back before after p) 0 p.pause e)
 
--- a read that settled no command, or while the setup isn't done, leaves the tries and the pause
+-- a read that settled no command, or while the setup isn't done, changes neither the tries nor the pause
 unsettled : (plan : Plan) (until : Until) (before : ℕ) (after : Waiting) (p : Progress) → (before ≤ after.commands) ⊎ (p.preparing ≡ true)
     → ((bytes_noted plan until before after p).tries ≡ p.tries) × ((bytes_noted plan until before after p).pause ≡ p.pause)
 unsettled plan until before after p why =
@@ -109,7 +112,7 @@ unsettled plan until before after p why =
       by_cause true false x y (inl more) = let none = le-ltb after.commands before more in cc
       by_cause true false x y (inr on) = cc
 
--- an action of `LeavesTries` leaves the tries and the pause
+-- an action of `LeavesTries` changes neither the tries nor the pause
 other : (plan : Plan) (commands : List Task) (action : Action) (s : Model) (act : Act) → LeavesTries action
     → ((moved plan commands action s act).progress.tries ≡ s.progress.tries) × ((moved plan commands action s act).progress.pause ≡ s.progress.pause)
 other plan commands actions.Open s act leaves = absurd leaves
@@ -118,8 +121,8 @@ other plan commands (actions.Close why) s act leaves = absurd leaves
 other plan commands action s act leaves =
     let is = moved_changed plan commands action s act in (ap (λ (x : Model). x.progress.tries) is, ap (λ (x : Model). x.progress.pause) is)
 
--- the law: a failure takes one try, and lengthens the pause; a spared close takes no try, and leaves the pause, or makes a
--- pause of 0 that of one failure; and a read that settles a command gives all tries back, and makes the pause 0
+-- the law: a failure takes one try, and lengthens the pause; a spared close takes no try, and doesn't change the pause, or makes
+-- a pause of 0 that of one failure; and a read that settles a command gives all tries back, and makes the pause 0
 pub counted : TriesAndPausesAreCounted
 counted = record {
   start = λ plan turns. (refl, refl);

@@ -26,7 +26,7 @@ use Rattle.gc_station.specs.Runs.{state_after}
 use Rattle.gc_station.specs.ActKinds.{Puts}
 use Rattle.gc_station.specs.Model.{Model, action_at, request_text, with_progress, with_moment, with_rest, line_came, lines_came, lines_completed, after_piece}
 use Rattle.gc_station.proofs.Growing.{lines_records}
-use Rattle.gc_station.proofs.Lists.{all_append, all_split, cuts_on, Rows}
+use Rattle.gc_station.proofs.Lists.{all_append, all_split, cuts_on, AllRisingAt}
 use Rattle.gc_station.proofs.Meets.{HasPlace, EndedBy, heard_ended, heard_left, left_window, left_waits, records_all, IsRecordOf, was_answered, was_late, was_lost}
 use Rattle.gc_station.proofs.Waiting.{WasAsked, StayedAt, WaitsAt, IsJustified, IsHonest, past_more, past_here, expired_waits, expired_window, behind_moment, moment_told}
 use Rattle.gc_station.specs.Scopes.{Scope}
@@ -41,13 +41,13 @@ regroup start news front r back more =
 -- the acts before that act, and the records so far are true by the acts up to it
 pub record HonestSoFar (plan : Plan) (commands : List Task) (scope : Scope) (acts : List Act) (piece : List ℕ) (m : Moment) (x : Model) : Type 0 where
   pub window : IsWithinLimits x.client
-  pub waiting : Rows (WaitsAt plan commands scope acts (state_after plan commands scope acts).client m.elapsed x.client.next (length x.client.waiting)) 0 0 x.client.waiting x.marks
+  pub waiting : AllRisingAt (WaitsAt plan commands scope acts (state_after plan commands scope acts).client m.elapsed x.client.next (length x.client.waiting)) 0 0 x.client.waiting x.marks
   pub written : AllByRecursion (IsJustified plan commands scope (acts ++ Gave piece m ∷ [])) x.records
   pub news : List Record
   pub grew : x.records ≡ (state_after plan commands scope acts).records ++ news
 
--- `request`, the very request of the record r, was put after the acts `before`; and r was written at the act that brought the
--- piece
+-- `acts` are the acts `before`, then `request`, then `between`; `request` is the very request of the record r; and r was written
+-- at the act after `acts`, which brought the piece
 pub record WrittenDown (plan : Plan) (commands : List Task) (scope : Scope) (acts : List Act) (piece : List ℕ) (m : Moment) (before : List Act)
     (request : Act) (between : List Act) (r : Record) : Type 0 where
   pub order : acts ++ Gave piece m ∷ [] ≡ before ++ request ∷ (between ++ Gave piece m ∷ [])
@@ -82,28 +82,29 @@ written_down plan commands scope acts piece m number at id p mark r news earlier
       };
     }
 
--- the id that was heard is that of the request at its place
+-- if the id that was heard has the place `at`, and the request at that place has the id `next`, then `next` was heard
 id_heard : (c : ById Asked) (line : List ℕ) (at next : ℕ) → IsWithinLimits c → HasPlace c (heard line) at → id_at c.next (length c.waiting) at ≡ next → heard line ≡ Some next
 id_heard c line at next w has is =
     let back = id_back c.next (length c.waiting) has.id w.digit w.few (heard_digit line has.id has.has) in
     has.has ∙ ap Some (sym back ∙ ap (λ (k : ℕ). id_at c.next (length c.waiting) k) (sym has.is) ∙ is)
 
--- a line of the piece has the id `next`, which is that of the request at the place `at`: so the piece brings that id (`BringsLine`)
+-- a line of the piece has the id `next`, which is that of the request at the place `at`: so the piece brings that id
+-- (`BringsLine`)
 brings : (plan : Plan) (commands : List Task) (scope : Scope) (acts : List Act) (piece : List ℕ) (c : ById Asked) (front others : List (List ℕ)) (line : List ℕ)
     (at next : ℕ) (before : List Act) (request : Act) (between : List Act)
     → (split : front ++ line ∷ others ≡ lines_completed (state_after plan commands scope acts).rest piece) → (order : acts ≡ before ++ request ∷ between) → (limits : IsWithinLimits c)
     → (has : HasPlace c (heard line) at) → (is_next : id_at c.next (length c.waiting) at ≡ next)
     → BringsLine plan commands scope (before ++ request ∷ between) piece next
-brings plan commands scope acts piece c front others line at next before request between split action w has is = record {
+brings plan commands scope acts piece c front others line at next before request between split order w has is = record {
   front = front;
   line = line;
   others = others;
-  came = sym (ap (λ (xs : List Act). lines_completed (state_after plan commands scope xs).rest piece) action) ∙ sym split;
+  came = sym (ap (λ (xs : List Act). lines_completed (state_after plan commands scope xs).rest piece) order) ∙ sym split;
   has = id_heard c line at next w has is;
 }
 
--- if a request hasn't timed out at the moment `now` (b), its deadline d is later than `now`, and than each moment that these
--- acts read
+-- b is whether a request with the deadline d has timed out at the moment `now`, as the moments make it that these acts read
+-- (`StayedAt`). If it hasn't, d is later than `now`, and than each of those moments
 in_time : (now d : ℕ) (b : Bool) (acts : List Act) → b ≡ false → StayedAt now b d acts → AllByRecursion (ReadsBefore d) acts × (now < d)
 in_time now d true acts is both = cc
 in_time now d false acts is both = both
@@ -116,7 +117,8 @@ too_late now d true acts act is past (inl moment_noted) = past_more d acts (act 
 too_late now d true acts act is past (inr reached) = past_here d acts act (past reached)
 too_late now d false acts act is past both = cc
 
--- the record of an answer, of the request with this mark, is as `IsAnsweredIn` says
+-- a record that is `WrittenDown`, of the request with this mark, is as `IsAnsweredIn` says of the line l, if that is the line of
+-- the piece that has the request's id, and the request hasn't timed out
 answered : (plan : Plan) (commands : List Task) (scope : Scope) (acts : List Act) (piece : List ℕ) (m : Moment) (c : ById Asked) (front others : List (List ℕ))
     (line l : List ℕ) (number at : ℕ) (p : Pending Asked) (mark : Mark) (r : Record)
     → (split : front ++ line ∷ others ≡ lines_completed (state_after plan commands scope acts).rest piece) → (limits : IsWithinLimits c)
@@ -127,24 +129,19 @@ answered : (plan : Plan) (commands : List Task) (scope : Scope) (acts : List Act
 answered plan commands scope acts piece m c front others line l number at p mark r split w s down same given has =
     let both = in_time m.elapsed p.deadline p.given_up s.between given s.stays in
     record {
-      before = s.before;
-      request = s.request;
-      between = s.between;
       piece = piece;
       moment = m;
-      behind = [];
-      order = down.order;
-      own = down.own;
+      its = record { before = s.before; request = s.request; between = s.between; behind = []; order = down.order; own = down.own; written = down.written };
       waits = subst (λ (d : ℕ). AllByRecursion (ReadsBefore d) s.between) (s.deadline mark refl) both.0;
       in_time = subst (λ (d : ℕ). m.elapsed < d) (s.deadline mark refl) both.1;
       front = front;
       others = others;
       came = sym (ap (λ (xs : List Act). lines_completed (state_after plan commands scope xs).rest piece) s.order) ∙ sym split ∙ ap (λ y. front ++ y ∷ others) (sym same);
       id = ap heard same ∙ id_heard c line at _ w has s.id;
-      written = down.written;
     }
 
--- the record of a late reply, of the request with this mark, is as `IsLateIn` says
+-- a record that is `WrittenDown`, of the request with this mark, is as `IsLateIn` says, if a line of the piece has the request's
+-- id, and the request has timed out
 late : (plan : Plan) (commands : List Task) (scope : Scope) (acts : List Act) (piece : List ℕ) (m : Moment) (c : ById Asked) (front others : List (List ℕ))
     (line : List ℕ) (number at : ℕ) (p : Pending Asked) (mark : Mark) (r : Record)
     → (split : front ++ line ∷ others ≡ lines_completed (state_after plan commands scope acts).rest piece) → (limits : IsWithinLimits c)
@@ -153,21 +150,16 @@ late : (plan : Plan) (commands : List Task) (scope : Scope) (acts : List Act) (p
     → (timed_out : p.given_up ≡ true) → (has : HasPlace c (heard line) at)
     → IsLateIn plan commands scope (acts ++ Gave piece m ∷ []) r
 late plan commands scope acts piece m c front others line number at p mark r split w s down given has = record {
-  before = s.before;
-  request = s.request;
-  between = s.between;
   piece = piece;
   moment = m;
-  behind = [];
-  order = down.order;
-  own = down.own;
+  its = record { before = s.before; request = s.request; between = s.between; behind = []; order = down.order; own = down.own; written = down.written };
   too_late = subst (λ (d : ℕ). OneReadsPast d (s.between ++ Gave piece m ∷ [])) (s.deadline mark refl)
       (too_late m.elapsed p.deadline p.given_up s.between (Gave piece m) given (λ reached. reached) s.stays);
   came = brings plan commands scope acts piece c front others line at _ s.before s.request s.between split s.order w has s.id;
-  written = down.written;
 }
 
--- a request that is lost was overtaken: the piece brings the reply to a request that was put after it, and that waits
+-- if a line of the piece has the id of a request q that waits, and that was put after the request p, p is overtaken at the read
+-- that gave the piece (`IsOvertaken`)
 overtaken : (plan : Plan) (commands : List Task) (scope : Scope) (acts : List Act) (piece : List ℕ) (m : Moment) (c : ById Asked) (front others : List (List ℕ))
     (line : List ℕ) (number at there : ℕ) (p q : Pending Asked) (mark mark' : Option Mark) (number' : ℕ)
     → (split : front ++ line ∷ others ≡ lines_completed (state_after plan commands scope acts).rest piece) → (limits : IsWithinLimits c)
@@ -199,22 +191,23 @@ overtaken plan commands scope acts piece m c front others line number at there p
           (t.id ∙ ap (λ (xs : List Act). (state_after plan commands scope xs).client.next) on);
     }
 
--- this record is of a request that the line settles (`EndedBy`)
-abbrev pub IsRecorded : Plan → List Task → Scope → List Act → ℕ → ById Asked → List ℕ → Record → Type 0
+-- this record is of a request that the line settles (`EndedBy`), with the cycle, the place and the moment of its mark
+abbrev pub IsRecorded : Plan → List Task → Scope → List Act → (now : ℕ) → ById Asked → (line : List ℕ) → Record → Type 0
 IsRecorded plan commands scope acts now c line r =
     (at : ℕ) × (mark : Mark) × (x : Settlement Asked) × (r.cycle ≡ mark.cycle) × (r.place ≡ mark.place) × (r.sent ≡ Some mark.sent) × IsRecordOf r x
     × EndedBy (WaitsAt plan commands scope acts (state_after plan commands scope acts).client now c.next (length c.waiting)) c (heard line) line at x (Some mark)
 
--- each record of a line is of a request that the line settles
+-- where `WaitsAt` holds of the requests that wait, with their marks, each record of a line is of a request that the line settles
+-- (`IsRecorded`)
 pub line_written : (plan : Plan) (commands : List Task) (scope : Scope) (acts : List Act) (reads : Asked → List ℕ → Reading) (now utc : ℕ) (c : ById Asked) (marks : List (Option Mark)) (line : List ℕ)
-    → Rows (WaitsAt plan commands scope acts (state_after plan commands scope acts).client now c.next (length c.waiting)) 0 0 c.waiting marks
+    → AllRisingAt (WaitsAt plan commands scope acts (state_after plan commands scope acts).client now c.next (length c.waiting)) 0 0 c.waiting marks
     → AllByRecursion (IsRecorded plan commands scope acts now c line) (records_of reads utc marks (hears c line (heard line)).settlements)
 line_written plan commands scope acts reads now utc c marks line waits =
     let W = WaitsAt plan commands scope acts (state_after plan commands scope acts).client now c.next (length c.waiting) in
     records_all (EndedBy W c (heard line) line) (IsRecorded plan commands scope acts now c line) reads utc 0 (hears c line (heard line)).settlements marks
     (λ i y mark ended. (i, mark, y, refl, refl, refl, record { reads = reads; expected = mark.expected; command = refl; ended = refl }, ended)) (heard_ended W c marks line (heard line) waits)
 
--- the record of a request that a line settles is true
+-- the record of a request that a line of the piece settles (`IsRecorded`) is true by the acts with the one that brought the piece
 line_true : (plan : Plan) (commands : List Task) (scope : Scope) (acts : List Act) (piece : List ℕ) (m : Moment) (c : ById Asked) (front others : List (List ℕ))
     (line : List ℕ) (r : Record) (news earlier later more : List Record)
     → front ++ line ∷ others ≡ lines_completed (state_after plan commands scope acts).rest piece → IsWithinLimits c
@@ -235,14 +228,16 @@ line_true plan commands scope acts piece m c front others line r news earlier la
           let f = a.found in
           let above : x.number < f.number = f.least in
           record {
-            before = s.before;
-            request = s.request;
-            between = s.between;
             act = Gave piece m;
-            behind = [];
-            order = down.order;
-            own = down.own;
-            written = down.written;
+            its = record {
+              before = s.before;
+              request = s.request;
+              between = s.between;
+              behind = [];
+              order = down.order;
+              own = down.own;
+              written = down.written;
+            };
             shown = inl (overtaken plan commands scope acts piece m c front others line x.number at a.place x.pending f.one (Some mark) f.beside f.number split w s f.holds above a.above a.heard);
           };
     }
@@ -290,11 +285,11 @@ abbrev pub piece_before : Moment → Model → Model
 piece_before m s = with_moment m (with_progress (moment_noted m) (with_progress turned s))
 
 -- an act that brings a piece preserves `IsHonest`
-pub piece_honest : (plan : Plan) (commands : List Task) (scope : Scope) (acts : List Act) (piece : List ℕ) (m : Moment) (b : Bool) (word : List ℕ) (tail : List Record)
-    → (state_after plan commands scope (acts ++ Gave piece m ∷ [])).records ≡ (after_piece b word piece (piece_before m (state_after plan commands scope acts))).records ++ tail
+pub piece_honest : (plan : Plan) (commands : List Task) (scope : Scope) (acts : List Act) (piece : List ℕ) (m : Moment) (heard : Bool) (word : List ℕ) (tail : List Record)
+    → (state_after plan commands scope (acts ++ Gave piece m ∷ [])).records ≡ (after_piece heard word piece (piece_before m (state_after plan commands scope acts))).records ++ tail
     → IsWithinLimits (state_after plan commands scope acts).client
     → IsHonest plan commands scope acts (acts ++ Gave piece m ∷ []) (state_after plan commands scope acts)
-    → IsHonest plan commands scope (acts ++ Gave piece m ∷ []) (acts ++ Gave piece m ∷ []) (after_piece b word piece (piece_before m (state_after plan commands scope acts)))
+    → IsHonest plan commands scope (acts ++ Gave piece m ∷ []) (acts ++ Gave piece m ∷ []) (after_piece heard word piece (piece_before m (state_after plan commands scope acts)))
 piece_honest plan commands scope acts piece m false word tail ends window h =
     let s = state_after plan commands scope acts in
     moment_told plan commands scope acts (Gave piece m) m.elapsed s.client s.marks s.records (λ d low. low) (λ d past. past) h

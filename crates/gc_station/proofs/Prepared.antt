@@ -1,5 +1,5 @@
--- No command of a cycle is sent before the setup is done: each command of it was answered well, in order, since the connection
--- was made and the station synchronized. So it is before each command of the setup, and those before it.
+-- No command of a cycle is sent before each command of the setup was answered well, in order, since the connection was made and
+-- the station synchronized. No command of the setup is sent before each one before it was answered well, since then, too.
 use Rattle.std.proofs.Common.{◌≡◌, ◌⊎◌, inl, inr, ℕ, zero, suc, ◌+◌, ◌<◌, ◌≤◌, ◌&&◌, ◌||◌, Bool, true, false, not, nat_eq, nat_le, nat_lt, min, List, [], ◌∷◌, ◌++◌, length, drop, map, refl, sym, ap, ◌∙◌, subst, arith, append_assoc, append-nil, leb-true, eqb-true, lt-ltb}
 use Rattle.std.proofs.lemmas.List.{map-append, append_cancel_left}
 use Rattle.std.proofs.lemmas.Bool.{and_parts, both_ways}
@@ -10,20 +10,22 @@ use Rattle.gc_station.specs.declared.progress.Action.{Action}
 use Rattle.gc_station.specs.declared.progress.Action.TheVariants as action
 use Rattle.gc_station.specs.declared.progress.Progress.{Progress}
 use Rattle.gc_station.specs.Deciding.{is_preparing, is_up, has_begun}
-use Rattle.gc_station.specs.Marks.{is_well, last_well, commands_in}
+use Rattle.gc_station.specs.Marks.{last_well, commands_in}
 use Rattle.gc_station.specs.Progressing.{turned, is_over_in, loses_all}
 use Rattle.gc_station.specs.Quiet.{KeepsOpen}
 use Rattle.gc_station.specs.Reasons.{HoldsBefore}
 use Rattle.gc_station.specs.Records.{Record}
 use Rattle.gc_station.specs.Runs.{state_after}
 use Rattle.gc_station.specs.Scopes.{Scope}
-use Rattle.gc_station.specs.Model.{Model, opening, action_at, waiting_of, mark_setup, with_progress, Performs, moved, after, after_all, Runs}
+use Rattle.gc_station.specs.Model.{Model, opening, action_at, waiting_of, with_progress, Performs, moved, after, after_all, Runs}
+use Rattle.gc_station.specs.NextCommand.{mark_setup}
 use Rattle.gc_station.specs.Setups.{Dispatch, dispatch_of_record, dispatch_of_mark, dispatches_of, sent_as, StaysUp, ArePrepared, NoneBeforeTheSetUp, SetUpInOrder}
-use Rattle.gc_station.proofs.Always.{always, progress_behind}
+use Rattle.gc_station.proofs.Always.{always, progress_after_act}
 use Rattle.gc_station.proofs.ChainSteps.{stays_open}
 use Rattle.gc_station.proofs.EachRun.{invariant_holds}
 use Rattle.gc_station.proofs.Facts.{action_for}
 use Rattle.gc_station.proofs.Going.{after_all-append}
+use Rattle.gc_station.proofs.Records.{last-append}
 use Rattle.gc_station.proofs.SentAt.{records_stay}
 use Rattle.gc_station.proofs.Setups.{dispatch_row, dispatch_row_losing, row_prepared, row_kept, none_marked, prepares, sends_it}
 use Rattle.gc_station.proofs.Turns.{over_stays}
@@ -33,7 +35,7 @@ use Rattle.gc_station.proofs.Unbroken.{sent_preparing}
 
 -- Records.
 
--- if the commands of some records end with one, the records end with one of that command
+-- if the dispatches of some records end with x, the records end with one whose dispatch is x
 split_last : (rs : List Record) (xs : List Dispatch) (x : Dispatch) → map dispatch_of_record rs ≡ xs ++ x ∷ [] → (mid : List Record) × (r : Record) × (rs ≡ mid ++ r ∷ []) × (dispatch_of_record r ≡ x)
 split_last [] [] x e = cc
 split_last [] (y ∷ xs) x e = cc
@@ -43,11 +45,6 @@ split_last (r ∷ rs) (y ∷ xs) x e =
     let tail : map dispatch_of_record rs ≡ xs ++ x ∷ [] = ap (drop 1) e in
     let it = split_last rs xs x tail in
     (r ∷ it.0, it.1, ap (λ ys. r ∷ ys) it.2, it.3)
-
--- the last of records decides whether the last command was answered well
-last_end : (b : Bool) (rs : List Record) (r : Record) → last_well b (rs ++ r ∷ []) ≡ is_well r.end
-last_end b [] r = refl
-last_end b (x ∷ rs) r = last_end (is_well x.end) rs r
 
 -- Numbers and tests.
 
@@ -74,8 +71,9 @@ module _ (plan : Plan) (commands : List Task) (scope : Scope) where
   abbrev at : List Act → Model
   at acts = state_after plan commands scope acts
 
-  -- after these acts, the first j commands of the setup were answered well, and the one at place j was sent, which is the last
-  -- of the row
+  -- after these acts, the first j commands of the setup were answered well, and the one at place j was sent (by `request`).
+  -- Since then no connection was closed, the station stayed synchronized, and the records before it are still the first ones.
+  -- In the row (`dispatch_row`) come those records, then `xs`, and then this command, which is the last
   record SentAfterPrepared (j : ℕ) (acts : List Act) : Type 0 where
     done : ArePrepared plan commands scope acts j
     before : List Act
@@ -90,7 +88,8 @@ module _ (plan : Plan) (commands : List Task) (scope : Scope) where
     xs : List Dispatch
     row : dispatch_row (at acts) ≡ map dispatch_of_record (at before).records ++ (xs ++ dispatch_of_mark (mark_setup commands (at before).progress) ∷ [])
 
-  -- if all commands are settled and the last record was answered well, the first j + 1 commands of the setup were
+  -- where `SentAfterPrepared` holds of j, all commands are settled, and the last record is of one that was answered well, the
+  -- first j + 1 commands of the setup were answered well
   one_more_prepared : (j : ℕ) (acts : List Act) → commands_in (at acts).marks ≡ 0 → last_well false (at acts).records ≡ true → SentAfterPrepared j acts → ArePrepared plan commands scope acts (suc j)
   one_more_prepared j acts none good p place below =
       let s = at acts in
@@ -118,7 +117,7 @@ module _ (plan : Plan) (commands : List Task) (scope : Scope) where
           later = [];
           written = written;
           own = it.3;
-          well = sym (last_end false (old ++ it.0) r) ∙ ap (last_well false) (sym flat) ∙ good;
+          well = sym (last-append false (old ++ it.0) (r ∷ [])) ∙ ap (last_well false) (sym flat) ∙ good;
         }
       ]
 
@@ -128,7 +127,8 @@ module _ (plan : Plan) (commands : List Task) (scope : Scope) where
   stays_more s [] act h keeps begun = (keeps, begun, tt)
   stays_more s (x ∷ xs) act h keeps begun = (h.0, h.1, stays_more (after plan commands s x) xs act h.2 keeps begun)
 
-  -- `StaysUp` holds of the acts after `before` with one more, if that closes no connection and the station is synchronized after it
+  -- `StaysUp` holds of the acts after `before` with one more, if that closes no connection and the station is synchronized after
+  -- it
   since_more : (acts before since : List Act) (act : Act) → acts ≡ before ++ since → StaysUp plan commands (at before) since → KeepsOpen act
       → has_begun (at (acts ++ act ∷ [])).progress ≡ true → (acts ++ act ∷ [] ≡ before ++ (since ++ act ∷ [])) × StaysUp plan commands (at before) (since ++ act ∷ [])
   since_more acts before since act order stays keeps begun =
@@ -163,7 +163,8 @@ module _ (plan : Plan) (commands : List Task) (scope : Scope) where
         well = d.well;
       }
 
-  -- an act that closes no connection, after which the station is synchronized, and which leaves the row, preserves `SentAfterPrepared`
+  -- `SentAfterPrepared` is preserved by an act that closes no connection, leaves the row as it is, and after which the station is
+  -- synchronized
   sent_kept : (j : ℕ) (acts : List Act) (act : Act) → KeepsOpen act → has_begun (at (acts ++ act ∷ [])).progress ≡ true
       → dispatch_row (at (acts ++ act ∷ [])) ≡ dispatch_row (at acts) → SentAfterPrepared j acts → SentAfterPrepared j (acts ++ act ∷ [])
   sent_kept j acts act keeps begun same d =
@@ -184,7 +185,8 @@ module _ (plan : Plan) (commands : List Task) (scope : Scope) where
         row = same ∙ d.row;
       }
 
-  -- `SentAfterPrepared` holds once the command of the setup at place j is sent, if the j before it were answered well
+  -- `SentAfterPrepared` holds once an act sends the command of the setup at place j, and adds it to the row, if that act closes
+  -- no connection, the station is synchronized after it, and the first j commands of the setup were answered well
   sent_next : (j : ℕ) (acts : List Act) (act : Act) → (keeps : KeepsOpen act) → (begun : has_begun (at (acts ++ act ∷ [])).progress ≡ true) → (sends : action_at plan (at acts) ≡ action.Prepare)
       → (place : (at acts).progress.prepared ≡ j) → (longer : dispatch_row (at (acts ++ act ∷ [])) ≡ dispatch_row (at acts) ++ dispatch_of_mark (mark_setup commands (at acts).progress) ∷ [])
       → ArePrepared plan commands scope acts j
@@ -219,9 +221,10 @@ module _ (plan : Plan) (commands : List Task) (scope : Scope) where
   abbrev SetupFitsNow : List Act → Type 0
   SetupFitsNow acts = (is_over_in (at acts).progress.phase ≡ true) ⊎ SetupFits (at acts).progress.preparing (at acts).progress.prepared acts
 
-  -- if the setup is done, each of its commands was answered well
-  prepared_if_done : (some : 0 < plan.setup) (b : Bool) (k : ℕ) (acts : List Act) → SetupFits b k acts
-      → (b && not (nat_le plan.setup k && nat_eq (commands_in (at acts).marks) 0 && last_well false (at acts).records)) ≡ false
+  -- where `SetupFits` holds, and the setup, which has at least one command, is done, the station has synchronized, and each
+  -- command of the setup was answered well
+  prepared_if_done : (some : 0 < plan.setup) (preparing : Bool) (k : ℕ) (acts : List Act) → SetupFits preparing k acts
+      → (preparing && not (nat_le plan.setup k && nat_eq (commands_in (at acts).marks) 0 && last_well false (at acts).records)) ≡ false
       → (has_begun (at acts).progress ≡ true) × ArePrepared plan commands scope acts plan.setup
   prepared_if_done some false k acts h e = h
   prepared_if_done some true zero acts h e =
@@ -233,16 +236,18 @@ module _ (plan : Plan) (commands : List Task) (scope : Scope) where
       let enough = leb-true plan.setup (suc j) it.0 in
       (h.0, λ place below. all place (omega (arith, below, enough)))
 
-  -- if the next command of the setup may be sent, each one before it was answered well
-  prepared_before_next : (b : Bool) (k : ℕ) (acts : List Act) → SetupFits b k acts → b ≡ true → (k ≡ 0) ⊎ ((commands_in (at acts).marks ≡ 0) × (last_well false (at acts).records ≡ true))
+  -- where `SetupFits` holds, and the setup isn't over: if no command of it was sent (k is 0), or all commands are settled and the
+  -- one recorded last was answered well, the first k commands of the setup were answered well
+  prepared_before_next : (preparing : Bool) (k : ℕ) (acts : List Act) → SetupFits preparing k acts → preparing ≡ true
+      → (k ≡ 0) ⊎ ((commands_in (at acts).marks ≡ 0) × (last_well false (at acts).records ≡ true))
       → ArePrepared plan commands scope acts k
   prepared_before_next false k acts h e may place below = cc
   prepared_before_next true zero acts h e may place below = absurd (omega (arith, below))
   prepared_before_next true (suc j) acts h e (inl none) place below = absurd (omega (arith, none))
   prepared_before_next true (suc j) acts h e (inr it) place below = one_more_prepared j acts it.0 it.1 h.1 place below
 
-  -- `SetupFits` is preserved by an act that closes no connection, leaves both fields and the row, and leaves a synchronized
-  -- station synchronized
+  -- `SetupFits` is preserved by an act that closes no connection, changes neither field (`preparing` and `prepared`) nor the row,
+  -- and after which a station is synchronized that was before
   fits_kept : (b c : Bool) (k n : ℕ) (acts : List Act) (act : Act) → (same_flag : c ≡ b) → (same_place : n ≡ k) → (keeps : KeepsOpen act)
       → (stays_begun : has_begun (at acts).progress ≡ true → has_begun (at (acts ++ act ∷ [])).progress ≡ true)
       → (same_row : dispatch_row (at (acts ++ act ∷ [])) ≡ dispatch_row (at acts)) → SetupFits b k acts → SetupFits c n (acts ++ act ∷ [])
@@ -265,7 +270,7 @@ module _ (plan : Plan) (commands : List Task) (scope : Scope) where
 
     -- the progress after the act is that of `t`
     progress_after : (o : Action) → action_at plan s ≡ o → (at (acts ++ act ∷ [])).progress ≡ (t o).progress
-    progress_after o is = progress_behind plan commands scope acts act ∙ ap (λ (x : Action). (t x).progress) is
+    progress_after o is = progress_after_act plan commands scope acts act ∙ ap (λ (x : Action). (t x).progress) is
 
     -- the row after the act is that of `t`
     row_after : (o : Action) → action_at plan s ≡ o → dispatch_row (at (acts ++ act ∷ [])) ≡ dispatch_row (t o)
@@ -277,7 +282,8 @@ module _ (plan : Plan) (commands : List Task) (scope : Scope) where
     begins : (o : Action) → action_at plan s ≡ o → Performs commands s o act → (o ≡ action.Renew → ⊥) → has_begun s.progress ≡ true → has_begun (at (acts ++ act ∷ [])).progress ≡ true
     begins o is obeys other begun = ap has_begun (progress_after o is) ∙ begun_other plan commands s o act obeys other begun
 
-    -- an act that leaves the two fields and the row preserves `SetupFits`
+    -- after an act that closes no connection, changes neither field nor the row, and after which a station is synchronized that
+    -- was before, `SetupFitsNow` holds if `SetupFits` held before the act
     fits_unchanged : (o : Action) → (is_next : action_at plan s ≡ o) → (stays_begun : has_begun s.progress ≡ true → has_begun (at (acts ++ act ∷ [])).progress ≡ true) → (keeps : KeepsOpen act)
         → (same_flag : (t o).progress.preparing ≡ s.progress.preparing) → (same_place : (t o).progress.prepared ≡ s.progress.prepared) → (same_row : dispatch_row (t o) ≡ dispatch_row s)
         → SetupFits s.progress.preparing s.progress.prepared acts → SetupFitsNow (acts ++ act ∷ [])
@@ -291,7 +297,8 @@ module _ (plan : Plan) (commands : List Task) (scope : Scope) where
         inr (subst (λ (n : ℕ). SetupFits (at (acts ++ act ∷ [])).progress.preparing n (acts ++ act ∷ [])) (sym (ap (λ (p : Progress). p.prepared) (progress_after o is) ∙ k))
         (subst (λ (c : Bool). SetupFits c 0 (acts ++ act ∷ [])) (sym (ap (λ (p : Progress). p.preparing) (progress_after o is) ∙ b ∙ lt-ltb 0 plan.setup some)) tt))
 
-    -- after an act that gives a command of a cycle its turn, which only happens once the setup is done, `SetupFitsNow` holds
+    -- after an act that gives a command of a cycle its turn, which only happens once the setup is done, `SetupFitsNow` holds, if
+    -- `SetupFits` held before it
     fits_once_done : (o : Action) → (is_next : action_at plan s ≡ o) → (performs : Performs commands s o act) → (other : o ≡ action.Renew → ⊥) → (keeps : KeepsOpen act)
         → (over : (t o).progress.preparing ≡ false)
         → (done : is_preparing plan s.progress (waiting_of s) ≡ false) → SetupFits s.progress.preparing s.progress.prepared acts → SetupFitsNow (acts ++ act ∷ [])
@@ -301,7 +308,7 @@ module _ (plan : Plan) (commands : List Task) (scope : Scope) where
         inr (subst (λ (c : Bool). SetupFits c (at (acts ++ act ∷ [])).progress.prepared (acts ++ act ∷ []))
         (sym (ap (λ (p : Progress). p.preparing) (progress_after o is) ∙ b)) (on, prepared_more plan.setup acts act keeps on it.1))
 
-    -- after an act that sends a command of the setup, `SetupFitsNow` holds
+    -- after an act that sends a command of the setup, `SetupFitsNow` holds, if `SetupFits` held before it
     fits_sent : action_at plan s ≡ action.Prepare → Performs commands s action.Prepare act → HoldsBefore plan s.progress (waiting_of s) action.Prepare
         → SetupFits s.progress.preparing s.progress.prepared acts
         → SetupFitsNow (acts ++ act ∷ [])
@@ -379,7 +386,8 @@ module _ (plan : Plan) (commands : List Task) (scope : Scope) where
         let p = (at done).progress in absurd (over_stays plan commands (at done) act (ap (λ b. b || (not (is_up p.phase) && nat_eq p.turns 0)) over) obeys)
     step done act before obeys (inr h) = fits_after some within done (action_at plan (at done)) act refl obeys (action_for plan (at done).progress (waiting_of (at done))) h
 
--- the law: no command of a cycle is sent before the setup is done
+-- the law: a command of a cycle is sent only once each command of the setup was answered well, on its connection, and after its
+-- synchronization
 pub none_before_the_set_up : NoneBeforeTheSetUp
 none_before_the_set_up plan commands scope acts runs is place below =
     let s = state_after plan commands scope acts in
@@ -392,7 +400,8 @@ none_before_the_set_up plan commands scope acts runs is place below =
       | inr h ↦ (prepared_if_done plan commands scope some s.progress.preparing s.progress.prepared acts h needs.8).1 place below
     ]
 
--- the law: each command of the setup is sent only after the good answers of those before it
+-- the law: a command of the setup is sent only once each one before it was answered well, on its connection, and after its
+-- synchronization, if the list has at least `plan.setup` commands
 pub set_up_in_order : SetUpInOrder
 set_up_in_order plan commands scope acts runs within is place below =
     let s = state_after plan commands scope acts in

@@ -13,14 +13,13 @@ use Rattle.gc_client.specs.Settlements.{outcome_seen, IsReadBy}
 use Rattle.gc_client.specs.declared.settlement.Outcome.{Outcome}
 use Rattle.gc_client.specs.declared.settlement.Outcome.TheVariants as outcomes
 use Rattle.gc_texts.specs.Codes.{lists_code}
-use Rattle.gc_texts.specs.Endings.{End, Answered, Elsewhere}
+use Rattle.gc_texts.specs.Endings.{End, Answered, Elsewhere, line_of}
 use Rattle.gc_texts.specs.Nears.{is_elsewhere}
 use Rattle.gc_texts.specs.Zeroed.{as_zero}
 use Rattle.gc_texts.specs.declared.near.Expected.{Expected}
 use Rattle.gc_texts.specs.declared.near.Near.{Near}
 use Rattle.gc_texts.specs.declared.quality.Quality.{Quality}
 use Rattle.gc_texts.specs.declared.quality.Quality.TheVariants as quality
-use Rattle.gc_station.specs.Answers.{answer_of}
 use Rattle.gc_station.specs.Marks.{value_as, warned_as, refused_as, answer_as, end_of}
 use Rattle.gc_station.specs.Nearness.{HasAnswer}
 use Rattle.gc_station.specs.Qualities.{answer_in, IsRefusal, IsOfQuality}
@@ -82,7 +81,7 @@ module _ (reads : Asked → List ℕ → Reading) (expected : Expected) (call : 
   -- if a command ends as answered, with an answer, that answer isn't elsewhere
   pub ended_near : (o : Rule.Outcome) (k : Quality) (answer : Answer) → end_of reads expected call o ≡ Answered k (Some answer) line → is_elsewhere expected.near answer ≡ false
   ended_near o k answer e =
-      let is : o ≡ Rule.Answered line = answered_so reads expected call o line (ap answer_of e) in
+      let is : o ≡ Rule.Answered line = answered_so reads expected call o line (ap line_of e) in
       answer_near (reads call line) (reads call (as_zero line)) k answer (subst (λ (x : Rule.Outcome). end_of reads expected call x ≡ Answered k (Some answer) line) is e)
 
   -- the line has an answer that was measured elsewhere
@@ -101,7 +100,7 @@ module _ (reads : Asked → List ℕ → Reading) (expected : Expected) (call : 
   -- if a command ends as elsewhere, its line has an answer that was measured elsewhere
   pub ended_away : (o : Rule.Outcome) → end_of reads expected call o ≡ Elsewhere line → Away
   ended_away o e =
-      let is : o ≡ Rule.Answered line = answered_so reads expected call o line (ap answer_of e) in
+      let is : o ≡ Rule.Answered line = answered_so reads expected call o line (ap line_of e) in
       answer_away (reads call line) (reads call (as_zero line)) refl refl (subst (λ (x : Rule.Outcome). end_of reads expected call x ≡ Elsewhere line) is e)
 
   -- The quality.
@@ -160,7 +159,7 @@ module _ (reads : Asked → List ℕ → Reading) (expected : Expected) (call : 
     -- if a command ends as answered, its line has the quality and the answer of that ending
     pub ended_quality : (o : Rule.Outcome) → end_of reads expected call o ≡ Answered k said line → Holds
     ended_quality o e =
-        let is : o ≡ Rule.Answered line = answered_so reads expected call o line (ap answer_of e) in
+        let is : o ≡ Rule.Answered line = answered_so reads expected call o line (ap line_of e) in
         by_answer (reads call line) (reads call (as_zero line)) refl refl (subst (λ (x : Rule.Outcome). end_of reads expected call x ≡ Answered k said line) is e)
 
 -- What the code takes for the ending of a refused reply.

@@ -24,7 +24,8 @@ use Rattle.gc_station.specs.Progressing.{turned, moment_noted, time_passed, drai
 use Rattle.gc_station.specs.Quiet.{IsRequest, TellsMoment, IsListening, IsSilent, StaysConnected}
 use Rattle.gc_station.specs.Reasons.{HoldsBefore}
 use Rattle.gc_station.specs.Runs.{state_after}
-use Rattle.gc_station.specs.Model.{Model, null_text, request_text, first_text, place_next, opening, action_at, waiting_of, with_progress, with_moment, lines_completed, is_heard, Performs, Runs, text_or_null}
+use Rattle.gc_station.specs.Model.{Model, null_text, request_text, first_text, opening, action_at, waiting_of, with_progress, with_moment, lines_completed, is_heard, Performs, Runs, text_or_null}
+use Rattle.gc_station.specs.NextCommand.{place_next}
 use Rattle.gc_station.proofs.Closings.{runs_split}
 use Rattle.gc_station.proofs.Connected.{is_in_use, OnLine, on_line_always}
 use Rattle.gc_station.proofs.Facts.{action_for, order_timely, Timely}
@@ -39,27 +40,29 @@ use Rattle.gc_station.specs.Scopes.{Scope}
 abbrev pub IsOpened : List Act → Type 0
 IsOpened acts = (before : List Act) × (acts ≡ before ++ Opened ∷ [])
 
--- `start` cleared the connection that the acts `before` made, and nothing was sent after it
+-- `start` cleared the connection that the acts `before` made, and the acts after it only listen (`IsListening`)
 abbrev Clears : List Act → Act → List Act → Type 0
 Clears before start behind = IsOpened before × (start ≡ Put (10 ∷ [])) × AllByRecursion IsListening behind
 
--- the connection was cleared, and since the moment `since`, which `start` reads, nothing came on it
+-- the connection was cleared; then `start` read the moment `since`, and each act after it is a read that gave nothing
 abbrev Drains : ℕ → List Act → Act → List Act → Type 0
 Drains since before start behind = Since Clears before × TellsMoment since start × AllByRecursion IsSilent behind
 
--- the connection was cleared, and since the moment `since`, which one of these acts reads, nothing came on it
+-- the connection was cleared; then one of these acts read the moment `since`, and each act after it is a read that gave nothing
 abbrev pub IsDrained : ℕ → List Act → Type 0
 IsDrained since acts = Since (Drains since) acts
 
--- the connection was cleared, then it was quiet for `quiet` milliseconds, until `start`, and then nobody closed it
+-- the connection was cleared, then it was quiet for at least `quiet` milliseconds, until the read `start`, and the acts after
+-- that stay on it (`StaysConnected`)
 abbrev pub Quiets : ℕ → List Act → Act → List Act → Type 0
 Quiets quiet before start behind = (from : ℕ) × (last : Moment) × IsDrained from before × (start ≡ Silent last) × (quiet ≤ last.elapsed - from) × AllByRecursion StaysConnected behind
 
--- among these acts the connection was cleared and then quiet for so many milliseconds, and nobody closed it since
+-- among these acts the connection was cleared and then quiet for at least so many milliseconds, and the acts since stay on it
 abbrev pub WasQuiet : ℕ → List Act → Type 0
 WasQuiet quiet acts = Since (Quiets quiet) acts
 
--- the connection was cleared; and if the moment read last isn't out of date (`false`), nothing came since the moment `since`
+-- of a connection that is drained next: if the moment read last is out of date (`true`), the connection was cleared, and the acts
+-- after that only listen; otherwise (`false`) it is `IsDrained` since the moment `since`
 abbrev pub IsDraining : Bool → ℕ → List Act → Type 0
 IsDraining true since acts = Since Clears acts
 IsDraining false since acts = IsDrained since acts
@@ -89,7 +92,8 @@ module _ (plan : Plan) (commands : List Task) (scope : Scope) where
   abbrev pub IsOpenedSo : Bool → List Act → Type 0
   IsOpenedSo begun acts = (before : List Act) × (acts ≡ before ++ Opened ∷ []) × (has_begun (state_after plan commands scope before).progress ≡ begun)
 
-  -- the connection was made while the station synchronized, and cleared by `start`, and then nobody closed it
+  -- the connection was made while the station synchronized, and cleared by `start`, and the acts after that stay on it
+  -- (`StaysConnected`)
   abbrev pub Begins : List Act → Act → List Act → Type 0
   Begins before start behind = IsOpenedSo false before × (start ≡ Put (10 ∷ [])) × AllByRecursion StaysConnected behind
 
@@ -144,10 +148,10 @@ module _ (plan : Plan) (commands : List Task) (scope : Scope) where
         quiet = λ begun. absurd (both_ways (has_begun (state_after plan commands scope o.0).progress) o.2 begun);
       }
 
-  -- what was done on the connection, by the phase: in `Clearing` it was just made, in `Draining` it is drained, and in `Ready`
-  -- it was cleared. The other arguments are whether the station has synchronized, whether the moment read last is out of date,
-  -- the moment since which nothing came, and the acts
-  abbrev pub Stage : Bool → Bool → ℕ → Phase → List Act → Type 0
+  -- what was done on the connection, by the phase: in `Clearing` it was just made, in `Draining` it is drained, and in `Ready` it
+  -- was cleared. `begun` is whether the station has synchronized, `due` whether the moment read last is out of date, and `since`
+  -- the moment since which nothing came
+  abbrev pub Stage : (begun due : Bool) → (since : ℕ) → Phase → List Act → Type 0
   Stage begun due since phase.Clearing acts = (due ≡ false) × IsOpenedSo begun acts
   Stage begun due since phase.Draining acts = IsDraining due since acts
   Stage begun due since phase.Ready acts = WasCleared acts
@@ -166,7 +170,7 @@ drained_clears since acts d =
     subst (λ (xs : List Act). Since Clears xs) (sym d.order)
     (since_on Clears Clears d.before (d.start ∷ d.behind) (λ before start behind order c. (c.0, c.1, all_append IsListening behind (d.start ∷ d.behind) c.2 listened)) d.holds.0)
 
--- the quiet time starts again with an act that reads a moment
+-- a connection that is `IsDrained` since any moment is so since the moment `now` after one more act that reads `now`
 drained_anew : (since now : ℕ) (acts : List Act) (act : Act) → TellsMoment now act → IsDrained since acts → IsDrained now (acts ++ act ∷ [])
 drained_anew since now acts act tells d = since_now (Drains now) acts act (drained_clears since acts d, tells, tt)
 
@@ -174,32 +178,35 @@ drained_anew since now acts act tells d = since_now (Drains now) acts act (drain
 drained_longer : (since : ℕ) (acts : List Act) (m : Moment) → IsDrained since acts → IsDrained since (acts ++ Silent m ∷ [])
 drained_longer since acts m d = since_on (Drains since) (Drains since) acts (Silent m ∷ []) (λ before start behind order h. (h.0, h.1, all_append IsSilent behind (Silent m ∷ []) h.2 (tt, tt))) d
 
--- if the quiet time is long enough, the connection was quiet
+-- a connection that is `IsDrained` since some moment was quiet after one more read that gave nothing, if by then the quiet time
+-- since that moment is long enough
 quiet_now : (quiet since : ℕ) (acts : List Act) (m : Moment) → quiet ≤ m.elapsed - since → IsDrained since acts → WasQuiet quiet (acts ++ Silent m ∷ [])
 quiet_now quiet since acts m long d = since_now (Quiets quiet) acts (Silent m) (since, m, d, refl, long, tt)
 
 -- What each act leaves.
 
--- the quiet time begins with the moment read after the line feed
+-- if the moment read last is out of date, a connection that is `IsDraining` is `IsDrained` since m once the clock tells the
+-- moment m
 draining_told : (due : Bool) (since : ℕ) (m : Moment) (acts : List Act) → due ≡ true → IsDraining due since acts → IsDrained m.elapsed (acts ++ Told m ∷ [])
 draining_told true since m acts old d = since_now (Drains m.elapsed) acts (Told m) (d, refl, tt)
 draining_told false since m acts old d = cc
 
--- if the moment was read, the quiet time goes on
+-- if the moment read last isn't out of date, a connection that is `IsDraining` is `IsDrained`
 draining_read : (due : Bool) (since : ℕ) (acts : List Act) → due ≡ false → IsDraining due since acts → IsDrained since acts
 draining_read true since acts now d = cc
 draining_read false since acts now d = d
 
--- a clock that went back makes the quiet time no longer
-not_longer : (now since : ℕ) (b : Bool) → nat_le since now ≡ b → now - min since now ≡ now - since
+-- where the start of the quiet time is bounded by the moment `now`, the quiet time is as long as without that, whether the clock
+-- went on (`rises`) or back
+not_longer : (now since : ℕ) (rises : Bool) → nat_le since now ≡ rises → now - min since now ≡ now - since
 not_longer now since true e = ap (λ n. now - n) (min-eq_left (leb-true since now e))
 not_longer now since false e =
     let low = leb-false since now e in
     let less : now ≤ since = omega (arith, low) in
     ap (λ n. now - n) (min-eq_right less) ∙ omega (arith, low)
 
--- if a read gave nothing the quiet time goes on, or starts again if the clock went back
-silent_on : (since : ℕ) (m : Moment) (acts : List Act) (b : Bool) → nat_le since m.elapsed ≡ b → IsDrained since acts → IsDrained (min since m.elapsed) (acts ++ Silent m ∷ [])
+-- if a read gave nothing the quiet time goes on, or starts again if the clock went back (`rises` is false)
+silent_on : (since : ℕ) (m : Moment) (acts : List Act) (rises : Bool) → nat_le since m.elapsed ≡ rises → IsDrained since acts → IsDrained (min since m.elapsed) (acts ++ Silent m ∷ [])
 silent_on since m acts true e d = subst (λ n. IsDrained n (acts ++ Silent m ∷ [])) (sym (min-eq_left (leb-true since m.elapsed e))) (drained_longer since acts m d)
 silent_on since m acts false e d =
     let low = leb-false since m.elapsed e in
@@ -208,7 +215,7 @@ silent_on since m acts false e d =
 
 module _ (plan : Plan) (commands : List Task) (scope : Scope) where
   -- `Stage` of this run
-  abbrev StageHere : Bool → Bool → ℕ → Phase → List Act → Type 0
+  abbrev StageHere : (begun due : Bool) → (since : ℕ) → Phase → List Act → Type 0
   StageHere = Stage plan commands scope
 
   -- `StageHere`, by the fields of a progress
@@ -229,7 +236,8 @@ module _ (plan : Plan) (commands : List Task) (scope : Scope) where
   more acts act on (inr b) =
       inr (since_on (Begins plan commands scope) (Begins plan commands scope) acts (act ∷ []) (λ before start behind order h. (h.0, h.1, all_append StaysConnected behind (act ∷ []) h.2 (on, tt))) b)
 
-  -- `Stage` is preserved by an act that reads a moment
+  -- `Stage` is preserved, with the moment `now` for `since`, by an act that stays on the connection, if a drain goes on with it
+  -- since `now`, and if in the phase `Clearing` the moment read last is out of date (so that there is no such act there)
   stage_on : (begun begun' due : Bool) (since now : ℕ) (at : Phase) (acts : List Act) (act : Act) → StaysConnected act
       → (at ≡ phase.Clearing → due ≡ false → ⊥) → (IsDraining due since acts → IsDrained now (acts ++ act ∷ []))
       → StageHere begun due since at acts → StageHere begun' false now at (acts ++ act ∷ [])
@@ -244,7 +252,7 @@ module _ (plan : Plan) (commands : List Task) (scope : Scope) where
   stage_ready begun begun' due due' since since' at acts act stays is st =
       subst (λ (x : Phase). StageHere begun' due' since' x (acts ++ act ∷ [])) (sym is) (more acts act stays (subst (λ (x : Phase). StageHere begun due since x acts) is st))
 
-  -- `Stage` holds if a drain was long enough
+  -- `Stage` holds after a read that gave nothing, by whose moment the drained connection was quiet for long enough
   stage_drained : (until : Until) (m : Moment) (p : Progress) (acts : List Act) → is_quiet plan (time_passed until m p) ≡ true → IsDrained p.since acts
       → StageHereAt (drained (time_passed until m p)) (acts ++ Silent m ∷ [])
   stage_drained until m p acts past d =
@@ -253,7 +261,8 @@ module _ (plan : Plan) (commands : List Task) (scope : Scope) where
       let quiet : plan.quiet ≤ m.elapsed - p.since = omega (arith, long, same) in
       inl (quiet_now plan.quiet p.since acts m quiet d)
 
-  -- `Stage` holds if a line feed was sent: the connection is drained next, or a synchronization goes on with it
+  -- `Stage` holds after the line feed of a connection that was just made: the connection is drained next, or a synchronization
+  -- goes on with it
   stage_cleared : (begun : Bool) (since : ℕ) (acts : List Act) → IsOpenedSo plan commands scope begun acts
       → StageHere begun true since (if begun then phase.Draining else phase.Ready) (acts ++ Put (10 ∷ []) ∷ [])
   stage_cleared true since acts o = since_now Clears acts (Put (10 ∷ [])) ((o.0, o.1), refl, tt)
@@ -263,7 +272,8 @@ module _ (plan : Plan) (commands : List Task) (scope : Scope) where
   stage_in : (p : Progress) (at : Phase) (acts : List Act) → p.phase ≡ at → StageHereAt p acts → StageHere (has_begun p) p.clock_due p.since at acts
   stage_in p at acts is st = subst (λ (x : Phase). StageHere (has_begun p) p.clock_due p.since x acts) is st
 
-  -- `Stage` is preserved by an act of any action that leaves a connection in use
+  -- `Stage` is preserved by an act of any action that leaves a connection in use, if `HoldsBefore` and `Timely` hold of the
+  -- action
   stage_line : (next : Action) (s : Model) (acts : List Act) → has_begun (state_after plan commands scope acts).progress ≡ has_begun s.progress
       → HoldsBefore plan s.progress (waiting_of s) next → Timely s.progress next → StageHereAt s.progress acts → OnLine plan commands StageHereAt next (with_progress turned s) acts
   stage_line actions.ReadClock s acts there needs time st =
@@ -316,8 +326,8 @@ module _ (plan : Plan) (commands : List Task) (scope : Scope) where
 -- Requests are sent only in the phase for requests.
 
 -- a close is no request
-not_closing : (act : Act) → act ≡ Closed → IsRequest act → ⊥
-not_closing act o asks = subst IsRequest o asks
+close_is_no_request : (act : Act) → act ≡ Closed → IsRequest act → ⊥
+close_is_no_request act o asks = subst IsRequest o asks
 
 -- by any action but `Ask`, `Send`, `Flush` and `Prepare` no request is sent
 asks_not : (plan : Plan) (commands : List Task) (next : Action) (s : Model) (act : Act) → Performs commands s next act
@@ -329,7 +339,7 @@ asks_not plan commands actions.Flush s act o other = absurd (other.2 refl)
 asks_not plan commands actions.Clear s act o other = walk plan commands (λ a (t : Model). IsRequest a → ⊥) actions.Clear s act o (λ m asks. asks refl, λ n asks. asks refl)
 asks_not plan commands (actions.Read until) s act o other =
     walk plan commands (λ a (t : Model). IsRequest a → ⊥) (actions.Read until) s act o (λ bytes m asks. asks, λ m asks. asks, λ asks. asks, λ asks. asks, λ asks. asks)
-asks_not plan commands (actions.Close why) s act o other = not_closing act o
+asks_not plan commands (actions.Close why) s act o other = close_is_no_request act o
 asks_not plan commands (actions.Stop why) s act o other = absurd o
 asks_not plan commands next s act o other = walk plan commands (λ a (t : Model). IsRequest a → ⊥) next s act o (λ m asks. asks, λ n asks. asks)
 

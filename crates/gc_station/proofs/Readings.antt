@@ -3,7 +3,7 @@ use Rattle.std.proofs.Common.{◌≡◌, Bool, true, false, ℕ, List, [], ◌�
 use Rattle.gc_lines.specs.Replies.{ReplyFields}
 use Rattle.gc_lines.specs.Readers.{reply_at}
 use Rattle.gc_lines.specs.declared.fault.LineFault.{LineFault}
-use Rattle.gc_lines.proofs.Replies.{reply_again, reply_one}
+use Rattle.gc_lines.proofs.Replies.{reply_again, one_reply}
 use Rattle.gc_catalogue.specs.declared.answer.Reading.{Reading}
 use Rattle.gc_catalogue.specs.declared.asked.Asked.{Asked}
 use Rattle.gc_catalogue.specs.Asked.{IsAskedReading}
@@ -17,7 +17,7 @@ use Rattle.gc_station.specs.Progressing.{turned, loses_all}
 use Rattle.gc_station.specs.Runs.{state_after}
 use Rattle.gc_station.specs.Scopes.{Scope, AreReadings, OneReadingForALine, SomeReadings, ForReadings}
 use Rattle.gc_station.proofs.Walk.{lines_along, moved_changed}
-use Rattle.gc_station.specs.Model.{Model, opening, action_at, with_progress, lines_came, moved, losing, after, after_all}
+use Rattle.gc_station.specs.Model.{Model, opening, action_at, with_progress, lines_came, moved, losing, stepped, after, after_all}
 
 -- lines don't change what replies say
 pub lines_reads : (s : Model) (lines : List (List ℕ)) → (lines_came s lines).reads ≡ s.reads
@@ -28,20 +28,20 @@ pub moved_reads : (plan : Plan) (commands : List Task) (action : Action) (s : Mo
 moved_reads plan commands action s act = ap (λ (x : Model). x.reads) (moved_changed plan commands action s act)
 
 -- the loss of what is outstanding doesn't change what replies say
-pub losing_reads : (b : Bool) (s : Model) → (losing b s).reads ≡ s.reads
+pub losing_reads : (all : Bool) (s : Model) → (losing all s).reads ≡ s.reads
 losing_reads true s = refl
 losing_reads false s = refl
 
 -- an act doesn't change what replies say
-pub after_reads : (plan : Plan) (commands : List Task) (s : Model) (act : Act) → (after plan commands s act).reads ≡ s.reads
-after_reads plan commands s act =
-    let t = moved plan commands (action_at plan s) (with_progress turned s) act in
-    losing_reads (loses_all t.progress) t ∙ moved_reads plan commands (action_at plan s) (with_progress turned s) act
+pub stepped_reads : (plan : Plan) (commands : List Task) (action : Action) (s : Model) (act : Act) → (stepped plan commands action s act).reads ≡ s.reads
+stepped_reads plan commands action s act =
+    let mid : Model = moved plan commands action (with_progress turned s) act in
+    losing_reads (loses_all mid.progress) mid ∙ moved_reads plan commands action (with_progress turned s) act
 
 -- acts don't change what replies say
 all_reads : (plan : Plan) (commands : List Task) (s : Model) (acts : List Act) → (after_all plan commands s acts).reads ≡ s.reads
 all_reads plan commands s [] = refl
-all_reads plan commands s (act ∷ acts) = all_reads plan commands (after plan commands s act) acts ∙ after_reads plan commands s act
+all_reads plan commands s (act ∷ acts) = all_reads plan commands (after plan commands s act) acts ∙ stepped_reads plan commands (action_at plan s) s act
 
 -- after any acts replies say what they say in the scope
 pub reads_as_in_scope : (plan : Plan) (commands : List Task) (scope : Scope) (acts : List Act) → (state_after plan commands scope acts).reads ≡ scope.reads
@@ -54,7 +54,7 @@ are_same a b e are = subst (λ (r : Asked → List ℕ → Reading). AreReadings
 -- a line has at most one reading for a call
 pub one_for_a_line : OneReadingForALine
 one_for_a_line call line x y p q =
-    let same = reply_one line p.reply q.reply p.is_reply q.is_reply in
+    let same = one_reply line p.reply q.reply p.is_reply q.is_reply in
     one_asked_reading call q.reply x y (subst (λ (r : ReplyFields). IsAskedReading call r x) same p.is_reading) q.is_reading
 
 -- the reading of a line for a call: that of its reply, and any if it is no reply

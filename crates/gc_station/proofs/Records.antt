@@ -6,7 +6,7 @@ use Rattle.std.proofs.Common.{◌≡◌, ℕ, ◌+◌, ◌<◌, Bool, true, fals
 use Rattle.std.specs.Prelude.{slice_get}
 use Rattle.std.proofs.lemmas.List.{get_or_default, length-map, length-take, map-append, map_more, take_more, take-append-drop}
 use Rattle.std.specs.Io.KnownBytes.{Appends}
-use Rattle.gc_lines.proofs.Known.{Appends-append}
+use Rattle.std.proofs.KnownBytes.{Appends-trans}
 use Rattle.gc_catalogue.specs.declared.answer.Reading.{Reading}
 use Rattle.gc_catalogue.specs.declared.asked.Asked.{Asked}
 use Rattle.gc_client.specs.declared.settlement.Settlement.{Settlement}
@@ -28,20 +28,21 @@ commands-append [] ys = omega arith
 commands-append (None ∷ xs) ys = commands-append xs ys
 commands-append (Some m ∷ xs) ys = let more = commands-append xs ys in omega (arith, more)
 
--- one mark counts as one command, or none
-commands_one : (mark : Option Mark) (b : Bool) → is_some mark ≡ b → commands_in (mark ∷ []) ≡ (if b then 1 else 0)
+-- one mark counts as one command if it is a command's (`counts`), and else as none
+commands_one : (mark : Option Mark) (counts : Bool) → is_some mark ≡ counts → commands_in (mark ∷ []) ≡ (if counts then 1 else 0)
 commands_one None true e = cc
 commands_one None false e = refl
 commands_one (Some m) true e = refl
 commands_one (Some m) false e = cc
 
--- a mark that is the one at place i is a command's exactly if the one at place i is
+-- `mark` is the one at place i of `marks`: it is a command's exactly if `get_or` finds a command's there
 pub item_there : (marks : List (Option Mark)) (i : ℕ) (mark : Option Mark) → i < length marks → mark ≡ get_or marks i mark → is_some mark ≡ is_some (get_or marks i None)
 item_there marks i mark below is = ap is_some (is ∙ get_or_default marks i mark None below)
 
--- the commands among the first i + 1 marks are those among the first i, and the next one
-pub commands_more : (marks : List (Option Mark)) (i : ℕ) (b : Bool) → i < length marks → b ≡ is_some (get_or marks i None)
-    → commands_in (take (i + 1) marks) ≡ commands_in (take i marks) + (if b then 1 else 0)
+-- the commands among the first i + 1 marks are those among the first i, and that of the mark at place i, if it is a command's
+-- (`counts`)
+pub commands_more : (marks : List (Option Mark)) (i : ℕ) (counts : Bool) → i < length marks → counts ≡ is_some (get_or marks i None)
+    → commands_in (take (i + 1) marks) ≡ commands_in (take i marks) + (if counts then 1 else 0)
 commands_more marks i b below e =
     ap commands_in (take_more marks i None below) ∙ commands-append (take i marks) (get_or marks i None ∷ [])
     ∙ ap (λ n. commands_in (take i marks) + n) (commands_one (get_or marks i None) b (sym e))
@@ -59,14 +60,13 @@ mark_here : (reads : Asked → List ℕ → Reading) (utc : ℕ) (mark : Option 
 mark_here reads utc None marks x = records-none reads utc marks
 mark_here reads utc (Some mark) marks x = ap (λ rs. record_of reads utc mark x ∷ rs) (records-none reads utc marks)
 
--- the record of one settlement is made by the first mark alone, if that mark is given by its place, 0
+-- the record of one settlement is made by `mark` alone, if that is the first of `marks`
 pub mark_first : (reads : Asked → List ℕ → Reading) (utc : ℕ) (marks : List (Option Mark)) (mark : Option Mark) (x : Rule.Settlement Asked)
     → Some mark ≡ slice_get marks 0 → records_of reads utc marks (x ∷ []) ≡ records_of reads utc (mark ∷ []) (x ∷ [])
 mark_first reads utc [] mark x e = cc
 mark_first reads utc (m ∷ marks) mark x e = let same : m ≡ mark = cc in mark_here reads utc m marks x ∙ ap (λ k. records_of reads utc (k ∷ []) (x ∷ [])) same
 
--- the records of settlements and of others after them are those of the first, and after them those of the others by the marks
--- that are left
+-- the records of the settlements `xs` and then `ys` are those of `xs`, and after them those of `ys` by the marks that are left
 pub records-append : (reads : Asked → List ℕ → Reading) (utc : ℕ) (marks : List (Option Mark)) (xs ys : List (Rule.Settlement Asked))
     → records_of reads utc marks (xs ++ ys) ≡ records_of reads utc marks xs ++ records_of reads utc (drop (length xs) marks) ys
 records-append reads utc [] [] ys = refl
@@ -75,7 +75,8 @@ records-append reads utc (mark ∷ marks) [] ys = refl
 records-append reads utc (None ∷ marks) (x ∷ xs) ys = records-append reads utc marks xs ys
 records-append reads utc (Some mark ∷ marks) (x ∷ xs) ys = ap (λ rs. record_of reads utc mark x ∷ rs) (records-append reads utc marks xs ys)
 
--- the records of the first i + 1 settlements are those of the first i, and that of s, the one at place i, by its mark
+-- the records of the first i + 1 settlements are those of the first i, and that of s, the one at place i, by `mark`, if the marks
+-- from place i on give the same record of s
 pub front_more : (reads : Asked → List ℕ → Reading) (utc : ℕ) (marks : List (Option Mark)) (ss : List (Settlement Asked)) (i : ℕ) (s : Settlement Asked) (mark : Option Mark)
     → i < length ss → s ≡ get_or ss i s
     → records_of reads utc (drop i marks) (settlement_seen s ∷ []) ≡ records_of reads utc (mark ∷ []) (settlement_seen s ∷ [])
@@ -88,7 +89,7 @@ front_more reads utc marks ss i s mark below is here =
     ∙ ap (λ n. records_of reads utc marks front ++ records_of reads utc (drop n marks) (settlement_seen s ∷ [])) len
     ∙ ap (λ rs. records_of reads utc marks front ++ rs) here
 
--- all records are those of the first i settlements, and of the others
+-- the records of all settlements are those of the first i, and after them those of the others by the marks that are left
 pub front_left : (reads : Asked → List ℕ → Reading) (utc : ℕ) (marks : List (Option Mark)) (ss : List (Settlement Asked)) (i : ℕ)
     → records_of reads utc marks (map settlement_seen ss) ≡ records_of reads utc marks (map settlement_seen (take i ss)) ++ records_of reads utc
     (drop (length (map settlement_seen (take i ss))) marks) (map settlement_seen (drop i ss))
@@ -97,24 +98,25 @@ front_left reads utc marks ss i =
     ∙ ap (records_of reads utc marks) (map-append settlement_seen (take i ss) (drop i ss))
     ∙ records-append reads utc marks (map settlement_seen (take i ss)) (map settlement_seen (drop i ss))
 
--- `listed_by` of no settlements is as before: whether a command of the attempt ended as its rule names
+-- `listed_by` of no settlements is b, which it was before them
 pub listed-none : (reads : Asked → List ℕ → Reading) (b : Bool) (marks : List (Option Mark)) → listed_by reads b marks [] ≡ b
 listed-none reads b [] = refl
 listed-none reads b (mark ∷ marks) = refl
 
--- `listed_by` of one settlement, which is of the oldest request, depends on the first mark alone
+-- `listed_by` of one settlement, which is of the oldest request, depends, but for b, on the first mark alone
 listed_here : (reads : Asked → List ℕ → Reading) (b : Bool) (mark : Option Mark) (marks : List (Option Mark)) (x : Rule.Settlement Asked)
     → listed_by reads b (mark ∷ marks) (x ∷ []) ≡ listed_by reads b (mark ∷ []) (x ∷ [])
 listed_here reads b None marks x = listed-none reads b marks
 listed_here reads b (Some mark) marks x = listed-none reads _ marks
 
--- `listed_by` of one settlement depends on the first mark alone, if that mark is given by its place, 0
+-- `listed_by` of one settlement depends, but for b, on `mark` alone, if that is the first of `marks`
 pub listed_first : (reads : Asked → List ℕ → Reading) (b : Bool) (marks : List (Option Mark)) (mark : Option Mark) (x : Rule.Settlement Asked)
     → Some mark ≡ slice_get marks 0 → listed_by reads b marks (x ∷ []) ≡ listed_by reads b (mark ∷ []) (x ∷ [])
 listed_first reads b [] mark x e = cc
 listed_first reads b (m ∷ marks) mark x e = let same : m ≡ mark = cc in listed_here reads b m marks x ∙ ap (λ k. listed_by reads b (k ∷ []) (x ∷ [])) same
 
--- `listed_by` of two lists of settlements is that of the second, with the marks that are left, from that of the first on
+-- `listed_by` of the settlements `xs` and then `ys`, from b on, is that of `ys` with the marks that are left, from that of `xs`
+-- on
 listed-append : (reads : Asked → List ℕ → Reading) (marks : List (Option Mark)) (xs ys : List (Rule.Settlement Asked)) (b : Bool)
     → listed_by reads b marks (xs ++ ys) ≡ listed_by reads (listed_by reads b marks xs) (drop (length xs) marks) ys
 listed-append reads [] [] ys b = refl
@@ -124,7 +126,8 @@ listed-append reads (None ∷ marks) (x ∷ xs) ys b = listed-append reads marks
 listed-append reads (Some mark ∷ marks) (x ∷ xs) ys b =
     listed-append reads marks xs ys (listed_after b mark.expected (code_of reads x.call x.outcome) (end_of reads mark.expected x.call x.outcome))
 
--- `listed_by` of the first i + 1 settlements is that of s, the one at place i, with its mark, from that of the first i on
+-- c is `listed_by` of the first i + 1 settlements, from a on, if b is that of the first i, and c is that of s, the one at place
+-- i, with `mark`, from b on; `mark` has to give the same for s as the marks from place i on
 pub listed_more : (reads : Asked → List ℕ → Reading) (a b c : Bool) (marks : List (Option Mark)) (ss : List (Settlement Asked)) (i : ℕ) (s : Settlement Asked) (mark : Option Mark)
     → (below : i < length ss) → (here : s ≡ get_or ss i s) → (before : b ≡ listed_by reads a marks (map settlement_seen (take i ss)))
     → (now : c ≡ listed_by reads b (mark ∷ []) (settlement_seen s ∷ []))
@@ -147,7 +150,7 @@ texts_more text before front next more is = ap (λ rs. texts_of text (before ++ 
 -- Records are added, and none goes.
 
 -- the records `old` are the first of the records `new`
-abbrev pub Grew : List Record → List Record → Type 0
+abbrev pub Grew : (old new : List Record) → Type 0
 Grew old new = (more : List Record) × (new ≡ old ++ more)
 
 -- records are a front of themselves
@@ -170,7 +173,7 @@ part_one text before r start old new part so not_all took = record {
   part = part;
   not_all = not_all;
   took = subst (λ (rs : List Record). Appends start new (texts_of text rs ++ take part (text r))) (sym (append-nil before))
-      (Appends-append start old new (texts_of text before) (take part (text r)) so took);
+      (Appends-trans start old new (texts_of text before) (take part (text r)) so took);
 }
 
 -- a write that broke off within the records `all` broke off within `all` and more
@@ -216,34 +219,36 @@ part_behind text before front next more all later start new is whole w =
     ∙ sym (append_assoc before front (more ++ later)) ∙ sym (append_assoc (before ++ front) more later) in
     part_since text before front (before ++ all) start new (part_grows text (before ++ front) ((before ++ front) ++ more) (before ++ all) start new (later, order) w)
 
--- records that are counted, and then others, are counted in all
+-- to count the records of two lists is to count those of the first, and then those of the second
 pub tallied-append : (t : Counts) (xs ys : List Record) → tallied t (xs ++ ys) ≡ tallied (tallied t xs) ys
 tallied-append t [] ys = refl
 tallied-append t (x ∷ xs) ys = tallied-append (counted_in x.cycle x.turn x.end t) xs ys
 
--- a tally that counted records, and then one more, counted all of them
+-- counts to which the records `front` were added, and then those of `one`, are those to which `next` was added, which is
+-- `front` and then `one`
 pub tallied_more : (t u v : Counts) (front one next : List Record) → u ≡ tallied t front → v ≡ tallied u one → next ≡ front ++ one → v ≡ tallied t next
 tallied_more t u v front one next so more is = more ∙ ap (λ (x : Counts). tallied x one) so ∙ sym (tallied-append t front one) ∙ sym (ap (tallied t) is)
 
--- whether the last of two lists of records was answered well, is known from the second list or, if that is empty, from the
--- first
+-- whether the last record of two lists, one after the other, was answered well is known from the second list; if that is empty,
+-- from the first; and if both are, it is b
 pub last-append : (b : Bool) (xs ys : List Record) → last_well b (xs ++ ys) ≡ last_well (last_well b xs) ys
 last-append b [] ys = refl
 last-append b (x ∷ xs) ys = last-append (is_well x.end) xs ys
 
--- whether the last of the records `next` was answered well is known from those before it, and from those after them (`one`)
+-- whether the last of the records `next`, which are `front` and then `one`, was answered well is known from `front`, and then
+-- from `one`
 pub last_more : (a b c : Bool) (front one next : List Record) → b ≡ last_well a front → c ≡ last_well b one
     → next ≡ front ++ one → c ≡ last_well a next
 last_more a b c front one next so more is = more ∙ ap (λ x. last_well x one) so ∙ sym (last-append a front one) ∙ sym (ap (last_well a) is)
 
--- when a command was answered well last, among two lists of records that are recorded at one moment, is known from the first
--- list, and then from the second
+-- when a command was answered well last, among the records `xs` and then `ys`, recorded at the moment `now`, is known from `xs`,
+-- and then from `ys`
 pub fresh-append : (now fresh : ℕ) (xs ys : List Record) → fresh_after now fresh (xs ++ ys) ≡ fresh_after now (fresh_after now fresh xs) ys
 fresh-append now fresh [] ys = refl
 fresh-append now fresh (x ∷ xs) ys = fresh-append now (if is_well x.end then now else fresh) xs ys
 
--- when a command was answered well last, with the records `next`, is known from those before it, and from those after them
--- (`one`)
+-- when a command was answered well last, among the records `next`, which are `front` and then `one`, is known from `front`, and
+-- then from `one`
 pub fresh_more : (now a b c : ℕ) (front one next : List Record) → b ≡ fresh_after now a front → c ≡ fresh_after now b one
     → next ≡ front ++ one → c ≡ fresh_after now a next
 fresh_more now a b c front one next so more is =

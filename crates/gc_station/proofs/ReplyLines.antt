@@ -1,5 +1,5 @@
--- The lines of a piece: none of them reads as a reply, or the line was alive at the moment of the piece. `alive` is the moment
--- since which no reply line came, and `asked` whether a request was sent after the last reply line.
+-- The lines of a piece: none of them reads as a reply, or the other end was alive at the moment of the piece. `alive` is the
+-- moment since which no reply line came, and `asked` whether a request was sent after the last reply line.
 use Rattle.std.proofs.Common.{◌≡◌, ℕ, ◌⊎◌, inl, inr, Bool, true, false, List, [], ◌∷◌, Option, None, Result, Ok, Err, if◌then◌else◌, refl, ap, ◌∙◌}
 use Rattle.std.specs.Prelude.{is_ok}
 use Rattle.std.specs.List.{AllByRecursion}
@@ -14,12 +14,12 @@ use Rattle.gc_station.specs.Silences.{IsNoReply}
 use Rattle.gc_station.specs.Model.{Model, line_came, lines_came, is_reply}
 use Rattle.gc_station.proofs.Walk.{lines_along}
 
--- lines that are heard leave the moment read last
+-- the moment read last is the same after lines that are heard as before them
 pub lines_moment : (s : Model) (lines : List (List ℕ)) → (lines_came s lines).progress.moment ≡ s.progress.moment
 lines_moment s lines = lines_along (λ (t : Model). t.progress.moment ≡ s.progress.moment) (λ t line e. e) s lines refl
 
 -- for lines that the client hears, from the model to this progress: none of them is a reply, and `alive` and `asked` stay as in
--- the model; or the line was alive at the moment read last, and no request was sent since
+-- the model; or one is, so that `alive` is the moment read last, and no request was sent since
 abbrev pub Alive : Model → List (List ℕ) → Progress → Type 0
 Alive s lines p = (AllByRecursion IsNoReply lines × (p.alive ≡ s.progress.alive) × (p.asked ≡ s.progress.asked)) ⊎ ((p.alive ≡ s.progress.moment.elapsed) × (p.asked ≡ false))
 
@@ -27,7 +27,7 @@ Alive s lines p = (AllByRecursion IsNoReply lines × (p.alive ≡ s.progress.ali
 pub lines_alive : (s : Model) (lines : List (List ℕ)) → Alive s lines (lines_came s lines).progress
 lines_alive s [] = inl (tt, refl, refl)
 lines_alive s (line ∷ others) = on (is_reply line) refl (lines_alive (line_came s line) others) where
-  -- where the line is a reply (`true`), the line was alive at this moment; otherwise `alive` stays
+  -- where the line is a reply (`true`), `alive` is this moment; otherwise it stays
   here : (b : Bool) → is_reply line ≡ b → (line_came s line).progress.alive ≡ (if b then s.progress.moment.elapsed else s.progress.alive)
   here b e = ap (λ (x : Bool). if x then s.progress.moment.elapsed else s.progress.alive) e
 
@@ -35,7 +35,7 @@ lines_alive s (line ∷ others) = on (is_reply line) refl (lines_alive (line_cam
   asks : (b : Bool) → is_reply line ≡ b → (line_came s line).progress.asked ≡ (if b then false else s.progress.asked)
   asks b e = ap (λ (x : Bool). if x then false else s.progress.asked) e
 
-  -- `Alive` holds with one line more before it
+  -- if `Alive` holds of the other lines after this one, it holds of this line and the others
   on : (b : Bool) → is_reply line ≡ b → Alive (line_came s line) others (lines_came (line_came s line) others).progress → Alive s (line ∷ others) (lines_came (line_came s line) others).progress
   on b e (inr now) = inr now
   on true e (inl none) = inr (none.1 ∙ here true e, none.2 ∙ asks true e)
@@ -49,12 +49,12 @@ no_reply line e = by_reply (reply_at line) e where
   by_reply (Ok fields) e = cc
   by_reply (Err fault) e = refl
 
--- a line without an id answers no null procedure
+-- a line without an id answers no null procedure: the ids of `word` are left
 left_same : (word : List ℕ) (id : Option ℕ) → id ≡ None → left_by word id ≡ word
 left_same [] id e = refl
 left_same (asked ∷ others) id e = ap (λ (i : Option ℕ). left_by (asked ∷ others) i) e
 
--- a line without an id leaves `again`, the moment at which the null procedure is sent again
+-- a line without an id doesn't change `again`, the moment at which the null procedure is sent again
 again_same : (word : List ℕ) (id : Option ℕ) (again : ℕ) → id ≡ None → (if is_answered word id then 0 else again) ≡ again
 again_same [] id again e = refl
 again_same (asked ∷ others) id again e = ap (λ (i : Option ℕ). if is_answered (asked ∷ others) i then 0 else again) e
@@ -73,7 +73,7 @@ asked_alive p (line ∷ others) = on (is_reply line) refl (asked_alive (line_syn
   q : Progress
   q = lines_synchronizing (line_synchronizing p line) others
 
-  -- where the line is a reply (`true`), the line was alive at this moment; otherwise `alive` stays
+  -- where the line is a reply (`true`), `alive` is this moment; otherwise it stays
   here : (b : Bool) → is_reply line ≡ b → (line_synchronizing p line).alive ≡ (if b then p.moment.elapsed else p.alive)
   here b e = ap (λ (x : Bool). if x then p.moment.elapsed else p.alive) e
 
@@ -81,7 +81,7 @@ asked_alive p (line ∷ others) = on (is_reply line) refl (asked_alive (line_syn
   asks : (b : Bool) → is_reply line ≡ b → (line_synchronizing p line).asked ≡ (if b then false else p.asked)
   asks b e = ap (λ (x : Bool). if x then false else p.asked) e
 
-  -- `AliveAsked` holds with one line more before it
+  -- if `AliveAsked` holds of the other lines after this one, it holds of this line and the others
   on : (b : Bool) → is_reply line ≡ b → AliveAsked (line_synchronizing p line) others q → AliveAsked p (line ∷ others) q
   on b e (inr now) = inr now
   on true e (inl none) = inr (none.1 ∙ here true e, none.2 ∙ asks true e)

@@ -28,7 +28,8 @@ use Rattle.gc_station.specs.declared.progress.Action.TheVariants as actions
 use Rattle.gc_station.specs.declared.progress.Progress.{Progress}
 use Rattle.gc_station.specs.Attempts.{code_of, listed_after, listed_by}
 use Rattle.gc_station.specs.Marks.{commands_in, end_of, records_of}
-use Rattle.gc_station.specs.Model.{Model, Runs, opening, action_at, waiting_of, place_next, cycles_begun, cycle_length, mark_next, mark_setup, asks_or_null, asks_setup, expected_first, is_chained, others_in, others_after_next, others_after, commands_before, with_progress, with_moment, with_rest, asks, asks_first, line_came, lines_completed, is_heard, after_piece, losing, first_unsent_record, moved, after, after_all}
+use Rattle.gc_station.specs.Model.{Model, Runs, opening, action_at, waiting_of, cycle_length, asks_or_null, asks_setup, with_progress, with_moment, with_rest, asks, asks_first, line_came, lines_completed, is_heard, after_piece, losing, first_unsent_record, moved, after, after_all}
+use Rattle.gc_station.specs.NextCommand.{place_next, cycles_begun, mark_next, mark_setup, expected_first, is_chained, others_in, others_after_next, others_after, commands_before}
 use Rattle.gc_station.specs.Progressing.{turned, failing, moment_noted, loses_all}
 use Rattle.gc_station.specs.Reasons.{HoldsBefore}
 use Rattle.gc_station.specs.Records.{Record}
@@ -39,12 +40,11 @@ use Rattle.gc_station.proofs.Always.{always_of_progress}
 use Rattle.gc_station.proofs.Chaining.{chained_as_text_says, none_behind}
 use Rattle.gc_station.proofs.Interleaving.{drop_past}
 use Rattle.gc_station.proofs.EachRun.{invariant_after, invariant_opening, invariant_holds}
-use Rattle.gc_station.proofs.Facts.{action_for}
+use Rattle.gc_station.proofs.Facts.{action_for, not_none}
 use Rattle.gc_station.proofs.Invariant.{Invariant}
 use Rattle.gc_station.proofs.Lists.{all_append, all_drop}
 use Rattle.gc_station.proofs.Walk.{lines_along, moved_changed, sending, is_sent}
 use Rattle.gc_station.proofs.Listed.{code_there, named_by, any_listed, any_append, listed_has, has_listed, expected_as, turn_expected, rule_expected}
-use Rattle.gc_station.proofs.Ticking.{not_none}
 use Rattle.gc_station.proofs.Closings.{needs_of}
 
 module _ (plan : Plan) (commands : List Task) (scope : Scope) where
@@ -57,15 +57,15 @@ module _ (plan : Plan) (commands : List Task) (scope : Scope) where
   abbrev HasItsTurn : Record → Type 0
   HasItsTurn r = r.turn ≡ turn_at commands r.cycle r.turn.attempt r.place
 
-  -- the record of a command whose mark is `ExpectsAsText` has its turn
+  -- a mark that is `ExpectsAsText` expects the turn of its command (`turn_at`)
   turn_so : (mark : Mark) → ExpectsAsText (Some mark) → mark.expected.turn ≡ turn_at commands mark.cycle mark.expected.turn.attempt mark.place
   turn_so mark placed = ap (λ (k : Expected). k.turn) placed ∙ turn_expected (nat_eq mark.cycle 0) mark.expected.turn.attempt (expected_first (drop mark.place commands))
 
-  -- a mark that is `ExpectsAsText` has the rule of its command
+  -- a mark that is `ExpectsAsText` has the rule of its command (`rule_at`)
   rule_so : (mark : Mark) → ExpectsAsText (Some mark) → mark.expected.again ≡ rule_at commands mark.cycle mark.place
   rule_so mark placed = ap (λ (k : Expected). k.again) placed ∙ rule_expected (nat_eq mark.cycle 0) mark.expected.turn.attempt (expected_first (drop mark.place commands))
 
-  -- the mark of the next command of a cycle is `ExpectsAsText`
+  -- once a cycle has begun, the mark of the next command of a cycle is `ExpectsAsText`
   next_placed : (p : Progress) → 0 < cycles_begun plan p → ExpectsAsText (Some (mark_next plan commands p))
   next_placed p many =
       let expected = expected_first (drop (place_next commands p) commands) in
@@ -101,13 +101,13 @@ module _ (plan : Plan) (commands : List Task) (scope : Scope) where
     records : AllByRecursion HasItsTurn s.records
     listed : s.listed ≡ any_listed scope.reads commands false s.records
 
-  -- settlements that are recorded keep all records `HasItsTurn`
+  -- if `KeepsTurns` holds of `s`, its records and those of the settlements `x` after them are all `HasItsTurn`
   settles_so : (s : Model) (x : List (Rule.Settlement Asked)) → KeepsTurns s → AllByRecursion HasItsTurn (s.records ++ records_of s.reads s.progress.moment.utc s.marks x)
   settles_so s x k =
       all_append HasItsTurn s.records _ k.records
       (subst (λ (reads : Asked → List ℕ → Reading). AllByRecursion HasItsTurn (records_of reads s.progress.moment.utc s.marks x)) (sym k.reads) (records_so s.progress.moment.utc s.marks x k.marks))
 
-  -- settlements that are recorded keep `listed` what the records say
+  -- if `KeepsTurns` holds of `s`, `listed_by` of the settlements `x` is what its records and those of `x` after them say
   settles_listed : (s : Model) (x : List (Rule.Settlement Asked)) → KeepsTurns s
       → listed_by s.reads s.listed s.marks x ≡ any_listed scope.reads commands false (s.records ++ records_of s.reads s.progress.moment.utc s.marks x)
   settles_listed s x k =
@@ -125,14 +125,14 @@ module _ (plan : Plan) (commands : List Task) (scope : Scope) where
       record { reads = k.reads; marks = all_drop ExpectsAsText _ s.marks k.marks; records = settles_so s x.settlements k; listed = settles_listed s x.settlements k }
 
   -- `KeepsTurns` is preserved by a piece
-  came_so : (b : Bool) (word piece : List ℕ) (s : Model) → KeepsTurns s → KeepsTurns (after_piece b word piece s)
+  came_so : (heard : Bool) (word piece : List ℕ) (s : Model) → KeepsTurns s → KeepsTurns (after_piece heard word piece s)
   came_so true (asked ∷ others) piece s k = record { reads = k.reads; marks = k.marks; records = k.records; listed = k.listed }
   came_so true [] piece s k =
       lines_along KeepsTurns line_so (with_rest (rest_behind s.rest piece) s) (lines_completed s.rest piece) (record { reads = k.reads; marks = k.marks; records = k.records; listed = k.listed })
   came_so false word piece s k = k
 
   -- `KeepsTurns` is preserved by the loss of what is outstanding
-  losing_so : (b : Bool) (s : Model) → KeepsTurns s → KeepsTurns (losing b s)
+  losing_so : (all : Bool) (s : Model) → KeepsTurns s → KeepsTurns (losing all s)
   losing_so true s k =
       let x = restarts s.client in record { reads = k.reads; marks = all_drop ExpectsAsText _ s.marks k.marks; records = settles_so s x.settlements k; listed = settles_listed s x.settlements k }
   losing_so false s k = k
@@ -146,30 +146,31 @@ module _ (plan : Plan) (commands : List Task) (scope : Scope) where
   first_so mark [] s placed k = k
   first_so mark (task ∷ others) s placed k = asks_so task.deadline task.command.target (call_at task mark.sent) (Some mark) s placed k
 
-  -- `KeepsTurns` is preserved by the send of the next command
+  -- `KeepsTurns` is preserved by the send of the next command of a cycle, once one has begun
   next_so : (s : Model) → 0 < cycles_begun plan s.progress → KeepsTurns s → KeepsTurns (asks_first (mark_next plan commands s.progress) (drop (place_next commands s.progress) commands) s)
   next_so s many k = first_so (mark_next plan commands s.progress) (drop (place_next commands s.progress) commands) s (next_placed s.progress many) k
 
   -- `KeepsTurns` is preserved by the send of the next command of the setup
   setup_so : (s : Model) → KeepsTurns s → KeepsTurns (asks_setup plan commands s)
   setup_so s k = by_list (drop s.progress.prepared commands) where
-    -- the lemma above, whether there is one or not
+    -- the lemma above, for the commands `left` of the setup, whether there is one or not
     by_list : (left : List Task) → KeepsTurns (asks_or_null plan (mark_setup commands s.progress) left s)
     by_list [] = asks_so plan.deadline 0 (Table NullProc) None s tt k
     by_list (task ∷ others) = asks_so task.deadline task.command.target (call_at task s.progress.moment.utc) (Some (mark_setup commands s.progress)) s refl k
 
-  -- the end of a command that isn't sent is named, whatever its code
-  unsent_named : (again : Again) (call : Asked) (b : Bool)
-      → repeats_after again None (if b then Missed else Skipped) ≡ repeats_after again (code_of_end scope.reads call (if b then Missed else Skipped)) (if b then Missed else Skipped)
+  -- a rule names the end of a command that isn't sent, or doesn't, in the same way without a code and with the code of that end
+  unsent_named : (again : Again) (call : Asked) (missed : Bool)
+      → repeats_after again None (if missed then Missed else Skipped) ≡ repeats_after again (code_of_end scope.reads call (if missed then Missed else Skipped)) (if missed then Missed else Skipped)
   unsent_named again call true = refl
   unsent_named again call false = refl
 
-  -- the record of a command that isn't sent has the turn of its command
+  -- the record of a command that isn't sent, and whose mark is `ExpectsAsText`, has the turn of its command
   skips_so : (p : Progress) (m : Moment) (mark : Mark) (left : List Task) → ExpectsAsText (Some mark) → AllByRecursion HasItsTurn (first_unsent_record p m mark left)
   skips_so p m mark [] placed = tt
   skips_so p m mark (task ∷ others) placed = (turn_so mark placed, tt)
 
-  -- `listed_after` of a command that isn't sent is `any_listed` of its record
+  -- once a cycle has begun, `listed_after` of the next command, of which there is one, if it isn't sent, is `any_listed` of its
+  -- record
   skips_listed : (b : Bool) (p : Progress) (m : Moment) (left : List Task) → 0 < cycles_begun plan p → 0 < length left
       → listed_after b (mark_next plan commands p).expected None (if p.missed then Missed else Skipped) ≡ any_listed scope.reads commands b (first_unsent_record p m (mark_next plan commands p) left)
   skips_listed b p m [] many some = absurd (omega (arith, some))
@@ -179,13 +180,14 @@ module _ (plan : Plan) (commands : List Task) (scope : Scope) where
       ap (λ x. (if nat_eq mark.expected.turn.link 0 then false else b) || x)
       (unsent_named mark.expected.again task.command.call p.missed ∙ ap (λ (k : Again). repeats_after k (code_of_end scope.reads task.command.call end) end) (rule_so mark (next_placed p many)))
 
-  -- if the next command has its turn, a cycle has begun, and there is such a command
+  -- if this action sends the next command of a cycle, or records it without sending it, a cycle has begun, and there is such a
+  -- command
   abbrev IsThere : Action → Model → Type 0
   IsThere actions.Send s = (0 < cycles_begun plan s.progress) × (0 < length (drop (place_next commands s.progress) commands))
   IsThere actions.Skip s = (0 < cycles_begun plan s.progress) × (0 < length (drop (place_next commands s.progress) commands))
   IsThere next s = Unit {0}
 
-  -- `KeepsTurns` is preserved by an act of each action that is next, before what is outstanding is lost
+  -- `KeepsTurns` is preserved by an act of each action of which `IsThere` holds, before what is outstanding is lost
   moved_so : (next : Action) (s : Model) (act : Act) → IsThere next s → KeepsTurns s → KeepsTurns (moved plan commands next s act)
   moved_so actions.Prepare s (Cut bytes count) some k = let n = setup_so s k in record { reads = n.reads; marks = n.marks; records = n.records; listed = n.listed }
   moved_so actions.Prepare s act some k = let n = setup_so s k in record { reads = n.reads; marks = n.marks; records = n.records; listed = n.listed }
@@ -217,7 +219,7 @@ module _ (plan : Plan) (commands : List Task) (scope : Scope) where
   moved_so (actions.Read until) s act some k = record { reads = k.reads; marks = k.marks; records = k.records; listed = k.listed }
   moved_so next s act some k = subst KeepsTurns (sym (moved_changed plan commands next s act)) (record { reads = k.reads; marks = k.marks; records = k.records; listed = k.listed })
 
-  -- `KeepsTurns` is preserved by an act
+  -- `KeepsTurns` is preserved by an act, if `Invariant` holds before it
   after_so : (s : Model) (act : Act) → Invariant plan commands s → KeepsTurns s → KeepsTurns (after plan commands s act)
   after_so s act fine k =
       let t = moved plan commands (action_at plan s) (with_progress turned s) act in
@@ -230,13 +232,13 @@ module _ (plan : Plan) (commands : List Task) (scope : Scope) where
             let within = fine.unsent in
             let below = fine.begun unsent in (omega (arith, below), omega (arith, many, unsent, within))
 
-        -- if the next command has its turn, there is one
+        -- `IsThere` holds of the action that is next
         there : (next : Action) → HoldsBefore plan s.progress (waiting_of s) next → IsThere next (with_progress turned s)
         there actions.Send needs = one_left needs.2
         there actions.Skip needs = one_left needs.2
         there next needs = tt
 
-  -- `KeepsTurns` is preserved by acts
+  -- `KeepsTurns` is preserved by acts, if `Invariant` holds before them
   along : (s : Model) (acts : List Act) → Invariant plan commands s → KeepsTurns s → KeepsTurns (after_all plan commands s acts)
   along s [] fine k = k
   along s (act ∷ acts) fine k = along (after plan commands s act) acts (invariant_after plan commands s act fine) (after_so s act fine k)
@@ -257,13 +259,13 @@ module _ (plan : Plan) (commands : List Task) (scope : Scope) where
       let at : place_next commands q ≡ place_next commands p = ap (λ (n : ℕ). length commands - n) unsent in
       (λ above. others ∙ h.0 (subst (λ (n : ℕ). plan.setup < n) at above) ∙ ap (λ (n : ℕ). others_in (drop n commands)) (sym at), λ none. others ∙ h.1 (subst (λ (n : ℕ). n ≤ plan.setup) at none))
 
-  -- `Follows` holds after the next command
+  -- `Follows` holds once the next command, of which there was one, had its turn, if no more were unsent than a cycle has
   follows_next : (p q : Progress) → q.unsent ≡ p.unsent - 1 → q.next_others ≡ others_after_next commands p → 0 < p.unsent → p.unsent ≤ length commands - plan.setup → Follows q
   follows_next p q unsent others some within =
       let at : place_next commands p + 1 ≡ place_next commands q = omega (arith, unsent, some, within) in
       (λ above. others ∙ ap (λ (n : ℕ). others_in (drop n commands)) at, λ none. absurd (omega (arith, at, none, some, within)))
 
-  -- `Follows` holds after attempts that are left out
+  -- `Follows` holds once further attempts were left out, if commands were unsent, and no more than a cycle has
   follows_past : (p q : Progress) → (unsent : q.unsent ≡ p.unsent - p.next_others) → (others : q.next_others ≡ others_after p.next_others commands p) → (some : 0 < p.unsent)
       → (more : 0 < p.next_others)
       → (within : p.unsent ≤ length commands - plan.setup) → Follows q
@@ -280,7 +282,7 @@ module _ (plan : Plan) (commands : List Task) (scope : Scope) where
   abbrev progress_after : Action → Model → Act → Progress
   progress_after next s act = (moved plan commands next (with_progress turned s) act).progress
 
-  -- `Follows` is preserved by an act of each action
+  -- `Follows` is preserved by an act of each action of which `HoldsBefore` holds, if no more commands are unsent than a cycle has
   moved_follows : (next : Action) (s : Model) (w : Waiting) (act : Act) → HoldsBefore plan s.progress w next → s.progress.unsent ≤ length commands - plan.setup → Follows s.progress
       → Follows (progress_after next s act)
   moved_follows actions.Begin s w (Told m) needs within h = follows_begun (progress_after actions.Begin s (Told m)) refl refl
@@ -319,7 +321,7 @@ module _ (plan : Plan) (commands : List Task) (scope : Scope) where
     s : Model
     s = state_after plan commands scope acts
 
-    -- the law above, by why the command may be sent: it begins a further attempt
+    -- the lemma above, by why the command may be sent (`MayRetry`): as it begins a further attempt, all before it are settled
     by_may : ((s.progress.next_others ≡ 0) ⊎ ((commands_in s.marks ≡ 0) × (s.listed ≡ true))) → (commands_in s.marks ≡ 0) × HasListed scope.reads commands s.records
     by_may (inl none) = let others = (follows_holds acts runs).0 further.0 in let more = further.1 in absurd (omega (arith, none, others, more))
     by_may (inr may) = (may.0, listed_has scope.reads commands s.records (sym (kept_all acts).listed ∙ may.1))
@@ -368,7 +370,7 @@ module _ (plan : Plan) (commands : List Task) (scope : Scope) where
     by_why (inr bound) =
         inr (by_missed s.progress.missed (is_chained (drop (place_next commands s.progress) commands)) refl (sym (chained_as_text_says plan commands scope acts runs above) ∙ bound))
 
--- the law: chains are sent again for a cause
+-- the law: further attempts of a chain are sent, and left out, only for a cause
 pub goes_out_again : FurtherAttemptsHaveACause
 goes_out_again = record { goes = goes_again; passes = passes_over }
 

@@ -20,14 +20,15 @@ room_of plan p w actions.Send puts is = is.3
 room_of plan p w actions.Flush puts is = is.4
 room_of plan p w next puts is = absurd puts
 
--- if there is room, none is in flight, or fewer than the plan's width
+-- if there is room, none is in flight that hasn't timed out, or fewer than the plan's width
 few : (plan : Plan) (w : Waiting) → HasRoom plan w → (w.current ≡ 0) ⊎ (w.current < plan.width)
 few plan w room = elim (leb_tells plan.width 0) as (λ _. (w.current ≡ 0) ⊎ (w.current < plan.width)) [
   | inl none ↦ let least = none.1 in let here = room.0 in inl (omega (arith, least, here))
   | inr some ↦ let least = some.1 in let here = room.0 in inr (omega (arith, least, here))
 ]
 
--- the law: a request of the client is sent only if there is room
+-- the law: if a request of the client is sent next, none is in flight that hasn't timed out, or fewer than the plan's width; and
+-- fewer than seven are outstanding in all
 pub have_room : RequestsHaveRoom
 have_room plan commands scope acts puts =
     let s = state_after plan commands scope acts in

@@ -1,6 +1,6 @@
--- The row of a station: the requests of its records, and after them those of the outstanding commands. An act leaves it, or
--- adds the request of the command that is sent or is left out. If a chain is unbroken, the last request is of a cycle, not of
--- the setup.
+-- The row of a station: the requests of its records, and after them those of the outstanding commands. An act leaves it as it is,
+-- or adds the request of the command that is sent, or recorded without being sent. If a chain is unbroken, the last request is of
+-- a cycle, not of the setup.
 use Rattle.std.proofs.Common.{◌≡◌, ℕ, ◌-◌, ◌<◌, Bool, true, false, List, [], ◌∷◌, ◌++◌, length, drop, map, Some, None, refl, sym, ap, ◌∙◌, subst, arith, append_assoc, append-nil}
 use Rattle.std.proofs.lemmas.List.{length-drop, map-append}
 use Rattle.std.proofs.lemmas.Bool.{both_ways}
@@ -28,42 +28,42 @@ use Rattle.gc_station.specs.Reasons.{HoldsBefore}
 use Rattle.gc_station.specs.Runs.{state_after}
 use Rattle.gc_station.specs.Scopes.{Scope}
 use Rattle.gc_station.specs.ActKinds.{Puts, ReadsClock, IsOpening}
-use Rattle.gc_station.specs.Model.{Model, opening, action_at, waiting_of, cycles_begun, place_next, mark_next, Performs, Runs, is_heard, asks_first, asks_null, after_piece, line_came, losing, moved, piece_at, with_progress, with_moment, null_text, text_or_null, first_text, request_text}
+use Rattle.gc_station.specs.Model.{Model, opening, action_at, waiting_of, Performs, Runs, is_heard, asks_first, asks_null, after_piece, line_came, losing, moved, piece_at, with_progress, with_moment, null_text, text_or_null, first_text, request_text}
+use Rattle.gc_station.specs.NextCommand.{cycles_begun, place_next, mark_next}
 use Rattle.gc_station.proofs.Always.{always}
 use Rattle.gc_station.proofs.Each.{row, row_moment, row_settles, more_waiting, marked_none, waiting_marked, cycles_append}
 use Rattle.gc_station.proofs.EachRun.{invariant_holds}
-use Rattle.gc_station.proofs.Facts.{action_for}
+use Rattle.gc_station.proofs.Facts.{action_for, not_none}
 use Rattle.gc_station.proofs.Invariant.{Invariant}
 use Rattle.gc_station.proofs.Midway.{client_behind}
 use Rattle.gc_station.proofs.Walk.{came_along, closed_along, moved_changed, walk}
-use Rattle.gc_station.proofs.Ticking.{not_none}
 
 -- the row of a model
 abbrev pub row_of : Model → List Request
 row_of s = row s.marks s.client.waiting s.records
 
--- a line that is heard leaves the row
+-- a line that is heard leaves the row as it is
 row_line : (s : Model) (line : List ℕ) → row_of (line_came s line) ≡ row_of s
 row_line s line =
     let x = hears s.client line (heard line) in
     row_settles s.reads s.progress.moment.utc s.marks s.client.waiting x.client.waiting x.settlements s.records (heard_parts s.client line (heard line))
 
--- a piece leaves the row, heard or not
-row_came : (h : Bool) (word piece : List ℕ) (s : Model) → row_of (after_piece h word piece s) ≡ row_of s
+-- a piece leaves the row as it is, heard or not
+row_came : (heard : Bool) (word piece : List ℕ) (s : Model) → row_of (after_piece heard word piece s) ≡ row_of s
 row_came h word piece s = came_along (λ (t : Model). row_of t ≡ row_of s) (λ t line e. row_line t line ∙ e) h word piece s refl refl refl
 
--- a read that gave bytes leaves the row
+-- a read that gave bytes leaves the row as it is
 pub row_gave : (plan : Plan) (until : Until) (s : Model) (bytes : List ℕ) (m : Moment) → row_of (piece_at plan until bytes m s) ≡ row_of s
 row_gave plan until s bytes m =
     row_came (is_heard s.progress.phase) s.progress.word bytes (with_moment m (with_progress (moment_noted m) s)) ∙ row_moment s.marks s.client.waiting s.records m.elapsed
 
--- the loss of what is outstanding leaves the row
-pub row_losing : (b : Bool) (s : Model) → row_of (losing b s) ≡ row_of s
+-- the loss of what is outstanding leaves the row as it is
+pub row_losing : (all : Bool) (s : Model) → row_of (losing all s) ≡ row_of s
 row_losing true s =
     row_settles s.reads s.progress.moment.utc s.marks s.client.waiting [] (map lost s.client.waiting) s.records (append-nil (map of_settled (map lost s.client.waiting)) ∙ lost_parts s.client.waiting)
 row_losing false s = refl
 
--- an act of a read that gave bytes leaves the row
+-- an act of a read that gave bytes leaves the row as it is
 pub row_read : (plan : Plan) (commands : List Task) (o : Action) (s : Model) (act : Act) (bytes : List ℕ) (m : Moment) → Performs commands s o act → act ≡ Gave bytes m
     → row_of (moved plan commands o s act) ≡ row_of s
 row_read plan commands (action.Read until) s act bytes m o is = subst (λ (a : Act). row_of (moved plan commands (action.Read until) s a) ≡ row_of s) (sym is) (row_gave plan until s bytes m)
@@ -88,7 +88,7 @@ abbrev pub last_cycle : ℕ → List Request → ℕ
 last_cycle n [] = n
 last_cycle n (x ∷ xs) = last_cycle x.cycle xs
 
--- the cycle of the last request is that of the one after the others
+-- where x comes after some requests, the cycle of the last request of all (`last_cycle`) is that of x
 last_behind : (n : ℕ) (xs : List Request) (x : Request) → last_cycle n (xs ++ x ∷ []) ≡ x.cycle
 last_behind n [] x = refl
 last_behind n (y ∷ xs) x = last_behind y.cycle xs x
@@ -97,11 +97,13 @@ last_behind n (y ∷ xs) x = last_behind y.cycle xs x
 abbrev LastIsOfCycle : Model → Type 0
 LastIsOfCycle s = s.progress.chain_unbroken ≡ true → 0 < last_cycle 0 (row_of s)
 
--- `LastIsOfCycle` is preserved if the row stays
+-- what `LastIsOfCycle` says of the row `xs`, where b is whether the chain is unbroken, holds of the row `ys` that is equal to
+-- `xs`
 kept : {xs ys : List Request} {b : Bool} → ys ≡ xs → (b ≡ true → 0 < last_cycle 0 xs) → b ≡ true → 0 < last_cycle 0 ys
 kept same h e = subst (λ (zs : List Request). 0 < last_cycle 0 zs) (sym same) (h e)
 
--- the first of these commands, if it is sent with a mark of a cycle, is the last request of the row
+-- if each request that waits has a mark, there is room, and the first of these commands, of which there are some, is sent with a
+-- mark of a cycle, the last request of the row is of a cycle
 sent_last : (mark : Mark) (left : List Task) (s : Model) → length s.marks ≡ length s.client.waiting → length s.client.waiting < 7 → 0 < length left → 0 < mark.cycle
     → 0 < last_cycle 0 (row (asks_first mark left s).marks (asks_first mark left s).client.waiting s.records)
 sent_last mark [] s paired room some many = absurd (omega (arith, some))
@@ -116,7 +118,7 @@ sent_last mark (task ∷ others) s paired room some many =
     (subst (λ (xs : List Request). 0 < last_cycle 0 xs) (sym is) last)
 
 module _ (plan : Plan) (commands : List Task) where
-  -- `LastIsOfCycle` is preserved by an act of each action
+  -- `LastIsOfCycle` is preserved by an act of each action, if `Invariant` holds before it, and `HoldsBefore` of the action
   last_moved : (o : Action) (s : Model) (act : Act) → Invariant plan commands s → HoldsBefore plan s.progress (waiting_of s) o → Performs commands s o act → LastIsOfCycle (with_progress turned s)
       → LastIsOfCycle (moved plan commands o (with_progress turned s) act)
   last_moved action.Send s act fine is o h =
@@ -174,11 +176,11 @@ module _ (plan : Plan) (commands : List Task) where
       let one = last_moved (action_at plan s) s act (invariant_holds plan commands scope done) (action_for plan s.progress (waiting_of s)) obeys h in
       kept (row_losing (loses_all t.progress) t) (λ e. one (by_loss (loses_all t.progress) t e))) (λ e. cc) acts runs where
         -- the loss of what is outstanding mends no chain
-        by_loss : (b : Bool) (t : Model) → (losing b t).progress.chain_unbroken ≡ true → t.progress.chain_unbroken ≡ true
+        by_loss : (all : Bool) (t : Model) → (losing all t).progress.chain_unbroken ≡ true → t.progress.chain_unbroken ≡ true
         by_loss true t e = e
         by_loss false t e = e
 
--- if no command is outstanding and a chain is unbroken, the last record is of a cycle
+-- after a run, if no command is outstanding and the chain is unbroken, the last record is of a cycle
 pub last_of_cycle : (plan : Plan) (commands : List Task) (scope : Scope) (acts : List Act) → Runs plan commands (opening plan scope) acts
     → commands_in (state_after plan commands scope acts).marks ≡ 0 → (state_after plan commands scope acts).progress.chain_unbroken ≡ true → (xs : List Request) (x : Request)
     → map of_record (state_after plan commands scope acts).records ≡ xs ++ x ∷ [] → 0 < x.cycle

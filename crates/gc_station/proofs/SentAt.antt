@@ -18,7 +18,8 @@ use Rattle.gc_station.specs.Parts.{Part, nothing, joined, first_request_part, pu
 use Rattle.gc_station.specs.Progressing.{turned, loses_all}
 use Rattle.gc_station.specs.Runs.{state_after}
 use Rattle.gc_station.proofs.Outs.{SendsMarked}
-use Rattle.gc_station.specs.Model.{Model, opening, action_at, place_next, mark_next, with_progress, moved, after, after_all, mark_setup}
+use Rattle.gc_station.specs.Model.{Model, opening, action_at, with_progress, moved, after, after_all}
+use Rattle.gc_station.specs.NextCommand.{place_next, mark_next, mark_setup}
 use Rattle.gc_station.proofs.Going.{after_all-append}
 use Rattle.gc_station.proofs.Growing.{losing_records, moved_grew}
 use Rattle.gc_station.proofs.Records.{Grew, grew_none, grew_then}
@@ -74,7 +75,7 @@ setup_mark plan now its [] n mark e = absurd (null_mark n mark e)
 setup_mark plan now its (task ∷ others) zero mark e = (refl, sym (same_Some its mark (same_Some (Some its) (Some mark) e)))
 setup_mark plan now its (task ∷ others) (suc n) mark e = absurd (none-some (Some mark) e)
 
--- this action sends the command with this mark, as the only request of its part
+-- this action sends the command with this mark, as request n of its part, which has no other: n is 0
 abbrev pub IsSend : Plan → List Task → Model → Action → ℕ → Mark → Type 0
 IsSend plan commands s o n mark = (n ≡ 0) × SendsMarked plan commands s o mark
 
@@ -124,7 +125,7 @@ pub record SentAt (plan : Plan) (commands : List Task) (s : Model) (acts : List 
   pub last : length (parts_of plan commands s before) ≡ suc i
   pub count : length first.marks ≡ n
 
--- a part that is joined to the first of these is the front of the first
+-- where a part p is joined to the first of these parts, q, the first is then p and q in one (`joined`)
 pub joined_at : (p : Part) (ps : List Part) (q : Part) → slice_get ps 0 ≡ Some q → slice_get (in_front p false ps) 0 ≡ Some (joined p q)
 joined_at p [] q e = absurd (none-some q e)
 joined_at p (x ∷ ps) q e = ap (λ y. Some (joined p y)) (same_Some x q e)
@@ -134,7 +135,7 @@ pub joined_on : (p : Part) (ps : List Part) (i : ℕ) (q : Part) → slice_get p
 joined_on p [] i q e = absurd (none-some q e)
 joined_on p (x ∷ ps) i q e = e
 
--- there are as many parts if a part is joined to the first
+-- once a part is joined to the first of some parts, of which there is at least one, there are as many as before
 pub joined_length : (p : Part) (ps : List Part) (i : ℕ) → length ps ≡ suc i → length (in_front p false ps) ≡ suc i
 joined_length p [] i e = absurd (omega (arith, e))
 joined_length p (x ∷ ps) i e = e
@@ -147,7 +148,8 @@ module _ (plan : Plan) (commands : List Task) where
       let h = acting_mark plan commands s (action_at plan s) act n mark e in
       record { before = []; act = act; rest = acts; order = refl; its = h.1; first = nothing; of_parts = refl; last = refl; count = sym h.0 }
 
-  -- an act after the first one, with which a part ends, sends the command: so the command is in a later part
+  -- if a part ends with the first act, a command that the acts after it send as request n of part i is, with the first act
+  -- counted, request n of part i + 1
   pub sent_cut : (s : Model) (act : Act) (acts : List Act) (i n : ℕ) (mark : Mark) → ends_part plan commands s act ≡ true
       → SentAt plan commands (after plan commands s act) acts i n mark → SentAt plan commands s (act ∷ acts) (suc i) n mark
   sent_cut s act acts i n mark is h =
@@ -165,7 +167,8 @@ module _ (plan : Plan) (commands : List Task) where
         count = h.count;
       }
 
-  -- an act after the first one sends the command in the first part: so the command is after the requests of the first act
+  -- if no part ends with the first act, a command that the acts after it send as request k of the first part is, with the first
+  -- act counted, in the first part still, after the requests of the first act
   pub sent_on : (s : Model) (act : Act) (acts : List Act) (n k : ℕ) (mark : Mark) → ends_part plan commands s act ≡ false → n ≡ length (part_of_act plan commands s (action_at plan s) act).marks + k
       → SentAt plan commands (after plan commands s act) acts 0 k mark → SentAt plan commands s (act ∷ acts) 0 n mark
   sent_on s act acts n k mark is at h =
@@ -185,7 +188,8 @@ module _ (plan : Plan) (commands : List Task) where
         count = omega (arith, size, count, at);
       }
 
-  -- an act after the first one sends the command in a later part
+  -- if no part ends with the first act, a command that the acts after it send in a later part than the first is at the same place
+  -- with the first act counted
   pub sent_later : (s : Model) (act : Act) (acts : List Act) (i n : ℕ) (mark : Mark) → ends_part plan commands s act ≡ false
       → SentAt plan commands (after plan commands s act) acts (suc i) n mark → SentAt plan commands s (act ∷ acts) (suc i) n mark
   sent_later s act acts i n mark is h =
@@ -203,7 +207,8 @@ module _ (plan : Plan) (commands : List Task) where
         count = h.count;
       }
 
-  -- a request of a command, with its mark in the parts of acts, was sent among them, whether the first act ends a part (b) or not
+  -- if the acts after the first one send each request with this mark that the parts `ps` have, all acts send each that these
+  -- parts have with the first act's part before them, whether the first act ends a part (b) or not
   pub sent_by : (s : Model) (act : Act) (acts : List Act) (b : Bool) (ps : List Part) (i n : ℕ) (part : Part) (mark : Mark) → ends_part plan commands s act ≡ b
       → ((j k : ℕ) (p : Part) → slice_get ps j ≡ Some p → slice_get p.marks k ≡ Some (Some mark) → SentAt plan commands (after plan commands s act) acts j k mark)
       → slice_get (in_front (part_of_act plan commands s (action_at plan s) act) b ps) i ≡ Some part → slice_get part.marks n ≡ Some (Some mark) → SentAt plan commands s (act ∷ acts) i n mark

@@ -1,6 +1,6 @@
 -- Each command of the setup that was sent has one record, or is outstanding; and its attempts count over the run. The row of a
--- station has its records and, after them, the outstanding commands. An act leaves the row, or adds the command that is sent or
--- left out.
+-- station has its records and, after them, the outstanding commands. An act leaves the row as it is, or adds the command that is
+-- sent, or recorded without being sent.
 use Rattle.std.proofs.Common.{◌≡◌, ◌⊎◌, inl, inr, ℕ, ◌+◌, ◌-◌, ◌<◌, ◌≤◌, Bool, true, false, if◌then◌else◌, nat_eq, min, List, [], ◌∷◌, ◌++◌, length, drop, map, Option, Some, None, refl, sym, ap, ◌∙◌, subst, arith, append_assoc, append-nil}
 use Rattle.std.proofs.lemmas.List.{length-drop, map-append}
 use Rattle.gc_catalogue.specs.declared.answer.Reading.{Reading}
@@ -22,15 +22,15 @@ use Rattle.gc_station.specs.Reasons.{HoldsBefore}
 use Rattle.gc_station.specs.Records.{Record}
 use Rattle.gc_station.specs.Runs.{state_after}
 use Rattle.gc_station.specs.Scopes.{Scope}
-use Rattle.gc_station.specs.Model.{Model, opening, action_at, waiting_of, cycles_begun, place_next, mark_next, mark_setup, is_heard, asks_first, asks_or_null, after_piece, line_came, losing, moved, piece_at, first_unsent_record, with_progress, with_moment, with_rest, after, after_all}
+use Rattle.gc_station.specs.Model.{Model, opening, action_at, waiting_of, is_heard, asks_first, asks_or_null, after_piece, line_came, losing, moved, piece_at, first_unsent_record, with_progress, with_moment, with_rest, after, after_all}
+use Rattle.gc_station.specs.NextCommand.{cycles_begun, place_next, mark_next, mark_setup}
 use Rattle.gc_station.specs.Lists.{with_if}
 use Rattle.gc_station.specs.Setups.{Dispatch, dispatch_of_record, dispatch_of_mark, dispatches_of, of_setup, sent_first, sent_as, setup_sent_by, EachSetUpOnce, GoOn, AreInOrder, SetUpsGoOn}
 use Rattle.gc_station.proofs.Counts.{ended_progress}
 use Rattle.gc_station.proofs.EachRun.{invariant_all, invariant_opening, invariant_holds, stopped}
-use Rattle.gc_station.proofs.Facts.{action_for}
+use Rattle.gc_station.proofs.Facts.{action_for, not_none}
 use Rattle.gc_station.proofs.Invariant.{Invariant}
 use Rattle.gc_station.proofs.Walk.{came_along, closed_along, is_prepared, moved_changed}
-use Rattle.gc_station.proofs.Ticking.{not_none}
 
 -- The row.
 
@@ -38,7 +38,7 @@ use Rattle.gc_station.proofs.Ticking.{not_none}
 abbrev pub dispatch_row : Model → List Dispatch
 dispatch_row s = map dispatch_of_record s.records ++ dispatches_of s.marks
 
--- settlements of the oldest requests leave their commands, as records
+-- the commands of the records of settlements, and after them those of the marks that are left, are those of all marks
 settled_row : (reads : Asked → List ℕ → Reading) (utc : ℕ) (ms : List (Option Mark)) (ss : List (Settlement Asked))
     → map dispatch_of_record (records_of reads utc ms ss) ++ dispatches_of (drop (length ss) ms) ≡ dispatches_of ms
 settled_row reads utc [] [] = refl
@@ -48,7 +48,7 @@ settled_row reads utc (Some mark ∷ ms) [] = refl
 settled_row reads utc (None ∷ ms) (x ∷ ss) = settled_row reads utc ms ss
 settled_row reads utc (Some mark ∷ ms) (x ∷ ss) = ap (λ xs. dispatch_of_mark mark ∷ xs) (settled_row reads utc ms ss)
 
--- settlements leave the row: their records take the place of the requests
+-- settlements leave the row as it is: their records take the place of the requests
 row_settles : (reads : Asked → List ℕ → Reading) (utc : ℕ) (ms : List (Option Mark)) (ss : List (Settlement Asked)) (rs : List Record)
     → map dispatch_of_record (rs ++ records_of reads utc ms ss) ++ dispatches_of (drop (length ss) ms) ≡ map dispatch_of_record rs ++ dispatches_of ms
 row_settles reads utc ms ss rs =
@@ -57,35 +57,35 @@ row_settles reads utc ms ss rs =
     ap (λ xs. xs ++ left) (map-append dispatch_of_record rs news) ∙ append_assoc (map dispatch_of_record rs) (map dispatch_of_record news) left ∙ ap
     (λ xs. map dispatch_of_record rs ++ xs) (settled_row reads utc ms ss)
 
--- a line that is heard leaves the row
+-- a line that is heard leaves the row as it is
 dispatch_row_line : (s : Model) (line : List ℕ) → dispatch_row (line_came s line) ≡ dispatch_row s
 dispatch_row_line s line = let x = hears s.client line (heard line) in row_settles s.reads s.progress.moment.utc s.marks x.settlements s.records
 
--- a piece leaves the row, heard or not
-dispatch_row_came : (h : Bool) (word piece : List ℕ) (s : Model) → dispatch_row (after_piece h word piece s) ≡ dispatch_row s
+-- a piece leaves the row as it is, heard or not
+dispatch_row_came : (heard : Bool) (word piece : List ℕ) (s : Model) → dispatch_row (after_piece heard word piece s) ≡ dispatch_row s
 dispatch_row_came h word piece s = came_along (λ (t : Model). dispatch_row t ≡ dispatch_row s) (λ t line e. dispatch_row_line t line ∙ e) h word piece s refl refl refl
 
--- a read that gave bytes leaves the row
+-- a read that gave bytes leaves the row as it is
 dispatch_row_gave : (plan : Plan) (until : Until) (s : Model) (bytes : List ℕ) (m : Moment) → dispatch_row (piece_at plan until bytes m s) ≡ dispatch_row s
 dispatch_row_gave plan until s bytes m = dispatch_row_came (is_heard s.progress.phase) s.progress.word bytes (with_moment m (with_progress (moment_noted m) s))
 
--- the loss of what is outstanding leaves the row
-pub dispatch_row_losing : (b : Bool) (s : Model) → dispatch_row (losing b s) ≡ dispatch_row s
+-- the loss of what is outstanding leaves the row as it is
+pub dispatch_row_losing : (all : Bool) (s : Model) → dispatch_row (losing all s) ≡ dispatch_row s
 dispatch_row_losing true s = row_settles s.reads s.progress.moment.utc s.marks (map lost s.client.waiting) s.records
 dispatch_row_losing false s = refl
 
--- the commands of two lists of marks are those of the first list, and after them those of the second
+-- the commands of two lists of marks, one after the other, are those of the first list, and after them those of the second
 marks_append : (xs ys : List (Option Mark)) → dispatches_of (xs ++ ys) ≡ dispatches_of xs ++ dispatches_of ys
 marks_append [] ys = refl
 marks_append (None ∷ xs) ys = marks_append xs ys
 marks_append (Some mark ∷ xs) ys = ap (λ zs. dispatch_of_mark mark ∷ zs) (marks_append xs ys)
 
--- one mark more adds its command to the row, after the others
+-- one mark more adds its command, if it is a command's, to the row, after the others
 row_more : (rs : List Record) (ms : List (Option Mark)) (m : Option Mark)
     → map dispatch_of_record rs ++ dispatches_of (ms ++ m ∷ []) ≡ (map dispatch_of_record rs ++ dispatches_of ms) ++ dispatches_of (m ∷ [])
 row_more rs ms m = ap (λ xs. map dispatch_of_record rs ++ xs) (marks_append ms (m ∷ [])) ∙ sym (append_assoc (map dispatch_of_record rs) (dispatches_of ms) (dispatches_of (m ∷ [])))
 
--- the first of these commands adds itself to the row if it is sent
+-- to send the first of these commands adds it to the row; without one nothing is added
 first_row : (mark : Mark) (left : List Task) (s : Model) → dispatch_row (asks_first mark left s) ≡ dispatch_row s ++ sent_first mark left
 first_row mark [] s = sym (append-nil (dispatch_row s))
 first_row mark (task ∷ others) s = row_more s.records s.marks (Some mark)
@@ -101,20 +101,20 @@ module _ (plan : Plan) (commands : List Task) where
   row_prepared s (Cut bytes n) = setup_row plan (mark_setup commands s.progress) (drop s.progress.prepared commands) s
   row_prepared s act = setup_row plan (mark_setup commands s.progress) (drop s.progress.prepared commands) s
 
-  -- an act that sends the next command of a cycle adds it to the row
+  -- an act that sends the next command of a cycle adds it to the row, if there is one
   row_sent : (s : Model) (act : Act) → dispatch_row (moved plan commands action.Send s act)
       ≡ dispatch_row s ++ sent_first (mark_next plan commands s.progress) (drop (place_next commands s.progress) commands)
   row_sent s (Cut bytes n) = first_row (mark_next plan commands s.progress) (drop (place_next commands s.progress) commands) s
   row_sent s act = first_row (mark_next plan commands s.progress) (drop (place_next commands s.progress) commands) s
 
-  -- an action other than those that give a command its turn (`Prepare`, `Send` and `Skip`)
+  -- an action by which no command is sent, or recorded without being sent: any but `Prepare`, `Send` and `Skip`
   abbrev pub LeavesRow : Action → Type 0
   LeavesRow action.Prepare = ⊥
   LeavesRow action.Send = ⊥
   LeavesRow action.Skip = ⊥
   LeavesRow o = Unit {0}
 
-  -- an act of an action other than those leaves the row
+  -- an act of such an action (`LeavesRow`) leaves the row as it is
   pub row_kept : (o : Action) (s : Model) (act : Act) → LeavesRow o → dispatch_row (moved plan commands o s act) ≡ dispatch_row s
   row_kept action.Prepare s act other = absurd other
   row_kept action.Send s act other = absurd other
@@ -155,7 +155,7 @@ all_sent : (commands : List Task) (p : Progress) (left : List Task) → of_setup
 all_sent commands p [] = refl
 all_sent commands p (task ∷ others) = refl
 
--- records that are of no setup, between others and the outstanding commands, add none
+-- records that aren't of the setup, between others and the outstanding commands, add no command of it
 between_none : (rs news : List Record) (ms : List (Option Mark)) → of_setup (map dispatch_of_record news) ≡ []
     → of_setup (map dispatch_of_record (rs ++ news) ++ dispatches_of ms) ≡ of_setup (map dispatch_of_record rs ++ dispatches_of ms)
 between_none rs news ms none =
@@ -171,11 +171,12 @@ none_marked (None ∷ ms) e = none_marked ms e
 none_marked (Some mark ∷ ms) e = absurd (omega (arith, e))
 
 module _ (plan : Plan) (commands : List Task) where
-  -- if some command of the cycle isn't sent, a cycle has begun
+  -- where `Invariant` holds, a cycle has begun if some command of a cycle is unsent
   some_cycle : (s : Model) → Invariant plan commands s → 0 < s.progress.unsent → 0 < cycles_begun plan s.progress
   some_cycle s fine some = let below = fine.begun some in omega (arith, below)
 
-  -- an act adds to the setup's part of the row the command of the setup that it sends, if it sends one
+  -- an act adds to the setup's part of the row the command of the setup that it sends, if it sends one; where `Invariant` holds
+  -- before it, and `HoldsBefore` of its action
   setup_moved : (o : Action) (s : Model) (act : Act) → Invariant plan commands s → HoldsBefore plan s.progress (waiting_of s) o
       → of_setup (dispatch_row (moved plan commands o (with_progress turned s) act)) ≡ of_setup (dispatch_row s) ++ sent_as o commands s
   setup_moved action.Prepare s act fine is =
@@ -205,7 +206,7 @@ module _ (plan : Plan) (commands : List Task) where
   setup_moved (action.Close why) s act fine is = ap of_setup (row_kept plan commands (action.Close why) (with_progress turned s) act tt) ∙ sym (append-nil (of_setup (dispatch_row s)))
   setup_moved (action.Stop why) s act fine is = ap of_setup (row_kept plan commands (action.Stop why) (with_progress turned s) act tt) ∙ sym (append-nil (of_setup (dispatch_row s)))
 
-  -- acts add to the setup's part of the row the commands of the setup that they send
+  -- acts add to the setup's part of the row the commands of the setup that they send, where `Invariant` holds before them
   setup_from : (s : Model) (acts : List Act) → Invariant plan commands s → of_setup (dispatch_row (after_all plan commands s acts)) ≡ of_setup (dispatch_row s) ++ setup_sent_by plan commands s acts
   setup_from s [] fine = sym (append-nil (of_setup (dispatch_row s)))
   setup_from s (act ∷ acts) fine =
@@ -238,10 +239,10 @@ each_set_up_once plan commands scope acts =
 -- Attempts.
 
 -- from p to q the setup's next command and attempt stay; or the setup is sent again
-abbrev pub Resets : Progress → Progress → Type 0
+abbrev pub Resets : (p q : Progress) → Type 0
 Resets p q = ((q.attempt ≡ p.attempt) × (q.prepared ≡ p.prepared)) ⊎ ((q.attempt ≡ next_attempt p) × (q.prepared ≡ 0))
 
--- an act that sends no command of the setup leaves its next command and attempt, or restarts the setup
+-- an act that sends no command of the setup changes neither the setup's next command nor its attempt, or restarts the setup
 resets : (plan : Plan) (commands : List Task) (o : Action) (s : Model) (act : Act) → (o ≡ action.Prepare → ⊥) → Resets s.progress (moved plan commands o s act).progress
 resets plan commands action.Prepare s act other = absurd (other refl)
 resets plan commands action.Renew s (Told m) other = inr (refl, refl)
@@ -253,7 +254,7 @@ resets plan commands o s act other =
     let is = moved_changed plan commands o s act in
     inl (ap (λ (x : Model). x.progress.attempt) is, ap (λ (x : Model). x.progress.prepared) is)
 
--- an act that sends a command of the setup goes on to the next one, in the same attempt
+-- an act that sends a command of the setup keeps the attempt, and makes the setup's next place one more, at most `plan.setup`
 pub prepares : (plan : Plan) (commands : List Task) (s : Model) (act : Act)
     → ((moved plan commands action.Prepare s act).progress.attempt ≡ s.progress.attempt) × ((moved plan commands action.Prepare s act).progress.prepared ≡ min (s.progress.prepared + 1) plan.setup)
 prepares plan commands s (Cut bytes n) =
@@ -261,11 +262,12 @@ prepares plan commands s (Cut bytes n) =
 prepares plan commands s act =
     subst (λ (x : Model). (x.progress.attempt ≡ s.progress.attempt) × (x.progress.prepared ≡ min (s.progress.prepared + 1) plan.setup)) (is_prepared plan commands s) (refl, refl)
 
--- if the last command of the setup that was sent is x, the next one goes after it
+-- the next command of the setup, at the progress p, goes after x: it is at the place after x in the same attempt, or the first of
+-- the next attempt
 abbrev IsNext : Dispatch → Progress → Type 0
 IsNext x p = ((p.attempt ≡ x.attempt) × (p.prepared ≡ x.place + 1)) ⊎ ((p.attempt ≡ later x.attempt 1) × (p.prepared ≡ 0))
 
--- if the setup starts again, its first command is next
+-- if the setup starts again, its first command is next, and goes after x, if the one that was next did
 restarted_next : (x : Dispatch) (p q : Progress) → q.attempt ≡ next_attempt p → q.prepared ≡ 0 → IsNext x p → IsNext x q
 restarted_next x p q a k (inl is) = inr (
   a ∙ ap (λ (b : Bool). if b then p.attempt else later p.attempt 1)
@@ -280,7 +282,7 @@ next_kept x p q (inl same) (inl is) = inl (same.0 ∙ is.0, same.1 ∙ is.1)
 next_kept x p q (inl same) (inr is) = inr (same.0 ∙ is.0, same.1 ∙ is.1)
 next_kept x p q (inr anew) is = restarted_next x p q anew.0 anew.1 is
 
--- an action sends a command of the setup, or it isn't `Prepare`
+-- an action is `Prepare`, by which a command of the setup is sent, or it isn't
 is_prepare_or_not : (o : Action) → (o ≡ action.Prepare) ⊎ (o ≡ action.Prepare → ⊥)
 is_prepare_or_not action.Prepare = inl refl
 is_prepare_or_not action.ReadClock = inr (λ e. cc)
@@ -302,7 +304,7 @@ others_send_none : (o : Action) (commands : List Task) (s : Model) → (o ≡ ac
 others_send_none action.Prepare commands s other = absurd (other refl)
 others_send_none o commands s other = refl
 
--- if there is a command, it is sent
+-- if there is a command, the first one alone is what `sent_first` says is sent
 pub sent_some : (mark : Mark) (left : List Task) → 0 < length left → sent_first mark left ≡ dispatch_of_mark mark ∷ []
 sent_some mark [] some = absurd (omega (arith, some))
 sent_some mark (task ∷ others) some = refl
@@ -312,18 +314,18 @@ module _ (plan : Plan) (commands : List Task) (within : plan.setup ≤ length co
   abbrev next_dispatch : Model → Dispatch
   next_dispatch s = dispatch_of_mark (mark_setup commands s.progress)
 
-  -- if a command of the setup is next, it is in the setup
+  -- if a command of the setup is next, its place is below `plan.setup`
   below : (s : Model) → action_at plan s ≡ action.Prepare → s.progress.prepared < plan.setup
   below s is = let needs = subst (λ (o : Action). HoldsBefore plan s.progress (waiting_of s) o) is (action_for plan s.progress (waiting_of s)) in needs.2.1
 
-  -- if a command of the setup is next, it is sent
+  -- if a command of the setup is next, what the next action sends of the setup (`sent_as`) is that command alone
   pub sends_it : (s : Model) → action_at plan s ≡ action.Prepare → sent_as (action_at plan s) commands s ≡ next_dispatch s ∷ []
   sends_it s is =
       let some = below s is in
       let many : length (drop s.progress.prepared commands) ≡ length commands - s.progress.prepared = length-drop s.progress.prepared commands in
       ap (λ (o : Action). sent_as o commands s) is ∙ sent_some (mark_setup commands s.progress) (drop s.progress.prepared commands) (omega (arith, many, some, within))
 
-  -- after a command of the setup was sent, the one after it is next
+  -- after the setup's next command was sent, the one that is next then goes after it (`IsNext`)
   next_sent : (s : Model) (act : Act) → action_at plan s ≡ action.Prepare → IsNext (next_dispatch s) (after plan commands s act).progress
   next_sent s act is =
       let t = with_progress turned s in
@@ -334,13 +336,13 @@ module _ (plan : Plan) (commands : List Task) (within : plan.setup ≤ length co
       let some = below s is in
       inl (ap (λ (p : Progress). p.attempt) far ∙ it.0, ap (λ (p : Progress). p.prepared) far ∙ omega (arith, prepared, some))
 
-  -- an act that sends no command of the setup leaves the next one after x
+  -- if the setup's next command goes after x (`IsNext`), it still does after an act that sends no command of the setup
   next_other : (x : Dispatch) (s : Model) (act : Act) → (action_at plan s ≡ action.Prepare → ⊥) → IsNext x s.progress → IsNext x (after plan commands s act).progress
   next_other x s act other is =
       let t = moved plan commands (action_at plan s) (with_progress turned s) act in
       subst (λ (q : Progress). IsNext x q) (sym (ended_progress t)) (next_kept x (turned s.progress) t.progress (resets plan commands (action_at plan s) (with_progress turned s) act other) is)
 
-  -- the commands of the setup that these acts send continue after x
+  -- if the setup's next command goes after x (`IsNext`), the commands of the setup that these acts send go on after x
   go_on_from : (x : Dispatch) (s : Model) (acts : List Act) → IsNext x s.progress → GoOn x (setup_sent_by plan commands s acts)
   go_on_from x s [] is = tt
   go_on_from x s (act ∷ acts) is =
@@ -352,16 +354,16 @@ module _ (plan : Plan) (commands : List Task) (within : plan.setup ≤ length co
       ]
 
   -- nothing of the setup was sent yet: its first command is next, in attempt 1
-  abbrev IsFresh : Progress → Type 0
-  IsFresh p = (p.attempt ≡ 1) × (p.prepared ≡ 0)
+  abbrev NoneOfSetupSent : Progress → Type 0
+  NoneOfSetupSent p = (p.attempt ≡ 1) × (p.prepared ≡ 0)
 
-  -- if nothing of the setup was sent, that stays so after an act that sends no command of it
-  fresh_kept : (p q : Progress) → Resets p q → IsFresh p → IsFresh q
-  fresh_kept p q (inl same) is = (same.0 ∙ is.0, same.1 ∙ is.1)
-  fresh_kept p q (inr anew) is = (anew.0 ∙ ap (λ (n : ℕ). if nat_eq n 0 then p.attempt else later p.attempt 1) is.1 ∙ is.0, anew.1)
+  -- if nothing of the setup was sent at the progress p, nothing of it was at q, where from p to q `Resets` holds
+  none_of_setup_kept : (p q : Progress) → Resets p q → NoneOfSetupSent p → NoneOfSetupSent q
+  none_of_setup_kept p q (inl same) is = (same.0 ∙ is.0, same.1 ∙ is.1)
+  none_of_setup_kept p q (inr anew) is = (anew.0 ∙ ap (λ (n : ℕ). if nat_eq n 0 then p.attempt else later p.attempt 1) is.1 ∙ is.0, anew.1)
 
   -- the commands of the setup that these acts send are in order, if none was sent before
-  in_order_from : (s : Model) (acts : List Act) → IsFresh s.progress → AreInOrder (setup_sent_by plan commands s acts)
+  in_order_from : (s : Model) (acts : List Act) → NoneOfSetupSent s.progress → AreInOrder (setup_sent_by plan commands s acts)
   in_order_from s [] is = tt
   in_order_from s (act ∷ acts) is =
       let u = after plan commands s act in
@@ -371,10 +373,10 @@ module _ (plan : Plan) (commands : List Task) (within : plan.setup ≤ length co
         | inl sends ↦ subst (λ xs. AreInOrder (xs ++ rest)) (sym (sends_it s sends)) (is.0, is.1, go_on_from (next_dispatch s) u acts (next_sent s act sends))
         | inr other ↦
             subst (λ xs. AreInOrder (xs ++ rest)) (sym (others_send_none (action_at plan s) commands s other))
-            (in_order_from u acts (subst (λ (q : Progress). IsFresh q) (sym (ended_progress t))
-            (fresh_kept (turned s.progress) t.progress (resets plan commands (action_at plan s) (with_progress turned s) act other) is)))
+            (in_order_from u acts (subst (λ (q : Progress). NoneOfSetupSent q) (sym (ended_progress t))
+            (none_of_setup_kept (turned s.progress) t.progress (resets plan commands (action_at plan s) (with_progress turned s) act other) is)))
       ]
 
--- the law: attempts of the setup count over the run, and each goes from the first command on, one by one
+-- the law: the commands of the setup that a run sends are in order (`AreInOrder`), if the list has at least `plan.setup` commands
 pub set_ups_go_on : SetUpsGoOn
 set_ups_go_on plan commands scope acts within = in_order_from plan commands within (opening plan scope) acts (refl, refl)

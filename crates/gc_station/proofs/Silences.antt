@@ -1,5 +1,5 @@
 -- Which act read the last moment; and that a close is decided only when it is made, unless an act shows its cause. An act is
--- one call on the link, with its result. `Fresh` says that the last act read the moment, unless the moment is out of date.
+-- one call on the link, with its result. `ReadLast` says that the last act read the moment, unless the moment is out of date.
 use Rattle.std.proofs.Common.{◌≡◌, ℕ, ◌⊎◌, inl, inr, ◌&&◌, Bool, true, false, not, List, [], ◌∷◌, ◌++◌, if◌then◌else◌, refl, ap, subst}
 use Rattle.gc_texts.specs.declared.tasks.Task.{Task}
 use Rattle.gc_station.specs.declared.plan.Plan.{Plan}
@@ -23,13 +23,13 @@ use Rattle.gc_station.proofs.Connected.{is_in_use, OnLine, on_line_always}
 use Rattle.gc_station.proofs.Facts.{Awake}
 use Rattle.gc_station.proofs.Walk.{asked_along, came_along}
 
--- if a drain ends or goes on, there is a connection
-drained_up : (b : Bool) (p : Progress) → p.phase ≡ phase.Draining → is_up (if b then drained p else p).phase ≡ true
+-- whether a drain ends (`ends`) or goes on, there is a connection
+drained_up : (ends : Bool) (p : Progress) → p.phase ≡ phase.Draining → is_up (if ends then drained p else p).phase ≡ true
 drained_up true p is = refl
 drained_up false p is = ap is_up is
 
--- if a pause ends or goes on, there is no connection
-paused_up : (b : Bool) (at : Phase) → at ≡ phase.Pausing → is_up (if b then phase.Down else at) ≡ false
+-- whether a pause ends (`ends`) or goes on, there is no connection
+paused_up : (ends : Bool) (at : Phase) → at ≡ phase.Pausing → is_up (if ends then phase.Down else at) ≡ false
 paused_up true at is = refl
 paused_up false at is = ap is_up is
 
@@ -46,68 +46,68 @@ abbrev pub LastTells : ℕ → List Act → Type 0
 LastTells now acts = (front : List Act) × (last : Act) × (acts ≡ front ++ last ∷ []) × TellsMoment now last
 
 -- while a connection is drained, and where requests may be sent: the last act read the moment `now`, if the moment read last
--- isn't out of date (the first argument, `clock_due`)
-abbrev Fresh : Bool → ℕ → Phase → List Act → Type 0
-Fresh due now phase.Draining acts = due ≡ false → LastTells now acts
-Fresh due now phase.Ready acts = due ≡ false → LastTells now acts
-Fresh due now at acts = Unit {0}
+-- isn't out of date (`due`)
+abbrev ReadLast : (due : Bool) → (now : ℕ) → Phase → List Act → Type 0
+ReadLast due now phase.Draining acts = due ≡ false → LastTells now acts
+ReadLast due now phase.Ready acts = due ≡ false → LastTells now acts
+ReadLast due now at acts = Unit {0}
 
--- `Fresh`, by the fields of a progress
-abbrev FreshAt : Progress → List Act → Type 0
-FreshAt p acts = Fresh p.clock_due p.moment.elapsed p.phase acts
+-- `ReadLast`, by the fields of a progress
+abbrev ReadLastAt : Progress → List Act → Type 0
+ReadLastAt p acts = ReadLast p.clock_due p.moment.elapsed p.phase acts
 
--- if no connection is in use, `Fresh` says nothing
-fresh_none : (due : Bool) (now : ℕ) (at : Phase) (acts : List Act) → is_in_use at ≡ false → Fresh due now at acts
-fresh_none due now phase.Draining acts none = cc
-fresh_none due now phase.Ready acts none = cc
-fresh_none due now at acts none = tt
+-- if no connection is in use, `ReadLast` says nothing
+read_last_none : (due : Bool) (now : ℕ) (at : Phase) (acts : List Act) → is_in_use at ≡ false → ReadLast due now at acts
+read_last_none due now phase.Draining acts none = cc
+read_last_none due now phase.Ready acts none = cc
+read_last_none due now at acts none = tt
 
--- `Fresh` holds after an act that reads the moment
-fresh_told : (due : Bool) (now : ℕ) (at : Phase) (acts : List Act) (act : Act) → TellsMoment now act → Fresh due now at (acts ++ act ∷ [])
-fresh_told due now phase.Draining acts act tells = λ e. (acts, act, refl, tells)
-fresh_told due now phase.Ready acts act tells = λ e. (acts, act, refl, tells)
-fresh_told due now at acts act tells = tt
+-- `ReadLast` holds after an act that reads the moment
+read_last_told : (due : Bool) (now : ℕ) (at : Phase) (acts : List Act) (act : Act) → TellsMoment now act → ReadLast due now at (acts ++ act ∷ [])
+read_last_told due now phase.Draining acts act tells = λ e. (acts, act, refl, tells)
+read_last_told due now phase.Ready acts act tells = λ e. (acts, act, refl, tells)
+read_last_told due now at acts act tells = tt
 
--- if the moment wasn't read, `Fresh` says nothing
-fresh_due : (now : ℕ) (at : Phase) (acts : List Act) → Fresh true now at acts
-fresh_due now phase.Draining acts = λ e. cc
-fresh_due now phase.Ready acts = λ e. cc
-fresh_due now at acts = tt
+-- if the moment read last is out of date, `ReadLast` says nothing
+read_last_due : (now : ℕ) (at : Phase) (acts : List Act) → ReadLast true now at acts
+read_last_due now phase.Draining acts = λ e. cc
+read_last_due now phase.Ready acts = λ e. cc
+read_last_due now at acts = tt
 
 module _ (plan : Plan) (commands : List Task) where
-  -- `Fresh` is preserved by an act of any action
-  fresh_line : (next : Action) (s : Model) (acts : List Act) → OnLine plan commands FreshAt next (with_progress turned s) acts
-  fresh_line actions.Open s acts = λ m. tt
-  fresh_line actions.Clear s acts = λ m. fresh_due s.progress.moment.elapsed (cleared s.progress).phase _
-  fresh_line actions.Ask s acts = λ m. fresh_due s.progress.moment.elapsed s.progress.phase _
-  fresh_line actions.Prepare s acts = λ m. fresh_due s.progress.moment.elapsed s.progress.phase _
-  fresh_line actions.Send s acts = λ m. fresh_due s.progress.moment.elapsed s.progress.phase _
-  fresh_line actions.Flush s acts = λ m. fresh_due s.progress.moment.elapsed s.progress.phase _
-  fresh_line (actions.Read until) s acts =
+  -- `ReadLast` holds after an act of any action that leaves a connection in use (`OnLine`)
+  read_last_line : (next : Action) (s : Model) (acts : List Act) → OnLine plan commands ReadLastAt next (with_progress turned s) acts
+  read_last_line actions.Open s acts = λ m. tt
+  read_last_line actions.Clear s acts = λ m. read_last_due s.progress.moment.elapsed (cleared s.progress).phase _
+  read_last_line actions.Ask s acts = λ m. read_last_due s.progress.moment.elapsed s.progress.phase _
+  read_last_line actions.Prepare s acts = λ m. read_last_due s.progress.moment.elapsed s.progress.phase _
+  read_last_line actions.Send s acts = λ m. read_last_due s.progress.moment.elapsed s.progress.phase _
+  read_last_line actions.Flush s acts = λ m. read_last_due s.progress.moment.elapsed s.progress.phase _
+  read_last_line (actions.Read until) s acts =
       let at = s.progress.phase in (
         λ bytes m.
             let mid = with_moment m (with_progress (moment_noted m) (with_progress turned s)) in
-            let here = fresh_told false m.elapsed at acts (Gave bytes m) refl in
-            came_along (λ (t : Model). FreshAt t.progress (acts ++ Gave bytes m ∷ [])) (λ t line on. on) (is_heard at) s.progress.word bytes mid here
-            (asked_along (λ (q : Progress). FreshAt q (acts ++ Gave bytes m ∷ [])) (λ q line on. on) mid.progress (lines_completed s.rest bytes) here) here,
-        λ m. (fresh_told false m.elapsed at acts (Silent m) refl, λ draining past. fresh_told false m.elapsed phase.Ready acts (Silent m) refl),
+            let here = read_last_told false m.elapsed at acts (Gave bytes m) refl in
+            came_along (λ (t : Model). ReadLastAt t.progress (acts ++ Gave bytes m ∷ [])) (λ t line on. on) (is_heard at) s.progress.word bytes mid here
+            (asked_along (λ (q : Progress). ReadLastAt q (acts ++ Gave bytes m ∷ [])) (λ q line on. on) mid.progress (lines_completed s.rest bytes) here) here,
+        λ m. (read_last_told false m.elapsed at acts (Silent m) refl, λ draining past. read_last_told false m.elapsed phase.Ready acts (Silent m) refl),
       )
-  fresh_line (actions.Close why) s acts = tt
-  fresh_line (actions.Stop why) s acts = tt
-  fresh_line next s acts = λ m. fresh_told false m.elapsed s.progress.phase acts (Told m) refl
+  read_last_line (actions.Close why) s acts = tt
+  read_last_line (actions.Stop why) s acts = tt
+  read_last_line next s acts = λ m. read_last_told false m.elapsed s.progress.phase acts (Told m) refl
 
-  -- `Fresh` holds after every run
-  fresh_holds : (scope : Scope) (acts : List Act) → Runs plan commands (opening plan scope) acts → FreshAt (state_after plan commands scope acts).progress acts
-  fresh_holds scope acts runs =
-      on_line_always plan commands FreshAt (λ p acts none. fresh_none p.clock_due p.moment.elapsed p.phase acts none) scope
-      (λ done runs held. let s = state_after plan commands scope done in fresh_line (action_at plan s) s done) tt acts runs
+  -- `ReadLast` holds after every run
+  read_last_holds : (scope : Scope) (acts : List Act) → Runs plan commands (opening plan scope) acts → ReadLastAt (state_after plan commands scope acts).progress acts
+  read_last_holds scope acts runs =
+      on_line_always plan commands ReadLastAt (λ p acts none. read_last_none p.clock_due p.moment.elapsed p.phase acts none) scope
+      (λ done runs held. let s = state_after plan commands scope done in read_last_line (action_at plan s) s done) tt acts runs
 
-  -- where requests may be sent, and the moment was read, the last act read it
+  -- after a run, where requests may be sent and the moment read last isn't out of date (`Awake`), the last act read that moment
   pub awake_last : (scope : Scope) (acts : List Act) → Runs plan commands (opening plan scope) acts → Awake (state_after plan commands scope acts).progress
       → LastTells (state_after plan commands scope acts).progress.moment.elapsed acts
   awake_last scope acts runs awake =
       let p = (state_after plan commands scope acts).progress in
-      (subst (λ (x : Phase). Fresh p.clock_due p.moment.elapsed x acts) awake.1 (fresh_holds scope acts runs)) awake.0
+      (subst (λ (x : Phase). ReadLast p.clock_due p.moment.elapsed x acts) awake.1 (read_last_holds scope acts runs)) awake.0
 
 -- A close that no act shows is decided if it is made.
 
@@ -124,7 +124,7 @@ end_here plan s why is never = by_needs (needs_of plan s (actions.Close why) is)
   by_needs (inl closing) = absurd (never closing)
   by_needs (inr end) = end
 
--- if the phase hasn't decided the close, requests may be sent, and the moment was read
+-- if the phase says that the connection is to be closed for `why`, or `Awake` holds, and the phase doesn't say so, `Awake` holds
 pub awake_here : (p : Progress) (why : Cause) → (p.phase ≡ phase.Closing why) ⊎ Awake p → (p.phase ≡ phase.Closing why → ⊥) → Awake p
 awake_here p why (inl closing) never = absurd (never closing)
 awake_here p why (inr a) never = a

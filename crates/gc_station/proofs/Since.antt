@@ -13,7 +13,8 @@ pub record Since {A : Type 0} (P : List A → A → List A → Type 0) (all : Li
 pub since_now : {A : Type 0} (P : List A → A → List A → Type 0) (all : List A) (last : A) → P all last [] → Since P (all ++ last ∷ [])
 since_now P all last p = record { before = all; start = last; behind = []; order = refl; holds = p }
 
--- where P has held since an element, Q has held since it with more elements after, if P gives Q over them
+-- if P has held since an element of `all`, Q has held since it in `all` with `more` at the end; where, if P holds with some
+-- elements after an element of `all`, Q holds with these and then `more` after it
 pub since_on : {A : Type 0} (P Q : List A → A → List A → Type 0) (all more : List A)
     → ((before : List A) (start : A) (behind : List A) → all ≡ before ++ start ∷ behind → P before start behind → Q before start (behind ++ more))
     → Since P all → Since Q (all ++ more)
@@ -25,6 +26,7 @@ since_on P Q all more step s = record {
   holds = step s.before s.start s.behind s.order s.holds;
 }
 
--- a cut of a front of a list is a cut of the list
+-- if a front of a list is `before` and then `rest`, the list is `before`, then `rest`, and then what comes after the front
+-- (`tail`)
 pub cut_on : {A : Type 0} (all front before rest tail : List A) → all ≡ front ++ tail → front ≡ before ++ rest → all ≡ before ++ (rest ++ tail)
-cut_on all front before rest tail action inner = action ∙ ap (λ xs. xs ++ tail) inner ∙ append_assoc before rest tail
+cut_on all front before rest tail outer inner = outer ∙ ap (λ xs. xs ++ tail) inner ∙ append_assoc before rest tail

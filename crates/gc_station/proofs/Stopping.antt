@@ -25,7 +25,8 @@ use Rattle.gc_station.specs.declared.progress.Waiting.{Waiting}
 use Rattle.gc_station.specs.Closing.{Shows, EndsAfter, Ends}
 use Rattle.gc_station.specs.Deciding.{is_stale, action_of, action_in, action_on}
 use Rattle.gc_station.specs.Marks.{records_of, is_well, fresh_after}
-use Rattle.gc_station.specs.Model.{Model, opening, action_at, waiting_of, place_next, mark_next, unsent_record, first_unsent_record, with_progress, with_moment, with_rest, is_heard, line_came, lines_completed, after_piece, piece_at, Performs, moved, losing, after, after_all, Runs}
+use Rattle.gc_station.specs.Model.{Model, opening, action_at, waiting_of, unsent_record, first_unsent_record, with_progress, with_moment, with_rest, is_heard, line_came, lines_completed, after_piece, piece_at, Performs, moved, losing, after, after_all, Runs}
+use Rattle.gc_station.specs.NextCommand.{place_next, mark_next}
 use Rattle.gc_station.specs.Progressing.{turned, moment_noted, quieted, time_passed, loses_all}
 use Rattle.gc_station.specs.Records.{Record}
 use Rattle.gc_station.specs.Runs.{state_after}
@@ -49,14 +50,15 @@ use Rattle.gc_station.proofs.Walk.{asked_along, came_along, quieted_along, close
 abbrev HasWell : List Record → Type 0
 HasWell rs = (front : List Record) × (r : Record) × (later : List Record) × (rs ≡ front ++ r ∷ later) × (is_well r.end ≡ true)
 
--- records of which none is of a command that was answered well leave `fresh`, the moment at which one was answered well last
+-- records of which none is of a command that was answered well don't change `fresh`, the moment at which one was answered well
+-- last
 unwell_same : (now fresh : ℕ) (rs : List Record) → AllByRecursion IsNotWell rs → fresh_after now fresh rs ≡ fresh
 unwell_same now fresh [] all = refl
 unwell_same now fresh (r ∷ rs) all =
     ap (λ x. fresh_after now x rs) (cond-false (is_well r.end) now fresh all.0) ∙ unwell_same now fresh rs all.1
 
--- of records that are recorded at the moment `now`, none is of a command that was answered well, and `fresh` stays; or one is, and
--- `fresh` becomes `now`
+-- of records that are recorded at the moment `now`, none is of a command that was answered well, and `fresh` stays; or one is,
+-- and `fresh` becomes `now`
 fresh_cases : (now fresh : ℕ) (rs : List Record) → (AllByRecursion IsNotWell rs × (fresh_after now fresh rs ≡ fresh)) ⊎ (HasWell rs × (fresh_after now fresh rs ≡ now))
 fresh_cases now fresh [] = inl (tt, refl)
 fresh_cases now fresh (r ∷ rs) = by_first (fresh_cases now now rs) (fresh_cases now fresh rs) (is_well r.end) refl where
@@ -65,13 +67,13 @@ fresh_cases now fresh (r ∷ rs) = by_first (fresh_cases now now rs) (fresh_case
       → (AllByRecursion IsNotWell rs × (fresh_after now fresh rs ≡ fresh)) ⊎ (HasWell rs × (fresh_after now fresh rs ≡ now)) → (b : Bool) → is_well r.end ≡ b
       → (AllByRecursion IsNotWell (r ∷ rs) × (fresh_after now fresh (r ∷ rs) ≡ fresh)) ⊎ (HasWell (r ∷ rs) × (fresh_after now fresh (r ∷ rs) ≡ now))
   by_first here there true well = on_well here where
-    -- what is left of the records after one that is of such a command
+    -- the lemma above, if the first record is of such a command, by the other records
     on_well : ((AllByRecursion IsNotWell rs × (fresh_after now now rs ≡ now)) ⊎ (HasWell rs × (fresh_after now now rs ≡ now)))
         → (AllByRecursion IsNotWell (r ∷ rs) × (fresh_after now fresh (r ∷ rs) ≡ fresh)) ⊎ (HasWell (r ∷ rs) × (fresh_after now fresh (r ∷ rs) ≡ now))
     on_well (inl none) = inr (([], r, rs, refl, well), ap (λ x. fresh_after now x rs) (cond-true (is_well r.end) now fresh well) ∙ none.1)
     on_well (inr some) = inr (([], r, rs, refl, well), ap (λ x. fresh_after now x rs) (cond-true (is_well r.end) now fresh well) ∙ some.1)
   by_first here there false unwell = on_unwell there where
-    -- what is left of the records after one that isn't of such a command
+    -- the lemma above, if the first record isn't of such a command, by the other records
     on_unwell : ((AllByRecursion IsNotWell rs × (fresh_after now fresh rs ≡ fresh)) ⊎ (HasWell rs × (fresh_after now fresh rs ≡ now)))
         → (AllByRecursion IsNotWell (r ∷ rs) × (fresh_after now fresh (r ∷ rs) ≡ fresh)) ⊎ (HasWell (r ∷ rs) × (fresh_after now fresh (r ∷ rs) ≡ now))
     on_unwell (inl none) = inl ((unwell, none.0), ap (λ x. fresh_after now x rs) (cond-false (is_well r.end) now fresh unwell) ∙ none.1)
@@ -87,7 +89,7 @@ skips_unwell p m mark (task ∷ others) = by_test p.missed where
   by_test true = (refl, tt)
   by_test false = (refl, tt)
 
--- a command that is lost wasn't answered well
+-- the records of requests that are lost are of commands that weren't answered well
 lost_unwell : (reads : Asked → List ℕ → Reading) (utc : ℕ) (marks : List (Option Mark)) (ps : List (Pending Asked)) → AllByRecursion IsNotWell (records_of reads utc marks (map lost ps))
 lost_unwell reads utc [] ps = tt
 lost_unwell reads utc (mark ∷ marks) [] = tt
@@ -96,11 +98,13 @@ lost_unwell reads utc (Some mark ∷ marks) (p ∷ ps) = (refl, lost_unwell read
 
 -- What an act records.
 
--- from s to t an act wrote records of which none is of a command that was answered well
+-- from s to t an act wrote records of which none is of a command that was answered well; and `fresh` stays, bounded by the moment
+-- that the act read
 abbrev RecordsNoneWell : Model → Act → Model → Type 0
 RecordsNoneWell s act t = (rs : List Record) × (t.records ≡ s.records ++ rs) × AllByRecursion IsNotWell rs × (t.fresh ≡ least_moment s.fresh (act ∷ []))
 
--- from s to t an act, a read that gave bytes, wrote records of which one is of a command that was answered well
+-- from s to t an act, a read that gave bytes, wrote records of which at least one is of a command that was answered well; and
+-- `fresh` becomes the moment of the read
 abbrev RecordsOneWell : Model → Act → Model → Type 0
 RecordsOneWell s act t = (rs : List Record) × (t.records ≡ s.records ++ rs) × HasWell rs × (bytes : List ℕ) × (m : Moment) × (act ≡ Gave bytes m) × (t.fresh ≡ m.elapsed)
 
@@ -108,7 +112,8 @@ RecordsOneWell s act t = (rs : List Record) × (t.records ≡ s.records ++ rs) �
 abbrev TracksFresh : Model → Act → Model → Type 0
 TracksFresh s act t = RecordsNoneWell s act t ⊎ RecordsOneWell s act t
 
--- t is the model `mid` after some lines of a piece, heard at the moment `now`: which records they added, and what became of `fresh`
+-- t is the model `mid` after some lines of a piece, heard at the moment `now`: they added records, and `fresh` is what
+-- `fresh_after` makes of these
 abbrev HeardSince : Model → ℕ → Model → Type 0
 HeardSince mid now t = (rs : List Record) × (t.records ≡ mid.records ++ rs) × (t.fresh ≡ fresh_after now mid.fresh rs) × (t.progress.moment.elapsed ≡ now)
 
@@ -122,7 +127,7 @@ heard_line mid now t line (rs, order, fresh, at) =
       at,
     )
 
--- a piece preserves `HeardSince`
+-- `HeardSince` holds after a piece, from the model before its lines on
 heard_piece : (is_heard : Bool) (word piece : List ℕ) (mid : Model) → HeardSince mid mid.progress.moment.elapsed (after_piece is_heard word piece mid)
 heard_piece is_heard word piece mid =
     let now = mid.progress.moment.elapsed in
@@ -146,7 +151,7 @@ gave_fresh plan until s bytes m =
         by_records (inl none) = inl (rs, order, none.0, fresh ∙ none.1)
         by_records (inr some) = inr (rs, order, some.0, bytes, m, refl, fresh ∙ some.1)
 
--- an act of each action wrote records as `TracksFresh` says, before what is outstanding is lost
+-- an act of each action wrote records as `TracksFresh` says, from before its turn to before what is outstanding is lost
 moved_fresh : (plan : Plan) (commands : List Task) (next : Action) (s : Model) (act : Act) → Performs commands s next act → TracksFresh s act (moved plan commands next (with_progress turned s) act)
 moved_fresh plan commands actions.Skip s act o =
     walk plan commands (TracksFresh s) actions.Skip (with_progress turned s) act o (
@@ -168,7 +173,7 @@ moved_fresh plan commands next s act o =
     let none = sym (append-nil s.records) in walk plan commands (TracksFresh s) next (with_progress turned s) act o (λ m. inl ([], none, tt, refl), λ n. inl ([], none, tt, refl))
 
 -- the loss of what is outstanding preserves `TracksFresh`: what is lost wasn't answered well
-losing_fresh : (s : Model) (act : Act) (b : Bool) (t : Model) → TracksFresh s act t → TracksFresh s act (losing b t)
+losing_fresh : (s : Model) (act : Act) (all : Bool) (t : Model) → TracksFresh s act t → TracksFresh s act (losing all t)
 losing_fresh s act false t h = h
 losing_fresh s act true t (inl (rs, order, unwell, fresh)) =
     let more = records_of t.reads t.progress.moment.utc t.marks (map lost t.client.waiting) in
@@ -216,12 +221,7 @@ asked-append b (Gave bytes m ∷ xs) ys = asked-append (b || m.stops) xs ys
 asked-append b (Silent m ∷ xs) ys = asked-append (b || m.stops) xs ys
 asked-append b (x ∷ xs) ys = asked-append b xs ys
 
--- the model after one act more is the one after that act
-pub behind_one : (plan : Plan) (commands : List Task) (scope : Scope) (done : List Act) (act : Act)
-    → state_after plan commands scope (done ++ act ∷ []) ≡ after plan commands (state_after plan commands scope done) act
-behind_one plan commands scope done act = after_all-append plan commands (opening plan scope) done (act ∷ [])
-
--- one act more preserves `NoneWellSince`
+-- an act of which `TracksFresh` holds preserves `NoneWellSince`
 since_more : (plan : Plan) (commands : List Task) (scope : Scope) (done : List Act) (act : Act) → NoneWellSince plan commands scope done
     → TracksFresh (state_after plan commands scope done) act (state_after plan commands scope (done ++ act ∷ [])) → NoneWellSince plan commands scope (done ++ act ∷ [])
 since_more plan commands scope done act u (inl (rs, order, unwell, fresh)) = record {
@@ -264,7 +264,8 @@ since_more plan commands scope done act u (inr (rs, order, (front, r, later, spl
 since_holds : (plan : Plan) (commands : List Task) (scope : Scope) (acts : List Act) → Runs plan commands (opening plan scope) acts → NoneWellSince plan commands scope acts
 since_holds plan commands scope acts runs =
     always plan commands (opening plan scope) (λ (done : List Act) (t : Model). NoneWellSince plan commands scope done) (λ done act runs' o u.
-    since_more plan commands scope done act u (subst (λ (t : Model). TracksFresh (state_after plan commands scope done) act t) (sym (behind_one plan commands scope done act))
+    since_more plan commands scope done act u
+    (subst (λ (t : Model). TracksFresh (state_after plan commands scope done) act t) (sym (after_all-append plan commands (opening plan scope) done (act ∷ [])))
     (after_fresh plan commands (state_after plan commands scope done) act o)))
     (record { before = []; behind = []; order = refl; from = 0; start = inl (refl, refl); records = []; written = refl; unwell = tt; fresh = refl }) acts runs
 
@@ -342,7 +343,7 @@ stops_stopped = stops_at cause.Stopped (inr refl)
 
 -- What follows a moment at which the run is stale.
 
--- an act that reads a moment shows no cause
+-- an act that only listens (`IsListening`) shows no cause
 telling_shows : (act : Act) (why : Cause) → IsListening act → Shows why act → ⊥
 telling_shows act cause.End o shows = subst IsListening shows o
 telling_shows act cause.Read o shows = subst IsListening shows o
@@ -350,7 +351,7 @@ telling_shows act cause.Clock o shows = subst IsListening shows o
 telling_shows act (cause.Write requests bytes) o shows = subst IsListening shows.1 o
 telling_shows act why o shows = shows
 
--- an act that reads a moment decides no end
+-- an act that only listens (`IsListening`) decides no end
 telling_not : (plan : Plan) (s : Model) (act : Act) (at : Phase) (why : Cause) → IsListening act → Decided plan s at why act → ⊥
 telling_not plan s act at why o (inl failed) = telling_shows act why o failed.1
 telling_not plan s act at why o (inr (down, inl (other, is, next, ends))) = subst IsListening is o
@@ -397,7 +398,7 @@ nothing_behind plan commands t (act ∷ others) is runs = inr (by_rest others ru
   by_rest [] more = ap (λ a. a ∷ []) closes
   by_rest (x ∷ xs) more = absurd (over_stops plan commands (after plan commands t act) x more.0 cause.Stale over)
 
--- the first moment read at which a run with turns left is stale ends it
+-- a moment that is read, and at which a run with turns left is stale, ends the run: no act comes after it but one close
 pub ends_once_stale : EndsOnceStale
 ends_once_stale plan commands scope earlier behind telling runs tells turns stale =
     let s = state_after plan commands scope earlier in
@@ -413,14 +414,15 @@ ends_once_stale plan commands scope earlier behind telling runs tells turns stal
       by_end None is = is
       by_end (Some why) is =
           let s = state_after plan commands scope earlier in
-          let next = behind_one plan commands scope earlier telling in
+          let next = after_all-append plan commands (opening plan scope) earlier (telling ∷ []) in
           let split = runs_split plan commands (opening plan scope) earlier behind telling runs in
           absurd (telling_not plan s telling _ why tells
           (after_decided plan commands s telling why split.1 (done_sent plan commands scope earlier) (sym (ap (λ (x : Model). end_of x.progress.phase) next) ∙ is)))
 
 -- If the end of the run was asked for.
 
--- what an act leaves of whether the end was asked for
+-- after an act the end of the run was asked for exactly if it was before, or the act read a moment that asks for it
+-- (`asked_after`)
 moved_asked : (plan : Plan) (commands : List Task) (next : Action) (s : Model) (act : Act) → Performs commands s next act
     → (moved plan commands next (with_progress turned s) act).progress.stops ≡ asked_after s.progress.stops (act ∷ [])
 moved_asked plan commands (actions.Read until) s act o =
@@ -434,7 +436,7 @@ moved_asked plan commands (actions.Read until) s act o =
       refl,
       refl,
     ) where
-      -- the end of a pause or a drain leaves it
+      -- the end of a pause or a drain doesn't change whether the end of the run was asked for
       quieted_asked : (plan : Plan) (at : Phase) (p : Progress) → (quieted plan at p).stops ≡ p.stops
       quieted_asked plan at p = quieted_along (λ (q : Progress). q.stops ≡ p.stops) plan at p refl (refl) refl
 moved_asked plan commands (actions.Close why) s act o =
@@ -463,7 +465,8 @@ goes_on_in_its_chain plan commands scope acts runs asked =
       λ is. let needs = needs_of plan s actions.Prepare is in let never : true ≡ false = sym stops ∙ needs.5 in cc,
     )
 
--- a connection is closed, and a run ends without one, for `Stopped` only if the end was asked for, and the run may end there
+-- a connection is closed, and a run ends without one, for `Stopped` only if the end was asked for, and the run may end there; no
+-- command of an attempt that has begun is left that may be sent
 pub closes_between_chains : ClosesBetweenChains
 closes_between_chains plan commands scope acts runs is =
     let s = state_after plan commands scope acts in

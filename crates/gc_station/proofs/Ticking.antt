@@ -1,28 +1,11 @@
--- Tests, and a clock that goes on from act to act. An act is one call on the link, with its result.
-use Rattle.std.proofs.Common.{◌≡◌, ℕ, ◌<◌, ◌≤◌, ◌&&◌, ◌||◌, Bool, true, false, List, [], ◌∷◌, ◌++◌, min, nat_eq, refl, ap, ◌∙◌, arith}
-use Rattle.std.proofs.lemmas.Bool.Decides.{nat_tests}
+-- A clock that goes on from act to act: the moment read last, and the beginning of the cycle. An act is one call on the link,
+-- with its result.
+use Rattle.std.proofs.Common.{◌≡◌, ℕ, ◌≤◌, List, [], ◌∷◌, ◌++◌, min, refl, ap, ◌∙◌, arith}
 use Rattle.gc_links.specs.Acts.{Act, Told, Gave, Silent}
 use Rattle.gc_links.specs.declared.link.Moment.{Moment}
 use Rattle.gc_station.specs.Cycles.{ClockRises}
 use Rattle.gc_station.specs.Silences.{latest}
 use Rattle.gc_station.specs.declared.progress.Progress.{Progress}
-
--- Tests.
-
--- a number above 0 isn't 0
-pub not_none : (n : ℕ) → 0 < n → nat_eq n 0 ≡ false
-not_none n some = grind (arith, nat_tests, some)
-
--- if one of two tests holds, and the first doesn't, the second does
-pub or_second : (a b : Bool) → (a || b) ≡ true → a ≡ false → b ≡ true
-or_second true b e none = cc
-or_second false b e none = e
-
--- if the first of two tests holds, both do exactly if the second does
-pub and_second : (a b : Bool) → a ≡ true → (a && b) ≡ b
-and_second a b e = ap (λ (c : Bool). c && b) e
-
--- Clocks.
 
 -- what an act does to the moment read last, and to the one that counts as the beginning of the cycle: an act that reads a
 -- moment sets the former, and bounds the latter by it; any other leaves both
@@ -32,7 +15,8 @@ Ticks p (Gave bytes m) q = (q.moment ≡ m) × (q.began ≡ min p.began m.elapse
 Ticks p (Silent m) q = (q.moment ≡ m) × (q.began ≡ min p.began m.elapsed)
 Ticks p act q = (q.moment ≡ p.moment) × (q.began ≡ p.began)
 
--- if the clock doesn't go back at a moment, the beginning of the cycle stays, and isn't later than the moment
+-- if the clock doesn't go back at a moment, the beginning of the cycle stays, and isn't later than that moment, if it wasn't
+-- later than the one read before
 pub ticked_at : (p q : Progress) (m : Moment) → (q.moment ≡ m) × (q.began ≡ min p.began m.elapsed) → p.moment.elapsed ≤ m.elapsed → p.began ≤ p.moment.elapsed
     → (q.began ≡ p.began) × (q.began ≤ q.moment.elapsed)
 ticked_at p q m t rises past =
@@ -40,14 +24,15 @@ ticked_at p q m t rises past =
     let now : q.moment.elapsed ≡ m.elapsed = ap (λ (x : Moment). x.elapsed) t.0 in
     (same, omega (arith, same, now, rises, past))
 
--- without a moment the beginning of the cycle stays
+-- without a moment the beginning of the cycle stays, and isn't later than the moment read last, if it wasn't before
 pub ticked_not : (p q : Progress) → (q.moment ≡ p.moment) × (q.began ≡ p.began) → p.began ≤ p.moment.elapsed → (q.began ≡ p.began) × (q.began ≤ q.moment.elapsed)
 ticked_not p q t past =
     let same = t.1 in
     let now : q.moment.elapsed ≡ p.moment.elapsed = ap (λ (x : Moment). x.elapsed) t.0 in
     (same, omega (arith, same, now, past))
 
--- if the clock doesn't go back at an act, the beginning of the cycle stays
+-- if the clock doesn't go back at an act, the beginning of the cycle stays, and isn't later than the moment read last, if it
+-- wasn't before the act
 pub ticked : (p q : Progress) (act : Act) → Ticks p act q → ClockRises p.moment.elapsed (act ∷ []) → p.began ≤ p.moment.elapsed → (q.began ≡ p.began) × (q.began ≤ q.moment.elapsed)
 ticked p q (Told m) t rises past = ticked_at p q m t rises.0 past
 ticked p q (Gave bytes m) t rises past = ticked_at p q m t rises.0 past

@@ -1,5 +1,5 @@
--- A command that sets the clock asks for the moment at which its request is sent. As the text has it, it asks for none,
--- whenever it is sent; and so the requests of a run can be compared with the text.
+-- A command that sets the clock asks for the moment at which its request is sent. As the text has it, it asks for the beginning
+-- of 1970, whenever it is sent; and so the requests of a run can be compared with the text.
 use Rattle.std.proofs.Common.{◌≡◌, ℕ, Bool, true, false, List, ◌∷◌, drop, if◌then◌else◌, refl, ap, ◌∙◌}
 use Rattle.gc_catalogue.specs.declared.asked.Asked.{Asked}
 use Rattle.gc_catalogue.specs.declared.asked.Asked.TheVariants.{Table}
@@ -9,7 +9,7 @@ use Rattle.gc_texts.specs.Tasks.{call_at}
 use Rattle.gc_texts.specs.declared.tasks.Task.{Task}
 use Rattle.gc_station.specs.Requests.{Request, asked_at, in_text, of_command, of_task, sets_clock, untimed}
 
--- without its moment (`untimed`), what a task asks at any moment is what the text says
+-- what a task asks at any moment is what the text says, if the moment of a command that sets the clock is left out (`untimed`)
 untimed_at : (task : Task) (utc : ℕ) → untimed task.now (call_at task utc) ≡ untimed task.now task.command.call
 untimed_at task utc = by_clock task.now where
   -- the lemma above, whether the task sets the clock (`true`)

@@ -1,8 +1,8 @@
 -- A run stops for want of tries only where enough connections ended, or couldn't be made, since a read settled a command.
 -- `up_count` is 1 if there is a connection, and 0 if there is none. An act is one call on the link, with its result. A piece is
 -- the bytes that one read gave. `Trying` says how many tries are left, by the connections that ended since the last read that
--- settled a command. `TriesAfterPiece` says what a piece does to the tries: they are all given back if it settles a command, and stay if
--- it doesn't; `Settling` says the same of a whole read, by the records.
+-- settled a command. `TriesAfterPiece` says what a piece does to the tries: they are all given back if it settles a command, and
+-- stay if it doesn't; `Settling` says the same of a whole read, by the records.
 use Rattle.std.proofs.Common.{◌≡◌, ◌≢◌, ◌⊎◌, inl, inr, ℕ, suc, ◌+◌, ◌-◌, ◌<◌, ◌≤◌, Bool, true, false, not, List, [], ◌∷◌, ◌++◌, length, map, Option, Some, None, refl, sym, ap, ◌∙◌, subst, arith, append_assoc, append-nil}
 use Rattle.std.proofs.lemmas.List.{length-map, length-append, nil_from_length}
 use Rattle.std.proofs.lemmas.Bool.{not-true, false_from_ne_true, both_ways}
@@ -19,7 +19,7 @@ use Rattle.gc_station.specs.declared.progress.Phase.TheVariants as phase
 use Rattle.gc_station.specs.declared.progress.Action.{Action}
 use Rattle.gc_station.specs.declared.progress.Action.TheVariants as actions
 use Rattle.gc_station.specs.declared.progress.Progress.{Progress}
-use Rattle.gc_links.specs.Acts.{Told, Untold, Act, Gave, Closed, Opened, Unopened}
+use Rattle.gc_links.specs.Acts.{Act, Gave, Closed, Opened, Unopened}
 use Rattle.gc_station.specs.Closing.{Shows, EndsDone, EndsAfter}
 use Rattle.gc_station.specs.Deciding.{has_begun, is_up}
 use Rattle.gc_station.specs.EachOnce.{still_waiting, of_record}
@@ -40,10 +40,8 @@ use Rattle.gc_station.proofs.Opens.{Counted, Quits, counted_moved}
 use Rattle.gc_station.proofs.Records.{Grew}
 use Rattle.gc_station.proofs.Row.{row_of, row_losing, row_read}
 use Rattle.gc_station.proofs.Turns.{over_stays, up_count, up_least}
-use Rattle.gc_station.proofs.Walk.{moved_changed}
 use Rattle.gc_station.specs.Scopes.{Scope}
-use Rattle.gc_station.proofs.TriesTaken.{TriesAfterPiece, Took, took_moved, untook}
-use Rattle.gc_station.proofs.Stopping.{behind_one}
+use Rattle.gc_station.proofs.TriesTaken.{GivesTriesBack, TriesAfterPiece, TakesTries, took_moved, untook}
 use Rattle.gc_station.proofs.SentAt.{after_grew}
 
 -- A read gives tries back where, and only where, it settled a command.
@@ -77,17 +75,14 @@ same_if_no_longer old new more is few =
     let none : length more ≡ 0 = omega (arith, a, b, few) in
     is ∙ ap (λ xs. old ++ xs) (nil_from_length more none) ∙ append-nil old
 
--- from s to t a read settled a command, which added a record, the setup is done, and all tries are left; or it settled none, or
--- the setup isn't done, and the tries stay
-abbrev Settling : Plan → Model → Model → Type 0
-Settling plan s t =
-    ((t.records ≢ s.records) × (t.progress.preparing ≡ false) × (t.progress.tries ≡ plan.retries))
-    ⊎ (((t.records ≡ s.records) ⊎ (t.progress.preparing ≡ true)) × (t.progress.tries ≡ s.progress.tries))
+-- from s to t a read gives the tries back if it settled a command, which added a record
+abbrev Settling : Plan → (s t : Model) → Type 0
+Settling plan s t = GivesTriesBack (t.records ≢ s.records) (t.records ≡ s.records) plan s.progress t.progress
 
 -- a read does what `Settling` says, whatever is lost at its end. `old` commands were outstanding before it, and `mid` after its
--- lines were heard, before anything was lost
-settling_by : (plan : Plan) (s t : Model) (mid old : ℕ) → Grew s.records t.records → length t.records + commands_in t.marks ≡ length s.records + old → (commands_in t.marks ≡ mid) ⊎ (old ≡ 0)
-    → ((mid < old) × (t.progress.preparing ≡ false) × (t.progress.tries ≡ plan.retries)) ⊎ (((old ≤ mid) ⊎ (t.progress.preparing ≡ true)) × (t.progress.tries ≡ s.progress.tries))
+-- lines were heard, before anything was lost; and as many commands are recorded or outstanding after it as before
+settling_by : (plan : Plan) (s t : Model) (mid old : ℕ) → (grew : Grew s.records t.records) → (same : length t.records + commands_in t.marks ≡ length s.records + old)
+    → (kept : (commands_in t.marks ≡ mid) ⊎ (old ≡ 0)) → GivesTriesBack (mid < old) (old ≤ mid) plan s.progress t.progress
     → Settling plan s t
 settling_by plan s t mid old grew same kept (inl fewer) = inl (λ e. by_kept kept (ap length e), fewer.1, fewer.2) where
   -- the records became more, as fewer commands are outstanding; or no command waited before, and none can be fewer
@@ -101,11 +96,11 @@ settling_by plan s t mid old grew same kept (inr (inl least, tries)) = inr (inl 
   by_kept (inl stay) = omega (arith, stay, least, same)
   by_kept (inr none) = omega (arith, none, same)
 
--- after a read that doesn't end the run, a loss takes no command away: as many commands are outstanding as before the loss, or
--- none waited before the read
-kept_marks : (plan : Plan) (commands : List Task) (s t : Model) (b : Bool) → loses_all t.progress ≡ b → is_over t.progress ≡ false
+-- after a read that neither ends the run nor makes the station resynchronize, a loss takes no command away: as many commands are
+-- outstanding as before the loss, or none waited before the read
+kept_marks : (plan : Plan) (commands : List Task) (s t : Model) (all : Bool) → loses_all t.progress ≡ all → is_over t.progress ≡ false
     → (has_begun t.progress ≡ false → has_begun s.progress ≡ false) → Invariant plan commands s
-    → (commands_in (losing b t).marks ≡ commands_in t.marks) ⊎ (commands_in s.marks ≡ 0)
+    → (commands_in (losing all t).marks ≡ commands_in t.marks) ⊎ (commands_in s.marks ≡ 0)
 kept_marks plan commands s t false e goes begins fine = inl refl
 kept_marks plan commands s t true e goes begins fine =
     let new = fine.begins (begins (not-true (has_begun t.progress) (or_first (not (has_begun t.progress)) (is_over t.progress) e goes))) in
@@ -118,8 +113,7 @@ gave_settles : (plan : Plan) (commands : List Task) (s t u : Model) → Invarian
     → (kept : (commands_in u.marks ≡ commands_in t.marks) ⊎ (commands_in s.marks ≡ 0)) → Settling plan s u
 gave_settles plan commands s t u fine fine' h grew same row kept =
     settling_by plan s u (commands_in t.marks) (commands_in s.marks) grew (same_out plan commands s u fine fine' row) kept
-    (subst (λ (p : Progress). ((commands_in t.marks < commands_in s.marks) × (p.preparing ≡ false) × (p.tries ≡ plan.retries))
-    ⊎ (((commands_in s.marks ≤ commands_in t.marks) ⊎ (p.preparing ≡ true)) × (p.tries ≡ s.progress.tries))) (sym same) h.tries)
+    (subst (λ (p : Progress). GivesTriesBack (commands_in t.marks < commands_in s.marks) (commands_in s.marks ≤ commands_in t.marks) plan s.progress p) (sym same) h.tries)
 
 -- So the tries are counted along a run.
 
@@ -162,7 +156,8 @@ record Trying (plan : Plan) (commands : List Task) (scope : Scope) (tries : ℕ)
   first : before ≡ [] → held ≡ 0
   opens : openings_in behind + held ≡ endings_in behind + up_count up
 
--- `Trying` is preserved by an act at which no command was settled
+-- `Trying` is preserved by an act that settles no command, takes at most one try for each connection that ends by it or couldn't
+-- be made, and is `Counted`
 abbrev trying_on : (plan : Plan) (commands : List Task) (scope : Scope) (tries tries' : ℕ) (up up' : Bool) (acts : List Act) (act : Act) → tries ≤ tries' + endings_in (act ∷ []) → Counted up act up'
     → SettlesNone (state_after plan commands scope acts) act (after plan commands (state_after plan commands scope acts) act)
     → Trying plan commands scope tries up acts → Trying plan commands scope tries' up' (acts ++ act ∷ [])
@@ -188,7 +183,7 @@ trying_on plan commands scope tries tries' up up' acts act took counted settles 
       opens = level;
     }
 
--- `Trying` starts again with a read that settled a command, which gives all tries back
+-- `Trying` starts again with a read that settled a command once the setup is over, which gives all tries back
 trying_anew : (plan : Plan) (commands : List Task) (scope : Scope) (tries : ℕ) (up : Bool) (acts : List Act) (bytes : List ℕ) (m : Moment) → tries ≡ plan.retries
     → (state_after plan commands scope (acts ++ Gave bytes m ∷ [])).progress.preparing ≡ false
     → (state_after plan commands scope (acts ++ Gave bytes m ∷ [])).records ≢ (state_after plan commands scope acts).records → Trying plan commands scope tries up (acts ++ Gave bytes m ∷ [])
@@ -204,7 +199,7 @@ trying_anew plan commands scope tries up acts bytes m all done settled = record 
   first = λ e. absurd (some acts e);
   opens = refl;
 } where
-  -- acts that end in a read are some
+  -- acts that end with a read aren't none
   some : (xs : List Act) → xs ++ Gave bytes m ∷ [] ≡ [] → ⊥
   some [] e = cc
   some (x ∷ xs) e = cc
@@ -216,7 +211,7 @@ TryingUnlessOver plan commands scope acts s = is_over s.progress ≡ false → T
 -- `Trying` is preserved by one act, from the model s to u; t is the model before what is outstanding is lost
 try_step : (plan : Plan) (commands : List Task) (scope : Scope) (acts : List Act) (act : Act) (s u : Model) (t : Model) → (before : state_after plan commands scope acts ≡ s)
     → (behind : state_after plan commands scope (acts ++ act ∷ []) ≡ u) → (does : u ≡ after plan commands s act)
-    → (same : u.progress ≡ t.progress) → (took : Took plan s act t) → Counted (is_up s.progress.phase) act (is_up t.progress.phase)
+    → (same : u.progress ≡ t.progress) → (took : TakesTries plan s act t) → Counted (is_up s.progress.phase) act (is_up t.progress.phase)
     → (settling : ((bytes : List ℕ) × (m : Moment) × (act ≡ Gave bytes m)) → TriesAfterPiece plan s t → Settling plan s u)
     → Trying plan commands scope s.progress.tries (is_up s.progress.phase) acts → Trying plan commands scope u.progress.tries (is_up u.progress.phase) (acts ++ act ∷ [])
 try_step plan commands scope acts (Gave bytes m) s u t before behind does same took counted settling trying = by_settling (settling (bytes, m, refl) took) where
@@ -238,14 +233,6 @@ try_step plan commands scope acts act s u t before behind does same took counted
     (subst (λ (p : Progress). s.progress.tries ≤ p.tries + endings_in (act ∷ [])) (sym same) took)
     (subst (λ (p : Progress). Counted (is_up s.progress.phase) act (is_up p.phase)) (sym same) counted) tt trying
 
--- a read that gave bytes leaves no command out
-gave_passes : (plan : Plan) (commands : List Task) (action : Action) (s : Model) (act : Act) → Performs commands s action act → ((bytes : List ℕ) × (m : Moment) × (act ≡ Gave bytes m))
-    → (moved plan commands action s act).passes ≡ s.passes
-gave_passes plan commands actions.Pass s (Told m) o gave = let other = gave.2 in cc
-gave_passes plan commands actions.Pass s Untold o gave = refl
-gave_passes plan commands actions.Pass s act o gave = absurd o
-gave_passes plan commands action s act o gave = ap (λ (x : Model). x.passes) (moved_changed plan commands action s act)
-
 -- after an act that ends a run whether there is a connection or not, the run is over
 quits_over : (plan : Plan) (commands : List Task) (next : Action) (s : Model) (act : Act) → Quits next → is_over (moved plan commands next (with_progress turned s) act).progress ≡ true
 quits_over plan commands (actions.Close cause.Stale) s act quits = refl
@@ -265,7 +252,8 @@ try_after plan commands scope done act o trying not_over =
     let goes = false_from_ne_true (is_over s.progress) (λ over. over_stays plan commands s act over o) in
     let fine = invariant_holds plan commands scope done in
     let not_over_mid : is_over t.progress ≡ false = sym (ap is_over same) ∙ not_over in
-    try_step plan commands scope done act s u t refl (behind_one plan commands scope done act) refl same (untook plan s t act (took_moved plan commands (action_at plan s) s act o))
+    try_step plan commands scope done act s u t refl (after_all-append plan commands (opening plan scope) done (act ∷ [])) refl same
+    (untook plan s t act (took_moved plan commands (action_at plan s) s act o))
     (counted_moved plan commands (action_at plan s) s act o (action_for plan s.progress (waiting_of s))
     (λ quits. absurd (both_ways (is_over t.progress) not_over_mid (quits_over plan commands (action_at plan s) s act quits))))
     (λ gave h. gave_settles plan commands s t u fine (invariant_after plan commands s act fine) h (after_grew plan commands s act) same
@@ -293,7 +281,7 @@ try_holds plan commands scope acts runs =
 
 -- A run that stops.
 
--- an act that ends a connection shows no failed call
+-- an act that closes a connection, or fails to make one (`IsEnding`), shows no cause
 ending_shows : (why : Cause) (act : Act) → IsEnding act → Shows why act → ⊥
 ending_shows cause.End act o shows = subst IsEnding shows o
 ending_shows cause.Read act o shows = subst IsEnding shows o
@@ -315,31 +303,33 @@ no_try plan p n cause.Stopped why tried ends = absurd (subst IsTried ends tried)
 no_try plan p n other why tried (inl done) = absurd (not_done p n why tried done)
 no_try plan p n other why tried (inr used) = used.3
 
--- an action that ends a run whether there is a connection or not is for a cause that isn't one of `IsTried`
+-- a close that ends a run whether there is a connection or not (`Quits`) isn't one after which the run ends for a cause that is
+-- one of `IsTried`
 quits_not : (plan : Plan) (p : Progress) (n : ℕ) (other why : Cause) → IsTried why → EndsAfter plan p n other why → Quits (actions.Close other) → ⊥
 quits_not plan p n cause.Stale why tried ends quits = absurd (subst IsTried ends tried)
 quits_not plan p n cause.Stopped why tried ends quits = absurd (subst IsTried ends tried)
 quits_not plan p n other why tried ends quits = quits
 
--- an action that ends a run whether there is a connection or not opens none
+-- an attempt to connect that failed performs no action that ends a run whether there is a connection or not (`Quits`)
 unopened_not : (commands : List Task) (s : Model) (next : Action) → Performs commands s next Unopened → Quits next → ⊥
 unopened_not commands s (actions.Close cause.Stale) o quits = let other : Unopened ≡ Closed = o in cc
 unopened_not commands s (actions.Close cause.Stopped) o quits = let other : Unopened ≡ Closed = o in cc
 unopened_not commands s next o quits = quits
 
--- an act that ends a connection settles no command
+-- an act that closes a connection, or fails to make one (`IsEnding`), settles no command
 settles_none : (s t : Model) (act : Act) → IsEnding act → SettlesNone s act t
 settles_none s t Closed o = tt
 settles_none s t Unopened o = tt
 settles_none s t act o = absurd o
 
--- an act that ends a connection ends one
+-- an act that closes a connection, or fails to make one, counts as one in `endings_in`
 one_end : (act : Act) → IsEnding act → endings_in (act ∷ []) ≡ 1
 one_end Closed o = refl
 one_end Unopened o = refl
 one_end act o = absurd o
 
--- if no try is left (`Trying`), and the last act ends one more connection, all tries are used up as the law says (`AllTried`)
+-- if no try is left (`Trying`), and the last act closes a connection or fails to make one, so that there is none, all tries are
+-- used up as the law says (`AllTried`)
 all_tried : (plan : Plan) (commands : List Task) (scope : Scope) (acts : List Act) (last : Act) → IsEnding last → Counted (is_up (state_after plan commands scope acts).progress.phase) last false
     → Trying plan commands scope 0 (is_up (state_after plan commands scope acts).progress.phase) acts → AllTried plan commands scope (acts ++ last ∷ [])
 all_tried plan commands scope acts last ending counted t =
@@ -364,8 +354,8 @@ all_tried plan commands scope acts last ending counted t =
       first = λ e. let start : t.held ≡ 0 = t.first e in let all : plan.retries < openings_in (t.behind ++ last ∷ []) = omega (arith, over, even, start) in all;
     }
 
--- if a run stops for a cause that is one of `IsTried`, which needs all tries used up, at an act that ends a connection, all
--- tries were used up
+-- if a run stops for a cause that is one of `IsTried`, at an act that closes a connection or fails to make one, all tries are
+-- used up (`AllTried`)
 pub stop_tried : (plan : Plan) (commands : List Task) (scope : Scope) (acts : List Act) (last : Act) (why : Cause) → Runs plan commands (opening plan scope) (acts ++ last ∷ [])
     → action_at plan (state_after plan commands scope (acts ++ last ∷ [])) ≡ actions.Stop why → IsTried why → IsEnding last → AllTried plan commands scope (acts ++ last ∷ [])
 stop_tried plan commands scope acts last why runs stop tried ending = by_decided decided where
@@ -393,7 +383,7 @@ stop_tried plan commands scope acts last why runs stop tried ending = by_decided
 
   -- the phase after the last act says that the run is over
   there : (after plan commands s last).progress.phase ≡ phase.Over why
-  there = sym (ap (λ (x : Model). x.progress.phase) (behind_one plan commands scope acts last)) ∙ over
+  there = sym (ap (λ (x : Model). x.progress.phase) (after_all-append plan commands (opening plan scope) acts (last ∷ []))) ∙ over
 
   -- the last act decided the end
   decided : Decided plan s (after plan commands s last).progress.phase why last

@@ -21,21 +21,25 @@ use Rattle.gc_station.specs.Tries.{endings_in}
 use Rattle.gc_station.proofs.Words.{begins_before}
 use Rattle.gc_station.proofs.Walk.{asked_along, came_along, closed_along, moved_changed, quieted_along, walk}
 
--- what a piece does, from s to t: as many commands had their turn; the station doesn't resynchronize by it; and either fewer
--- commands are outstanding, the setup is done, and all tries are left, or as many are outstanding or more, or the setup isn't
--- done, and the tries stay
+-- from the progress p to q, a read settled a command (`settled`), the setup is done, and all tries are left; or it settled none
+-- (`none`), or the setup isn't done, and the tries stay
+abbrev pub GivesTriesBack : (settled none : Type 0) → Plan → (p q : Progress) → Type 0
+GivesTriesBack settled none plan p q =
+    (settled × (q.preparing ≡ false) × (q.tries ≡ plan.retries)) ⊎ ((none ⊎ (q.preparing ≡ true)) × (q.tries ≡ p.tries))
+
+-- what a piece does, from s to t: as many commands had their turn; the station doesn't resynchronize by it; and the tries are
+-- given back if it settled a command, so that fewer are outstanding
 pub record TriesAfterPiece (plan : Plan) (s t : Model) : Type 0 where
   pub left : t.progress.left ≡ s.progress.left
   pub unsent : t.progress.unsent ≡ s.progress.unsent
   pub begins : has_begun t.progress ≡ false → has_begun s.progress ≡ false
-  pub tries : ((commands_in t.marks < commands_in s.marks) × (t.progress.preparing ≡ false) × (t.progress.tries ≡ plan.retries))
-      ⊎ (((commands_in s.marks ≤ commands_in t.marks) ⊎ (t.progress.preparing ≡ true)) × (t.progress.tries ≡ s.progress.tries))
+  pub tries : GivesTriesBack (commands_in t.marks < commands_in s.marks) (commands_in s.marks ≤ commands_in t.marks) plan s.progress t.progress
 
--- what an act does to the tries, from s to t: a read that gave bytes does what `TriesAfterPiece` says; any other act takes at most one
--- try for each connection that ends by it or couldn't be made
-abbrev pub Took : Plan → Model → Act → Model → Type 0
-Took plan s (Gave bytes m) t = TriesAfterPiece plan s t
-Took plan s act t = s.progress.tries ≤ t.progress.tries + endings_in (act ∷ [])
+-- what an act does to the tries, from s to t: a read that gave bytes does what `TriesAfterPiece` says; any other act takes at
+-- most one try for each connection that ends by it or couldn't be made
+abbrev pub TakesTries : Plan → Model → Act → Model → Type 0
+TakesTries plan s (Gave bytes m) t = TriesAfterPiece plan s t
+TakesTries plan s act t = s.progress.tries ≤ t.progress.tries + endings_in (act ∷ [])
 
 -- after a read either fewer commands are outstanding, the setup is done, and all tries are left; or as many or more are
 -- outstanding (`b`: fewer are), or the setup isn't done (`on`), and the tries stay
@@ -61,7 +65,7 @@ gave_took plan until s bytes m =
           (asked_along (λ (q : Progress). q.tries ≡ s.progress.tries) (λ q line e. e) mid.progress (lines_completed s.rest bytes) refl) refl);
     }
 
--- a read that gave nothing leaves the tries
+-- the end of a pause or a drain, if one ends at a read that gave nothing, doesn't change the tries
 silent_took : (plan : Plan) (at : Phase) (p : Progress) → (quieted plan at p).tries ≡ p.tries
 silent_took plan at p = quieted_along (λ (q : Progress). q.tries ≡ p.tries) plan at p refl refl refl
 
@@ -75,11 +79,11 @@ close_took : (plan : Plan) (w : Waiting) (why : Cause) (p : Progress) → p.trie
 close_took plan w why p =
     closed_along (λ (q : Progress). p.tries ≤ q.tries + 1) plan w why p (omega arith) (one_less (is_spared plan why p) p.tries)
 
--- an act of each action does to the tries what `Took` says
+-- an act of each action does to the tries what `TakesTries` says
 pub took_moved : (plan : Plan) (commands : List Task) (next : Action) (s : Model) (act : Act) → Performs commands s next act
-    → Took plan (with_progress turned s) act (moved plan commands next (with_progress turned s) act)
+    → TakesTries plan (with_progress turned s) act (moved plan commands next (with_progress turned s) act)
 took_moved plan commands (actions.Read until) s act o =
-    walk plan commands (Took plan (with_progress turned s)) (actions.Read until) (with_progress turned s) act o (
+    walk plan commands (TakesTries plan (with_progress turned s)) (actions.Read until) (with_progress turned s) act o (
       λ bytes m. gave_took plan until (with_progress turned s) bytes m,
       λ m. let same =
           silent_took plan s.progress.phase (time_passed until m (turned s.progress)) in omega (arith, same),
@@ -87,12 +91,12 @@ took_moved plan commands (actions.Read until) s act o =
       omega arith,
       omega arith,
     )
-took_moved plan commands (actions.Close why) s act o = walk plan commands (Took plan (with_progress turned s)) (actions.Close why)
+took_moved plan commands (actions.Close why) s act o = walk plan commands (TakesTries plan (with_progress turned s)) (actions.Close why)
     (with_progress turned s) act o (close_took plan (waiting_of s) why (turned s.progress))
 took_moved plan commands (actions.Stop why) s act o = absurd o
-took_moved plan commands next s act o = walk plan commands (Took plan (with_progress turned s)) next (with_progress turned s) act o (λ m. omega arith, λ n. omega arith)
+took_moved plan commands next s act o = walk plan commands (TakesTries plan (with_progress turned s)) next (with_progress turned s) act o (λ m. omega arith, λ n. omega arith)
 
 -- the turn that an act takes takes no try
-pub untook : (plan : Plan) (s t : Model) (act : Act) → Took plan (with_progress turned s) act t → Took plan s act t
+pub untook : (plan : Plan) (s t : Model) (act : Act) → TakesTries plan (with_progress turned s) act t → TakesTries plan s act t
 untook plan s t (Gave bytes m) h = record { left = h.left; unsent = h.unsent; begins = h.begins; tries = h.tries }
 untook plan s t act h = h

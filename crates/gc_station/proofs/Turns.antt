@@ -14,8 +14,7 @@ use Rattle.gc_station.specs.declared.progress.Waiting.{Waiting}
 use Rattle.gc_links.specs.Acts.{Act}
 use Rattle.gc_station.specs.Deciding.{is_up, action_in, action_on, action_of, action_without_turns}
 use Rattle.gc_station.specs.Progressing.{turned, is_finished, is_spared, after_failure, closed, is_over_in, is_over}
-use Rattle.gc_station.specs.Model.{Model, waiting_of, action_at, Performs, moved, with_progress}
-use Rattle.gc_station.specs.Stations.{stepped}
+use Rattle.gc_station.specs.Model.{Model, waiting_of, action_at, Performs, moved, stepped, with_progress}
 use Rattle.gc_station.proofs.Counts.{turns_kept, ended_progress}
 use Rattle.gc_station.proofs.Walk.{closed_along}
 
@@ -47,20 +46,21 @@ again_down plan commands why p = phase_down (is_finished commands p) (is_spared 
 pub closed_down : (plan : Plan) (w : Waiting) (why : Cause) (p : Progress) → is_up (closed plan w why p).phase ≡ false
 closed_down plan w why p = closed_along (λ (q : Progress). is_up q.phase ≡ false) plan w why p refl (again_down plan w.commands why p)
 
--- once all turns are used up, an act closes the connection
+-- once all turns are used up, an act is made only if there is a connection (`up`), and leaves none
 up_closes : (plan : Plan) (commands : List Task) (s t : Model) (up : Bool) (act : Act) → Performs commands t (action_without_turns up) act
     → (up ≡ true) × (is_up (moved plan commands (action_without_turns up) s act).progress.phase ≡ false)
 up_closes plan commands s t true act obeys = (refl, refl)
 up_closes plan commands s t false act obeys = absurd obeys
 
--- once all turns are used up (z), an act closes the connection, if the end isn't decided yet
+-- if the test z says that all turns are used up, and the end isn't decided yet, an act is made only if there is a connection, and
+-- leaves none
 on_closes : (plan : Plan) (commands : List Task) (s t : Model) (p : Progress) (z : Bool) (act : Act) (other : Action) → z ≡ true
     → Performs commands t (if z then action_without_turns (is_up p.phase) else other) act
     → (is_up p.phase ≡ true) × (is_up (moved plan commands (if z then action_without_turns (is_up p.phase) else other) s act).progress.phase ≡ false)
 on_closes plan commands s t p true act other e obeys = up_closes plan commands s t (is_up p.phase) act obeys
 on_closes plan commands s t p false act other e obeys = cc
 
--- once all turns are used up, an act closes the connection, in each phase
+-- once all turns are used up, an act is made only if there is a connection, and leaves none, in each phase
 phase_closes : (plan : Plan) (commands : List Task) (s t : Model) (p : Progress) (phase : Phase) (w : Waiting) (act : Act) → nat_eq p.turns 0 ≡ true → p.phase ≡ phase
     → Performs commands t (action_in phase plan p w) act → (is_up phase ≡ true) × (is_up (moved plan commands (action_in phase plan p w) s act).progress.phase ≡ false)
 phase_closes plan commands s t p (phase.Closing cause) w act none is obeys = (refl, closed_down plan (waiting_of s) cause s.progress)

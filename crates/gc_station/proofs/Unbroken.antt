@@ -13,7 +13,8 @@ use Rattle.gc_station.specs.declared.progress.Phase.TheVariants as phase
 use Rattle.gc_station.specs.declared.progress.Progress.{Progress}
 use Rattle.gc_station.specs.declared.progress.Waiting.{Waiting}
 use Rattle.gc_station.specs.Deciding.{has_begun, is_up, may_go}
-use Rattle.gc_station.specs.Model.{Model, opening, action_at, commands_before, waiting_of, is_heard, lines_completed, with_progress, with_moment, with_rest, Performs, moved, after_all, Runs}
+use Rattle.gc_station.specs.Model.{Model, opening, action_at, waiting_of, is_heard, lines_completed, with_progress, with_moment, with_rest, Performs, moved, after_all, Runs}
+use Rattle.gc_station.specs.NextCommand.{commands_before}
 use Rattle.gc_station.specs.Progressing.{turned, moment_noted, failing, cleared, time_passed}
 use Rattle.gc_station.specs.Reasons.{HoldsBefore, IsResting}
 use Rattle.gc_station.specs.Runs.{state_after}
@@ -29,7 +30,7 @@ use Rattle.gc_station.proofs.Words.{begun_kept}
 abbrev pub IsOnLineIfUnbroken : Progress → Type 0
 IsOnLineIfUnbroken p = p.chain_unbroken ≡ true → (is_up p.phase ≡ true) × (has_begun p ≡ true) × (p.preparing ≡ false)
 
--- a failure leaves a connection, or none, as it was
+-- after a failure there is a connection exactly if there was one before it (`up`)
 pub failure_keeps_line : (up : Bool) (why : Cause) → is_up (if up then phase.Closing why else phase.Over why) ≡ up
 failure_keeps_line true why = refl
 failure_keeps_line false why = refl
@@ -39,7 +40,7 @@ module _ (plan : Plan) (commands : List Task) where
   abbrev WasUnbroken : Model → Act → Model → Type 0
   WasUnbroken s a t = t.progress.chain_unbroken ≡ true → s.progress.chain_unbroken ≡ true
 
-  -- if a chain isn't broken after an act, the act sends the next command, or it wasn't before
+  -- if a chain isn't broken after an act, the act sends the next command of a cycle, or the chain wasn't broken before it
   unbroken_before : (s : Model) (o : Action) (act : Act) → Performs commands s o act → (moved plan commands o (with_progress turned s) act).progress.chain_unbroken ≡ true
       → (o ≡ actions.Send) ⊎ (s.progress.chain_unbroken ≡ true)
   unbroken_before s actions.Send act obeys c = inl refl
@@ -67,7 +68,7 @@ module _ (plan : Plan) (commands : List Task) where
   unbroken_before s (actions.Stop why) act obeys c = absurd obeys
   unbroken_before s next act obeys c = inr (walk plan commands (WasUnbroken s) next (with_progress turned s) act obeys (λ m d. d, λ n d. d) c)
 
-  -- after an act of the model s, if a chain isn't broken, there is a connection
+  -- after the act, which led to the model t, there is a connection if the chain isn't broken
   abbrev UpIfUnbroken : Act → Model → Type 0
   UpIfUnbroken a t = t.progress.chain_unbroken ≡ true → is_up t.progress.phase ≡ true
 
@@ -106,12 +107,12 @@ module _ (plan : Plan) (commands : List Task) where
       walk plan commands UpIfUnbroken actions.Flush (with_progress turned s) act obeys (λ m c. up, λ n c. failed_up s (cause.Write (commands_before plan commands (turned s.progress)) n) up)
   unbroken_up s next act obeys up = walk plan commands UpIfUnbroken next (with_progress turned s) act obeys (λ m c. up, λ n c. failed_up s cause.Clock up)
 
-  -- a command of a cycle that is sent ends the setup's turn
+  -- after a command of a cycle is sent, the setup is over (`preparing` is false)
   pub sent_preparing : (s : Model) (act : Act) → (moved plan commands actions.Send s act).progress.preparing ≡ false
   sent_preparing s (Cut bytes n) = subst (λ (x : Model). x.progress.preparing ≡ false) (is_sent plan commands s) refl
   sent_preparing s act = subst (λ (x : Model). x.progress.preparing ≡ false) (is_sent plan commands s) refl
 
-  -- an act after which a chain isn't broken makes no setup come first
+  -- if a chain isn't broken after an act, and no setup came first before the act, none does after it
   unprepared_kept : (s : Model) (o : Action) (act : Act) → (moved plan commands o (with_progress turned s) act).progress.chain_unbroken ≡ true → s.progress.preparing ≡ false
       → (moved plan commands o (with_progress turned s) act).progress.preparing ≡ false
   unprepared_kept s actions.Send act c was = sent_preparing (with_progress turned s) act
@@ -129,7 +130,7 @@ module _ (plan : Plan) (commands : List Task) where
       closed_along (λ (q : Progress). q.chain_unbroken ≡ true → q.preparing ≡ false) plan (waiting_of (with_rest [] (with_progress turned s))) why (turned s.progress) (λ d. cc) (λ d. cc) c
   unprepared_kept s o act c was = ap (λ (x : Model). x.progress.preparing) (moved_changed plan commands o (with_progress turned s) act) ∙ was
 
-  -- an act preserves `IsOnLineIfUnbroken`
+  -- `IsOnLineIfUnbroken` is preserved by an act of each action of which `HoldsBefore` holds
   on_line_moved : (s : Model) (o : Action) (act : Act) → Performs commands s o act → HoldsBefore plan s.progress (waiting_of s) o → IsOnLineIfUnbroken s.progress
       → IsOnLineIfUnbroken (moved plan commands o (with_progress turned s) act).progress
   on_line_moved s o act obeys needs on c = by_before (unbroken_before s o act obeys c) where
@@ -153,7 +154,8 @@ unbroken_holds plan commands scope acts runs =
     let s = after_all plan commands (opening plan scope) done in
     on_line_moved plan commands s (action_at plan s) act o (action_for plan s.progress (waiting_of s)) on) (λ c. cc) acts runs
 
--- if the run may end (`IsResting`), no command of a chain that has begun is left that may be sent
+-- where `IsOnLineIfUnbroken` holds and the run may end (`IsResting`), a command that is left, and that is chained, may not be
+-- sent (`may_go`)
 pub resting_none : (p : Progress) (w : Waiting) → IsOnLineIfUnbroken p → IsResting p w → 0 < p.unsent → p.next_is_chained ≡ true → may_go p w ≡ false
 resting_none p w on rests some chained = false_from_ne_true (may_go p w) (λ may. by_rest (and_parts w.well p.chain_unbroken may).1 rests) where
   -- the lemma above, by why the run may end there

@@ -20,7 +20,8 @@ use Rattle.gc_station.specs.Progressing.{turned, moment_noted, cycle_begun, skip
 use Rattle.gc_station.specs.Records.{Record}
 use Rattle.gc_station.specs.Runs.{state_after}
 use Rattle.gc_station.specs.Scopes.{Scope}
-use Rattle.gc_station.specs.Model.{Model, opening, action_at, cycles_begun, place_next, mark_next, is_chained, is_heard, with_progress, with_moment, with_rest, first_unsent_record, lines_came, lines_completed, after_piece, moved, losing, Performs, Runs}
+use Rattle.gc_station.specs.Model.{Model, opening, action_at, is_heard, with_progress, with_moment, with_rest, first_unsent_record, lines_came, lines_completed, after_piece, moved, losing, Performs, Runs}
+use Rattle.gc_station.specs.NextCommand.{cycles_begun, place_next, mark_next, is_chained}
 use Rattle.gc_station.specs.declared.mark.Mark.{Mark}
 use Rattle.gc_station.specs.declared.plan.Plan.{Plan}
 use Rattle.gc_station.specs.declared.progress.Action.{Action}
@@ -80,7 +81,7 @@ module _ (plan : Plan) (commands : List Task) (scope : Scope) (some : 0 < plan.e
   sent_truly : (acts : List Act) (r : Record) → went_out r.end ≡ true → UnsentIsJustified plan commands scope acts r
   sent_truly acts r out = (λ e. absurd (both_ways (went_out r.end) (ap went_out e) out), λ e. absurd (both_ways (went_out r.end) (ap went_out e) out))
 
-  -- the records of settlements say nothing of being missed or skipped
+  -- the records of settlements are justified, as they say nothing of being missed or skipped
   settled_truly : (acts : List Act) (reads : Asked → List ℕ → Reading) (utc : ℕ) (marks : List (Option Mark)) (settlements : List (Rule.Settlement Asked))
       → AllByRecursion (UnsentIsJustified plan commands scope acts) (records_of reads utc marks settlements)
   settled_truly acts reads utc [] settlements = tt
@@ -88,7 +89,7 @@ module _ (plan : Plan) (commands : List Task) (scope : Scope) (some : 0 < plan.e
   settled_truly acts reads utc (None ∷ marks) (x ∷ others) = settled_truly acts reads utc marks others
   settled_truly acts reads utc (Some mark ∷ marks) (x ∷ others) = (sent_truly acts _ (ended_sent reads mark.expected x.call x.outcome), settled_truly acts reads utc marks others)
 
-  -- lines add records that say nothing of being missed or skipped
+  -- if the records before lines are justified, so are those after them: the added ones say nothing of being missed or skipped
   lines_truly : (acts : List Act) (s : Model) (lines : List (List ℕ)) → AllByRecursion (UnsentIsJustified plan commands scope acts) s.records
       → AllByRecursion (UnsentIsJustified plan commands scope acts) (lines_came s lines).records
   lines_truly acts s lines h =
@@ -96,25 +97,26 @@ module _ (plan : Plan) (commands : List Task) (scope : Scope) (some : 0 < plan.e
       (λ x line all. all_append (UnsentIsJustified plan commands scope acts) x.records _ all
       (settled_truly acts x.reads x.progress.moment.utc x.marks (hears x.client line (heard line)).settlements)) s lines h
 
-  -- a piece adds records that say nothing of being missed or skipped
-  came_truly : (acts : List Act) (b : Bool) (word piece : List ℕ) (s : Model) → AllByRecursion (UnsentIsJustified plan commands scope acts) s.records
-      → AllByRecursion (UnsentIsJustified plan commands scope acts) (after_piece b word piece s).records
+  -- if the records before a piece are justified, so are those after it: the added ones say nothing of being missed or skipped
+  came_truly : (acts : List Act) (heard : Bool) (word piece : List ℕ) (s : Model) → AllByRecursion (UnsentIsJustified plan commands scope acts) s.records
+      → AllByRecursion (UnsentIsJustified plan commands scope acts) (after_piece heard word piece s).records
   came_truly acts true (asked ∷ others) piece s h = h
   came_truly acts true [] piece s h = lines_truly acts (with_rest (rest_behind s.rest piece) s) (lines_completed s.rest piece) h
   came_truly acts false word piece s h = h
 
-  -- the loss of what is outstanding adds records that say nothing of being missed or skipped
-  losing_truly : (acts : List Act) (b : Bool) (s : Model) → AllByRecursion (UnsentIsJustified plan commands scope acts) s.records
-      → AllByRecursion (UnsentIsJustified plan commands scope acts) (losing b s).records
+  -- if the records are justified, they still are after the loss of what is outstanding: the added ones say nothing of being
+  -- missed or skipped
+  losing_truly : (acts : List Act) (all : Bool) (s : Model) → AllByRecursion (UnsentIsJustified plan commands scope acts) s.records
+      → AllByRecursion (UnsentIsJustified plan commands scope acts) (losing all s).records
   losing_truly acts true s h = all_append (UnsentIsJustified plan commands scope acts) s.records _ h (settled_truly acts s.reads s.progress.moment.utc s.marks (restarts s.client).settlements)
   losing_truly acts false s h = h
 
-  -- whether a command that isn't sent is missed or skipped, by whether its cycle is missed
-  unsent_end : (b : Bool) → ((if b then Missed else Skipped) ≡ Missed → b ≡ true) × ((if b then Missed else Skipped) ≡ Skipped → b ≡ false)
+  -- a command that isn't sent ends as missed only if its cycle is missed, and as skipped only if it isn't
+  unsent_end : (missed : Bool) → ((if missed then Missed else Skipped) ≡ Missed → missed ≡ true) × ((if missed then Missed else Skipped) ≡ Skipped → missed ≡ false)
   unsent_end true = (λ e. refl, λ e. cc)
   unsent_end false = (λ e. cc, λ e. refl)
 
-  -- a command of a missed cycle, which is left out, is missed for its cause
+  -- where `Begun` holds, the record of a command of a missed cycle, which isn't sent, came about as `IsMissedIn` says
   skip_missed : (acts : List Act) (m : Moment) (p : Progress) (r : Record) → (Begun plan commands scope some) acts p → (here : 0 < p.unsent) → (cycle : r.cycle ≡ cycles_begun plan p)
       → (sent : r.sent ≡ None)
       → (utc : r.utc ≡ skipped_at m p) → (missed : p.missed ≡ true) → IsMissedIn plan commands scope (acts ++ Told m ∷ []) r
@@ -130,13 +132,14 @@ module _ (plan : Plan) (commands : List Task) (scope : Scope) (some : 0 < plan.e
     due = utc ∙ cond-true p.missed p.due m.utc missed ∙ c.due;
   }
 
-  -- in a cycle that isn't missed, a command that is left out is of a chain, and not its first
+  -- in a cycle that isn't missed, a command that waits for the answer of the one before it is of a chain, and not its first
   chain_of : (p : Progress) → (WaitsForAnswer plan commands scope some) p → p.missed ≡ false
       → (plan.setup < place_next commands p) × (is_chained (drop (place_next commands p) commands) ≡ true)
   chain_of p (inl missed) free = absurd (both_ways p.missed free missed)
   chain_of p (inr chain) free = chain
 
-  -- a command that is left out in a cycle that isn't missed is skipped for its cause
+  -- where `Begun` holds, and the next action is to skip a command, the record of that command in a cycle that isn't missed comes
+  -- about as `IsSkippedIn` says
   skip_skipped : (acts : List Act) (m : Moment) (r : Record) → (Begun plan commands scope some) acts (state_after plan commands scope acts).progress
       → (is_next : action_at plan (state_after plan commands scope acts) ≡ actions.Skip)
       → (cycle : r.cycle ≡ cycles_begun plan (state_after plan commands scope acts).progress) → (place : r.place ≡ place_next commands (state_after plan commands scope acts).progress)
@@ -147,7 +150,7 @@ module _ (plan : Plan) (commands : List Task) (scope : Scope) (some : 0 < plan.e
     s : Model
     s = state_after plan commands scope acts
 
-    -- a cycle has begun, as a command is unsent
+    -- the lemma above, by whether a cycle has begun: one has, as a command is unsent
     by_begun : (Begun plan commands scope some) acts (state_after plan commands scope acts).progress → IsSkippedIn plan commands scope (acts ++ Told m ∷ []) r
     by_begun (inl none) = let here = (needs_of plan s actions.Skip is).2 in let nothing = none.1 in absurd (omega (arith, nothing, here))
     by_begun (inr c) =
@@ -171,7 +174,8 @@ module _ (plan : Plan) (commands : List Task) (scope : Scope) (some : 0 < plan.e
           utc = utc ∙ cond-false (state_after plan commands scope acts).progress.missed (state_after plan commands scope acts).progress.due m.utc free;
         }
 
-  -- the record of a command that is left out is justified
+  -- where `Begun` holds, and the next action is to skip a command, the record of the first of these commands, if there is one, is
+  -- justified
   skips_truly : (acts : List Act) (m : Moment) (left : List Task) → (Begun plan commands scope some) acts (state_after plan commands scope acts).progress
       → action_at plan (state_after plan commands scope acts) ≡ actions.Skip
       → AllByRecursion (UnsentIsJustified plan commands scope (acts ++ Told m ∷ [])) (first_unsent_record (turned (state_after plan commands scope acts).progress) m
@@ -183,7 +187,8 @@ module _ (plan : Plan) (commands : List Task) (scope : Scope) (some : 0 < plan.e
       let ends = unsent_end p.missed in
       ((λ e. skip_missed acts m p _ cycle_begun here refl refl refl (ends.0 e), λ e. skip_skipped acts m _ cycle_begun is refl refl refl refl (ends.1 e)), tt)
 
-  -- the records after an act, before what is outstanding is lost, are justified
+  -- where `Begun` holds, and the records before an act are justified by the acts with this one, so are the records after it,
+  -- before what is outstanding is lost
   moved_truly : (acts : List Act) (next : Action) (act : Act) → (Begun plan commands scope some) acts (state_after plan commands scope acts).progress
       → action_at plan (state_after plan commands scope acts) ≡ next
       → AllByRecursion (UnsentIsJustified plan commands scope (acts ++ act ∷ [])) (state_after plan commands scope acts).records
@@ -220,6 +225,6 @@ module _ (plan : Plan) (commands : List Task) (scope : Scope) (some : 0 < plan.e
   written_holds : (acts : List Act) → Runs plan commands (opening plan scope) acts → JustifiedIfClockRises acts
   written_holds acts runs = always plan commands (opening plan scope) (λ (xs : List Act) (t : Model). JustifiedIfClockRises xs) written_step (λ rises. tt) acts runs
 
--- the law: each record of a missed or a skipped command is justified
+-- the law: each record of a missed or a skipped command is justified, where cycles have due moments and the clock doesn't go back
 pub unsent_for_a_cause : UnsentForACause
 unsent_for_a_cause plan commands scope acts some runs rises = written_holds plan commands scope some acts runs rises

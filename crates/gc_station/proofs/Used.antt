@@ -18,7 +18,7 @@ use Rattle.gc_station.proofs.Counts.{turns_kept, ended_progress}
 use Rattle.gc_station.proofs.Silences.{not_closing, end_here}
 use Rattle.gc_station.specs.Scopes.{Scope}
 
--- each act takes a turn
+-- acts take as many turns as they are, or all that are left if these are fewer
 turns_behind : (plan : Plan) (commands : List Task) (s : Model) (acts : List Act) → (after_all plan commands s acts).progress.turns ≡ s.progress.turns - length acts
 turns_behind plan commands s [] = omega arith
 turns_behind plan commands s (act ∷ acts) =
@@ -27,7 +27,7 @@ turns_behind plan commands s (act ∷ acts) =
     ap (λ (p : Progress). p.turns) (ended_progress (moved plan commands (action_at plan s) (with_progress turned s) act)) ∙ turns_kept plan commands (action_at plan s) (with_progress turned s) act in
     omega (arith, on, one)
 
--- if no turn is left, as many acts were made as there were turns
+-- if no turn is left, at least as many acts were made as the run had turns
 used_up : (plan : Plan) (commands : List Task) (scope : Scope) (acts : List Act) → (state_after plan commands scope acts).progress.turns ≡ 0 → scope.turns ≤ length acts
 used_up plan commands scope acts none = let left : (state_after plan commands scope acts).progress.turns ≡ scope.turns - length acts =
     turns_behind plan commands (opening plan scope) acts in omega (arith, none, left)
@@ -52,22 +52,22 @@ turns_only plan p n other (inr used) = sym used.0
 stop_used : (plan : Plan) (commands : List Task) (scope : Scope) (acts : List Act) → Runs plan commands (opening plan scope) acts
     → action_at plan (state_after plan commands scope acts) ≡ actions.Stop cause.Turns → scope.turns ≤ length acts
 stop_used plan commands scope acts runs is = by_shown (stopped_for plan commands scope acts cause.Turns runs is).shown where
-  -- if the last act closed a connection for the turns, as many acts were made before it
+  -- if the last act closed a connection for the turns, the acts are at least as many as the run had turns
   before : (earlier : List Act) (last : Act) → acts ≡ earlier ++ last ∷ [] → action_at plan (state_after plan commands scope earlier) ≡ actions.Close cause.Turns → scope.turns ≤ length acts
-  before earlier last action closes =
-      let front = (runs_split plan commands (opening plan scope) earlier [] last (subst (λ (xs : List Act). Runs plan commands (opening plan scope) xs) action runs)).0 in
+  before earlier last order closes =
+      let front = (runs_split plan commands (opening plan scope) earlier [] last (subst (λ (xs : List Act). Runs plan commands (opening plan scope) xs) order runs)).0 in
       let fewer = close_used plan commands scope earlier front closes in
-      let long = ap length action in
+      let long = ap length order in
       let more = length-append earlier (last ∷ []) in
       omega (arith, fewer, long, more)
 
   -- the last act ended the run: it closed a connection for the turns, as no failed call and no failed attempt ends a run for them
   by_end : (earlier : List Act) (last : Act) → acts ≡ earlier ++ last ∷ [] → Ends plan (state_after plan commands scope earlier) cause.Turns last → scope.turns ≤ length acts
-  by_end earlier last action (inl failed) = absurd failed.1
-  by_end earlier last action (inr (inl (other, closed, next, ends))) =
+  by_end earlier last order (inl failed) = absurd failed.1
+  by_end earlier last order (inr (inl (other, closed, next, ends))) =
       let s = state_after plan commands scope earlier in
-      before earlier last action (next ∙ ap actions.Close (turns_only plan s.progress (waiting_of s).commands other ends))
-  by_end earlier last action (inr (inr (unopened, ends))) =
+      before earlier last order (next ∙ ap actions.Close (turns_only plan s.progress (waiting_of s).commands other ends))
+  by_end earlier last order (inr (inr (unopened, ends))) =
       let s = state_after plan commands scope earlier in
       let both = turns_only plan s.progress (waiting_of s).commands cause.Open ends in cc
 
@@ -76,7 +76,7 @@ stop_used plan commands scope acts runs is = by_shown (stopped_for plan commands
       ⊎ ((earlier : List Act) × (last : Act) × (acts ≡ earlier ++ last ∷ []) × Ends plan (state_after plan commands scope earlier) cause.Turns last)
       → scope.turns ≤ length acts
   by_shown (inl none) = used_up plan commands scope acts none.1
-  by_shown (inr (earlier, last, action, ends)) = by_end earlier last action ends
+  by_shown (inr (earlier, last, order, ends)) = by_end earlier last order ends
 
 -- the law: a connection is closed, or a run stops, for its turns only after as many acts as the run had turns
 pub turns_used : (plan : Plan) (commands : List Task) (scope : Scope) (acts : List Act) → Runs plan commands (opening plan scope) acts

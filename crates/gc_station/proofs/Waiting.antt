@@ -9,24 +9,24 @@ use Rattle.gc_catalogue.specs.declared.asked.Asked.{Asked}
 use Rattle.gc_client.specs.declared.pending.Pending.{Pending}
 use Rattle.gc_client.specs.Ids
 use Rattle.gc_client.specs.Ids.{id_at, IsWithinLimits}
-use Rattle.gc_client.specs.Rule.{ById, expired}
+use Rattle.gc_client.specs.Rule.{ById, expired, expires}
 use Rattle.gc_texts.specs.declared.tasks.Task.{Task}
 use Rattle.gc_station.specs.declared.mark.Mark.{Mark}
 use Rattle.gc_station.specs.declared.plan.Plan.{Plan}
 use Rattle.gc_station.specs.declared.progress.Action.{Action}
 use Rattle.gc_station.specs.declared.progress.Action.TheVariants as actions
 use Rattle.gc_links.specs.Acts.{Act, Gave}
-use Rattle.gc_station.specs.Answers.{ReadsBefore, deadline_after, AnswerIsJustified}
+use Rattle.gc_station.specs.Answers.{ReadsBefore, deadline_after, IsRecordedBy, AnswerIsJustified}
 use Rattle.gc_station.specs.Ends.{ReadsAtOrPast, OneReadsPast, LateIsJustified, LostIsJustified, IsOvertaken, Resynchronizes, IsLast, IsLostIn}
 use Rattle.gc_station.specs.Quiet.{IsAsking}
 use Rattle.gc_station.specs.Records.{Record}
 use Rattle.gc_station.specs.Runs.{state_after}
 use Rattle.gc_station.specs.ActKinds.{Puts}
 use Rattle.gc_station.specs.Model.{Model, IsSending, action_at, cycle_to_send, place_to_send, request_text, Performs}
-use Rattle.gc_station.proofs.Lists.{all_append, all_on, Rows, rows_follow, rows_map}
+use Rattle.gc_station.proofs.Lists.{all_append, all_on, AllRisingAt, rising_follow, rising_map}
 use Rattle.gc_station.specs.Scopes.{Scope}
 
--- after these acts, the command with this mark is sent
+-- after these acts, the command with this mark is sent next
 pub record Marked (plan : Plan) (commands : List Task) (scope : Scope) (acts : List Act) (mark : Mark) : Type 0 where
   pub sends : IsSending plan (state_after plan commands scope acts)
   pub cycle : mark.cycle ≡ cycle_to_send plan (state_after plan commands scope acts)
@@ -34,7 +34,8 @@ pub record Marked (plan : Plan) (commands : List Task) (scope : Scope) (acts : L
   pub sent : mark.sent ≡ (state_after plan commands scope acts).progress.moment.utc
 
 -- the request p that waits at the place `at`, with this id and mark, was put among these acts; `number` acts came before it,
--- and `Stays` holds of the acts after it, by whether p has timed out and its deadline
+-- and `Stays` holds of the acts after it, by whether p has timed out and its deadline. If p isn't the oldest (`at` is above 0),
+-- it was put by an action that sends a request of the client (`asks`)
 pub record WasAsked (plan : Plan) (commands : List Task) (scope : Scope) (acts : List Act) (Stays : Bool → ℕ → List Act → Type 0) (number at with_id : ℕ) (p : Pending Asked)
     (mark : Option Mark) : Type 0 where
   pub before : List Act
@@ -67,7 +68,7 @@ Waits plan commands scope acts next count number at p mark = WasAsked plan comma
 
 -- as `Waits`, at the moment `now`, which isn't among the acts yet; and a request with that id waited at the client as it was
 -- after the acts
-abbrev pub WaitsAt : Plan → List Task → Scope → List Act → ById Asked → ℕ → (next count : ℕ) → (number at : ℕ) → Pending Asked → Option Mark → Type 0
+abbrev pub WaitsAt : Plan → List Task → Scope → List Act → (client : ById Asked) → (now : ℕ) → (next count : ℕ) → (number at : ℕ) → Pending Asked → Option Mark → Type 0
 WaitsAt plan commands scope acts client now next count number at p mark =
     WasAsked plan commands scope acts (StayedAt now) number at (id_at next count at) p mark × Ids.Waits client (id_at next count at)
 
@@ -80,11 +81,11 @@ pub record IsJustified (plan : Plan) (commands : List Task) (scope : Scope) (act
 -- what every run keeps: the outstanding requests at the client c, with these marks, were put among the acts, in order
 -- (`Waits`); and the records are true by `all` acts
 pub record Honest (plan : Plan) (commands : List Task) (scope : Scope) (acts all : List Act) (c : ById Asked) (marks : List (Option Mark)) (records : List Record) : Type 0 where
-  pub waiting : Rows (Waits plan commands scope acts c.next (length c.waiting)) 0 0 c.waiting marks
+  pub waiting : AllRisingAt (Waits plan commands scope acts c.next (length c.waiting)) 0 0 c.waiting marks
   pub written : AllByRecursion (IsJustified plan commands scope all) records
 
--- `Honest`, of the parts of a model
-abbrev pub IsHonest : Plan → List Task → Scope → List Act → List Act → Model → Type 0
+-- `Honest`, of the client, the marks and the records of a model
+abbrev pub IsHonest : Plan → List Task → Scope → (acts all : List Act) → Model → Type 0
 IsHonest plan commands scope acts all s = Honest plan commands scope acts all s.client s.marks s.records
 
 -- a request that was put among acts was put among them and one more. S is what holds of the acts since, and gives T of those
@@ -106,8 +107,8 @@ asked_more plan commands scope acts act S T number at id p mark step s = record 
   stays = step p.given_up p.deadline s.between s.stays;
 }
 
--- a request that was `WasAsked` at the place `at` with an id was so at any place at' with an equal id, if `at` is above 0 wherever
--- at' is (0 is the place of the oldest)
+-- a request that was `WasAsked` at the place `at` with an id was so at any place at' with an equal id, if `at` is above 0
+-- wherever at' is (0 is the place of the oldest)
 pub asked_as : (plan : Plan) (commands : List Task) (scope : Scope) (acts : List Act) (S : Bool → ℕ → List Act → Type 0) (number at at' id id' : ℕ)
     (p : Pending Asked) (mark : Option Mark) → (0 < at' → 0 < at) → id' ≡ id
     → WasAsked plan commands scope acts S number at id p mark → WasAsked plan commands scope acts S number at' id' p mark
@@ -137,9 +138,23 @@ asked_among plan commands scope acts S number at id p mark s =
 pub past_more : (d : ℕ) (xs ys : List Act) → OneReadsPast d xs → OneReadsPast d (xs ++ ys)
 past_more d xs ys t = record { earlier = t.earlier; telling = t.telling; later = t.later ++ ys; at = ap (λ zs. zs ++ ys) t.at ∙ append_assoc t.earlier (t.telling ∷ t.later) ys; past = t.past }
 
--- a moment at or past d that the last act reads was read
+-- if the last act reads a moment at or past d, one of the acts does (`OneReadsPast`)
 pub past_here : (d : ℕ) (xs : List Act) (act : Act) → ReadsAtOrPast d act → OneReadsPast d (xs ++ act ∷ [])
 past_here d xs act on = record { earlier = xs; telling = act; later = []; at = refl; past = on }
+
+-- the act that writes a record's request and the one that adds the record are among the acts with one more at their end, too
+abbrev recorded_more : (plan : Plan) (commands : List Task) (scope : Scope) (acts : List Act) (act : Act) (r : Record) (then : Act)
+    → IsRecordedBy plan commands scope acts r then → IsRecordedBy plan commands scope (acts ++ act ∷ []) r then
+recorded_more plan commands scope acts act r then a = record {
+  before = a.before;
+  request = a.request;
+  between = a.between;
+  behind = a.behind ++ act ∷ [];
+  order = ap (λ xs. xs ++ act ∷ []) a.order ∙ append_assoc a.before (a.request ∷ (a.between ++ then ∷ a.behind)) (act ∷ [])
+      ∙ ap (λ xs. a.before ++ a.request ∷ xs) (append_assoc a.between (then ∷ a.behind) (act ∷ []));
+  own = a.own;
+  written = a.written;
+}
 
 -- a record that is true by the acts so far is true by one act more: one that is lost because the run stopped would be the last
 -- act's, after which no act is made
@@ -147,32 +162,20 @@ true_more : (plan : Plan) (commands : List Task) (scope : Scope) (acts : List Ac
     → Performs commands (state_after plan commands scope acts) (action_at plan (state_after plan commands scope acts)) act
     → IsJustified plan commands scope acts r → IsJustified plan commands scope (acts ++ act ∷ []) r
 true_more plan commands scope acts act r obeys is = record { answered = answered_more; late = late_more; lost = lost_more } where
-  -- with one act more at their end, the acts are cut at the same places
-  longer : (before : List Act) (request : Act) (between : List Act) (then : Act) (behind : List Act) → acts ≡ before ++ request ∷ (between ++ then ∷ behind)
-      → acts ++ act ∷ [] ≡ before ++ request ∷ (between ++ then ∷ (behind ++ act ∷ []))
-  longer before request between then behind order = ap (λ xs. xs ++ act ∷ []) order ∙ append_assoc before (request ∷ (between ++ then ∷ behind)) (act ∷ [])
-      ∙ ap (λ xs. before ++ request ∷ xs) (append_assoc between (then ∷ behind) (act ∷ []))
-
   -- a record of a reply in time is true by one act more
   answered_more : AnswerIsJustified plan commands scope (acts ++ act ∷ []) r
   answered_more line e =
       let a = is.answered line e in
       record {
-        before = a.before;
-        request = a.request;
-        between = a.between;
         piece = a.piece;
         moment = a.moment;
-        behind = a.behind ++ act ∷ [];
-        order = longer a.before a.request a.between (Gave a.piece a.moment) a.behind a.order;
-        own = a.own;
+        its = recorded_more plan commands scope acts act r (Gave a.piece a.moment) a.its;
         waits = a.waits;
         in_time = a.in_time;
         front = a.front;
         others = a.others;
         came = a.came;
         id = a.id;
-        written = a.written;
       }
 
   -- a late record is true by one act more
@@ -180,25 +183,19 @@ true_more plan commands scope acts act r obeys is = record { answered = answered
   late_more e =
       let a = is.late e in
       record {
-        before = a.before;
-        request = a.request;
-        between = a.between;
         piece = a.piece;
         moment = a.moment;
-        behind = a.behind ++ act ∷ [];
-        order = longer a.before a.request a.between (Gave a.piece a.moment) a.behind a.order;
-        own = a.own;
+        its = recorded_more plan commands scope acts act r (Gave a.piece a.moment) a.its;
         too_late = a.too_late;
         came = a.came;
-        written = a.written;
       }
 
   -- no act is made after one at which the run stopped
   not_last : (before : List Act) (request : Act) (between : List Act) (then : Act) (behind : List Act) → acts ≡ before ++ request ∷ (between ++ then ∷ behind)
       → IsLast plan commands scope (before ++ request ∷ between) then behind → ⊥
-  not_last before request between then behind action last =
+  not_last before request between then behind order last =
       let whole : acts ≡ (before ++ request ∷ between) ++ then ∷ [] =
-      action ∙ ap (λ xs. before ++ request ∷ (between ++ then ∷ xs)) last.none ∙ sym (append_assoc before (request ∷ between) (then ∷ [])) in
+      order ∙ ap (λ xs. before ++ request ∷ (between ++ then ∷ xs)) last.none ∙ sym (append_assoc before (request ∷ between) (then ∷ [])) in
       let stopped : action_at plan (state_after plan commands scope acts) ≡ actions.Stop last.why = ap (λ xs. action_at plan (state_after plan commands scope xs)) whole ∙ last.stops in
       subst (λ (o : Action). Performs commands (state_after plan commands scope acts) o act) stopped obeys
 
@@ -207,25 +204,21 @@ true_more plan commands scope acts act r obeys is = record { answered = answered
   lost_more e =
       let a = is.lost e in
       record {
-        before = a.before;
-        request = a.request;
-        between = a.between;
         act = a.act;
-        behind = a.behind ++ act ∷ [];
-        order = longer a.before a.request a.between a.act a.behind a.order;
-        own = a.own;
-        written = a.written;
+        its = recorded_more plan commands scope acts act r a.act a.its;
         shown = on a a.shown;
       } where
         -- why a request is lost holds after one more act: a later request's reply came, or the station resynchronized; it isn't
         -- that the run stopped
-        on : (a : IsLostIn plan commands scope acts r) → IsOvertaken plan commands scope a.before a.request a.between a.act
-            ⊎ (Resynchronizes plan commands scope (a.before ++ a.request ∷ a.between) a.act ⊎ IsLast plan commands scope (a.before ++ a.request ∷ a.between) a.act a.behind)
-            → IsOvertaken plan commands scope a.before a.request a.between a.act
-            ⊎ (Resynchronizes plan commands scope (a.before ++ a.request ∷ a.between) a.act ⊎ IsLast plan commands scope (a.before ++ a.request ∷ a.between) a.act (a.behind ++ act ∷ []))
+        on : (a : IsLostIn plan commands scope acts r) → IsOvertaken plan commands scope a.its.before a.its.request a.its.between a.act
+            ⊎ (Resynchronizes plan commands scope (a.its.before ++ a.its.request ∷ a.its.between) a.act
+            ⊎ IsLast plan commands scope (a.its.before ++ a.its.request ∷ a.its.between) a.act a.its.behind)
+            → IsOvertaken plan commands scope a.its.before a.its.request a.its.between a.act
+            ⊎ (Resynchronizes plan commands scope (a.its.before ++ a.its.request ∷ a.its.between) a.act
+            ⊎ IsLast plan commands scope (a.its.before ++ a.its.request ∷ a.its.between) a.act (a.its.behind ++ act ∷ []))
         on a (inl over) = inl over
         on a (inr (inl anew)) = inr (inl anew)
-        on a (inr (inr last)) = absurd (not_last a.before a.request a.between a.act a.behind a.order last)
+        on a (inr (inr last)) = absurd (not_last a.its.before a.its.request a.its.between a.act a.its.behind a.its.order last)
 
 -- records that are true by the acts so far are true by one more
 pub more_true : (plan : Plan) (commands : List Task) (scope : Scope) (acts : List Act) (act : Act) (rs : List Record)
@@ -235,7 +228,7 @@ more_true plan commands scope acts act rs obeys all = all_on (IsJustified plan c
     (λ r is. true_more plan commands scope acts act r obeys is) all
 
 -- an act that reads no moment preserves `Stayed`
-pub stays_still : (act : Act) → ((d : ℕ) → ReadsBefore d act) → (b : Bool) (d : ℕ) (xs : List Act) → Stayed b d xs → Stayed b d (xs ++ act ∷ [])
+pub stays_still : (act : Act) → ((d : ℕ) → ReadsBefore d act) → (timed_out : Bool) (d : ℕ) (xs : List Act) → Stayed timed_out d xs → Stayed timed_out d (xs ++ act ∷ [])
 stays_still act on true d xs told = past_more d xs (act ∷ []) told
 stays_still act on false d xs all = all_append (ReadsBefore d) xs (act ∷ []) all (on d, tt)
 
@@ -243,13 +236,13 @@ stays_still act on false d xs all = all_append (ReadsBefore d) xs (act ∷ []) a
 pub still : (plan : Plan) (commands : List Task) (scope : Scope) (acts : List Act) (act : Act) (c : ById Asked) (marks : List (Option Mark)) (rs : List Record) → ((d : ℕ) → ReadsBefore d act)
     → Honest plan commands scope acts (acts ++ act ∷ []) c marks rs → Honest plan commands scope (acts ++ act ∷ []) (acts ++ act ∷ []) c marks rs
 still plan commands scope acts act c marks rs on h = record {
-  waiting = rows_follow (Waits plan commands scope acts c.next (length c.waiting)) (Waits plan commands scope (acts ++ act ∷ []) c.next (length c.waiting)) 0 0 c.waiting marks
+  waiting = rising_follow (Waits plan commands scope acts c.next (length c.waiting)) (Waits plan commands scope (acts ++ act ∷ []) c.next (length c.waiting)) 0 0 c.waiting marks
       (λ n j p mark w. asked_more plan commands scope acts act Stayed Stayed n j _ p mark (stays_still act on) w) h.waiting;
   written = h.written;
 }
 
 -- a moment times a request out if its deadline has come: from `Stayed` to `StayedAt`
-stays_at : (now : ℕ) (b : Bool) (d : ℕ) (xs : List Act) → Stayed b d xs → StayedAt now (b || nat_le d now) d xs
+stays_at : (now : ℕ) (timed_out : Bool) (d : ℕ) (xs : List Act) → Stayed timed_out d xs → StayedAt now (timed_out || nat_le d now) d xs
 stays_at now true d xs told = inl told
 stays_at now false d xs all = by_test (nat_le d now) refl where
   -- the lemma above, by whether the deadline has come (`true`)
@@ -276,43 +269,40 @@ at_moment plan commands scope acts now number at id p mark s = record {
   stays = stays_at now p.given_up p.deadline s.between s.stays;
 }
 
--- the client once the requests whose deadline has come at this moment have timed out
-abbrev pub at_expired : ById Asked → ℕ → ById Asked
-at_expired c now = record { next = c.next; waiting = map (expired now) c.waiting }
-
 -- once the moment `now` has timed out the requests whose deadline has come, the same requests wait, as `WaitsAt` says
 pub expired_waits : (plan : Plan) (commands : List Task) (scope : Scope) (acts : List Act) (now : ℕ) (c : ById Asked) (marks : List (Option Mark))
-    → Rows (Waits plan commands scope acts c.next (length c.waiting)) 0 0 c.waiting marks
-    → Rows (WaitsAt plan commands scope acts c now c.next (length (map (expired now) c.waiting))) 0 0 (map (expired now) c.waiting) marks
+    → AllRisingAt (Waits plan commands scope acts c.next (length c.waiting)) 0 0 c.waiting marks
+    → AllRisingAt (WaitsAt plan commands scope acts c now c.next (length (map (expired now) c.waiting))) 0 0 (map (expired now) c.waiting) marks
 expired_waits plan commands scope acts now c marks all =
-    subst (λ (n : ℕ). Rows (WaitsAt plan commands scope acts c now c.next n) 0 0 (map (expired now) c.waiting) marks) (sym (length-map c.waiting (expired now)))
-    (rows_map (Waits plan commands scope acts c.next (length c.waiting)) (WaitsAt plan commands scope acts c now c.next (length c.waiting)) (expired now) 0 0 c.waiting marks
+    subst (λ (n : ℕ). AllRisingAt (WaitsAt plan commands scope acts c now c.next n) 0 0 (map (expired now) c.waiting) marks) (sym (length-map c.waiting (expired now)))
+    (rising_map (Waits plan commands scope acts c.next (length c.waiting)) (WaitsAt plan commands scope acts c now c.next (length c.waiting)) (expired now) 0 0 c.waiting marks
     (λ n j p mark low w. let below : j < length c.waiting = omega (arith, low) in (at_moment plan commands scope acts now n j _ p mark w, (j, below, refl))) all)
 
--- a moment preserves `IsWithinLimits`
-pub expired_window : (c : ById Asked) (now : ℕ) → IsWithinLimits c → IsWithinLimits (at_expired c now)
+-- a moment, at which requests may time out, preserves `IsWithinLimits`
+pub expired_window : (c : ById Asked) (now : ℕ) → IsWithinLimits c → IsWithinLimits (expires c now)
 expired_window c now w = record { digit = w.digit; few = let n : length (map (expired now) c.waiting) ≡ length c.waiting = length-map c.waiting (expired now) in omega (arith, n, w.few) }
 
 -- once the act that reads the moment `now` is among the acts, `StayedAt` becomes `Stayed`
-stays_behind : (act : Act) (now : ℕ) → ((d : ℕ) → now < d → ReadsBefore d act) → ((d : ℕ) → d ≤ now → ReadsAtOrPast d act) → (b : Bool) (d : ℕ) (xs : List Act)
-    → StayedAt now b d xs → Stayed b d (xs ++ act ∷ [])
+stays_behind : (act : Act) (now : ℕ) → ((d : ℕ) → now < d → ReadsBefore d act) → ((d : ℕ) → d ≤ now → ReadsAtOrPast d act) → (timed_out : Bool) (d : ℕ) (xs : List Act)
+    → StayedAt now timed_out d xs → Stayed timed_out d (xs ++ act ∷ [])
 stays_behind act now on past true d xs (inl told) = past_more d xs (act ∷ []) told
 stays_behind act now on past true d xs (inr reached) = past_here d xs act (past d reached)
 stays_behind act now on past false d xs both = all_append (ReadsBefore d) xs (act ∷ []) both.0 (on d both.1, tt)
 
--- the outstanding requests as `WaitsAt` says wait as `Waits` says after the act that reads the moment
+-- requests that wait as `WaitsAt` says, at the moment `now`, wait as `Waits` says once the act that reads that moment is among
+-- the acts
 pub behind_moment : (plan : Plan) (commands : List Task) (scope : Scope) (acts : List Act) (act : Act) (client : ById Asked) (now next count : ℕ) (ps : List (Pending Asked))
     (marks : List (Option Mark))
     → ((d : ℕ) → now < d → ReadsBefore d act) → ((d : ℕ) → d ≤ now → ReadsAtOrPast d act)
-    → Rows (WaitsAt plan commands scope acts client now next count) 0 0 ps marks → Rows (Waits plan commands scope (acts ++ act ∷ []) next count) 0 0 ps marks
+    → AllRisingAt (WaitsAt plan commands scope acts client now next count) 0 0 ps marks → AllRisingAt (Waits plan commands scope (acts ++ act ∷ []) next count) 0 0 ps marks
 behind_moment plan commands scope acts act client now next count ps marks on past all =
-    rows_follow (WaitsAt plan commands scope acts client now next count) (Waits plan commands scope (acts ++ act ∷ []) next count) 0 0 ps marks
+    rising_follow (WaitsAt plan commands scope acts client now next count) (Waits plan commands scope (acts ++ act ∷ []) next count) 0 0 ps marks
     (λ n j p mark w. asked_more plan commands scope acts act (StayedAt now) Stayed n j _ p mark (stays_behind act now on past) w.0) all
 
 -- an act that reads a moment, and so times requests out, preserves `Honest`
 pub moment_told : (plan : Plan) (commands : List Task) (scope : Scope) (acts : List Act) (act : Act) (now : ℕ) (c : ById Asked) (marks : List (Option Mark))
     (rs : List Record) → ((d : ℕ) → now < d → ReadsBefore d act) → ((d : ℕ) → d ≤ now → ReadsAtOrPast d act)
-    → Honest plan commands scope acts (acts ++ act ∷ []) c marks rs → Honest plan commands scope (acts ++ act ∷ []) (acts ++ act ∷ []) (at_expired c now) marks rs
+    → Honest plan commands scope acts (acts ++ act ∷ []) c marks rs → Honest plan commands scope (acts ++ act ∷ []) (acts ++ act ∷ []) (expires c now) marks rs
 moment_told plan commands scope acts act now c marks rs on past h = record {
   waiting = behind_moment plan commands scope acts act c now _ _ (map (expired now) c.waiting) marks on past (expired_waits plan commands scope acts now c marks h.waiting);
   written = h.written;

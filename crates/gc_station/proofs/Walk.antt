@@ -23,7 +23,8 @@ use Rattle.gc_station.specs.Deciding.{is_quiet}
 use Rattle.gc_station.specs.Marks.{commands_in}
 use Rattle.gc_station.specs.Progressing.{moment_noted, cycle_begun, skipped, failing, opened, after_failure, cleared, request_noted, null_sent, renewed, sent, line_synchronizing, lines_synchronizing, pause_ended, drained, quieted, time_passed, early_noted, ended_for, closed, setup_sent}
 use Rattle.gc_station.specs.ActKinds.{Puts}
-use Rattle.gc_station.specs.Model.{Model, waiting_of, place_next, mark_next, commands_before, request_text, null_text, first_text, is_chained_after_next, others_after_next, listed_after_skip, with_listed, after_pass, Performs, is_heard, with_progress, with_moment, with_rest, with_records, asks_null, asks_first, asks_next, unsent_record, line_came, lines_came, lines_completed, piece_synchronizing, after_piece, piece_noted, piece_at, after_read, after_put, after_close, moved, cycle_length, mark_setup, text_or_null, asks_or_null, asks_setup}
+use Rattle.gc_station.specs.Model.{Model, waiting_of, request_text, null_text, first_text, listed_after_skip, with_listed, after_pass, Performs, is_heard, with_progress, with_moment, with_rest, with_records, asks_null, asks_first, asks_next, unsent_record, line_came, lines_came, lines_completed, piece_synchronizing, after_piece, piece_noted, piece_at, after_read, after_put, after_close, moved, cycle_length, text_or_null, asks_or_null, asks_setup}
+use Rattle.gc_station.specs.NextCommand.{place_next, mark_next, commands_before, is_chained_after_next, others_after_next, mark_setup}
 
 -- Parts of an act.
 
@@ -56,7 +57,8 @@ quieted_along P plan Draining p paused quiet same = by_test (is_quiet plan p) wh
   by_test false = same
 quieted_along P plan at p paused quiet same = same
 
--- a fact of progresses holds after a close, if it holds in both cases: the run ends for the cause, or it goes on as after a failure
+-- a fact of progresses holds after a close, if it holds in both cases: the run ends for the cause, or it goes on as after a
+-- failure
 pub closed_along : (P : Progress → Type 0) (plan : Plan) (w : Waiting) (why : Cause) (p : Progress) → P (ended_for why p) → P (after_failure plan w.commands why p) → P (closed plan w why p)
 closed_along P plan w cause.Done p ends on = ends
 closed_along P plan w cause.Clock p ends on = ends
@@ -71,17 +73,16 @@ closed_along P plan w why p ends on = on
 abbrev pub sending : Plan → List Task → Model → Model
 sending plan commands s = record s {
   progress = sent (is_chained_after_next commands s.progress) (others_after_next commands s.progress) s.progress;
-  client =
-      (asks_next plan commands s).client;
+  client = (asks_next plan commands s).client;
   marks = (asks_next plan commands s).marks;
 }
 
 -- the model that sent the first of these commands, by its fields, is that after the send
-first_sent : (next_is_chained : Bool) (behind : ℕ) (mark : Mark) (left : List Task) (s : Model)
-    → record s { progress = sent next_is_chained behind s.progress; client = (asks_first mark left s).client; marks = (asks_first mark left s).marks }
-    ≡ with_progress (sent next_is_chained behind) (asks_first mark left s)
-first_sent next_is_chained behind mark [] s = refl
-first_sent next_is_chained behind mark (task ∷ others) s = refl
+first_sent : (next_is_chained : Bool) (next_others : ℕ) (mark : Mark) (left : List Task) (s : Model)
+    → record s { progress = sent next_is_chained next_others s.progress; client = (asks_first mark left s).client; marks = (asks_first mark left s).marks }
+    ≡ with_progress (sent next_is_chained next_others) (asks_first mark left s)
+first_sent next_is_chained next_others mark [] s = refl
+first_sent next_is_chained next_others mark (task ∷ others) s = refl
 
 -- the model that sent the next command, by its fields (`sending`), is that after the act that sends
 pub is_sent : (plan : Plan) (commands : List Task) (s : Model)
@@ -91,7 +92,11 @@ is_sent plan commands s = first_sent (is_chained_after_next commands s.progress)
 
 -- the model that sent the next command of the setup, by its fields
 abbrev pub preparing : Plan → List Task → Model → Model
-preparing plan commands s = record s { progress = setup_sent plan s.progress; client = (asks_setup plan commands s).client; marks = (asks_setup plan commands s).marks }
+preparing plan commands s = record s {
+  progress = setup_sent plan s.progress;
+  client = (asks_setup plan commands s).client;
+  marks = (asks_setup plan commands s).marks;
+}
 
 -- the model that sent the first of these commands of the setup, by its fields, is that after the send
 first_prepared : (plan : Plan) (mark : Mark) (left : List Task) (s : Model)
@@ -106,16 +111,48 @@ is_prepared plan commands s = first_prepared plan (mark_setup commands s.progres
 
 -- Which fields change.
 
--- the progress p with those fields of q that a moment changes
-abbrev told_of : Progress → Progress → Progress
-told_of p q = record p { phase = q.phase; moment = q.moment; since = q.since; alive = q.alive; began = q.began; clock_due = q.clock_due; stops = q.stops; early = q.early }
+-- the progress p with those fields of q that reading the clock may change, or failing to
+abbrev told_of : (p q : Progress) → Progress
+told_of p q = record p {
+  phase = q.phase;
+  moment = q.moment;
+  since = q.since;
+  alive = q.alive;
+  began = q.began;
+  clock_due = q.clock_due;
+  stops = q.stops;
+  early = q.early;
+}
 
--- the progress p with those fields of q that a request changes
-abbrev asking_of : Progress → Progress → Progress
+-- the progress p with those fields of q that sending a request may change, or failing to send all of it
+abbrev asking_of : (p q : Progress) → Progress
 asking_of p q = record p { phase = q.phase; alive = q.alive; asked = q.asked; clock_due = q.clock_due; behind = q.behind }
 
+-- the progress p with those fields of q that change where another command of the cycle becomes the next one
+abbrev next_of : (p q : Progress) → Progress
+next_of p q = record p {
+  unsent = q.unsent;
+  next_is_chained = q.next_is_chained;
+  next_others = q.next_others;
+  chain_unbroken = q.chain_unbroken;
+  preparing = q.preparing;
+}
+
+-- the progress p with those fields of q that the end of a connection changes, or an attempt to make one
+abbrev connecting_of : (p q : Progress) → Progress
+connecting_of p q = record p {
+  phase = q.phase;
+  clock_due = q.clock_due;
+  tries = q.tries;
+  pause = q.pause;
+  chain_unbroken = q.chain_unbroken;
+  preparing = q.preparing;
+  prepared = q.prepared;
+  attempt = q.attempt;
+}
+
 -- the progress p with those fields of q that an act of this action changes
-abbrev progress_of : Action → Progress → Progress → Progress
+abbrev progress_of : Action → (p q : Progress) → Progress
 progress_of ReadClock p q = told_of p q
 progress_of Renew p q = record (told_of p q) {
   word = q.word;
@@ -137,38 +174,27 @@ progress_of Begin p q = record (told_of p q) {
   chain_unbroken = q.chain_unbroken;
   preparing = q.preparing;
 }
-progress_of Open p q = record p {
-  phase = q.phase;
-  clock_due = q.clock_due;
-  tries = q.tries;
-  pause = q.pause;
-  chain_unbroken = q.chain_unbroken;
-  preparing = q.preparing;
-  prepared = q.prepared;
-  attempt = q.attempt;
-}
+progress_of Open p q = connecting_of p q
 progress_of Clear p q = record p { phase = q.phase; again = q.again; asked = q.asked; clock_due = q.clock_due }
 progress_of Ask p q = record (asking_of p q) { again = q.again }
 progress_of Prepare p q = record (asking_of p q) { prepared = q.prepared; chain_unbroken = q.chain_unbroken }
-progress_of Send p q = record (asking_of p q) { unsent = q.unsent; next_is_chained = q.next_is_chained; next_others = q.next_others; chain_unbroken = q.chain_unbroken; preparing = q.preparing }
-progress_of Skip p q = record (told_of p q) { unsent = q.unsent; next_is_chained = q.next_is_chained; next_others = q.next_others; chain_unbroken = q.chain_unbroken; preparing = q.preparing }
-progress_of Pass p q = record (told_of p q) { unsent = q.unsent; next_is_chained = q.next_is_chained; next_others = q.next_others; chain_unbroken = q.chain_unbroken; preparing = q.preparing }
+progress_of Send p q = next_of (asking_of p q) q
+progress_of Skip p q = next_of (told_of p q) q
+progress_of Pass p q = next_of (told_of p q) q
 progress_of Flush p q = asking_of p q
-progress_of (Read until) p q = record (told_of p q) { word = q.word; again = q.again; asked = q.asked; tries = q.tries; pause = q.pause; behind = q.behind }
-progress_of (Close why) p q = record p {
-  phase = q.phase;
-  clock_due = q.clock_due;
+progress_of (Read until) p q = record (told_of p q) {
+  word = q.word;
+  again = q.again;
+  asked = q.asked;
   tries = q.tries;
   pause = q.pause;
-  chain_unbroken = q.chain_unbroken;
-  preparing = q.preparing;
-  prepared = q.prepared;
-  attempt = q.attempt;
+  behind = q.behind;
 }
+progress_of (Close why) p q = connecting_of p q
 progress_of (Stop why) p q = p
 
 -- the model s with those fields of t that an act of this action changes, but for the progress
-abbrev changed_by : Action → Model → Model → Model
+abbrev changed_by : Action → (s t : Model) → Model
 changed_by ReadClock s t = record s { client = t.client; fresh = t.fresh }
 changed_by Renew s t = record s { client = t.client; fresh = t.fresh }
 changed_by Begin s t = record s { client = t.client; fresh = t.fresh }
@@ -184,25 +210,36 @@ changed_by (Read until) s t = record s { rest = t.rest; client = t.client; marks
 changed_by (Close why) s t = record s { rest = t.rest }
 changed_by (Stop why) s t = s
 
--- the model s with all that an act of this action changes as it is in t, and all else as it was. No act but its turn changes the
--- turns, and none changes what replies say
-abbrev pub changed : Action → Model → Model → Model
-changed action s t = record (changed_by action s t) { progress = record (progress_of action s.progress t.progress) { turns = s.progress.turns }; reads = s.reads }
+-- the model s with all that an act of this action changes as it is in t, and all else as it was. The turns are as in s, as
+-- `moved` is without the turn that an act takes; and no act changes what replies say
+abbrev pub changed : Action → (s t : Model) → Model
+changed action s t = record (changed_by action s t) {
+  progress = record (progress_of action s.progress t.progress) { turns = s.progress.turns };
+  reads = s.reads;
+}
 
 -- the progress p with those fields of q that lines change which are heard while the station synchronizes
-abbrev asked_of : Progress → Progress → Progress
+abbrev asked_of : (p q : Progress) → Progress
 asked_of p q = record p { word = q.word; again = q.again; alive = q.alive; asked = q.asked; behind = q.behind }
 
--- lines that are heard while the station synchronizes change what `asked_of` says
+-- lines that are heard while the station synchronizes change no other fields than `asked_of` says
 lines_changed : (p : Progress) (lines : List (List ℕ)) → lines_synchronizing p lines ≡ asked_of p (lines_synchronizing p lines)
 lines_changed p lines = asked_along (λ (q : Progress). q ≡ asked_of p q)
     (λ q line e. subst (λ (r : Progress). line_synchronizing r line ≡ asked_of p (line_synchronizing r line)) (sym e) refl) p lines refl
 
 -- the model s with those fields of t that a piece changes
-abbrev piece_of : Model → Model → Model
-piece_of s t = record s { progress = asked_of s.progress t.progress; rest = t.rest; client = t.client; marks = t.marks; records = t.records; listed = t.listed; fresh = t.fresh }
+abbrev piece_of : (s t : Model) → Model
+piece_of s t = record s {
+  progress = asked_of s.progress t.progress;
+  rest = t.rest;
+  client = t.client;
+  marks = t.marks;
+  records = t.records;
+  listed = t.listed;
+  fresh = t.fresh;
+}
 
--- a read that gave bytes changes what `changed` says
+-- a read that gave bytes changes no other fields than `changed` says
 gave_changed : (plan : Plan) (until : Until) (s : Model) (bytes : List ℕ) (m : Moment) → piece_at plan until bytes m s ≡ changed (Read until) s (piece_at plan until bytes m s)
 gave_changed plan until s bytes m =
     let mid = with_moment m (with_progress (moment_noted m) s) in
@@ -216,13 +253,13 @@ gave_changed plan until s bytes m =
           (record t { progress = lines_synchronizing t.progress lines; rest = rest })
       begins t lines rest = subst (λ (q : Progress). record t { progress = q; rest = rest } ≡ piece_of t (record t { progress = q; rest = rest })) (sym (lines_changed t.progress lines)) refl
 
--- a read that gave nothing changes what `changed` says
+-- a read that gave nothing changes no other fields than `changed` says
 silent_changed : (plan : Plan) (until : Until) (s : Model) (m : Moment) → after_read plan until s (Silent m) ≡ changed (Read until) s (after_read plan until s (Silent m))
 silent_changed plan until s m =
     quieted_along (λ (q : Progress). with_moment m (record s { progress = q }) ≡ changed (Read until) s (with_moment m (record s { progress = q }))) plan
     s.progress.phase (time_passed until m s.progress) refl refl refl
 
--- a close changes what `changed` says
+-- a close changes no other fields than `changed` says
 closed_changed : (plan : Plan) (why : Cause) (s : Model) → after_close plan why s ≡ changed (Close why) s (after_close plan why s)
 closed_changed plan why s =
     closed_along (λ (q : Progress). record s { progress = q; rest = [] } ≡ changed (Close why) s (record s { progress = q; rest = [] })) plan (waiting_of s) why s.progress refl refl
@@ -265,7 +302,7 @@ moved_changed plan commands (Stop why) s act = refl
 -- moment and the latter a number, also if no clock is read and no bytes are cut, so that one row serves many actions.
 
 -- what has to hold for P to hold after an act that puts these bytes: P after a whole write, and P after one that is cut. The
--- number is how many requests the bytes have
+-- number is the one that the cause of a cut write has (`requests`)
 abbrev pub Putting : (Act → Model → Type 0) → ℕ → List ℕ → Model → Type 0
 Putting P requests bytes t = ((m : Moment) → P (Put bytes) t) × ((n : ℕ) → P (Cut bytes n) (with_progress (failing (cause.Write requests n)) t))
 

@@ -32,15 +32,16 @@ word_asked : (p : Progress) (lines : List (List ℕ)) → (lines_synchronizing p
 word_asked p [] = refl
 word_asked p (line ∷ others) = word_asked (line_synchronizing p line) others
 
--- a piece leaves of the ids what its lines leave, if they are heard
-word_came : (h : Bool) (word piece : List ℕ) (s : Model) → s.progress.word ≡ word → (after_piece h word piece s).progress.word ≡ unanswered_after word (if h then lines_completed s.rest piece else [])
+-- a piece leaves of the ids what its lines leave if it is heard, and all if it is discarded
+word_came : (heard : Bool) (word piece : List ℕ) (s : Model) → s.progress.word ≡ word
+    → (after_piece heard word piece s).progress.word ≡ unanswered_after word (if heard then lines_completed s.rest piece else [])
 word_came true [] piece s e =
     lines_along (λ (t : Model). t.progress.word ≡ []) (λ t line same. same) (with_rest (rest_behind s.rest piece) s) (lines_completed s.rest piece) e ∙ sym (left_none (lines_completed s.rest piece))
 word_came true (asked ∷ others) piece s e = word_asked s.progress (lines_completed s.rest piece) ∙ ap (λ (w : List ℕ). unanswered_after w (lines_completed s.rest piece)) e
 word_came false word piece s e = e
 
 -- if a station synchronizes after a piece, it was synchronizing before it
-pub begins_before : (h : Bool) (word piece : List ℕ) (s : Model) → s.progress.word ≡ word → has_begun (after_piece h word piece s).progress ≡ false → is_none_left word ≡ false
+pub begins_before : (heard : Bool) (word piece : List ℕ) (s : Model) → s.progress.word ≡ word → has_begun (after_piece heard word piece s).progress ≡ false → is_none_left word ≡ false
 begins_before h [] piece s e f =
     let lines = if h then lines_completed s.rest piece else [] in absurd (both_ways (has_begun (after_piece h [] piece s).progress) f (ap is_none_left (word_came h [] piece s e ∙ left_none lines)))
 begins_before h (asked ∷ others) piece s e f = refl
@@ -77,21 +78,22 @@ module _ (plan : Plan) (commands : List Task) where
     by_word [] e b = ap is_none_left (word_moved s o act obeys other ∙ ap (λ (w : List ℕ). unanswered_after w (lines_heard_at s act)) e ∙ left_none (lines_heard_at s act))
     by_word (asked ∷ others) e b = cc
 
-  -- if a chain goes on, the station doesn't resynchronize
+  -- if a chain isn't broken after an act, the act leaves a synchronized station synchronized
   pub begun_kept : (s : Model) (o : Action) (act : Act) → Performs commands s o act → has_begun s.progress ≡ true → (moved plan commands o (with_progress turned s) act).progress.chain_unbroken ≡ true
       → has_begun (moved plan commands o (with_progress turned s) act).progress ≡ true
   begun_kept s actions.Renew (Told m) obeys begun whole = cc
   begun_kept s actions.Renew act obeys begun whole = begun
   begun_kept s o act obeys begun whole = begun_other s o act obeys (λ e. cc) begun
 
-  -- a station resynchronizes only if it reads the clock for that
+  -- if a station that has synchronized hasn't after an act, the act reads a moment, and its action is to resynchronize (`Renew`)
   pub renews_only : (s : Model) (o : Action) (act : Act) → Performs commands s o act → has_begun s.progress ≡ true → has_begun (moved plan commands o (with_progress turned s) act).progress ≡ false
       → (o ≡ actions.Renew) × (m : Moment) × (act ≡ Told m)
   renews_only s actions.Renew (Told m) obeys begun begins = (refl, m, refl)
   renews_only s actions.Renew act obeys begun begins = absurd (both_ways (has_begun s.progress) begins begun)
   renews_only s o act obeys begun begins = absurd (both_ways (has_begun (moved plan commands o (with_progress turned s) act).progress) begins (begun_other s o act obeys (λ e. cc) begun))
 
--- if a station resynchronizes, seven are outstanding, which have all timed out
+-- if the station resynchronizes (`Renew`), seven requests are outstanding, which have all timed out; where `Invariant` holds, and
+-- `HoldsBefore` of the action
 pub renews_needs : (plan : Plan) (commands : List Task) (s : Model) (o : Action) → Invariant plan commands s → o ≡ actions.Renew
     → HoldsBefore plan s.progress (waiting_of s) o → (length s.client.waiting ≡ WINDOW) × (deadlines s.client.waiting ≡ [])
 renews_needs plan commands s o fine is needs =

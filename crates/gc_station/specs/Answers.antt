@@ -1,9 +1,9 @@
 -- Where an answer comes from, in an operator's words, this project's own: its own request was sent, and the line came after it,
 -- with its id, before a moment at or past its deadline was read. An act is one call on the link, with its result.
-use Rattle.std.specs.Prelude.{◌≡◌, ℕ, ◌<◌, List, [], ◌∷◌, ◌++◌, drop, Option, Some, None}
+use Rattle.std.specs.Prelude.{◌≡◌, ℕ, ◌<◌, List, [], ◌∷◌, ◌++◌, drop, Some}
 use Rattle.std.specs.List.{AllByRecursion}
 use Rattle.gc_client.specs.Rule.{heard}
-use Rattle.gc_texts.specs.Endings.{End, Answered, Unreadable, Elsewhere, Late, Lost, Skipped, Missed}
+use Rattle.gc_texts.specs.Endings.{line_of}
 use Rattle.gc_texts.specs.declared.tasks.Task.{Task}
 use Rattle.gc_links.specs.declared.link.Moment.{Moment}
 use Rattle.gc_station.specs.declared.plan.Plan.{Plan}
@@ -48,38 +48,32 @@ pub record IsWrittenAt (plan : Plan) (commands : List Task) (scope : Scope) (act
   pub later : List Record
   pub written : (state_after plan commands scope (acts ++ act ∷ [])).records ≡ (state_after plan commands scope acts).records ++ (earlier ++ r ∷ later)
 
--- among `acts` are, in this order: `request`, which writes the request of the record `r`; the acts `between`, which read no
--- moment at or past its deadline; and a read before that deadline, which gave `piece`. The piece completes `line`, after the
--- lines `front`, and `line` has the request's id. At that read `r` is recorded
-pub record IsAnsweredIn (plan : Plan) (commands : List Task) (scope : Scope) (acts : List Act) (r : Record) (line : List ℕ) : Type 0 where
+-- among `acts` the act `request` writes the request of the record `r`, and the later act `act` adds `r`. `before`, `between` and
+-- `behind` are the acts before, between and after the two
+pub record IsRecordedBy (plan : Plan) (commands : List Task) (scope : Scope) (acts : List Act) (r : Record) (act : Act) : Type 0 where
   pub before : List Act
   pub request : Act
   pub between : List Act
+  pub behind : List Act
+  pub order : acts ≡ before ++ request ∷ (between ++ act ∷ behind)
+  pub own : IsOwnRequest plan commands scope before request r
+  pub written : IsWrittenAt plan commands scope (before ++ request ∷ between) act r
+
+-- among `acts` a read that gave `piece` adds the record `r`, after the act that writes its request (`its`). Neither the acts between
+-- them (`waits`) nor the read (`in_time`) read a moment at or past the request's deadline. The piece completes `line`, after the lines
+-- `front`, and `line` has the request's id
+pub record IsAnsweredIn (plan : Plan) (commands : List Task) (scope : Scope) (acts : List Act) (r : Record) (line : List ℕ) : Type 0 where
   pub piece : List ℕ
   pub moment : Moment
-  pub behind : List Act
-  pub order : acts ≡ before ++ request ∷ (between ++ Gave piece moment ∷ behind)
-  pub own : IsOwnRequest plan commands scope before request r
-  pub waits : AllByRecursion (ReadsBefore (deadline_after plan commands scope before)) between
-  pub in_time : moment.elapsed < deadline_after plan commands scope before
+  pub its : IsRecordedBy plan commands scope acts r (Gave piece moment)
+  pub waits : AllByRecursion (ReadsBefore (deadline_after plan commands scope its.before)) its.between
+  pub in_time : moment.elapsed < deadline_after plan commands scope its.before
   pub front : List (List ℕ)
   pub others : List (List ℕ)
-  pub came : lines_completed (state_after plan commands scope (before ++ request ∷ between)).rest piece ≡ front ++ line ∷ others
-  pub id : heard line ≡ Some (state_after plan commands scope before).client.next
-  pub written : IsWrittenAt plan commands scope (before ++ request ∷ between) (Gave piece moment) r
+  pub came : lines_completed (state_after plan commands scope (its.before ++ its.request ∷ its.between)).rest piece ≡ front ++ line ∷ others
+  pub id : heard line ≡ Some (state_after plan commands scope its.before).client.next
 
--- the line of the reply of a command that a reply in time ended: as answered, unreadable or elsewhere. `None` for any other
--- ending
-abbrev pub answer_of : End → Option (List ℕ)
-answer_of (Answered quality answer line) = Some line
-answer_of (Unreadable line fault) = Some line
-answer_of (Elsewhere line) = Some line
-answer_of Late = None
-answer_of Lost = None
-answer_of Skipped = None
-answer_of Missed = None
-
--- if the record `r` is of a reply in time (answered, unreadable or elsewhere), the line of the reply came as `IsAnsweredIn`
--- says
+-- if a reply in time ended the command of the record `r` (answered, unreadable or elsewhere), the line of the reply (`line_of`)
+-- came as `IsAnsweredIn` says
 abbrev pub AnswerIsJustified : Plan → List Task → Scope → List Act → Record → Type 0
-AnswerIsJustified plan commands scope acts r = (line : List ℕ) → answer_of r.end ≡ Some line → IsAnsweredIn plan commands scope acts r line
+AnswerIsJustified plan commands scope acts r = (line : List ℕ) → line_of r.end ≡ Some line → IsAnsweredIn plan commands scope acts r line

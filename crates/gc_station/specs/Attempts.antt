@@ -1,5 +1,6 @@
 -- Further attempts of a chain, this project's own: whether a command of an attempt ended as its rule names, so that the chain
--- is sent again. An attempt begins with a command whose link is 0.
+-- is sent again. An attempt begins with a command whose link is 0. A command of the setup has link 1, and its rule names no ending:
+-- so the current attempt stays that of the command of a cycle that ended last.
 use Rattle.std.specs.Prelude.{ℕ, ◌||◌, Bool, false, List, [], ◌∷◌, Option, Some, None, if◌then◌else◌, nat_eq}
 use Rattle.gc_catalogue.specs.declared.answer.Reading.{Reading}
 use Rattle.gc_catalogue.specs.declared.answer.Reading.TheVariants as reading
@@ -23,15 +24,15 @@ code_of reads call (Answered line) = code_in (reads call line)
 code_of reads call Late = None
 code_of reads call Lost = None
 
--- whether a command of the current attempt has ended as its rule names, after one more ended as `end`, with the return code
--- `code` other than 0, if any. That is this command itself, or one before it (`listed`), unless the attempt begins with this
--- command
-abbrev pub listed_after : Bool → Expected → Option ℕ → End → Bool
+-- whether a command of the current attempt has ended as the chain's rule names, once one more command ended as `end`, with the
+-- return code `code` other than 0, if any: this command itself, or one before it (`listed`), which doesn't count if the attempt
+-- begins with this command. `expected` is what the text says of this command: the chain's rule, and its link in the attempt
+abbrev pub listed_after : (listed : Bool) → Expected → (code : Option ℕ) → End → Bool
 listed_after listed expected code end = (if nat_eq expected.turn.link 0 then false else listed) || repeats_after expected.again code end
 
 -- whether a command of the current attempt has ended as its rule names, after these settlements of the requests with these
 -- marks, the oldest first. `listed` says whether one had before them, and `reads` gives what a line says of a call
-abbrev pub listed_by : (Asked → List ℕ → Reading) → Bool → List (Option Mark) → List (Settlement Asked) → Bool
+abbrev pub listed_by : (Asked → List ℕ → Reading) → (listed : Bool) → List (Option Mark) → List (Settlement Asked) → Bool
 listed_by reads listed [] settlements = listed
 listed_by reads listed (mark ∷ marks) [] = listed
 listed_by reads listed (None ∷ marks) (settlement ∷ others) = listed_by reads listed marks others

@@ -1,22 +1,19 @@
--- Chains, this project's own: a command of a chain is sent only once the one before it in its cycle was answered well, on the
--- connection on which that was sent. An act is one call on the link, with its result.
-use Rattle.std.specs.Prelude.{◌≡◌, ℕ, ◌+◌, ◌<◌, true, List, [], ◌∷◌, ◌++◌, drop, Option}
+-- Chains, this project's own: a command that goes on with a chain is sent only once the one before it in its cycle was answered
+-- well, on the connection on which that was sent. An act is one call on the link, with its result.
+use Rattle.std.specs.Prelude.{◌≡◌, ◌+◌, ◌<◌, true, List, [], ◌∷◌, ◌++◌, drop}
 use Rattle.std.specs.List.{AllByRecursion}
-use Rattle.gc_catalogue.specs.declared.answer.Answer.{Answer}
-use Rattle.gc_texts.specs.Endings.{Answered}
-use Rattle.gc_texts.specs.Qualities.{is_good}
-use Rattle.gc_texts.specs.declared.quality.Quality.{Quality}
 use Rattle.gc_texts.specs.declared.tasks.Task.{Task}
 use Rattle.gc_station.specs.declared.plan.Plan.{Plan}
 use Rattle.gc_station.specs.declared.progress.Action.TheVariants.{Send}
 use Rattle.gc_links.specs.Acts.{Act}
 use Rattle.gc_station.specs.Answers.{IsAnsweredIn}
-use Rattle.gc_station.specs.Qualities.{IsOfQuality, accepted_at}
+use Rattle.gc_station.specs.Qualities.{IsGoodAnswer}
 use Rattle.gc_station.specs.Quiet.{KeepsOpen}
 use Rattle.gc_station.specs.Records.{Record}
 use Rattle.gc_station.specs.Runs.{state_after}
 use Rattle.gc_station.specs.Scopes.{Scope}
-use Rattle.gc_station.specs.Model.{Model, action_at, cycles_begun, place_next, is_chained}
+use Rattle.gc_station.specs.Model.{Model, action_at}
+use Rattle.gc_station.specs.NextCommand.{cycles_begun, place_next, is_chained}
 
 -- the cycle's next command isn't the cycle's first, which comes after the setup, and is sent only once the one before it was
 -- answered well
@@ -24,9 +21,8 @@ abbrev pub IsChained : Plan → List Task → Model → Type 0
 IsChained plan commands s = (plan.setup < place_next commands s.progress) × (is_chained (drop (place_next commands s.progress) commands) ≡ true)
 
 -- among `acts` the act `request` sent the command before the cycle's next one, in the same cycle. No connection was closed
--- since (`stays`), and the last record of all is of that command, by its cycle and place (`answer`): of a reply that came in time,
--- with the id of the record's own request (`IsAnsweredIn`), and of a good quality. `said` are the values that the record has, and
--- `line` is the reply
+-- since (`stays`), and the last record of all is of that command, by its cycle and place (`answer`): an answer of a good quality
+-- (`good`), of a reply that came in time, with the id of the record's own request (`in_time`)
 pub record IsLinked (plan : Plan) (commands : List Task) (scope : Scope) (acts : List Act) : Type 0 where
   pub before : List Act
   pub request : Act
@@ -41,10 +37,5 @@ pub record IsLinked (plan : Plan) (commands : List Task) (scope : Scope) (acts :
   pub last : (state_after plan commands scope acts).records ≡ earlier ++ answer ∷ []
   pub own_cycle : answer.cycle ≡ cycles_begun plan (state_after plan commands scope before).progress
   pub own_place : answer.place ≡ place_next commands (state_after plan commands scope before).progress
-  pub line : List ℕ
-  pub quality : Quality
-  pub said : Option Answer
-  pub answered : answer.end ≡ Answered quality said line
-  pub well : is_good quality ≡ true
-  pub says : IsOfQuality scope.reads (accepted_at commands answer.place) answer.command.call quality said line
-  pub in_time : IsAnsweredIn plan commands scope acts answer line
+  pub good : IsGoodAnswer scope.reads commands answer
+  pub in_time : IsAnsweredIn plan commands scope acts answer good.line

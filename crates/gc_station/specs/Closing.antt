@@ -12,7 +12,7 @@ use Rattle.gc_station.specs.declared.progress.Waiting.{Waiting}
 use Rattle.gc_links.specs.Acts.{Act, Untold, Cut, Ended, Broke, Closed, Unopened}
 use Rattle.gc_station.specs.Deciding.{is_up}
 use Rattle.gc_station.specs.Progressing.{is_finished, is_spared}
-use Rattle.gc_station.specs.Reasons.{HoldsBefore, IsAtItsEnd}
+use Rattle.gc_station.specs.Reasons.{HoldsBefore, IsAtItsEnd, IsFinished}
 use Rattle.gc_station.specs.Runs.{state_after}
 use Rattle.gc_station.specs.Model.{Model, waiting_of, action_at, opening, Performs, Runs}
 use Rattle.gc_station.specs.Scopes.{Scope}
@@ -39,8 +39,8 @@ Shows cause.Clock act = act ≡ Untold
 Shows (cause.Write requests bytes) act = (text : List ℕ) × (act ≡ Cut text bytes)
 Shows _ act = ⊥
 
--- after `acts` the connection is closed for the cause `why`: the run is at an end as `IsAtItsEnd` says, or the last act shows
--- the cause
+-- after `acts` the connection, if there is one, is to be closed for the cause `why`: because of what `IsAtItsEnd` says, or because
+-- the last act shows the cause
 pub record ClosesForACause (plan : Plan) (commands : List Task) (scope : Scope) (acts : List Act) : Type 0 where
   pub why : Cause
   pub closes : action_at plan (state_after plan commands scope acts) ≡ Close why
@@ -49,22 +49,27 @@ pub record ClosesForACause (plan : Plan) (commands : List Task) (scope : Scope) 
 
 -- a run ends as done at the progress `p` with `commands` outstanding commands: no command is left to be sent, and none is
 -- outstanding
-abbrev pub EndsDone : Progress → ℕ → Cause → Type 0
-EndsDone p commands why = (why ≡ cause.Done) × (p.left ≡ 0) × (p.unsent ≡ 0) × (commands ≡ 0)
+abbrev pub EndsDone : Progress → (commands : ℕ) → Cause → Type 0
+EndsDone p commands why = (why ≡ cause.Done) × IsFinished commands p
 
--- at the progress `p` with `commands` outstanding commands a connection was closed, or couldn't be made, for the first cause;
+-- at the progress `p` with `commands` outstanding commands a connection was closed, or couldn't be made, for the cause `other`;
+-- then the run ends for the cause `why`: it is done (`EndsDone`); or it isn't, `why` is `other`, a new connection would take a
+-- try, and no try is left
+abbrev pub EndsAgain : Plan → Progress → (commands : ℕ) (other why : Cause) → Type 0
+EndsAgain plan p commands other why =
+    EndsDone p commands why ⊎ ((why ≡ other) × (is_finished commands p ≡ false) × (is_spared plan other p ≡ false) × (p.tries ≡ 0))
+
+-- at the progress `p` with `commands` outstanding commands a connection was closed, or couldn't be made, for the cause `other`;
 -- then the run ends for the cause `why`. After `Clock` (the clock can't be read), `Turns` (all turns are used up), `Stale` and
 -- `Stopped`, `why` is that same cause. After `Done` the run is done: no command is left to be sent, and none is outstanding.
--- After any other cause it is done in the same way; or `why` is that other cause, a new connection would take a try, and no try
--- is left
-abbrev pub EndsAfter : Plan → Progress → ℕ → Cause → Cause → Type 0
+-- After any other cause it ends as `EndsAgain` says
+abbrev pub EndsAfter : Plan → Progress → (commands : ℕ) (other why : Cause) → Type 0
 EndsAfter plan p commands cause.Done why = EndsDone p commands why
 EndsAfter plan p commands cause.Clock why = why ≡ cause.Clock
 EndsAfter plan p commands cause.Turns why = why ≡ cause.Turns
 EndsAfter plan p commands cause.Stale why = why ≡ cause.Stale
 EndsAfter plan p commands cause.Stopped why = why ≡ cause.Stopped
-EndsAfter plan p commands other why =
-    EndsDone p commands why ⊎ ((why ≡ other) × (is_finished commands p ≡ false) × (is_spared plan other p ≡ false) × (p.tries ≡ 0))
+EndsAfter plan p commands other why = EndsAgain plan p commands other why
 
 -- the act, which performed the action `next`, closed the connection for some cause, or couldn't make one; and the run ends then
 -- for the cause `why`, as `EndsAfter` says. `p` and `w` are of the station before the act

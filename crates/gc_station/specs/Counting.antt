@@ -45,8 +45,8 @@ is_missed Missed = true
 is_missed _ = false
 
 -- `n`, or 2^64 - 1 if `n` is greater: a count of a tally holds no greater number
-abbrev pub at_most : ℕ → ℕ
-at_most n = min n 18446744073709551615
+abbrev pub capped : ℕ → ℕ
+capped n = min n 18446744073709551615
 
 -- whether the attempt before these records is followed by a further one of its chain: the next command among them that begins
 -- an attempt (its link is 0) has an attempt above 1. Records of cycle 0, which are of the setup, are passed over, as they
@@ -69,11 +69,11 @@ further_attempts (r ∷ others) =
 -- each count of the tally of any records is how many of those of last attempts have its ending, up to 2^64 - 1; `again` is how
 -- many times a chain was sent again
 pub record TalliesCountRecords : Type 0 where
-  pub answered : (records : List Record) → (tally_of records).answered ≡ at_most (how_many is_answered (last_attempts records))
-  pub unreadable : (records : List Record) → (tally_of records).unreadable ≡ at_most (how_many is_unreadable (last_attempts records))
-  pub late : (records : List Record) → (tally_of records).late ≡ at_most (how_many is_late (last_attempts records))
-  pub lost : (records : List Record) → (tally_of records).lost ≡ at_most (how_many is_lost (last_attempts records))
-  pub skipped : (records : List Record) → (tally_of records).skipped ≡ at_most (how_many is_skipped (last_attempts records))
-  pub missed : (records : List Record) → (tally_of records).missed ≡ at_most (how_many is_missed (last_attempts records))
-  pub elsewhere : (records : List Record) → (tally_of records).elsewhere ≡ at_most (how_many is_elsewhere (last_attempts records))
-  pub again : (records : List Record) → (tally_of records).again ≡ at_most (further_attempts records)
+  pub answered : (records : List Record) → (tally_of records).answered ≡ capped (how_many is_answered (last_attempts records))
+  pub unreadable : (records : List Record) → (tally_of records).unreadable ≡ capped (how_many is_unreadable (last_attempts records))
+  pub late : (records : List Record) → (tally_of records).late ≡ capped (how_many is_late (last_attempts records))
+  pub lost : (records : List Record) → (tally_of records).lost ≡ capped (how_many is_lost (last_attempts records))
+  pub skipped : (records : List Record) → (tally_of records).skipped ≡ capped (how_many is_skipped (last_attempts records))
+  pub missed : (records : List Record) → (tally_of records).missed ≡ capped (how_many is_missed (last_attempts records))
+  pub elsewhere : (records : List Record) → (tally_of records).elsewhere ≡ capped (how_many is_elsewhere (last_attempts records))
+  pub again : (records : List Record) → (tally_of records).again ≡ capped (further_attempts records)

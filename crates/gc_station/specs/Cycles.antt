@@ -11,22 +11,23 @@ use Rattle.gc_station.specs.Deciding.{may_go}
 use Rattle.gc_station.specs.Records.{Record}
 use Rattle.gc_station.specs.Runs.{state_after}
 use Rattle.gc_station.specs.Scopes.{Scope}
-use Rattle.gc_station.specs.Model.{opening, action_at, waiting_of, cycles_begun, place_next, is_chained, Runs}
+use Rattle.gc_station.specs.Model.{opening, action_at, waiting_of, Runs}
+use Rattle.gc_station.specs.NextCommand.{cycles_begun, place_next, is_chained}
 use Rattle.gc_station.specs.declared.plan.Plan.{Plan}
 use Rattle.gc_station.specs.declared.progress.Action.TheVariants.{Begin, Send, Skip}
 
 -- the clock doesn't go back: the first moment that these acts read is at or past `now`, each later one at or past the one
 -- before it, and all are at most 2^64 - 1
-abbrev pub ClockRises : ℕ → List Act → Type 0
+abbrev pub ClockRises : (now : ℕ) → List Act → Type 0
 ClockRises now [] = Unit {0}
 ClockRises now (Told m ∷ acts) = (now ≤ m.elapsed) × (m.elapsed ≤ 18446744073709551615) × ClockRises m.elapsed acts
 ClockRises now (Gave bytes m ∷ acts) = (now ≤ m.elapsed) × (m.elapsed ≤ 18446744073709551615) × ClockRises m.elapsed acts
 ClockRises now (Silent m ∷ acts) = (now ≤ m.elapsed) × (m.elapsed ≤ 18446744073709551615) × ClockRises m.elapsed acts
 ClockRises now (act ∷ acts) = ClockRises now acts
 
--- the due moment of the cycle that has this many cycles before it, if the first one began at the moment `first`, and cycles are
--- due `every` milliseconds apart
-abbrev pub due_after : ℕ → ℕ → ℕ → ℕ
+-- the due moment of the cycle that has `n` cycles before it, if the first one began at the moment `first`, and cycles are due
+-- `every` milliseconds apart
+abbrev pub due_after : (first every n : ℕ) → ℕ
 due_after first every zero = first
 due_after first every (suc n) = due_after first every n + every
 
@@ -58,11 +59,13 @@ pub record LastBegan (plan : Plan) (commands : List Task) (scope : Scope) (acts 
 -- a cycle begins at or after its due moment, where cycles have due moments and the clock doesn't go back
 abbrev pub CyclesBeginWhenDue : Type 0
 CyclesBeginWhenDue =
-    (plan : Plan) (commands : List Task) (scope : Scope) (acts later : List Act) (m : Moment) → 0 < plan.every → Runs plan commands (opening plan scope) (acts ++ Told m ∷ later)
+    (plan : Plan) (commands : List Task) (scope : Scope) (acts later : List Act) (m : Moment) → 0 < plan.every
+    → Runs plan commands (opening plan scope) (acts ++ Told m ∷ later)
     → ClockRises 0 (acts ++ Told m ∷ []) → action_at plan (state_after plan commands scope acts) ≡ Begin
     → (late : ℕ) × BeginsLate plan commands scope (acts ++ Told m ∷ []) (cycles_begun plan (state_after plan commands scope acts).progress) m late
 
--- if a command is sent, its cycle began before the next one was due, if cycles have due moments and the clock doesn't go back
+-- if a command of a cycle is sent, its cycle began before the next one was due, where cycles have due moments and the clock doesn't
+-- go back
 abbrev pub SentOnlyInTime : Type 0
 SentOnlyInTime =
     (plan : Plan) (commands : List Task) (scope : Scope) (acts : List Act) → 0 < plan.every → Runs plan commands (opening plan scope) acts → ClockRises 0 acts
@@ -80,9 +83,9 @@ pub record IsMissedIn (plan : Plan) (commands : List Task) (scope : Scope) (acts
   pub sent : r.sent ≡ None
   pub due : r.utc ≡ moment.utc - late
 
--- the command of the record `r` is skipped: it is of a chain, and not its first; its cycle began before the next one was due;
--- it wasn't sent, because the one before it wasn't answered well, or a connection was closed or the station resynchronized
--- since that one was sent (`broken`); and the record has the moment that was read to record it
+-- the command of the record `r` is skipped: it is of a chain, and not its first (it isn't the cycle's first, and it is chained); its
+-- cycle began before the next one was due; it wasn't sent, because the one before it wasn't answered well, or a connection was
+-- closed or the station resynchronized since that one was sent (`broken`); and the record has the moment that was read to record it
 pub record IsSkippedIn (plan : Plan) (commands : List Task) (scope : Scope) (acts : List Act) (r : Record) : Type 0 where
   pub before : List Act
   pub moment : Moment
@@ -102,7 +105,8 @@ pub record IsSkippedIn (plan : Plan) (commands : List Task) (scope : Scope) (act
 -- if the record `r` is of a missed or a skipped command, that command was missed as `IsMissedIn` says, or skipped as
 -- `IsSkippedIn` says
 abbrev pub UnsentIsJustified : Plan → List Task → Scope → List Act → Record → Type 0
-UnsentIsJustified plan commands scope acts r = (r.end ≡ Missed → IsMissedIn plan commands scope acts r) × (r.end ≡ Skipped → IsSkippedIn plan commands scope acts r)
+UnsentIsJustified plan commands scope acts r =
+    (r.end ≡ Missed → IsMissedIn plan commands scope acts r) × (r.end ≡ Skipped → IsSkippedIn plan commands scope acts r)
 
 -- each record of a missed or a skipped command is justified, where cycles have due moments and the clock doesn't go back
 abbrev pub UnsentForACause : Type 0

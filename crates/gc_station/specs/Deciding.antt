@@ -1,9 +1,9 @@
--- What a station does next, this project's own. It is a function of how far the station is, and of how many requests are
--- outstanding: in all, of those that haven't timed out, and of commands. The phases are: without a connection (`Down`), in the
--- pause before the next attempt (`Pausing`), before the line feed that clears a connection (`Clearing`), until a connection is
--- quiet (`Draining`), with a connection for requests (`Ready`), before a close (`Closing`), and at the end (`Over`). Of the
--- progress, `left` counts the cycles that haven't begun, and `unsent` the commands of the cycle that are left: neither sent, nor
--- recorded without being sent, nor left out.
+-- What a station does next, this project's own. It is a function of the plan, of how far the station is, of how many requests are
+-- outstanding (in all, of those that haven't timed out, and of commands), and of how the last commands ended. The phases are:
+-- without a connection (`Down`), in the pause before the next attempt (`Pausing`), before the line feed that clears a connection
+-- (`Clearing`), until a connection is quiet (`Draining`), with a connection for requests (`Ready`), before a close (`Closing`), and
+-- at the end (`Over`). Of the progress, `left` counts the cycles that haven't begun, and `unsent` the commands of the cycle that are
+-- left: neither sent, nor recorded without being sent, nor left out.
 use Rattle.std.specs.Prelude.{ℕ, ◌+◌, ◌-◌, ◌&&◌, ◌||◌, Bool, true, false, not, if◌then◌else◌, nat_lt, nat_le, nat_eq, min, max, List, [], ◌∷◌}
 use Rattle.gc_client.specs.declared.window.TheConstants.{WINDOW}
 use Rattle.gc_station.specs.declared.plan.Plan.{Plan}
@@ -21,7 +21,7 @@ abbrev pub width_of : Plan → ℕ
 width_of plan = min (max plan.width 1) 7
 
 -- the moment `wait` milliseconds after `moment`, or the greatest `u64` if that is past it
-abbrev pub later : ℕ → ℕ → ℕ
+abbrev pub later : (moment wait : ℕ) → ℕ
 later moment wait = min (moment + wait) 18446744073709551615
 
 -- whether there is a connection in this phase
@@ -35,7 +35,7 @@ is_up (phase.Closing cause) = true
 is_up (phase.Over cause) = false
 
 -- whether at least `wait` milliseconds lie between `since`, from when a pause or a quiet time counts, and the moment read last
-abbrev pub is_past : ℕ → Progress → Bool
+abbrev pub is_past : (wait : ℕ) → Progress → Bool
 is_past wait p = nat_le wait (p.moment.elapsed - p.since)
 
 -- whether at least the plan's quiet time lies between `since`, from when it counts, and the moment read last
@@ -51,23 +51,23 @@ is_none_left (asked ∷ others) = false
 abbrev pub has_begun : Progress → Bool
 has_begun p = is_none_left p.word
 
--- after how long without a reply line the line is dead: twice the longest deadline
+-- after how many milliseconds without a reply line the line is dead: twice the longest deadline, at most the greatest `u64`
 abbrev pub dead_after : Plan → ℕ
 dead_after plan = later plan.deadline plan.deadline
 
 -- whether the line is dead: a request is outstanding, or the null procedure of the first id that isn't answered was sent on this
--- connection (`again`); and no reply line came for `dead_after`, counted from `alive`
+-- connection (`again` isn't 0); and no reply line came for `dead_after`, counted from `alive`
 abbrev pub is_dead : Plan → Progress → Waiting → Bool
 is_dead plan p w = (nat_lt 0 w.all || nat_lt 0 p.again) && nat_le (dead_after plan) (p.moment.elapsed - p.alive)
 
--- whether the run is stale: no answer of a good quality was recorded for as long as the plan allows; false if the plan sets no
--- limit (`stale` is 0)
+-- whether the run is stale: no answer of a good quality was recorded for as long as the plan allows, counted from `fresh`; false
+-- if the plan sets no limit (`stale` is 0)
 abbrev pub is_stale : Plan → Progress → Waiting → Bool
 is_stale plan p w = nat_lt 0 plan.stale && nat_le plan.stale (p.moment.elapsed - w.fresh)
 
--- whether the station is between two chains: no command of the cycle is left, or the next one begins a chain or a further attempt of
--- one; or there is a setup, and since the connection was made and the station synchronized no cycle began or went on (`preparing`),
--- so that no chain goes on. In a missed cycle all commands count as one chain
+-- whether the station is between two chains: no command of the cycle is left, or the next one begins a chain or a further attempt
+-- of one; or there is a setup, and since the connection was made and the station synchronized no cycle began or went on
+-- (`preparing`), so that no chain goes on. In a missed cycle each command, the first one too, counts as going on with a chain
 abbrev pub is_between : Progress → Bool
 is_between p = (nat_eq p.unsent 0 || not p.next_is_chained) || p.preparing
 
@@ -105,7 +105,7 @@ abbrev pub goes_on : Plan → Progress → Bool
 goes_on plan p = nat_lt 0 p.unsent || is_due plan p
 
 -- whether no command of any cycle is left to be sent, and none is outstanding: `commands` is how many are outstanding
-abbrev pub is_finished : ℕ → Progress → Bool
+abbrev pub is_finished : (commands : ℕ) → Progress → Bool
 is_finished commands p = nat_eq p.left 0 && nat_eq p.unsent 0 && nat_eq commands 0
 
 -- the next action while the station synchronizes: to send the null procedure of the first id that isn't answered, for the first
@@ -136,7 +136,8 @@ action_room plan p w action = if has_room plan w then action else action_waiting
 
 -- the next action when the next command may be sent, of a cycle (`action` is `Send`) or of the setup (`Prepare`): `action`, if one
 -- of the seven requests before it is a call of the table that a reply ended (`behind`). Else a null procedure is sent first
--- (`Flush`), once no request is in flight that hasn't timed out. Without room for either it is the action of a station that waits
+-- (`Flush`), once no request is in flight that hasn't timed out. Until then, and without room for either, it is the action of a
+-- station that waits
 abbrev pub action_next : Plan → Progress → Waiting → Action → Action
 action_next plan p w action =
     if nat_lt p.behind WINDOW then action_room plan p w action
@@ -160,7 +161,7 @@ abbrev pub action_again : Plan → Progress → Waiting → Action
 action_again plan p w = if w.listed && not p.next_is_chained then action_next plan p w Send else Pass
 
 -- the next action if each command that was sent is settled: that of a done cycle if no command is left; that of a further
--- attempt if the next command begins one; to send the next command if it may be sent; and else to skip it
+-- attempt if the next command begins one; that of `action_next` if the next command may be sent; and else to skip it
 abbrev pub action_settled : Plan → Progress → Waiting → Action
 action_settled plan p w =
     if nat_eq p.unsent 0 then action_done plan p
@@ -168,9 +169,10 @@ action_settled plan p w =
     else if may_go p w then action_next plan p w Send
     else Skip
 
--- the next action if no command may be sent before those that are outstanding are settled: each of the cycle was sent, or the
--- next one is chained or begins a further attempt. If some are outstanding, and all outstanding requests have timed out, a null
--- procedure is sent, if there is room; its reply settles them. If none is, that of `action_settled`
+-- the next action if no command may be sent before those that are outstanding are settled: none of the cycle is left, or the next
+-- one is chained or begins a further attempt. If no command is outstanding, it is that of `action_settled`. If some are, and all
+-- outstanding requests have timed out, a null procedure is sent, if there is room; its reply settles them. Otherwise the station
+-- waits
 abbrev pub action_sent : Plan → Progress → Waiting → Action
 action_sent plan p w =
     if nat_eq w.commands 0 then action_settled plan p w
@@ -182,10 +184,12 @@ action_sent plan p w =
 abbrev pub action_next_of_setup : Plan → Progress → Waiting → Action
 action_next_of_setup plan p w = if nat_lt p.prepared plan.setup then action_next plan p w Prepare else Read Limit
 
--- the next action while the setup isn't done: nothing is sent if no command is left to be sent after it, nor between cycles.
--- Its first command may be sent at once (`action_next`), and each other one once the one before it was answered well. If it
--- wasn't, the connection is closed, and the setup begins with its first command on the next one. If commands are outstanding, and
--- all outstanding requests have timed out, a null procedure is sent, if there is room; its reply settles them
+-- the next action while the setup isn't done: nothing is sent if no command of a cycle is left to be sent and no command is
+-- outstanding (the connection is closed: the run is done), nor between cycles (it reads until the next is due). The setup's first
+-- command may be sent at once (`action_next`), and each other one once the one before it was answered well. If that wasn't, the
+-- connection is closed, and the setup begins with its first command on the next one. If commands are outstanding, and all
+-- outstanding requests have timed out, a null procedure is sent, if there is room; its reply settles them. Otherwise the station
+-- waits
 abbrev pub action_preparing : Plan → Progress → Waiting → Action
 action_preparing plan p w =
     if is_finished w.commands p then Close Done
@@ -196,13 +200,13 @@ action_preparing plan p w =
     else action_waiting plan p w
 
 -- the next action once the station has synchronized and its setup is done: that of `action_next`, if there is a command that
--- needn't wait for the answer of the command before it; otherwise that of `action_sent`
+-- needn't wait for those before it (`waits_for_all`); otherwise that of `action_sent`
 abbrev pub action_cycle : Plan → Progress → Waiting → Action
 action_cycle plan p w = if nat_lt 0 p.unsent && not (waits_for_all p) then action_next plan p w Send else action_sent plan p w
 
--- whether the setup is still to be done: no cycle began or went on since the connection was made and the station synchronized
--- (`preparing`), and a command of the setup wasn't sent yet, or a command is outstanding, or the one recorded last wasn't answered
--- well. False if there is no setup
+-- whether the setup is still to be done: there is one, and no cycle began or went on since the connection was made and the station
+-- synchronized (`preparing`); and a command of the setup wasn't sent yet, or a command is outstanding, or the one recorded last
+-- wasn't answered well
 abbrev pub is_preparing : Plan → Progress → Waiting → Bool
 is_preparing plan p w = p.preparing && not (nat_le plan.setup p.prepared && nat_eq w.commands 0 && w.well)
 
@@ -229,8 +233,8 @@ action_of_phase plan phase.Ready p w = action_ready plan p w
 action_of_phase plan (phase.Closing cause) p w = Close cause
 action_of_phase plan (phase.Over cause) p w = Stop cause
 
--- the next action if all turns are used up: with a connection (`true`) to close it, else to stop
-abbrev pub action_without_turns : Bool → Action
+-- the next action if all turns are used up: with a connection (`connected`) to close it, else to stop
+abbrev pub action_without_turns : (connected : Bool) → Action
 action_without_turns true = Close Turns
 action_without_turns false = Stop Turns
 

@@ -16,18 +16,19 @@ use Rattle.gc_station.specs.Lists.{with_unless}
 use Rattle.gc_station.specs.Records.{Record}
 pub use Rattle.gc_station.specs.Requests.{Request, requests, of_command, of_task, in_text}
 use Rattle.gc_station.specs.Runs.{state_after}
-use Rattle.gc_station.specs.Model.{Model, action_at, cycles_begun, place_next}
+use Rattle.gc_station.specs.Model.{Model, action_at}
+use Rattle.gc_station.specs.NextCommand.{cycles_begun, place_next}
 use Rattle.gc_station.specs.Scopes.{Scope}
 
--- all commands of the first cycles, as many as the number says, in order. Cycles count from 1, and the commands of each are
--- those of the list `commands` but the first `setup`, which are the setup
-abbrev pub all_cycles : ℕ → List Task → ℕ → List Request
+-- all commands of the first `cycles` cycles, in order. Cycles count from 1, and the commands of each are those of the list
+-- `commands` but the first `setup`, which are the setup
+abbrev pub all_cycles : (setup : ℕ) (commands : List Task) (cycles : ℕ) → List Request
 all_cycles setup commands zero = []
 all_cycles setup commands (suc n) = all_cycles setup commands n ++ requests (suc n) setup (map of_task (drop setup commands))
 
--- the commands that had their turn, sent or not, if this many cycles began: all of the cycles before the last one, and those
+-- the commands that had their turn, sent or not, if `cycles` cycles began: all of the cycles before the last one, and those
 -- before the place `place` of the last one. The first `setup` of the list `commands` are the setup
-abbrev pub commands_reached : ℕ → List Task → ℕ → ℕ → List Request
+abbrev pub commands_reached : (setup : ℕ) (commands : List Task) (cycles place : ℕ) → List Request
 commands_reached setup commands zero place = []
 commands_reached setup commands (suc n) place = all_cycles setup commands n ++ requests (suc n) setup (map of_task (drop setup (take place commands)))
 
@@ -52,18 +53,20 @@ still_waiting (mark ∷ marks) [] = []
 still_waiting (None ∷ marks) (p ∷ others) = still_waiting marks others
 still_waiting (Some mark ∷ marks) (p ∷ others) = of_waiting mark p ∷ still_waiting marks others
 
--- the third list consists of the elements of `xs` and those of `ys`, mixed: each element of it is the next one of `xs` or the
+-- the list `zs` consists of the elements of `xs` and those of `ys`, mixed: each element of it is the next one of `xs` or the
 -- next one of `ys`
-abbrev pub Interleave : {A : Type 0} → List A → List A → List A → Type 0
+abbrev pub Interleave : {A : Type 0} → (xs ys zs : List A) → Type 0
 Interleave xs ys [] = (xs ≡ []) × (ys ≡ [])
-Interleave {A} xs ys (z ∷ zs) = ((others : List A) × (xs ≡ z ∷ others) × Interleave others ys zs) ⊎ ((others : List A) × (ys ≡ z ∷ others) × Interleave xs others zs)
+Interleave {A} xs ys (z ∷ zs) =
+    ((others : List A) × (xs ≡ z ∷ others) × Interleave others ys zs)
+    ⊎ ((others : List A) × (ys ≡ z ∷ others) × Interleave xs others zs)
 
 -- those of the requests `xs` that are of a cycle, as the text has them: commands that set the clock are without their moments
 abbrev pub of_text : List Task → List Request → List Request
 of_text commands xs = map (in_text commands) (of_cycles xs)
 
--- each command that had its turn, in order, either has its record, or is outstanding after the records; or it is of an attempt
--- that was left out (`passes`). This holds if the station has the model `s`
+-- if the station has the model `s`: each command that had its turn, in order, either has its record, or is outstanding after the
+-- records; or it is of an attempt that was left out (`passes`)
 abbrev pub IsEachOnce : Plan → List Task → Model → Type 0
 IsEachOnce plan commands s =
     Interleave (of_text commands (map of_record s.records ++ still_waiting s.marks s.client.waiting)) s.passes
@@ -75,12 +78,14 @@ pub record EachOnce (plan : Plan) (commands : List Task) (scope : Scope) (acts :
   pub each : IsEachOnce plan commands (state_after plan commands scope acts)
   pub settled : (cause : Cause) → action_at plan (state_after plan commands scope acts) ≡ Stop cause
       → Interleave (of_text commands (map of_record (state_after plan commands scope acts).records)) (state_after plan commands scope acts).passes
-      (commands_reached plan.setup commands (cycles_begun plan (state_after plan commands scope acts).progress) (place_next commands (state_after plan commands scope acts).progress))
+      (commands_reached plan.setup commands (cycles_begun plan (state_after plan commands scope acts).progress)
+      (place_next commands (state_after plan commands scope acts).progress))
   pub done : action_at plan (state_after plan commands scope acts) ≡ Stop Done
-      → Interleave (of_text commands (map of_record (state_after plan commands scope acts).records)) (state_after plan commands scope acts).passes (all_cycles plan.setup commands plan.cycles)
+      → Interleave (of_text commands (map of_record (state_after plan commands scope acts).records)) (state_after plan commands scope acts).passes
+      (all_cycles plan.setup commands plan.cycles)
 
 -- with the model `t` a station is further than with `s`: in a later cycle, or at a later place in the same cycle
-abbrev pub IsFurther : Plan → List Task → Model → Model → Type 0
+abbrev pub IsFurther : Plan → List Task → (s t : Model) → Type 0
 IsFurther plan commands s t =
     (cycles_begun plan s.progress < cycles_begun plan t.progress)
     ⊎ ((cycles_begun plan s.progress ≡ cycles_begun plan t.progress) × (place_next commands s.progress < place_next commands t.progress))

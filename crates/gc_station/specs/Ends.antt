@@ -14,7 +14,7 @@ use Rattle.gc_links.specs.declared.link.Moment.{Moment}
 use Rattle.gc_station.specs.declared.plan.Plan.{Plan}
 use Rattle.gc_station.specs.declared.progress.Action.TheVariants.{Renew, Stop}
 use Rattle.gc_links.specs.Acts.{Act, Told, Gave, Silent}
-use Rattle.gc_station.specs.Answers.{IsOwnRequest, IsWrittenAt, deadline_after}
+use Rattle.gc_station.specs.Answers.{IsRecordedBy, deadline_after}
 use Rattle.gc_station.specs.Quiet.{IsAsking}
 use Rattle.gc_station.specs.Records.{Record}
 use Rattle.gc_station.specs.Runs.{state_after}
@@ -45,20 +45,14 @@ pub record BringsLine (plan : Plan) (commands : List Task) (scope : Scope) (acts
   pub came : lines_completed (state_after plan commands scope acts).rest piece ≡ front ++ line ∷ others
   pub has : heard line ≡ Some id
 
--- among `acts` the act `request` writes the request of the record `r`; then, up to the read that gave `piece` at the latest, a
--- moment at or past its deadline is read; the piece completes a line with the request's id; and at that read `r` is recorded
+-- among `acts` a read that gave `piece` adds the record `r`, after the act that writes its request (`its`). Between the two, or by the
+-- read itself, a moment at or past the request's deadline is read; and the piece completes a line with the request's id
 pub record IsLateIn (plan : Plan) (commands : List Task) (scope : Scope) (acts : List Act) (r : Record) : Type 0 where
-  pub before : List Act
-  pub request : Act
-  pub between : List Act
   pub piece : List ℕ
   pub moment : Moment
-  pub behind : List Act
-  pub order : acts ≡ before ++ request ∷ (between ++ Gave piece moment ∷ behind)
-  pub own : IsOwnRequest plan commands scope before request r
-  pub too_late : OneReadsPast (deadline_after plan commands scope before) (between ++ Gave piece moment ∷ [])
-  pub came : BringsLine plan commands scope (before ++ request ∷ between) piece (state_after plan commands scope before).client.next
-  pub written : IsWrittenAt plan commands scope (before ++ request ∷ between) (Gave piece moment) r
+  pub its : IsRecordedBy plan commands scope acts r (Gave piece moment)
+  pub too_late : OneReadsPast (deadline_after plan commands scope its.before) (its.between ++ Gave piece moment ∷ [])
+  pub came : BringsLine plan commands scope (its.before ++ its.request ∷ its.between) piece (state_after plan commands scope its.before).client.next
 
 -- between `request`, which comes after the acts `before`, and `act` another request was sent (`other`); that other one is still
 -- outstanding, and `act` is a read that completes a line with its id
@@ -91,20 +85,14 @@ pub record IsLast (plan : Plan) (commands : List Task) (scope : Scope) (acts : L
   pub why : Cause
   pub stops : action_at plan (state_after plan commands scope (acts ++ act ∷ [])) ≡ Stop why
 
--- among `acts` the act `request` writes the request of the record `r`, and a later act records it as lost. That act brings a
--- line with the id of a request that was sent after it, or the station resynchronizes at that act, or the act is the last one
--- of the run
+-- among `acts` the act `act` adds the record `r`, after the one that writes its request (`its`). It brings a line with the id of a
+-- request that was sent after that one, or the station resynchronizes at it, or it is the last act of the run
 pub record IsLostIn (plan : Plan) (commands : List Task) (scope : Scope) (acts : List Act) (r : Record) : Type 0 where
-  pub before : List Act
-  pub request : Act
-  pub between : List Act
   pub act : Act
-  pub behind : List Act
-  pub order : acts ≡ before ++ request ∷ (between ++ act ∷ behind)
-  pub own : IsOwnRequest plan commands scope before request r
-  pub written : IsWrittenAt plan commands scope (before ++ request ∷ between) act r
-  pub shown : IsOvertaken plan commands scope before request between act
-      ⊎ (Resynchronizes plan commands scope (before ++ request ∷ between) act ⊎ IsLast plan commands scope (before ++ request ∷ between) act behind)
+  pub its : IsRecordedBy plan commands scope acts r act
+  pub shown : IsOvertaken plan commands scope its.before its.request its.between act
+      ⊎ (Resynchronizes plan commands scope (its.before ++ its.request ∷ its.between) act
+      ⊎ IsLast plan commands scope (its.before ++ its.request ∷ its.between) act its.behind)
 
 -- if the record `r` says that its command is late, `IsLateIn` holds: the request was sent, and its reply came too late
 abbrev pub LateIsJustified : Plan → List Task → Scope → List Act → Record → Type 0

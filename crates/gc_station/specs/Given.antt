@@ -7,17 +7,18 @@ use Rattle.gc_links.specs.Acts.{Act, Gave, Closed}
 use Rattle.gc_station.specs.Model.{Model, opening, is_heard, after}
 use Rattle.gc_station.specs.Scopes.{Scope}
 
--- the bytes on a connection after one more act, if there were `bytes` before it: a read adds its piece where bytes are heard,
--- and a close leaves none
-abbrev pub bytes_heard_with : Bool → Act → List ℕ → List ℕ
+-- the bytes on a connection after one more act, if there were `bytes` before it: a read adds its piece if what comes is heard
+-- (`heard`), and a close leaves none
+abbrev pub bytes_heard_with : (heard : Bool) → Act → (bytes : List ℕ) → List ℕ
 bytes_heard_with heard (Gave piece m) bytes = if heard then bytes ++ piece else bytes
 bytes_heard_with heard Closed bytes = []
 bytes_heard_with heard act bytes = bytes
 
 -- the bytes on a connection after these acts, if the station has the model `s` and there were `bytes` before them
-abbrev pub bytes_heard_from : Plan → List Task → Model → List ℕ → List Act → List ℕ
+abbrev pub bytes_heard_from : Plan → List Task → Model → (bytes : List ℕ) → List Act → List ℕ
 bytes_heard_from plan commands s bytes [] = bytes
-bytes_heard_from plan commands s bytes (act ∷ acts) = bytes_heard_from plan commands (after plan commands s act) (bytes_heard_with (is_heard s.progress.phase) act bytes) acts
+bytes_heard_from plan commands s bytes (act ∷ acts) =
+    bytes_heard_from plan commands (after plan commands s act) (bytes_heard_with (is_heard s.progress.phase) act bytes) acts
 
 -- the bytes that were given on the current connection while they were heard, after these acts of a run
 abbrev pub bytes_heard : Plan → List Task → Scope → List Act → List ℕ

@@ -1,5 +1,6 @@
 -- What lasts while a run goes on, this project's own: at each act of the link all that the acts before it settled is in the
--- book, and lasts. An act is one call on the link, with its result. The book is what takes the texts of the records.
+-- book, and lasts. An act is one call on the link, with its result. The book is what takes the texts of the records; `text` gives
+-- the text of a record.
 use Rattle.std.specs.Prelude.{◌≡◌, ℕ, Bool, true, List, [], ◌∷◌, ◌++◌, Option, Result, Ok, Err, refl}
 use Rattle.std.specs.Coded.{Coded, code_by, coded×, coded_ℕ, coded_bool, coded_list, coded_option}
 use Rattle.std.specs.Io.KnownBytes.{Appends}
@@ -34,7 +35,8 @@ pub record IsKept (plan : Plan) (commands : List Task) (scope : Scope) (text : R
 -- the acts `acts`, which follow those of `done`, have these turns, one for one and in order: each turn is of the moment before
 -- its act, and `IsKept` says that what the acts before that moment settled was durable in the book. `told` and `taken` are what
 -- the link had recorded and the book had taken before the run
-abbrev pub AreKept : Plan → List Task → Scope → (Record → List ℕ) → Option (List Act) → Option (List ℕ) → (done acts : List Act) → List Snapshot → Type 0
+abbrev pub AreKept : Plan → List Task → Scope → (Record → List ℕ) → (told : Option (List Act)) (taken : Option (List ℕ)) (done acts : List Act)
+    → List Snapshot → Type 0
 AreKept plan commands scope text told taken done [] [] = Unit {0}
 AreKept plan commands scope text told taken done [] (turn ∷ turns) = ⊥
 AreKept plan commands scope text told taken done (act ∷ acts) [] = ⊥
@@ -53,13 +55,13 @@ pub record KeepsUp (plan : Plan) (commands : List Task) (scope : Scope) (text : 
   pub saw : seen' ≡ seen ++ turns
   pub kept : AreKept plan commands scope text told taken [] acts turns
 
--- `KeepsUp` of a run with at most `turns` acts, for each function that gives each line's reading for a call
+-- `KeepsUp` of a run with this many turns, for each function that gives each line's reading for a call
 abbrev pub KeepsUpForEachReadings : Plan → List Task → (turns : ℕ) → (Record → List ℕ) → (told told' : Option (List Act)) → (taken : Option (List ℕ))
     → (seen seen' : List Snapshot) → (others : List Act) → Type 0
 KeepsUpForEachReadings plan commands turns text told told' taken seen seen' others =
     ForEachReadings (λ reads. KeepsUp plan commands (scoped turns reads) text told told' taken seen seen' others)
 
--- `KeepsUp` of a run with at most `turns` acts, for each function that gives each line's reading for a call; and there is such a
+-- `KeepsUp` of a run with this many turns, for each function that gives each line's reading for a call; and there is such a
 -- function
 abbrev pub KeepsUpForReadings : Plan → List Task → (turns : ℕ) → (Record → List ℕ) → (told told' : Option (List Act)) → (taken : Option (List ℕ))
     → (seen seen' : List Snapshot) → (others : List Act) → Type 0

@@ -8,6 +8,7 @@ pub mod Lines
 pub mod Deciding
 pub mod Progressing
 pub mod ActKinds
+pub mod NextCommand
 pub mod Model
 pub mod Tallies
 pub mod Writing

@@ -1,59 +1,57 @@
 -- Chains by the parts of a run, this project's own: the commands of a chain are requests of one part, each after the answer of
 -- the one before it. A part reaches from one synchronization to the next (`Parts`). An act is one call on the link, with its
 -- result.
-use Rattle.std.specs.Prelude.{◌≡◌, ◌⊎◌, ℕ, suc, ◌<◌, ◌≤◌, true, List, ◌++◌, drop, length, Option, Some, slice_get}
-use Rattle.gc_catalogue.specs.declared.answer.Answer.{Answer}
+use Rattle.std.specs.Prelude.{◌≡◌, ◌⊎◌, ℕ, suc, ◌<◌, ◌≤◌, true, List, ◌++◌, drop, length, Some, slice_get}
+use Rattle.gc_catalogue.specs.declared.answer.Reading.{Reading}
+use Rattle.gc_catalogue.specs.declared.asked.Asked.{Asked}
 use Rattle.gc_links.specs.Acts.{Act}
-use Rattle.gc_texts.specs.Endings.{Answered}
-use Rattle.gc_texts.specs.Qualities.{is_good}
 use Rattle.gc_texts.specs.declared.near.Expected.{Expected}
-use Rattle.gc_texts.specs.declared.quality.Quality.{Quality}
 use Rattle.gc_texts.specs.declared.tasks.Task.{Task}
 use Rattle.gc_station.specs.Parts.{Part, mark_of, parts_of}
-use Rattle.gc_station.specs.Qualities.{IsOfQuality, accepted_at}
+use Rattle.gc_station.specs.Qualities.{IsGoodAnswer}
 use Rattle.gc_station.specs.Records.{Record}
 use Rattle.gc_station.specs.Runs.{state_after}
 use Rattle.gc_station.specs.Scopes.{Scope}
-use Rattle.gc_station.specs.Model.{Runs, is_chained, opening}
+use Rattle.gc_station.specs.Model.{Runs, opening}
+use Rattle.gc_station.specs.NextCommand.{is_chained}
 use Rattle.gc_station.specs.declared.mark.Mark.{Mark}
 use Rattle.gc_station.specs.declared.plan.Plan.{Plan}
 
 -- each command of the list after the one at place `a`, up to the one at place `b`, is sent only once the one before it was
 -- answered well
-abbrev pub AreChained : List Task → ℕ → ℕ → Type 0
+abbrev pub AreChained : List Task → (a b : ℕ) → Type 0
 AreChained commands a b = (p : ℕ) → a < p → p ≤ b → is_chained (drop p commands) ≡ true
 
 -- the pair of i and m comes before the pair of j and n: by the first numbers or, if these are equal, by the second ones
-abbrev pub IsBefore : ℕ → ℕ → ℕ → ℕ → Type 0
+abbrev pub IsBefore : (i m j n : ℕ) → Type 0
 IsBefore i m j n = (i < j) ⊎ ((i ≡ j) × (m < n))
 
 -- the parts of the run that makes `acts`
 abbrev pub parts : Plan → List Task → Scope → List Act → List Part
 parts plan commands scope acts = parts_of plan commands (opening plan scope) acts
 
--- after `acts` record number `k` is of the command at place `a` of this cycle, and is an answer of a good quality: with both
--- codes 0 and values that read, or with a return code that is accepted of that command. Request number `m` of `part` is of that
--- command, and each command that was sent after it in that part is of a cycle, and none of the setup
-pub record IsAnsweredEarlier (plan : Plan) (commands : List Task) (scope : Scope) (acts : List Act) (part : Part) (cycle a : ℕ) : Type 0 where
+-- one of `records`, number `k`, is of the command at place `a` of this cycle, and is an answer of a good quality (`IsGoodAnswer`).
+-- `reads` gives what a line says of a call
+pub record WasAnsweredWell (reads : Asked → List ℕ → Reading) (commands : List Task) (records : List Record) (cycle a : ℕ) : Type 0 where
   pub k : ℕ
   pub answer : Record
-  pub among : slice_get (state_after plan commands scope acts).records k ≡ Some answer
+  pub among : slice_get records k ≡ Some answer
   pub own_cycle : answer.cycle ≡ cycle
   pub own_place : answer.place ≡ a
-  pub line : List ℕ
-  pub quality : Quality
-  pub said : Option Answer
-  pub answered : answer.end ≡ Answered quality said line
-  pub well : is_good quality ≡ true
-  pub says : IsOfQuality scope.reads (accepted_at commands a) answer.command.call quality said line
+  pub good : IsGoodAnswer reads commands answer
+
+-- after `acts` the command at place `a` of this cycle has a record, and was answered well (`its`). Request number `m` of `part` is of
+-- that command, and each command that was sent after it in that part is of a cycle, and none of the setup
+pub record IsAnsweredEarlier (plan : Plan) (commands : List Task) (scope : Scope) (acts : List Act) (part : Part) (cycle a : ℕ) : Type 0 where
+  pub its : WasAnsweredWell scope.reads commands (state_after plan commands scope acts).records cycle a
   pub m : ℕ
   pub expected : Expected
-  pub mark : slice_get part.marks m ≡ Some (Some (mark_of expected answer))
+  pub mark : slice_get part.marks m ≡ Some (Some (mark_of expected its.answer))
   pub of_cycles : (x : ℕ) (mark : Mark) → m < x → slice_get part.marks x ≡ Some (Some mark) → 0 < mark.cycle
 
--- the command of this cycle and place was sent as request number `n` of part number `i` of the run, both counted from 0: after
--- the acts `before`, part `i` is the last one and has `n` requests so far; and each earlier command of its chain was answered
--- by then, as a request of that same part
+-- what holds just before request number `n` of part number `i` (both counted from 0) is sent, which is of the command of this cycle
+-- and place: after the acts `before` part `i` is the last one, and `first` is that part so far, with `n` requests; and each earlier
+-- command of the same chain was answered well, as a request of `first`
 pub record IsSentAfter (plan : Plan) (commands : List Task) (scope : Scope) (acts : List Act) (i n cycle place : ℕ) : Type 0 where
   pub before : List Act
   pub rest : List Act

@@ -27,8 +27,8 @@ commands_in (None ∷ marks) = commands_in marks
 commands_in (Some mark ∷ marks) = suc (commands_in marks)
 
 -- how a command ends whose reply, `line`, has this answer. If the answer was measured elsewhere than the command's target is
--- (`true`): as elsewhere. Otherwise as answered, with this quality
-abbrev pub value_as : Quality → Bool → Answer → List ℕ → End
+-- (`away`): as elsewhere. Otherwise as answered, with this quality
+abbrev pub value_as : Quality → (away : Bool) → Answer → (line : List ℕ) → End
 value_as quality true answer line = end.Elsewhere line
 value_as quality false answer line = end.Answered quality (Some answer) line
 
@@ -41,17 +41,17 @@ warned_as near (reading.Refused code) line = end.Answered quality.Warning None l
 warned_as near (reading.ComFault code) line = end.Answered quality.Warning None line
 warned_as near (reading.Unreadable fault) line = end.Answered quality.Warning None line
 
--- how a command ends whose reply, `line`, has a return code other than 0, which is accepted (`true`) or not. The line would say
--- `zeroed` with return code 0, and `near` says where the command's target is, if the text says so
-abbrev pub refused_as : Bool → Option Near → Reading → List ℕ → End
+-- how a command ends whose reply, `line`, has a return code other than 0, which is accepted or not. The line would say `zeroed`
+-- with return code 0, and `near` says where the command's target is, if the text says so
+abbrev pub refused_as : (accepted : Bool) → Option Near → (zeroed : Reading) → (line : List ℕ) → End
 refused_as true near zeroed line = warned_as near zeroed line
 refused_as false near zeroed line = end.Answered quality.Refused None line
 
--- how a command ends whose reply, `line`, came in time. The line says the first of these readings, and would say `zeroed` with
--- return code 0. `expected` says where the target is, if the text says so, and which return codes are accepted. As unreadable:
--- both codes are 0, and the values don't read. As elsewhere: the answer was measured elsewhere than the target is. Otherwise as
--- answered: fine with both codes 0, with a warning if the return code is accepted, and else refused
-abbrev pub answer_as : Expected → Reading → Reading → List ℕ → End
+-- how a command ends whose reply, `line`, came in time. The line says `said`, and would say `zeroed` with return code 0.
+-- `expected` says where the target is, if the text says so, and which return codes are accepted. As unreadable: both codes are 0,
+-- and the values don't read. As elsewhere: the answer was measured elsewhere than the target is. Otherwise as answered: fine with
+-- both codes 0, with a warning if the return code is accepted, and else refused
+abbrev pub answer_as : Expected → (said zeroed : Reading) → (line : List ℕ) → End
 answer_as expected (reading.Unreadable fault) zeroed line = end.Unreadable line fault
 answer_as expected (reading.Value answer) zeroed line = value_as quality.Fine (is_elsewhere expected.near answer) answer line
 answer_as expected (reading.Refused code) zeroed line = refused_as (lists_code expected.accepted code) expected.near zeroed line
@@ -70,7 +70,7 @@ command_of settlement = record { target = settlement.target; call = settlement.c
 
 -- the record of the command with `mark` whose request was settled at the moment `utc`, by the clock of time stamps. `reads`
 -- gives what a line says of a call
-abbrev pub record_of : (Asked → List ℕ → Reading) → ℕ → Mark → Settlement Asked → Record
+abbrev pub record_of : (Asked → List ℕ → Reading) → (utc : ℕ) → Mark → Settlement Asked → Record
 record_of reads utc mark settlement = record {
   sent = Some mark.sent;
   utc = utc;
@@ -84,7 +84,7 @@ record_of reads utc mark settlement = record {
 -- the records of these settlements, all made at the moment `utc`. The marks are those of all outstanding requests, the oldest
 -- first: the first settlement is of the first mark, and so on, and marks without a settlement are still outstanding. A null
 -- procedure has no mark, and no record. `reads` gives what a reply's line says of a call
-abbrev pub records_of : (Asked → List ℕ → Reading) → ℕ → List (Option Mark) → List (Settlement Asked) → List Record
+abbrev pub records_of : (Asked → List ℕ → Reading) → (utc : ℕ) → List (Option Mark) → List (Settlement Asked) → List Record
 records_of reads utc [] settlements = []
 records_of reads utc (mark ∷ marks) [] = []
 records_of reads utc (None ∷ marks) (settlement ∷ others) = records_of reads utc marks others
@@ -101,12 +101,12 @@ is_well end.Skipped = false
 is_well end.Missed = false
 
 -- whether the last of these records is of a command that was answered well; if there are none, `well`
-abbrev pub last_well : Bool → List Record → Bool
+abbrev pub last_well : (well : Bool) → List Record → Bool
 last_well well [] = well
 last_well well (r ∷ others) = last_well (is_well r.end) others
 
 -- the moment at which a command that was answered well was recorded last: `now`, if one of these records, which are recorded at
 -- that moment, is of such a command; otherwise `fresh`
-abbrev pub fresh_after : ℕ → ℕ → List Record → ℕ
+abbrev pub fresh_after : (now fresh : ℕ) → List Record → ℕ
 fresh_after now fresh [] = fresh
 fresh_after now fresh (r ∷ others) = fresh_after now (if is_well r.end then now else fresh) others

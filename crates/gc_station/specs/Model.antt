@@ -1,6 +1,7 @@
 -- What a station is after the acts of its link, this project's own: the client's rule over what really happened, and how far
--- the station is. Each act is the one that the station was to make next. An act is one call on the link, with its result.
-use Rattle.std.specs.Prelude.{◌≡◌, ℕ, ◌+◌, ◌-◌, ◌||◌, Bool, true, false, List, [], ◌∷◌, ◌++◌, length, drop, take, map, Option, Some, None, if◌then◌else◌, nat_eq, slice_get, min, ◌⊎◌}
+-- the station is. Each act is the one that the station was to make next. An act is one call on the link, with its result. `until`
+-- says what a read waits for.
+use Rattle.std.specs.Prelude.{◌≡◌, ℕ, ◌+◌, ◌-◌, Bool, true, false, List, [], ◌∷◌, ◌++◌, length, drop, take, map, Option, Some, None, if◌then◌else◌, slice_get, min, ◌⊎◌}
 use Rattle.gc_lines.specs.Frames.{rest_behind}
 use Rattle.gc_lines.specs.Lines.{with_end}
 pub use Rattle.gc_lines.specs.Passing.{lines_completed}
@@ -12,12 +13,8 @@ use Rattle.gc_catalogue.specs.Texts.{request_line}
 use Rattle.gc_catalogue.specs.Asked.{asked_line, is_of_table}
 use Rattle.gc_client.specs.declared.window.TheConstants.{WINDOW}
 use Rattle.gc_client.specs.Rule.{ById, Settlement, Settled, Sending, fresh, sends, hears, heard, expires, restarts, deadlines}
-use Rattle.gc_texts.specs.Again.{no_again}
-use Rattle.gc_texts.specs.Codes.{no_codes}
-use Rattle.gc_texts.specs.declared.near.Expected.{Expected}
 use Rattle.gc_texts.specs.Tasks.{call_at}
 use Rattle.gc_texts.specs.declared.tasks.Task.{Task}
-use Rattle.gc_texts.specs.declared.turn.Turn.{Turn}
 use Rattle.gc_texts.specs.declared.wish.Wish.{Wish}
 use Rattle.gc_links.specs.declared.link.Moment.{Moment}
 use Rattle.gc_station.specs.declared.plan.Plan.{Plan}
@@ -37,6 +34,7 @@ use Rattle.gc_station.specs.Deciding.{later, is_preparing, action_of}
 pub use Rattle.gc_station.specs.Lines.{is_reply}
 use Rattle.gc_station.specs.Attempts.{listed_after, listed_by}
 use Rattle.gc_station.specs.Marks.{commands_in, records_of, last_well, fresh_after}
+use Rattle.gc_station.specs.NextCommand.{place_next, cycles_begun, mark_next, mark_setup, commands_before, is_chained, is_chained_after, others_after, is_chained_after_next, others_after_next}
 use Rattle.gc_station.specs.Progressing.{at_start, turned, moment_noted, cycle_begun, skipped, attempts_left_out, skipped_at, failing, opened, after_failure, cleared, request_noted, null_sent, renewed, sent, caught_up, line_noted, lines_synchronizing, bytes_noted, silent, early_noted, closed, loses_all, setup_sent}
 use Rattle.gc_station.specs.Records.{Record}
 use Rattle.gc_station.specs.Requests.{Request, requests, of_task}
@@ -55,64 +53,51 @@ pub record Model : Type 0 where
   pub marks : List (Option Mark)
   -- the records written so far, in order
   pub records : List Record
-  -- whether the command that was recorded last, or one before it in the same attempt, ended in a way after which the text sends
-  -- its chain again
+  -- whether the command of a cycle that was recorded last, or one before it in the same attempt, ended in a way after which the
+  -- text sends its chain again; false before the first. A command of the setup leaves it as it is
   pub listed : Bool
   -- the commands of further attempts that were left out so far, in order
   pub passes : List Request
-  -- the moment at which a command that was answered well was recorded last, by the clock for deadlines; 0 if none was, and an
-  -- earlier moment if the clock went back since
+  -- the moment at which a command that was answered well was recorded last, by the clock for deadlines; 0 if none was; an earlier
+  -- moment if the clock went back past it since
   pub fresh : ℕ
   -- what the line of a reply says of a call
   pub reads : Asked → List ℕ → Reading
 
 -- the model of a station that has done nothing: nothing is sent or recorded, and the turns that are left are those of `scope`
 abbrev pub opening : Plan → Scope → Model
-opening plan scope =
-    record { progress = at_start plan scope.turns; rest = []; client = fresh; marks = []; records = []; listed = false; passes = []; fresh = 0; reads = scope.reads }
-
--- what a decision looks at besides the progress, of the model `s`: how many requests are outstanding in all, of those that
--- haven't timed out, and of commands; whether the command that was recorded last was answered well, and whether one of its
--- attempt ended as its rule names; and when one was answered well last
-abbrev pub waiting_of : Model → Waiting
-waiting_of s = record {
-  all = length s.client.waiting;
-  current = length (deadlines s.client.waiting);
-  commands = commands_in s.marks;
-  well = last_well false s.records;
-  listed = s.listed;
-  fresh = s.fresh;
+opening plan scope = record {
+  progress = at_start plan scope.turns;
+  rest = [];
+  client = fresh;
+  marks = [];
+  records = [];
+  listed = false;
+  passes = [];
+  fresh = 0;
+  reads = scope.reads;
 }
+
+-- what a decision looks at besides the progress: how many requests of `client` are outstanding (`all`), how many of them haven't
+-- timed out (`current`), and how many are, by their `marks`, of commands (`commands`). `well`: whether the command that was recorded
+-- last was answered well. `listed` and `fresh` are as in `Model`
+abbrev pub waiting_by : (client : ById Asked) (marks : List (Option Mark)) (well listed : Bool) (fresh : ℕ) → Waiting
+waiting_by client marks well listed fresh = record {
+  all = length client.waiting;
+  current = length (deadlines client.waiting);
+  commands = commands_in marks;
+  well = well;
+  listed = listed;
+  fresh = fresh;
+}
+
+-- what a decision looks at besides the progress, of the model `s`
+abbrev pub waiting_of : Model → Waiting
+waiting_of s = waiting_by s.client s.marks (last_well false s.records) s.listed s.fresh
 
 -- the next action of a station that has the model `s`
 abbrev pub action_at : Plan → Model → Action
 action_at plan s = action_of plan s.progress (waiting_of s)
-
--- the place of the cycle's next command in the list `commands`, counted from 0, at the progress `p`. The setup is at the front
--- of the list, and the commands of a cycle are its end, of which `p.unsent` are left. If none is left, as before the first cycle,
--- it is the length of the list
-abbrev pub place_next : List Task → Progress → ℕ
-place_next commands p = length commands - p.unsent
-
--- how many cycles have begun at the progress `p`, missed ones included
-abbrev pub cycles_begun : Plan → Progress → ℕ
-cycles_begun plan p = plan.cycles - p.left
-
--- the turn that stands in where there is no command: place 0, attempt 1
-abbrev pub no_turn : Turn
-no_turn = record { place = 0; attempt = 1; link = 0 }
-
--- what the text says of the answer of the first of these commands: where its target is, which return codes are accepted, and
--- which endings send the chain again; and its turn. If there is no command: no place, no codes, no endings and `no_turn`
-abbrev pub expected_first : List Task → Expected
-expected_first [] = record { near = None; accepted = no_codes; again = no_again; turn = no_turn }
-expected_first (task ∷ others) = record { near = task.near; accepted = task.accepted; again = task.again; turn = task.turn }
-
--- the mark of the cycle's next command at the progress `p`: its cycle, its place, the moment read last, and what is expected of
--- its answer
-abbrev pub mark_next : Plan → List Task → Progress → Mark
-mark_next plan commands p =
-    record { cycle = cycles_begun plan p; place = place_next commands p; sent = p.moment.utc; expected = expected_first (drop (place_next commands p) commands) }
 
 -- how many commands a cycle has: those after the setup
 abbrev pub cycle_length : Plan → List Task → ℕ
@@ -127,21 +112,6 @@ cycle_to_send plan s = if is_preparing plan s.progress (waiting_of s) then 0 els
 abbrev pub place_to_send : Plan → List Task → Model → ℕ
 place_to_send plan commands s = if is_preparing plan s.progress (waiting_of s) then s.progress.prepared else place_next commands s.progress
 
--- `expected` as it is for a command of the setup in the attempt `attempt` of the setup. No ending sends such a command again
--- (`no_again`), and no attempt of a chain begins with it, so its link is 1
-abbrev pub in_attempt : ℕ → Expected → Expected
-in_attempt attempt expected = record expected { again = no_again; turn = record expected.turn { attempt = attempt; link = 1 } }
-
--- the mark of the setup's next command at the progress `p`: it has cycle 0, and the attempt of the setup (`in_attempt`)
-abbrev pub mark_setup : List Task → Progress → Mark
-mark_setup commands p =
-    record { cycle = 0; place = p.prepared; sent = p.moment.utc; expected = in_attempt p.attempt (expected_first (drop p.prepared commands)) }
-
--- how many commands come before the cycle's next one in the list `commands`, those of the setup included; 0 before the first
--- cycle
-abbrev pub commands_before : Plan → List Task → Progress → ℕ
-commands_before plan commands p = if nat_eq p.left plan.cycles then 0 else place_next commands p
-
 -- the bytes of the next request of `client`, for `call`: its line with CR LF
 abbrev pub request_text : ById Asked → Asked → List ℕ
 request_text client call = with_end (asked_line (Some client.next) call)
@@ -154,44 +124,16 @@ null_text (asked ∷ others) = with_end (request_line (Some asked) NullProc)
 
 -- the bytes of the request of `client` for the first of these commands, if it is sent at the moment `utc`; no bytes if there is
 -- no command
-abbrev pub first_text : ℕ → ById Asked → List Task → List ℕ
+abbrev pub first_text : (utc : ℕ) → ById Asked → List Task → List ℕ
 first_text utc client [] = []
 first_text utc client (task ∷ others) = request_text client (call_at task utc)
 
--- the bytes of the request of `client` for the first of these commands of the setup, if it is sent at the moment `utc`. If
--- there is no command, which doesn't happen if the list has at least `plan.setup` commands, those of a null procedure
-abbrev pub text_or_null : ℕ → ById Asked → List Task → List ℕ
+-- the bytes of the request of `client` for the first of these commands, which is one of the setup, if it is sent at the moment
+-- `utc`. If there is no command, the bytes of its request for a null procedure; that doesn't happen if the station's list has at
+-- least `plan.setup` commands
+abbrev pub text_or_null : (utc : ℕ) → ById Asked → List Task → List ℕ
 text_or_null utc client [] = request_text client (Table NullProc)
-text_or_null utc client (task ∷ others) = request_text client (call_at task utc)
-
--- whether the first of these commands is sent only once the one before it was answered well; false if there is no command
-abbrev pub is_chained : List Task → Bool
-is_chained [] = false
-is_chained (task ∷ others) = task.chained
-
--- if the first of these commands begins a further attempt of its chain, the number of commands that this attempt and the
--- chain's later attempts have together; otherwise 0
-abbrev pub others_in : List Task → ℕ
-others_in [] = 0
-others_in (task ∷ others) = task.others
-
--- whether the command `count` places after the cycle's next one is sent only once the one before it was answered well. In a
--- missed cycle, in which none is sent, this holds of each command
-abbrev pub is_chained_after : ℕ → List Task → Progress → Bool
-is_chained_after count commands p = p.missed || is_chained (drop (place_next commands p + count) commands)
-
--- if the command `count` places after the cycle's next one begins a further attempt of its chain, the number of commands of
--- this and the chain's later attempts (`others_in`); otherwise 0
-abbrev pub others_after : ℕ → List Task → Progress → ℕ
-others_after count commands p = others_in (drop (place_next commands p + count) commands)
-
--- whether the command after the cycle's next one is sent only once the next one was answered well
-abbrev pub is_chained_after_next : List Task → Progress → Bool
-is_chained_after_next commands p = is_chained_after 1 commands p
-
--- `others_after` of the command after the cycle's next one
-abbrev pub others_after_next : List Task → Progress → ℕ
-others_after_next commands p = others_after 1 commands p
+text_or_null utc client (task ∷ others) = first_text utc client (task ∷ others)
 
 -- a command is sent next, of a cycle or of the setup, by a station that has the model `s`
 abbrev pub IsSending : Plan → Model → Type 0
@@ -232,14 +174,14 @@ client_sent client (Some x) = x.client
 
 -- the client after a send of `command` at the moment `now`, whose request waits for `wait` milliseconds. `width` is how many
 -- requests may wait at once, and `ids` is the client before
-abbrev pub sent_to : ℕ → ById Asked → Wish → ℕ → ℕ → ById Asked
+abbrev pub sent_to : (width : ℕ) (ids : ById Asked) (command : Wish) (now wait : ℕ) → ById Asked
 sent_to width ids command now wait = client_sent ids (sends width ids command.target command.call (later now wait))
 
 -- the model `s` once a request for the target `target` was sent, with `call` and `mark`. The request waits for `wait`
 -- milliseconds from the moment read last
-abbrev pub asks : ℕ → ℕ → Asked → Option Mark → Model → Model
+abbrev pub asks : (wait target : ℕ) (call : Asked) (mark : Option Mark) → Model → Model
 asks wait target call mark s = record s {
-  client = client_sent s.client (sends WINDOW s.client target call (later s.progress.moment.elapsed wait));
+  client = sent_to WINDOW s.client (record { target = target; call = call }) s.progress.moment.elapsed wait;
   marks = s.marks ++ mark ∷ [];
 }
 
@@ -261,7 +203,7 @@ asks_next plan commands s = asks_first (mark_next plan commands s.progress) (dro
 -- procedure was sent
 abbrev pub asks_or_null : Plan → Mark → List Task → Model → Model
 asks_or_null plan mark [] s = asks_null plan s
-asks_or_null plan mark (task ∷ others) s = asks task.deadline task.command.target (call_at task mark.sent) (Some mark) s
+asks_or_null plan mark (task ∷ others) s = asks_first mark (task ∷ others) s
 
 -- the model `s` once the setup's next command was sent
 abbrev pub asks_setup : Plan → List Task → Model → Model
@@ -276,20 +218,28 @@ with_client client s = record s { client = client }
 abbrev pub first_unsent_record : Progress → Moment → Mark → List Task → List Record
 first_unsent_record p m mark [] = []
 first_unsent_record p m mark (task ∷ others) =
-    record { sent = None; utc = skipped_at m p; cycle = mark.cycle; place = mark.place; turn = mark.expected.turn; command = task.command; end = if p.missed then Missed else Skipped } ∷ []
+    record {
+      sent = None;
+      utc = skipped_at m p;
+      cycle = mark.cycle;
+      place = mark.place;
+      turn = mark.expected.turn;
+      command = task.command;
+      end = if p.missed then Missed else Skipped;
+    } ∷ []
 
 -- the record of the cycle's next command, which isn't sent, if the act read the clock; no record if the clock couldn't be read
 abbrev pub unsent_record : Plan → List Task → Progress → Act → List Record
 unsent_record plan commands p (Told m) = first_unsent_record p m (mark_next plan commands p) (drop (place_next commands p) commands)
 unsent_record plan commands p _ = []
 
--- whether a command of the attempt has ended as its rule names, once the cycle's next command was recorded without being sent;
--- `listed` says whether one had before
-abbrev pub listed_unsent : Plan → List Task → Progress → Bool → Bool
+-- whether a command of the current attempt has ended as its rule names, once the cycle's next command was recorded without being
+-- sent; `listed` says whether one had before
+abbrev pub listed_unsent : Plan → List Task → Progress → (listed : Bool) → Bool
 listed_unsent plan commands p listed = listed_after listed (mark_next plan commands p).expected None (if p.missed then Missed else Skipped)
 
--- whether a command of the attempt has ended as its rule names, after an act that records the cycle's next command without
--- sending it: `listed_unsent`, or as before if the clock couldn't be read
+-- whether a command of the current attempt has ended as its rule names, after an act that records the cycle's next command
+-- without sending it: `listed_unsent`, or as before if the clock couldn't be read
 abbrev pub listed_after_skip : Plan → List Task → Model → Act → Bool
 listed_after_skip plan commands s (Told m) = listed_unsent plan commands s.progress s.listed
 listed_after_skip plan commands s _ = s.listed
@@ -305,14 +255,15 @@ abbrev pub with_passes : List Request → Model → Model
 with_passes passes s = record s { passes = s.passes ++ passes }
 
 -- the model `s` with `listed` in place of its own
-abbrev pub with_listed : Bool → Model → Model
+abbrev pub with_listed : (listed : Bool) → Model → Model
 with_listed listed s = record s { listed = listed }
 
 -- the model `s` with `records` after those that it has
 abbrev pub with_records : List Record → Model → Model
 with_records records s = record s { records = s.records ++ records }
 
--- the model `s` once these settlements of the oldest outstanding requests are recorded, by their marks, which are removed
+-- the model `s` once these settlements of the oldest outstanding requests are recorded, by their marks, which are removed. The
+-- records may change `listed` and `fresh`; the client of `s` stays
 abbrev pub with_settled : List (Settlement Asked) → Model → Model
 with_settled settlements s = record s {
   records = s.records ++ records_of s.reads s.progress.moment.utc s.marks settlements;
@@ -370,10 +321,10 @@ is_heard phase.Ready = true
 is_heard (phase.Closing cause) = false
 is_heard (phase.Over cause) = false
 
--- the model `s` after `piece`. The first argument says whether the piece is heard in this phase; if it isn't (`false`), it is
--- discarded. The second one is the list of the ids of the synchronization that aren't answered. If none is, the client hears
--- the piece; otherwise the synchronization does, and the client doesn't hear what follows its last answer in the piece
-abbrev pub after_piece : Bool → List ℕ → List ℕ → Model → Model
+-- the model `s` after `piece`. `ready`: whether what comes in this phase is heard (`is_heard`); otherwise the piece is discarded.
+-- `word`: the ids of the synchronization that aren't answered. If all are, the client hears the piece; otherwise the synchronization
+-- does, and the client doesn't hear what follows its last answer in the piece
+abbrev pub after_piece : (ready : Bool) (word piece : List ℕ) → Model → Model
 after_piece true [] piece s = piece_came piece s
 after_piece true (asked ∷ others) piece s = piece_synchronizing piece s
 after_piece false word piece s = s
@@ -381,17 +332,18 @@ after_piece false word piece s = s
 -- the model `s` once a piece was heard: all tries are available again if it settled a command after the setup (`bytes_noted`),
 -- and it is noted if the cycle was done early (`early_noted`). `before` is how many commands were outstanding before the
 -- piece
-abbrev pub piece_noted : Plan → Until → ℕ → Model → Model
+abbrev pub piece_noted : Plan → Until → (before : ℕ) → Model → Model
 piece_noted plan until before s = with_progress (λ p. early_noted plan (commands_in s.marks) (bytes_noted plan until before (waiting_of s) p)) s
 
 -- the model `s` after `piece`, which came by the moment `m`: requests whose deadline has come time out first, and then the
 -- piece is heard
 abbrev pub piece_at : Plan → Until → List ℕ → Moment → Model → Model
 piece_at plan until piece m s =
-    piece_noted plan until (commands_in s.marks) (after_piece (is_heard s.progress.phase) s.progress.word piece (with_moment m (with_progress (moment_noted m) s)))
+    let at_moment = with_moment m (with_progress (moment_noted m) s) in
+    piece_noted plan until (commands_in s.marks) (after_piece (is_heard s.progress.phase) s.progress.word piece at_moment)
 
 -- the model `s` after a read with this result. The end of the connection, a failed read and a clock that can't be read are
--- causes to close the connection
+-- causes to close the connection; without one the run is over (`failing`)
 abbrev pub after_read : Plan → Until → Model → Act → Model
 after_read plan until s (Gave bytes m) = piece_at plan until bytes m s
 after_read plan until s (Silent m) = with_moment m (with_progress (silent plan until m) s)
@@ -400,7 +352,7 @@ after_read plan until s Broke = with_progress (failing cause.Read) s
 after_read plan until s _ = with_progress (failing cause.Clock) s
 
 -- the model `s` after an act that reads the clock: `f` changes its progress by the moment that was read. If the clock couldn't
--- be read, that is the cause to close the connection
+-- be read, that is the cause to close the connection; without one the run is over (`failing`)
 abbrev pub after_clock : (Moment → Progress → Progress) → Model → Act → Model
 after_clock f s (Told m) = with_moment m (with_progress (f m) s)
 after_clock f s _ = with_progress (failing cause.Clock) s
@@ -411,12 +363,13 @@ after_pass plan commands s (Told m) =
     let n = s.progress.next_others in
     let is_chained = is_chained_after n commands s.progress in
     let others = others_after n commands s.progress in
-    with_moment m (with_progress (λ p. early_noted plan (commands_in s.marks) (attempts_left_out is_chained others m p)) (with_passes (next_left_out plan commands s.progress) s))
+    with_moment m
+    (with_progress (λ p. early_noted plan (commands_in s.marks) (attempts_left_out is_chained others m p)) (with_passes (next_left_out plan commands s.progress) s))
 after_pass plan commands s _ = with_progress (failing cause.Clock) s
 
 -- the model `s` after a write: `f` changes it. If the bytes were cut, the connection is to be closed besides, for a cause that
 -- has the number `requests`
-abbrev pub after_put : ℕ → (Model → Model) → Model → Act → Model
+abbrev pub after_put : (requests : ℕ) (f : Model → Model) → Model → Act → Model
 after_put requests f s (Cut bytes count) = with_progress (failing (cause.Write requests count)) (f s)
 after_put requests f s _ = f s
 
@@ -430,7 +383,8 @@ after_open plan s _ = with_progress (after_failure plan (commands_in s.marks) ca
 abbrev pub after_close : Plan → Cause → Model → Model
 after_close plan cause s = with_progress (closed plan (waiting_of s) cause) (with_rest [] s)
 
--- the model `s` after an act that performs `action`, but without the turn that each act takes
+-- the model `s` after an act that performs `action`, but without the turn that each act takes, and before all outstanding requests
+-- are lost if that follows (`ended`)
 abbrev pub moved : Plan → List Task → Action → Model → Act → Model
 moved plan commands ReadClock s act = after_clock (λ m p. early_noted plan (commands_in s.marks) (moment_noted m p)) s act
 moved plan commands Renew s act = after_clock (λ m p. early_noted plan 0 (renewed plan m p)) s act
@@ -438,30 +392,38 @@ moved plan commands Begin s act = after_clock (cycle_begun plan (cycle_length pl
 moved plan commands Open s act = after_open plan s act
 moved plan commands Clear s act = after_put (commands_before plan commands s.progress) (with_progress cleared) s act
 moved plan commands Ask s act = after_put (commands_before plan commands s.progress) (with_progress (null_sent plan)) s act
-moved plan commands Prepare s act = after_put (commands_before plan commands s.progress) (λ (s : Model). with_progress (setup_sent plan) (asks_setup plan commands s)) s act
+moved plan commands Prepare s act = after_put (commands_before plan commands s.progress)
+    (λ (s : Model). with_progress (setup_sent plan) (asks_setup plan commands s)) s act
 moved plan commands Send s act = after_put (commands_before plan commands s.progress)
-    (λ (s : Model). with_progress (sent (is_chained_after_next commands s.progress) (others_after_next commands s.progress)) (asks_next plan commands s)) s act
-moved plan commands Skip s act =
-    after_clock (λ m p. early_noted plan (commands_in s.marks) (skipped (is_chained_after_next commands s.progress) (others_after_next commands s.progress) m p))
+    (λ (s : Model). with_progress (sent (is_chained_after_next commands s.progress) (others_after_next commands s.progress)) (asks_next plan commands s))
+    s act
+moved plan commands Skip s act = after_clock
+    (λ m p. early_noted plan (commands_in s.marks) (skipped (is_chained_after_next commands s.progress) (others_after_next commands s.progress) m p))
     (with_listed (listed_after_skip plan commands s act) (with_records (unsent_record plan commands s.progress act) s)) act
 moved plan commands Pass s act = after_pass plan commands s act
-moved plan commands Flush s act = after_put (commands_before plan commands s.progress) (λ (s : Model). with_progress request_noted (asks_null plan s)) s act
+moved plan commands Flush s act = after_put (commands_before plan commands s.progress)
+    (λ (s : Model). with_progress request_noted (asks_null plan s)) s act
 moved plan commands (Read until) s act = after_read plan until s act
 moved plan commands (Close cause) s act = after_close plan cause s
 moved plan commands (Stop cause) s act = s
 
--- the model `s` with all outstanding requests lost and a fresh client if `true`; `s` itself if `false`
-abbrev pub losing : Bool → Model → Model
+-- the model `s` with all outstanding requests lost and a fresh client, if `are_lost`; otherwise `s` itself
+abbrev pub losing : (are_lost : Bool) → Model → Model
 losing true s = settles (restarts s.client) s
 losing false s = s
 
--- the model `s` with all outstanding requests lost, if the station resynchronizes or no act follows; otherwise `s` itself
+-- the model `s` with all outstanding requests lost, if the station synchronizes or no act follows; otherwise `s` itself
 abbrev pub ended : Model → Model
 ended s = losing (loses_all s.progress) s
 
--- the model `s` after the act: a turn is taken, then `moved` for the action that was next, then `ended`
+-- the model `s` after an act that performs `action`: a turn is taken, then `moved`, and then all outstanding requests are lost
+-- if `ended` says so
+abbrev pub stepped : Plan → List Task → Action → Model → Act → Model
+stepped plan commands action s act = ended (moved plan commands action (with_progress turned s) act)
+
+-- the model `s` after an act that performs the action that was next
 abbrev pub after : Plan → List Task → Model → Act → Model
-after plan commands s act = ended (moved plan commands (action_at plan s) (with_progress turned s) act)
+after plan commands s act = stepped plan commands (action_at plan s) s act
 
 -- the model `s` after these acts, in order
 abbrev pub after_all : Plan → List Task → Model → List Act → Model

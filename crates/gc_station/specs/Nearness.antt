@@ -42,7 +42,8 @@ HasAnswer reads accepted call line answer =
 abbrev pub ElsewhereIsJustified : (Asked → List ℕ → Reading) → List Task → Record → Type 0
 ElsewhereIsJustified reads commands r =
     (task : Task) (line : List ℕ) → slice_get commands r.place ≡ Some task → r.end ≡ Elsewhere line
-    → (answer : Answer) × (near : Near) × (d : Direction) × HasAnswer reads task.accepted r.command.call line answer × (task.near ≡ Some near) × (direction_of answer ≡ Some d)
+    → (answer : Answer) × (near : Near) × (d : Direction)
+    × HasAnswer reads task.accepted r.command.call line answer × (task.near ≡ Some near) × (direction_of answer ≡ Some d)
     × (IsNear d near.place near.tolerance → ⊥)
 
 -- after any acts, `IsAtItsTarget` and `ElsewhereIsJustified` hold of each record

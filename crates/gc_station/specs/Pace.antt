@@ -8,7 +8,7 @@ use Rattle.gc_station.specs.declared.progress.Progress.{Progress}
 use Rattle.gc_station.specs.declared.progress.Until.{Until}
 use Rattle.gc_station.specs.declared.progress.Until.TheVariants.{Limit, Due}
 use Rattle.gc_station.specs.Deciding.{later, has_begun, dead_after, is_due}
-use Rattle.gc_station.specs.Model.{cycles_begun}
+use Rattle.gc_station.specs.NextCommand.{cycles_begun}
 use Rattle.gc_station.specs.Progressing.{is_idle}
 
 -- the moment from which on the line is dead, if no reply line comes until then and something is outstanding (`is_dead`)
@@ -26,8 +26,8 @@ abbrev pub retry_at : Plan → Progress → ℕ
 retry_at plan p = if is_idle plan p then max (later p.since p.pause) (due_at plan p) else later p.since p.pause
 
 -- the moment from which on the run is stale, if no answer of a good quality is recorded until then; the greatest `u64` if it
--- never is. `fresh` is when the last such answer was recorded
-abbrev pub stale_at : Plan → ℕ → ℕ
+-- never is. `fresh` is when such an answer was recorded last; 0 if none was; an earlier moment if the clock went back past it since
+abbrev pub stale_at : Plan → (fresh : ℕ) → ℕ
 stale_at plan fresh = if nat_lt 0 plan.stale then later fresh plan.stale else 18446744073709551615
 
 -- how many milliseconds a read waits at most: a second if somebody may ask for the end of the run, otherwise a minute
@@ -35,39 +35,42 @@ abbrev pub longest_timeout : Plan → ℕ
 longest_timeout plan = if plan.watched then 1000 else 60000
 
 -- the moment at which a read in this phase ends if nothing comes, leaving out the deadlines of the outstanding requests: at the
--- end of a pause or a drain, when the line is dead, or when a null procedure of the synchronization is sent again
+-- next attempt to connect (`retry_at`), or at the end of a drain; otherwise when the line is dead, or, while the station
+-- synchronizes, when the null procedure is sent again, if that is earlier
 abbrev pub read_end_in : Phase → Plan → Progress → ℕ
 read_end_in phase.Pausing plan p = retry_at plan p
 read_end_in phase.Draining plan p = later p.since plan.quiet
 read_end_in _ plan p = if has_begun p then dead_at plan p else min p.again (dead_at plan p)
 
--- as `read_end_in`, except that a read that only waits for the next cycle ends when that cycle is due
+-- as `read_end_in` in the phase of `p`, except that a read that only waits for the next cycle ends when that cycle is due
 abbrev pub read_end_without_deadline : Plan → Progress → Until → ℕ
 read_end_without_deadline plan p Due = due_at plan p
 read_end_without_deadline plan p Limit = read_end_in p.phase plan p
 
 -- the moment at which a read ends if nothing comes: `read_end_without_deadline`, or the next deadline of a request if that is earlier
-abbrev pub read_end : Plan → Progress → Until → Option ℕ → ℕ
+abbrev pub read_end : Plan → Progress → Until → (deadline : Option ℕ) → ℕ
 read_end plan p until (Some deadline) = min deadline (read_end_without_deadline plan p until)
 read_end plan p until None = read_end_without_deadline plan p until
 
 -- how many milliseconds a read waits: until `read_end`, or until the run is stale if that is earlier, but at least one and at
--- most `longest_timeout`. `fresh` is when the last answer of a good quality was recorded, and `deadline` is the next deadline of a
--- request, if any
-abbrev pub read_timeout : Plan → Progress → ℕ → Until → Option ℕ → ℕ
-read_timeout plan p fresh until deadline = min (max (min (read_end plan p until deadline) (stale_at plan fresh) - p.moment.elapsed) 1) (longest_timeout plan)
+-- most `longest_timeout`. `fresh` is as in `stale_at`, and `deadline` is the next deadline of a request, if any
+abbrev pub read_timeout : Plan → Progress → (fresh : ℕ) → Until → (deadline : Option ℕ) → ℕ
+read_timeout plan p fresh until deadline =
+    min (max (min (read_end plan p until deadline) (stale_at plan fresh) - p.moment.elapsed) 1) (longest_timeout plan)
 
--- whether the cycle that began last has overrun: it isn't missed, and wasn't done when the next one, which hasn't begun, was due
+-- whether the cycle that began last has overrun: it isn't missed, and wasn't done when the next one, which hasn't begun, was due.
+-- False if no cycle is left, or cycles have no due moments (`every` is 0). Before the first cycle, where it may be true, `overrun`
+-- reports none
 abbrev pub has_overrun : Plan → Progress → Bool
 has_overrun plan p = not p.early && not p.missed && is_due plan p && nat_lt 0 p.left && nat_lt 0 plan.every
 
 -- the cycle that is to be reported as overrun: the one that began last, if it has overrun and is after `reported`, the last one
 -- that was reported
-abbrev pub overrun : Plan → Progress → ℕ → Option ℕ
+abbrev pub overrun : Plan → Progress → (reported : ℕ) → Option ℕ
 overrun plan p reported = if has_overrun plan p && nat_lt reported (cycles_begun plan p) then Some (cycles_begun plan p) else None
 
--- the number of the last cycle that was reported as overrun: this cycle if one is reported now, otherwise `reported`, the one
--- before
-abbrev pub reported_then : ℕ → Option ℕ → ℕ
+-- the number of the last cycle that was reported as overrun, 0 if none was: the cycle that is reported now, if any, otherwise
+-- `reported`, the last one before
+abbrev pub reported_then : (reported : ℕ) → Option ℕ → ℕ
 reported_then reported None = reported
 reported_then reported (Some cycle) = cycle

@@ -5,7 +5,9 @@ use Rattle.std.specs.Prelude.{◌≡◌, ℕ, ◌&&◌, Bool, true, false, if◌
 use Rattle.gc_catalogue.specs.declared.asked.Asked.{Asked}
 use Rattle.gc_catalogue.specs.declared.asked.Asked.TheVariants.{Table}
 use Rattle.gc_catalogue.specs.declared.call.Call.TheVariants.{NullProc}
-use Rattle.gc_client.specs.OneForOne.{Wanted, Step, Send, Hear, Expire}
+use Rattle.gc_client.specs.declared.window.TheConstants.{WINDOW}
+use Rattle.gc_client.specs.OneForOne.{Wanted, Course, Step, Send, Hear, Expire, course_after}
+use Rattle.gc_client.specs.Rule.{ById}
 use Rattle.gc_texts.specs.declared.near.Expected.{Expected}
 use Rattle.gc_texts.specs.Tasks.{call_at}
 use Rattle.gc_texts.specs.declared.tasks.Task.{Task}
@@ -20,7 +22,8 @@ use Rattle.gc_station.specs.Lists.{with_if}
 use Rattle.gc_station.specs.Progressing.{loses_all}
 use Rattle.gc_station.specs.Records.{Record}
 use Rattle.gc_station.specs.Requests.{asked_at}
-use Rattle.gc_station.specs.Model.{Model, action_at, place_next, mark_next, mark_setup, lines_completed, is_heard, after}
+use Rattle.gc_station.specs.Model.{Model, action_at, lines_completed, is_heard, after}
+use Rattle.gc_station.specs.NextCommand.{place_next, mark_next, mark_setup}
 
 -- one thing that happens while a station synchronizes. (It is no turn of a run, which is an act, and not the turn of a command.)
 pub data Turn : Type 0 where
@@ -50,38 +53,56 @@ only_steps steps = record { turns = []; steps = steps; marks = [] }
 abbrev pub nothing : Part
 nothing = only_steps []
 
+-- the course of this client from now on: nothing was sent and nothing settled yet
+abbrev pub course_at : ById Asked → Course Asked
+course_at c = record { sent = []; settlements = []; client = c }
+
+-- this client after one step, by its rule with the window of seven
+abbrev pub client_stepped : ById Asked → Step Asked → ById Asked
+client_stepped c s = (course_after WINDOW (course_at c) s).client
+
+-- this client after these steps, in order
+abbrev pub client_after : ById Asked → List (Step Asked) → ById Asked
+client_after c [] = c
+client_after c (s ∷ ss) = client_after (client_stepped c s) ss
+
 -- one part from what happens in `p` and then in `q`
-abbrev pub joined : Part → Part → Part
+abbrev pub joined : (p q : Part) → Part
 joined p q = record { turns = p.turns ++ q.turns; steps = p.steps ++ q.steps; marks = p.marks ++ q.marks }
 
 -- the part that consists of one request: for `target`, with `call`, `deadline` and `mark` (`None` for a null procedure)
-abbrev pub request_part : ℕ → Asked → ℕ → Option Mark → Part
+abbrev pub request_part : (target : ℕ) (call : Asked) (deadline : ℕ) → Option Mark → Part
 request_part target call deadline mark = record { turns = []; steps = Send target call deadline ∷ []; marks = mark ∷ [] }
+
+-- the part that consists of one null procedure of the station's own, sent at the moment `now`
+abbrev pub null_part : Plan → (now : ℕ) → Part
+null_part plan now = request_part 0 (Table NullProc) (later now plan.deadline) None
 
 -- the part that consists of the request for the first of these commands, sent at the moment `now` with `mark`; nothing if there
 -- is no command
-abbrev pub first_request_part : ℕ → Mark → List Task → Part
+abbrev pub first_request_part : (now : ℕ) → Mark → List Task → Part
 first_request_part now mark [] = nothing
 first_request_part now mark (task ∷ others) = request_part task.command.target (call_at task mark.sent) (later now task.deadline) (Some mark)
 
 -- the part that consists of the request for the first of these commands of the setup, sent at the moment `now` with `mark`; if
 -- there is no command, of a null procedure
-abbrev pub request_or_null_part : Plan → ℕ → Mark → List Task → Part
-request_or_null_part plan now mark [] = request_part 0 (Table NullProc) (later now plan.deadline) None
-request_or_null_part plan now mark (task ∷ others) = request_part task.command.target (call_at task mark.sent) (later now task.deadline) (Some mark)
+abbrev pub request_or_null_part : Plan → (now : ℕ) → Mark → List Task → Part
+request_or_null_part plan now mark [] = null_part plan now
+request_or_null_part plan now mark (task ∷ others) = first_request_part now mark (task ∷ others)
 
 -- the part of an action that writes bytes, all of them or some, if the station has the model `s`: one request for `Flush`,
 -- `Prepare` and `Send`; nothing otherwise, as the line feed of `Clear` is no request
 abbrev pub put_part : Plan → List Task → Model → Action → Part
-put_part plan commands s action.Flush = request_part 0 (Table NullProc) (later s.progress.moment.elapsed plan.deadline) None
-put_part plan commands s action.Prepare = request_or_null_part plan s.progress.moment.elapsed (mark_setup commands s.progress) (drop s.progress.prepared commands)
+put_part plan commands s action.Flush = null_part plan s.progress.moment.elapsed
+put_part plan commands s action.Prepare =
+    request_or_null_part plan s.progress.moment.elapsed (mark_setup commands s.progress) (drop s.progress.prepared commands)
 put_part plan commands s action.Send =
     first_request_part s.progress.moment.elapsed (mark_next plan commands s.progress) (drop (place_next commands s.progress) commands)
 put_part plan commands s _ = nothing
 
--- the client's steps for `piece`, if `rest` are the bytes before it since the last line feed: if the piece is heard (`true`),
--- it hears the lines that the piece completes; otherwise there are none, as if these lines were lost on the way
-abbrev pub heard_steps : Bool → List ℕ → List ℕ → List (Step Asked)
+-- the client's steps for `piece`, if `rest` are the bytes before it since the last line feed: if the piece is heard (`ready`),
+-- the client hears the lines that it completes; otherwise there are none, as if these lines were lost on the way
+abbrev pub heard_steps : (ready : Bool) (rest piece : List ℕ) → List (Step Asked)
 heard_steps true rest piece = map Hear (lines_completed rest piece)
 heard_steps false rest piece = []
 
@@ -114,8 +135,8 @@ abbrev pub ends_part : Plan → List Task → Model → Act → Bool
 ends_part plan commands s act = has_begun s.progress && loses_all (after plan commands s act).progress
 
 -- the parts of an act and of the acts after it: `p` is what happens at the act, and `parts` are of the acts after it. If the
--- act ends a part (`true`), `p` is a part of its own; otherwise it is the front of the first of `parts`
-abbrev pub in_front : Part → Bool → List Part → List Part
+-- act ends a part (`ends`), `p` is a part of its own; otherwise it is the front of the first of `parts`
+abbrev pub in_front : Part → (ends : Bool) → List Part → List Part
 in_front p true parts = p ∷ parts
 in_front p false [] = p ∷ []
 in_front p false (q ∷ parts) = joined p q ∷ parts

@@ -15,8 +15,8 @@ use Rattle.gc_station.specs.declared.progress.Progress.{Progress}
 use Rattle.gc_station.specs.declared.progress.Until.{Until}
 use Rattle.gc_station.specs.declared.progress.Waiting.{Waiting}
 
--- `time`, doubled as often as the number says
-abbrev pub doubled : ℕ → ℕ → ℕ
+-- `time`, doubled `n` times
+abbrev pub doubled : (n time : ℕ) → ℕ
 doubled zero time = time
 doubled (suc n) time = 2 * doubled n time
 
@@ -42,8 +42,9 @@ pub record TriesAndPausesAreCounted : Type 0 where
   pub failed : (plan : Plan) (commands n : ℕ) (why : Cause) (p : Progress) → is_spared plan why p ≡ false → p.pause ≡ pause_after plan n
       → (after_failure plan commands why p).pause ≡ pause_after plan (suc n)
   -- a failure takes one try, if one is left
-  pub takes : (plan : Plan) (commands : ℕ) (why : Cause) (p : Progress) → is_spared plan why p ≡ false → 0 < p.tries → (after_failure plan commands why p).tries + 1 ≡ p.tries
-  -- after a failure without a try left the run is over
+  pub takes : (plan : Plan) (commands : ℕ) (why : Cause) (p : Progress) → is_spared plan why p ≡ false → 0 < p.tries
+      → (after_failure plan commands why p).tries + 1 ≡ p.tries
+  -- after a failure without a try left the run is over: as done, or for the cause of the failure
   pub none_left : (plan : Plan) (commands : ℕ) (why : Cause) (p : Progress) → is_spared plan why p ≡ false → p.tries ≡ 0
       → ((after_failure plan commands why p).phase ≡ phase.Over cause.Done) ⊎ ((after_failure plan commands why p).phase ≡ phase.Over why)
   -- a close while no connection is wanted (`is_spared`) takes no try, and leaves the pause as it is
@@ -52,8 +53,8 @@ pub record TriesAndPausesAreCounted : Type 0 where
   -- but such a close makes a pause of 0 that of one failure
   pub spared_first : (plan : Plan) (commands : ℕ) (why : Cause) (p : Progress) → is_spared plan why p ≡ true → p.pause ≡ pause_after plan 0
       → ((after_failure plan commands why p).pause ≡ pause_after plan 1) × ((after_failure plan commands why p).tries ≡ p.tries)
-  -- bytes that settle a command, once a command of a cycle had its turn after the setup, give all tries back, and make the
-  -- pause 0
+  -- bytes that settle a command give all tries back, and make the pause 0; if there is a setup, only once a cycle began or went
+  -- on after it (`preparing` is false)
   pub settled : (plan : Plan) (until : Until) (before : ℕ) (after : Waiting) (p : Progress) → after.commands < before → p.preparing ≡ false
       → ((bytes_noted plan until before after p).tries ≡ plan.retries) × ((bytes_noted plan until before after p).pause ≡ pause_after plan 0)
   -- bytes that settle none, or come before that, change neither

@@ -20,7 +20,7 @@ pub use Rattle.gc_station.specs.Deciding.{is_idle, is_finished}
 use Rattle.gc_station.specs.Lines.{is_reply}
 
 -- the progress of a station that has done nothing: no null procedure of the synchronization is answered
-abbrev pub at_start : Plan → ℕ → Progress
+abbrev pub at_start : Plan → (turns : ℕ) → Progress
 at_start plan turns = record {
   phase = phase.Down;
   word = the_word;
@@ -57,14 +57,23 @@ turned p = record p { turns = p.turns - 1 }
 -- clock went back, so that the cycle's beginning (`began`) or the moment from which a dead line counts (`alive`) lies after
 -- `m`, it becomes `m`: so the next cycle isn't put off. If `m` asks for the end of the run, that stays asked for
 abbrev pub moment_noted : Moment → Progress → Progress
-moment_noted m p = record p { moment = m; since = m.elapsed; alive = min p.alive m.elapsed; began = min p.began m.elapsed; clock_due = false; stops = p.stops || m.stops }
+moment_noted m p = record p {
+  moment = m;
+  since = m.elapsed;
+  alive = min p.alive m.elapsed;
+  began = min p.began m.elapsed;
+  clock_due = false;
+  stops = p.stops || m.stops;
+}
 
 -- the moment that counts as the beginning of a cycle that is begun at the moment `m`. For the first cycle, and where cycles
 -- have no due moment, it is `m`; for any other cycle the moment at which it was due, or `m` if that is earlier
 abbrev pub cycle_start : Plan → Moment → Progress → ℕ
-cycle_start plan m p = if nat_eq p.left plan.cycles || nat_eq plan.every 0 then m.elapsed else min (later p.began plan.every) m.elapsed
+cycle_start plan m p =
+    if nat_eq p.left plan.cycles || nat_eq plan.every 0 then m.elapsed
+    else min (later p.began plan.every) m.elapsed
 
--- whether a cycle that would begin at the moment `m` is missed: the one after it is due by then
+-- whether a cycle that would begin at the moment `m` is missed: the one after it is due by then, or would be, if it is the last one
 abbrev pub is_missed_at : Plan → Moment → Progress → Bool
 is_missed_at plan m p = nat_lt 0 plan.every && nat_le plan.every (m.elapsed - cycle_start plan m p)
 
@@ -74,7 +83,7 @@ abbrev pub due_of : Plan → Moment → Progress → ℕ
 due_of plan m p = m.utc - (m.elapsed - cycle_start plan m p)
 
 -- the progress after a cycle of `count` commands began at the moment `m`. If the cycle is missed, none of them is sent
-abbrev pub cycle_begun : Plan → ℕ → Moment → Progress → Progress
+abbrev pub cycle_begun : Plan → (count : ℕ) → Moment → Progress → Progress
 cycle_begun plan count m p =
     let q = moment_noted m p in
     record q {
@@ -95,18 +104,28 @@ cycle_begun plan count m p =
 abbrev pub skipped_at : Moment → Progress → ℕ
 skipped_at m p = if p.missed then p.due else m.utc
 
--- the progress once the next command was recorded at the moment `m` without being sent. `next_is_chained`: whether the command
--- after it is sent only once the one before it was answered well. `others`: if the command after it begins a further attempt of its
--- chain, how many commands this and the chain's later attempts have together; otherwise 0
-abbrev pub skipped : Bool → ℕ → Moment → Progress → Progress
-skipped next_is_chained others m p =
-    let q = moment_noted m p in record q { unsent = p.unsent - 1; next_is_chained = next_is_chained; next_others = others; chain_unbroken = false; preparing = false }
+-- the progress once the next `count` commands of the cycle had their turn: they were sent, recorded without being sent, or left
+-- out. `next_is_chained`: whether the command after them is sent only once the one before it was answered well. `others`: if the
+-- command after them begins a further attempt of its chain, how many commands this and the chain's later attempts have together;
+-- otherwise 0. `was_sent`: whether they were sent, so that their chain is unbroken (`chain_unbroken`)
+abbrev pub had_turn : (count : ℕ) (next_is_chained : Bool) (others : ℕ) (was_sent : Bool) → Progress → Progress
+had_turn count next_is_chained others was_sent p = record p {
+  unsent = p.unsent - count;
+  next_is_chained = next_is_chained;
+  next_others = others;
+  chain_unbroken = was_sent;
+  preparing = false;
+}
 
--- the progress after the further attempts of a chain that the next command begins were left out at the moment `m`.
--- `next_is_chained` and `others` are of the command after them, as in `skipped`
-abbrev pub attempts_left_out : Bool → ℕ → Moment → Progress → Progress
-attempts_left_out next_is_chained others m p =
-    let q = moment_noted m p in record q { unsent = p.unsent - p.next_others; next_is_chained = next_is_chained; next_others = others; chain_unbroken = false; preparing = false }
+-- the progress once the next command was recorded at the moment `m` without being sent. `next_is_chained` and `others` are of the
+-- command after it, as in `had_turn`
+abbrev pub skipped : (next_is_chained : Bool) (others : ℕ) → Moment → Progress → Progress
+skipped next_is_chained others m p = had_turn 1 next_is_chained others false (moment_noted m p)
+
+-- the progress after the further attempt that the next command begins, and those of its chain after it, were left out at the
+-- moment `m`. `next_is_chained` and `others` are of the command after all these attempts, as in `had_turn`
+abbrev pub attempts_left_out : (next_is_chained : Bool) (others : ℕ) → Moment → Progress → Progress
+attempts_left_out next_is_chained others m p = had_turn p.next_others next_is_chained others false (moment_noted m p)
 
 -- the progress after a call that failed for `cause`: the connection is to be closed, and without a connection the run is over
 abbrev pub failing : Cause → Progress → Progress
@@ -124,16 +143,18 @@ is_spared plan _ p = is_idle plan p
 
 -- the phase after the loss of a connection, or after an attempt that failed, while `commands` commands are outstanding: the run
 -- is done; or it tries again, if a try is left or none is needed (`is_spared`); or it is over for this cause
-abbrev pub phase_again : Plan → ℕ → Cause → Progress → Phase
+abbrev pub phase_again : Plan → (commands : ℕ) → Cause → Progress → Phase
 phase_again plan commands why p =
     if is_finished commands p then phase.Over cause.Done
     else if is_spared plan why p || nat_lt 0 p.tries then phase.Pausing
     else phase.Over why
 
--- the length of the next pause, in milliseconds: the quiet time after a first failure, and after each further one twice the last
--- pause, up to a minute. Where no try is taken (`is_spared`) it is the last pause. It is never below the quiet time
+-- the length of the next pause, in milliseconds: twice the last pause, up to a minute, or the last pause itself where no try is
+-- taken (`is_spared`); but never below the quiet time. So it is the quiet time if the last pause counts as 0 (`pause`)
 abbrev pub pause_again : Plan → Cause → Progress → ℕ
-pause_again plan why p = if is_spared plan why p then max p.pause plan.quiet else max (min (later p.pause p.pause) 60000) plan.quiet
+pause_again plan why p =
+    if is_spared plan why p then max p.pause plan.quiet
+    else max (min (later p.pause p.pause) 60000) plan.quiet
 
 -- the number of the next attempt of the setup: one more than the last one's, if something of that was sent; else the same
 abbrev pub next_attempt : Progress → ℕ
@@ -144,18 +165,17 @@ abbrev pub setup_restarted : Plan → Progress → Progress
 setup_restarted plan p = record p { preparing = nat_lt 0 plan.setup; prepared = 0; attempt = next_attempt p }
 
 -- the progress after a connection was closed for the cause `why`, or couldn't be made, with `commands` commands outstanding.
--- The next attempt to connect takes a try, unless it is spared, and the setup is sent again on the next connection
-abbrev pub after_failure : Plan → ℕ → Cause → Progress → Progress
-after_failure plan commands why p = record p {
-  phase = phase_again plan commands why p;
-  clock_due = true;
-  tries = if is_spared plan why p then p.tries else p.tries - 1;
-  pause = pause_again plan why p;
-  chain_unbroken = false;
-  preparing = nat_lt 0 plan.setup;
-  prepared = 0;
-  attempt = next_attempt p;
-}
+-- The next attempt to connect takes a try, unless it is spared (`is_spared`); no chain goes on, and the setup is sent again on the
+-- next connection
+abbrev pub after_failure : Plan → (commands : ℕ) → Cause → Progress → Progress
+after_failure plan commands why p =
+    setup_restarted plan (record p {
+      phase = phase_again plan commands why p;
+      clock_due = true;
+      tries = if is_spared plan why p then p.tries else p.tries - 1;
+      pause = pause_again plan why p;
+      chain_unbroken = false;
+    })
 
 -- the progress after the line feed of a new connection was sent: the connection is drained next, unless a synchronization goes
 -- on with it
@@ -167,9 +187,15 @@ abbrev pub one_more_in_window : ℕ → ℕ
 one_more_in_window n = if nat_lt n WINDOW then n + 1 else n
 
 -- the progress after a request was sent: one more was sent after the last call of the table that a reply ended (`behind`, up to
--- seven). The time after which the line is dead begins with the first request after a reply line or on a connection
+-- seven). The time after which the line is dead begins with the first request after a reply line, on a connection, or after a
+-- resynchronization between two cycles (`asked`)
 abbrev pub request_noted : Progress → Progress
-request_noted p = record p { alive = if p.asked then p.alive else p.moment.elapsed; asked = true; clock_due = true; behind = one_more_in_window p.behind }
+request_noted p = record p {
+  alive = if p.asked then p.alive else p.moment.elapsed;
+  asked = true;
+  clock_due = true;
+  behind = one_more_in_window p.behind;
+}
 
 -- the progress after the null procedure of the first id that isn't answered was sent: it is sent again at its deadline. No
 -- command is sent before it is answered, so `behind` is 0
@@ -180,11 +206,13 @@ null_sent plan p = let q = request_noted p in record q { again = later p.moment.
 -- is sent again. If nothing is sent before the next cycle is due, the time after which the line is dead begins with the first
 -- null procedure
 abbrev pub renewed : Plan → Moment → Progress → Progress
-renewed plan m p = let q = moment_noted m p in setup_restarted plan (record q { word = the_word; again = 0; asked = p.asked && goes_on plan q; chain_unbroken = false; behind = 0 })
+renewed plan m p =
+    let q = moment_noted m p in
+    setup_restarted plan (record q { word = the_word; again = 0; asked = p.asked && goes_on plan q; chain_unbroken = false; behind = 0 })
 
--- the progress after the cycle's next command was sent. `next_is_chained` and `others` are of the one after it, as in `skipped`
-abbrev pub sent : Bool → ℕ → Progress → Progress
-sent next_is_chained others p = let q = request_noted p in record q { unsent = p.unsent - 1; next_is_chained = next_is_chained; next_others = others; chain_unbroken = true; preparing = false }
+-- the progress after the cycle's next command was sent. `next_is_chained` and `others` are of the one after it, as in `had_turn`
+abbrev pub sent : (next_is_chained : Bool) (others : ℕ) → Progress → Progress
+sent next_is_chained others p = had_turn 1 next_is_chained others true (request_noted p)
 
 -- the progress after the setup's next command was sent
 abbrev pub setup_sent : Plan → Progress → Progress
@@ -192,22 +220,22 @@ setup_sent plan p = let q = request_noted p in record q { prepared = min (p.prep
 
 -- the progress after a line was heard. If it is a reply (`is_reply`), it shows that the other end is alive; any other line changes
 -- nothing
-abbrev pub line_noted : Bool → Progress → Progress
+abbrev pub line_noted : (is_reply : Bool) → Progress → Progress
 line_noted is_reply p = record p { alive = if is_reply then p.moment.elapsed else p.alive; asked = if is_reply then false else p.asked }
 
 -- the progress once a line was heard after which `waiting` requests are outstanding. `of_table`: it settled requests, and the last of
 -- them, to which it is the reply, is a call of the table. Then the outstanding requests are those sent after that call
-abbrev pub caught_up : Bool → ℕ → Progress → Progress
+abbrev pub caught_up : (of_table : Bool) (waiting : ℕ) → Progress → Progress
 caught_up of_table waiting p = record p { behind = if of_table then waiting else p.behind }
 
 -- the progress once a line with this id, or with none, was heard while the station synchronizes: if the line answers the first
 -- null procedure that is left, the next null procedure, if there is one, is sent at once
-abbrev pub answered : Option ℕ → Progress → Progress
-answered id p = record p { word = left_by p.word id; again = if is_answered p.word id then 0 else p.again }
+abbrev pub id_synchronizing : Option ℕ → Progress → Progress
+id_synchronizing id p = record p { word = left_by p.word id; again = if is_answered p.word id then 0 else p.again }
 
 -- the progress after `line` was heard while the station synchronizes
 abbrev pub line_synchronizing : Progress → List ℕ → Progress
-line_synchronizing p line = line_noted (is_reply line) (answered (heard line) p)
+line_synchronizing p line = line_noted (is_reply line) (id_synchronizing (heard line) p)
 
 -- the progress after these lines were heard while the station synchronizes, in order
 abbrev pub lines_synchronizing : Progress → List (List ℕ) → Progress
@@ -216,18 +244,19 @@ lines_synchronizing p (line ∷ others) = lines_synchronizing (line_synchronizin
 
 -- whether the cycle counts as done early after a read. A read until the next cycle is due shows that it was, because only a
 -- done cycle has such a read; after any other read it counts as before (`early`)
-abbrev pub early_after : Until → Bool → Bool
+abbrev pub early_after : Until → (early : Bool) → Bool
 early_after Due early = true
 early_after Limit early = early
 
--- whether bytes give all tries back: they settled a command, since fewer than `before` are outstanding after them, and the setup,
--- if there is one, is over (`preparing` is false)
-abbrev pub gives_back : ℕ → Waiting → Progress → Bool
+-- whether bytes give all tries back: they settled a command, since fewer than `before` are outstanding after them; and if there is
+-- a setup, a cycle began or went on after it (`preparing` is false)
+abbrev pub gives_back : (before : ℕ) (after : Waiting) → Progress → Bool
 gives_back before after p = nat_lt after.commands before && not p.preparing
 
--- the progress after bytes that came: `before` commands were outstanding before them, and `after` counts what is outstanding
--- after them. If `gives_back` says so, all tries are available again, and the next pause is the quiet time
-abbrev pub bytes_noted : Plan → Until → ℕ → Waiting → Progress → Progress
+-- the progress after bytes that came in a read that waits for what `until` says: `before` commands were outstanding before them,
+-- and `after` counts what is outstanding after them. If `gives_back` says so, all tries are available again, and the next pause
+-- is the quiet time
+abbrev pub bytes_noted : Plan → Until → (before : ℕ) (after : Waiting) → Progress → Progress
 bytes_noted plan until before after p = record p {
   early = early_after until p.early;
   tries = if gives_back before after p then plan.retries else p.tries;
@@ -249,30 +278,22 @@ quieted plan phase.Pausing p = pause_ended plan p
 quieted plan phase.Draining p = if is_quiet plan p then drained p else p
 quieted plan _ p = p
 
--- the progress once the moment `m` was read by a read that gave nothing: the quiet time goes on. If the clock went back, so
--- that the start of the quiet time (`since`), the cycle's beginning (`began`) or the moment from which a dead line counts
--- (`alive`) lies after `m`, it becomes `m`
+-- the progress once the moment `m` was read by a read that gave nothing and ended as `until` says: as `moment_noted`, but the quiet
+-- time goes on. If the clock went back, so that the start of the quiet time (`since`) lies after `m`, it becomes `m`. After a read
+-- until the next cycle is due the cycle counts as done early (`early_after`)
 abbrev pub time_passed : Until → Moment → Progress → Progress
-time_passed until m p = record p {
-  moment = m;
-  since = min p.since m.elapsed;
-  alive = min p.alive m.elapsed;
-  began = min p.began m.elapsed;
-  clock_due = false;
-  stops = p.stops || m.stops;
-  early = early_after until p.early;
-}
+time_passed until m p = let q = moment_noted m p in record q { since = min p.since m.elapsed; early = early_after until p.early }
 
 -- the progress after a read that gave nothing until the moment `m`
 abbrev pub silent : Plan → Until → Moment → Progress → Progress
 silent plan until m p = quieted plan p.phase (time_passed until m p)
 
--- the progress where `commands` commands are outstanding: the cycle was done early if nothing of it is left and the next one
--- isn't due yet, or if that was noted before
-abbrev pub early_noted : Plan → ℕ → Progress → Progress
+-- the progress once it is noted whether the cycle was done early: none of its commands is left, no command is outstanding
+-- (`commands` counts these), and the next cycle isn't due yet; or it was noted before that the cycle was done early
+abbrev pub early_noted : Plan → (commands : ℕ) → Progress → Progress
 early_noted plan commands p = record p { early = p.early || (nat_eq commands 0 && nat_eq p.unsent 0 && not (is_due plan p)) }
 
--- the progress at the end of a run for the cause `why`: no further connection is made
+-- the progress at the end of a run for the cause `why`: no further connection is made, and no chain goes on
 abbrev pub ended_for : Cause → Progress → Progress
 ended_for why p = record p { phase = phase.Over why; chain_unbroken = false }
 
@@ -300,6 +321,6 @@ is_over_in (phase.Over cause) = true
 abbrev pub is_over : Progress → Bool
 is_over p = is_over_in p.phase || (not (is_up p.phase) && nat_eq p.turns 0)
 
--- whether all outstanding requests are lost: the station resynchronizes, or no act follows
+-- whether all outstanding requests, if any, are lost: the station synchronizes, or no act follows
 abbrev pub loses_all : Progress → Bool
 loses_all p = not (has_begun p) || is_over p

@@ -15,7 +15,7 @@ use Rattle.gc_texts.specs.declared.quality.Quality.{Quality}
 use Rattle.gc_texts.specs.declared.quality.Quality.TheVariants.{Fine, Warning, Refused}
 use Rattle.gc_texts.specs.declared.tasks.Task.{Task}
 use Rattle.gc_links.specs.Acts.{Act}
-use Rattle.gc_station.specs.Model.{expected_first}
+use Rattle.gc_station.specs.NextCommand.{expected_first}
 use Rattle.gc_station.specs.Records.{Record}
 use Rattle.gc_station.specs.Runs.{state_after}
 use Rattle.gc_station.specs.Scopes.{Scope}
@@ -40,15 +40,26 @@ IsRefusal accepted (reading.Unreadable fault) = ⊥
 -- record has it. `Warning`: the line says a refusal with an accepted code; the record has the answer, if any, that the line
 -- would say with return code 0. `Refused`: the line says any other refusal or a fault of communication, and the record has no
 -- answer
-abbrev pub IsOfQuality : (Asked → List ℕ → Reading) → Codes → Asked → Quality → Option Answer → List ℕ → Type 0
+abbrev pub IsOfQuality : (Asked → List ℕ → Reading) → (accepted : Codes) → Asked → Quality → (said : Option Answer) (line : List ℕ) → Type 0
 IsOfQuality reads accepted call Fine said line = (answer : Answer) × (said ≡ Some answer) × (reads call line ≡ reading.Value answer)
 IsOfQuality reads accepted call Warning said line =
     (code : ℕ) × (reads call line ≡ reading.Refused code) × (lists_code accepted code ≡ true) × (said ≡ answer_in (reads call (as_zero line)))
 IsOfQuality reads accepted call Refused said line = (said ≡ None) × IsRefusal accepted (reads call line)
 
 -- the return codes that are accepted of the command at `place` in the list `commands`
-abbrev pub accepted_at : List Task → ℕ → Codes
+abbrev pub accepted_at : List Task → (place : ℕ) → Codes
 accepted_at commands place = (expected_first (drop place commands)).accepted
+
+-- the record `r` is an answer of a good quality: with both codes 0 and values that read, or with a return code that is accepted of
+-- its command. `line` is its reply, and `said` the values that it has; the line says them, with that quality (`says`). `reads` gives
+-- what a line says of a call
+pub record IsGoodAnswer (reads : Asked → List ℕ → Reading) (commands : List Task) (r : Record) : Type 0 where
+  pub line : List ℕ
+  pub quality : Quality
+  pub said : Option Answer
+  pub answered : r.end ≡ Answered quality said line
+  pub well : is_good quality ≡ true
+  pub says : IsOfQuality reads (accepted_at commands r.place) r.command.call quality said line
 
 -- if the record `r` is answered, its answer has the quality of its line, by the codes that are accepted of its command
 abbrev pub IsAsListed : (Asked → List ℕ → Reading) → List Task → Record → Type 0

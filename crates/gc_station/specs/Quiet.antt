@@ -20,10 +20,6 @@ IsAsking Send = Unit {0}
 IsAsking Flush = Unit {0}
 IsAsking _ = ⊥
 
--- the act sends no request
-abbrev pub AsksNothing : Act → Type 0
-AsksNothing act = IsRequest act → ⊥
-
 -- the act reads the moment `elapsed`, alone or together with bytes or silence
 abbrev pub TellsMoment : ℕ → Act → Type 0
 TellsMoment elapsed (Told m) = m.elapsed ≡ elapsed

@@ -1,5 +1,5 @@
 -- Reasons, this project's own: what has to hold if an act is the next one.
-use Rattle.std.specs.Prelude.{◌≡◌, ◌<◌, ◌≤◌, ◌⊎◌, true, false}
+use Rattle.std.specs.Prelude.{◌≡◌, ℕ, ◌<◌, ◌≤◌, ◌⊎◌, true, false}
 use Rattle.gc_client.specs.declared.window.TheConstants.{WINDOW}
 use Rattle.gc_station.specs.declared.plan.Plan.{Plan}
 use Rattle.gc_station.specs.declared.cause.Cause.{Cause}
@@ -16,14 +16,14 @@ use Rattle.gc_station.specs.Deciding.{width_of, has_begun, is_up, is_idle, is_de
 abbrev pub HasRoom : Plan → Waiting → Type 0
 HasRoom plan w = (w.current < width_of plan) × (w.all < WINDOW)
 
--- no further command may be sent before those that were sent are settled: each command of the cycle was sent, or the next one
--- waits for the answer of the one before it in its chain, or begins a further attempt of its chain
+-- no further command may be sent before those that were sent are settled: no command of the cycle is left, or the next one waits
+-- for the answer of the one before it in its chain, or begins a further attempt of its chain
 abbrev pub IsHeld : Progress → Type 0
 IsHeld p = (p.unsent ≡ 0) ⊎ ((p.next_is_chained ≡ true) ⊎ (0 < p.next_others))
 
--- the station is between two chains: no command of the cycle is left, or the next one begins a chain or a further attempt of one; or
--- there is a setup, and since the connection was made and the station synchronized no cycle began or went on (`preparing`). In a missed
--- cycle all commands count as one chain
+-- the station is between two chains: no command of the cycle is left, or the next one begins a chain or a further attempt of one;
+-- or there is a setup, and since the connection was made and the station synchronized no cycle began or went on (`preparing`). In a
+-- missed cycle each command, the first one too, counts as going on with a chain
 abbrev pub IsBetween : Progress → Type 0
 IsBetween p = (p.unsent ≡ 0) ⊎ ((p.next_is_chained ≡ false) ⊎ (p.preparing ≡ true))
 
@@ -36,7 +36,7 @@ IsResting p w = (is_up p.phase ≡ false) ⊎ ((has_begun p ≡ false) ⊎ ((w.c
 abbrev pub StaysInItsChain : Progress → Type 0
 StaysInItsChain p = p.stops ≡ true → p.next_is_chained ≡ true
 
--- the next command of the setup waits for the answer of the one before it
+-- the setup isn't done, and waits for the answer of the command of it that was sent last
 abbrev pub SetUpWaits : Plan → Progress → Waiting → Type 0
 SetUpWaits plan p w = (is_preparing plan p w ≡ true) × (0 < p.prepared)
 
@@ -69,13 +69,18 @@ MayRetry p w = (p.next_others ≡ 0) ⊎ ((w.commands ≡ 0) × (w.listed ≡ tr
 -- a null procedure is wanted: commands are outstanding that have to be settled before another is sent; or the next command may
 -- be sent, and none of the last seven requests is a call of the table that a reply ended
 abbrev pub WantsNull : Plan → Progress → Waiting → Type 0
-WantsNull plan p w = ((IsHeld p ⊎ SetUpWaits plan p w) × (0 < w.commands)) ⊎ ((((0 < p.unsent) × MayGo p w) ⊎ MayPrepare plan p w) × (WINDOW ≤ p.behind))
+WantsNull plan p w =
+    ((IsHeld p ⊎ SetUpWaits plan p w) × (0 < w.commands)) ⊎ ((((0 < p.unsent) × MayGo p w) ⊎ MayPrepare plan p w) × (WINDOW ≤ p.behind))
+
+-- no command of any cycle is left to be sent, and none is outstanding: `commands` is how many are outstanding
+abbrev pub IsFinished : (commands : ℕ) → Progress → Type 0
+IsFinished commands p = (p.left ≡ 0) × (p.unsent ≡ 0) × (commands ≡ 0)
 
 -- the connection is to be closed though no call of the link failed: all is done; all turns are used up; no command may be sent,
 -- and the line is dead; a command of the setup wasn't answered well; the run is stale; or its end was asked for, and it may end
 -- here
 abbrev pub IsAtItsEnd : Plan → Progress → Waiting → Cause → Type 0
-IsAtItsEnd plan p w Done = (p.left ≡ 0) × (p.unsent ≡ 0) × (w.commands ≡ 0)
+IsAtItsEnd plan p w Done = IsFinished w.commands p
 IsAtItsEnd plan p w Dead = NothingMayGo plan p w × (is_dead plan p w ≡ true)
 -- the last command of the setup that was sent is settled, and wasn't answered well
 IsAtItsEnd plan p w SetUp = (is_preparing plan p w ≡ true) × (0 < p.prepared) × (w.commands ≡ 0) × (w.well ≡ false)
@@ -84,8 +89,7 @@ IsAtItsEnd plan p w Stale = is_stale plan p w ≡ true
 IsAtItsEnd plan p w Stopped = (p.stops ≡ true) × IsResting p w
 IsAtItsEnd plan p w _ = ⊥
 
--- there is a connection, which is to be closed for this cause. For `Stale` and `Stopped` there may be none: the run ends
--- without one, too
+-- there is a connection, unless the cause is `Stale` or `Stopped`, which end a run without one, too
 abbrev pub HasConnectionFor : Cause → Progress → Type 0
 HasConnectionFor Stale p = Unit {0}
 HasConnectionFor Stopped p = Unit {0}
@@ -97,22 +101,28 @@ abbrev pub HoldsBefore : Plan → Progress → Waiting → Action → Type 0
 HoldsBefore plan p w action.ReadClock = Unit {0}
 -- the station resynchronizes where seven are outstanding, which have all timed out
 HoldsBefore plan p w action.Renew = (p.phase ≡ phase.Ready) × (has_begun p ≡ true) × (w.current ≡ 0) × (WINDOW ≤ w.all)
-HoldsBefore plan p w action.Begin = (p.phase ≡ phase.Ready) × (has_begun p ≡ true) × (p.unsent ≡ 0) × (w.commands ≡ 0) × (0 < p.left) × (p.stops ≡ false) × (is_preparing plan p w ≡ false)
+HoldsBefore plan p w action.Begin =
+    (p.phase ≡ phase.Ready) × (has_begun p ≡ true) × (p.unsent ≡ 0) × (w.commands ≡ 0) × (0 < p.left) × (p.stops ≡ false)
+    × (is_preparing plan p w ≡ false)
 HoldsBefore plan p w action.Open = p.phase ≡ phase.Down
 HoldsBefore plan p w action.Clear = p.phase ≡ phase.Clearing
 -- the null procedure of a synchronization is sent, and again at its deadline, unless the cycle is done and the next isn't due
 HoldsBefore plan p w action.Ask = (p.phase ≡ phase.Ready) × (has_begun p ≡ false) × (p.again ≤ p.moment.elapsed) × (is_idle plan p ≡ false)
 -- no command of the setup is sent if the end of the run was asked for
-HoldsBefore plan p w action.Prepare = (p.phase ≡ phase.Ready) × (has_begun p ≡ true) × MayPrepare plan p w × HasRoom plan w × (p.behind < WINDOW) × (p.stops ≡ false)
+HoldsBefore plan p w action.Prepare =
+    (p.phase ≡ phase.Ready) × (has_begun p ≡ true) × MayPrepare plan p w × HasRoom plan w × (p.behind < WINDOW) × (p.stops ≡ false)
 -- a command of a cycle has its turn only once the setup is done
 HoldsBefore plan p w action.Send =
-    (p.phase ≡ phase.Ready) × (has_begun p ≡ true) × (0 < p.unsent) × HasRoom plan w × MayGo p w × (p.behind < WINDOW) × MayRetry p w × StaysInItsChain p × (is_preparing plan p w ≡ false)
+    (p.phase ≡ phase.Ready) × (has_begun p ≡ true) × (0 < p.unsent) × HasRoom plan w × MayGo p w × (p.behind < WINDOW) × MayRetry p w
+    × StaysInItsChain p × (is_preparing plan p w ≡ false)
 HoldsBefore plan p w action.Skip =
-    (p.phase ≡ phase.Ready) × (has_begun p ≡ true) × (0 < p.unsent) × (w.commands ≡ 0) × (p.next_is_chained ≡ true) × (may_go p w ≡ false) × (is_preparing plan p w ≡ false)
+    (p.phase ≡ phase.Ready) × (has_begun p ≡ true) × (0 < p.unsent) × (w.commands ≡ 0) × (p.next_is_chained ≡ true)
+    × (may_go p w ≡ false) × (is_preparing plan p w ≡ false)
 -- the further attempts of a chain are left out if all that were sent are settled, and no command of the attempt before ended as
 -- its rule names; or if nothing is sent, because the cycle is missed
 HoldsBefore plan p w action.Pass =
-    (p.phase ≡ phase.Ready) × (has_begun p ≡ true) × (0 < p.unsent) × (w.commands ≡ 0) × (0 < p.next_others) × ((w.listed ≡ false) ⊎ (p.next_is_chained ≡ true)) × (is_preparing plan p w ≡ false)
+    (p.phase ≡ phase.Ready) × (has_begun p ≡ true) × (0 < p.unsent) × (w.commands ≡ 0) × (0 < p.next_others)
+    × ((w.listed ≡ false) ⊎ (p.next_is_chained ≡ true)) × (is_preparing plan p w ≡ false)
 HoldsBefore plan p w action.Flush = (p.phase ≡ phase.Ready) × (has_begun p ≡ true) × WantsNull plan p w × (w.current ≡ 0) × HasRoom plan w
 HoldsBefore plan p w (action.Read until) = Unit {0}
 HoldsBefore plan p w (action.Close cause) = HasConnectionFor cause p × ((p.phase ≡ phase.Closing cause) ⊎ IsAtItsEnd plan p w cause)

@@ -1,4 +1,5 @@
--- Records: what a station writes of each command that ended, this project's own. A book is what takes their texts, in order.
+-- Records: what a station writes of each command that ended, this project's own. A book is what takes their texts, in order;
+-- `text` gives the text of a record.
 use Rattle.std.specs.Prelude.{◌≡◌, ℕ, ◌<◌, List, ◌∷◌, ◌++◌, length, take, Option, Result, Ok, Err}
 use Rattle.std.specs.List.{flat_map}
 use Rattle.std.specs.Io.KnownBytes.{Appends}
@@ -30,11 +31,19 @@ pub record Record : Type 0 where
 
 -- the record of a command with this stamp and this ending, as contracts see it
 abbrev pub record_seen : Stamp → Wish → Ending → Record
-record_seen stamp command ending = record { sent = stamp.sent; utc = stamp.utc; cycle = stamp.cycle; place = stamp.place; turn = stamp.turn; command = command; end = ending_seen ending }
+record_seen stamp command ending = record {
+  sent = stamp.sent;
+  utc = stamp.utc;
+  cycle = stamp.cycle;
+  place = stamp.place;
+  turn = stamp.turn;
+  command = command;
+  end = ending_seen ending;
+}
 
 -- a write of `text` with this result, after which a book that had taken `old` has taken `new`: the whole text, or if the write
 -- failed (`Err`) a first part that isn't all of it
-abbrev pub Writes : {X E : Type 0} → Option (List ℕ) → Option (List ℕ) → List ℕ → Result X E → Type 0
+abbrev pub Writes : {X E : Type 0} → (old new : Option (List ℕ)) → (text : List ℕ) → Result X E → Type 0
 Writes old new text (Ok _) = Appends old new text
 Writes old new text (Err _) = (part : ℕ) × (part < length text) × Appends old new (take part text)
 
@@ -56,20 +65,20 @@ pub record WritesPart (text : Record → List ℕ) (before all : List Record) (o
 
 -- a book that had taken `old` has taken `new`: the texts of the records `all`, whole; or if it failed (`Err`), those of
 -- `before`, and a part of the others
-abbrev pub WritesAll : {X E : Type 0} → (Record → List ℕ) → List Record → List Record → Option (List ℕ) → Option (List ℕ) → Result X E → Type 0
+abbrev pub WritesAll : {X E : Type 0} → (Record → List ℕ) → (before all : List Record) → (old new : Option (List ℕ)) → Result X E → Type 0
 WritesAll text before all old new (Ok _) = Appends old new (texts_of text all)
 WritesAll text before all old new (Err _) = WritesPart text before all old new
-
--- a book that had taken `old`, which ends with the texts of some records `before`, has taken `new`: the texts of the records
--- `news reads` besides, whole, or if it failed (`Err`) a part of them. This holds for each function `reads` that gives replies'
--- readings
-abbrev pub WritesNews : {X E : Type 0} → (Record → List ℕ) → (old new : Option (List ℕ)) → (news : (Asked → List ℕ → Reading) → List Record) → Result X E → Type 0
-WritesNews text old new news result =
-    (reads : Asked → List ℕ → Reading) (start : Option (List ℕ)) (before : List Record)
-    → AreReadings reads → Appends start old (texts_of text before) → WritesAll text before (before ++ news reads) start new result
 
 -- a book that had taken `old`, which ends with the texts of some records `before`, has taken `new`: the texts of the records
 -- `news` besides, whole, or if it failed (`Err`) a part of them
 abbrev pub WritesMore : {X E : Type 0} → (Record → List ℕ) → (old new : Option (List ℕ)) → (news : List Record) → Result X E → Type 0
 WritesMore text old new news result =
-    (start : Option (List ℕ)) (before : List Record) → Appends start old (texts_of text before) → WritesAll text before (before ++ news) start new result
+    (start : Option (List ℕ)) (before : List Record)
+    → Appends start old (texts_of text before) → WritesAll text before (before ++ news) start new result
+
+-- as `WritesMore`, of the records `news reads`, for each function `reads` that gives each line's reading for a call
+abbrev pub WritesNews : {X E : Type 0} → (Record → List ℕ) → (old new : Option (List ℕ)) → (news : (Asked → List ℕ → Reading) → List Record)
+    → Result X E → Type 0
+WritesNews text old new news result =
+    (reads : Asked → List ℕ → Reading) (start : Option (List ℕ)) (before : List Record)
+    → AreReadings reads → Appends start old (texts_of text before) → WritesAll text before (before ++ news reads) start new result

@@ -21,7 +21,7 @@ pub record Request : Type 0 where
 
 -- the requests of the cycle `cycle` for these targets and calls; the first one has the place `place`, and each further one the
 -- next place
-abbrev pub requests : ℕ → ℕ → List (Wanted Asked) → List Request
+abbrev pub requests : (cycle place : ℕ) → List (Wanted Asked) → List Request
 requests cycle place [] = []
 requests cycle place (a ∷ others) = record { cycle = cycle; place = place; asked = a } ∷ requests cycle (place + 1) others
 
@@ -29,9 +29,9 @@ requests cycle place (a ∷ others) = record { cycle = cycle; place = place; ask
 abbrev pub of_command : Wish → Wanted Asked
 of_command c = record { target = c.target; call = c.call }
 
--- a call as the text has it. If its command sets the clock (`true`), that is the call for the beginning of 1970; otherwise
--- `call` itself
-abbrev pub untimed : Bool → Asked → Asked
+-- the call of a command as the text has it: if the command sets the clock (`sets`), the call for the beginning of 1970;
+-- otherwise `call` itself
+abbrev pub untimed : (sets : Bool) → Asked → Asked
 untimed true call = Table (SetDate (date_time 0))
 untimed false call = call
 
@@ -40,7 +40,7 @@ abbrev pub of_task : Task → Wanted Asked
 of_task task = record { target = task.command.target; call = untimed task.now task.command.call }
 
 -- the command of `task` if its request is sent at the moment `utc`, by the clock of time stamps
-abbrev pub command_at : ℕ → Task → Wish
+abbrev pub command_at : (utc : ℕ) → Task → Wish
 command_at utc task = record { target = task.command.target; call = call_at task utc }
 
 -- the command of `task` if its request was sent at this moment; if it wasn't sent (`None`), the command as in the text
@@ -49,7 +49,7 @@ command_sent None task = task.command
 command_sent (Some utc) task = command_at utc task
 
 -- the target and the call of the command of `task` if its request is sent at the moment `utc`
-abbrev pub asked_at : ℕ → Task → Wanted Asked
+abbrev pub asked_at : (utc : ℕ) → Task → Wanted Asked
 asked_at utc task = of_command (command_at utc task)
 
 -- whether the first of these commands sets the clock; false if there is none

@@ -13,32 +13,33 @@ use Rattle.gc_texts.specs.declared.turn.Turn.{Turn}
 use Rattle.gc_links.specs.Acts.{Act}
 use Rattle.gc_station.specs.Attempts.{code_in}
 use Rattle.gc_station.specs.Marks.{commands_in}
-use Rattle.gc_station.specs.Model.{Model, Runs, opening, action_at, place_next, expected_first, is_chained, others_in}
+use Rattle.gc_station.specs.Model.{Model, Runs, opening, action_at}
+use Rattle.gc_station.specs.NextCommand.{place_next, expected_first, turn_of_setup, is_chained, others_in}
 use Rattle.gc_station.specs.Records.{Record}
 use Rattle.gc_station.specs.Runs.{state_after}
 use Rattle.gc_station.specs.Scopes.{Scope}
 use Rattle.gc_station.specs.declared.plan.Plan.{Plan}
 use Rattle.gc_station.specs.declared.progress.Action.TheVariants.{Send, Pass}
 
--- the endings after which a chain is sent again, if the text says `again` of a command of it; for a command of the setup
--- (`true`) none, since it is of no chain
-abbrev pub rule_as : Bool → Again → Again
+-- the endings after which a chain is sent again, if the text says `again` of a command of it; none for a command of the setup
+-- (`of_setup`), since it is of no chain
+abbrev pub rule_as : (of_setup : Bool) → Again → Again
 rule_as true again = no_again
 rule_as false again = again
 
 -- the endings of the command at this cycle and place after which its chain is sent again. Cycle 0 is the setup
-abbrev pub rule_at : List Task → ℕ → ℕ → Again
+abbrev pub rule_at : List Task → (cycle place : ℕ) → Again
 rule_at commands cycle place = rule_as (nat_eq cycle 0) (expected_first (drop place commands)).again
 
--- the turn of a command of which the text says `turn`. A command of the setup (`true`) has the attempt `attempt` of the setup
--- in its turn, and link 1, since no attempt of a chain begins with it
-abbrev pub turn_as : Bool → ℕ → Turn → Turn
-turn_as true attempt turn = record turn { attempt = attempt; link = 1 }
+-- the turn of a command of which the text says `turn`. For a command of the setup (`of_setup`) it is `turn_of_setup`, with the
+-- attempt `attempt` of the setup
+abbrev pub turn_as : (of_setup : Bool) (attempt : ℕ) → Turn → Turn
+turn_as true attempt turn = turn_of_setup attempt turn
 turn_as false attempt turn = turn
 
 -- the turn of the command at this cycle and place. For a command of the setup, which has cycle 0, `attempt` is the attempt of
 -- the setup
-abbrev pub turn_at : List Task → ℕ → ℕ → ℕ → Turn
+abbrev pub turn_at : List Task → (cycle attempt place : ℕ) → Turn
 turn_at commands cycle attempt place = turn_as (nat_eq cycle 0) attempt (expected_first (drop place commands)).turn
 
 -- the return code other than 0 of the reply to `call`, if the command ended as answered and the reply has one, with
@@ -52,7 +53,7 @@ abbrev pub is_listed : (Asked → List ℕ → Reading) → List Task → Record
 is_listed reads commands r = repeats_after (rule_at commands r.cycle r.place) (code_of_end reads r.command.call r.end) r.end
 
 -- among `records` is one (`one`) of a command that ended as the rule of its chain names; and no attempt begins after it
--- (`same`), so it is of the same attempt as the last record
+-- (`same`), so it is of the same attempt as the last record that is of a cycle
 pub record HasListed (reads : Asked → List ℕ → Reading) (commands : List Task) (records : List Record) : Type 0 where
   pub front : List Record
   pub one : Record
@@ -73,15 +74,15 @@ pub record FurtherAttemptsHaveACause : Type 0 where
       → action_at plan (state_after plan commands scope acts) ≡ Send → IsFurtherAttempt plan commands (state_after plan commands scope acts)
       → (commands_in (state_after plan commands scope acts).marks ≡ 0) × HasListed scope.reads commands (state_after plan commands scope acts).records
   -- only further attempts are left out, once all commands that were sent are settled: if none of the attempt before ended as
-  -- its rule names, or the cycle is missed, or the next command is chained, which the first of an attempt never is
+  -- its rule names, or the cycle is missed, or the next command is chained, which the first of an attempt never is in a text
   pub passes : (plan : Plan) (commands : List Task) (scope : Scope) (acts : List Act) → Runs plan commands (opening plan scope) acts
       → action_at plan (state_after plan commands scope acts) ≡ Pass
       → let s = state_after plan commands scope acts in
       IsFurtherAttempt plan commands s × (commands_in s.marks ≡ 0)
       × ((HasListed scope.reads commands s.records → ⊥) ⊎ ((s.progress.missed ≡ true) ⊎ (is_chained (drop (place_next commands s.progress) commands) ≡ true)))
 
--- after any acts, each record has the turn of the command at its cycle and place (`turn_at`); one of the setup has the attempt
--- of the setup in it
+-- after any acts, each record has the turn of the command at its cycle and place (`turn_at`); of a record of the setup nothing is
+-- said of the attempt in it
 abbrev pub EachRecordHasItsTurn : Type 0
 EachRecordHasItsTurn =
     (plan : Plan) (commands : List Task) (scope : Scope) (acts : List Act)

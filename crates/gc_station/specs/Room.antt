@@ -14,5 +14,6 @@ use Rattle.gc_station.specs.Model.{action_at}
 abbrev pub RequestsHaveRoom : Type 0
 RequestsHaveRoom =
     (plan : Plan) (commands : List Task) (scope : Scope) (acts : List Act) → IsAsking (action_at plan (state_after plan commands scope acts))
-    → ((length (deadlines (state_after plan commands scope acts).client.waiting) ≡ 0) ⊎ (length (deadlines (state_after plan commands scope acts).client.waiting) < plan.width))
+    → ((length (deadlines (state_after plan commands scope acts).client.waiting) ≡ 0)
+    ⊎ (length (deadlines (state_after plan commands scope acts).client.waiting) < plan.width))
     × (length (state_after plan commands scope acts).client.waiting < 7)

@@ -1,5 +1,6 @@
 -- Whole runs of a station, this project's own: each act was the one that was to be made next, and the book has what they
--- record. An act is one call on the link, with its result. The book is what takes the texts of the records.
+-- record. An act is one call on the link, with its result. The book is what takes the texts of the records; `text` gives the text
+-- of a record.
 use Rattle.std.specs.Prelude.{◌≡◌, ◌⊎◌, ℕ, Bool, true, List, [], ◌∷◌, ◌++◌, Option, Some, None, Result, Ok, Err}
 use Rattle.std.specs.Io.KnownBytes.{Appends}
 use Rattle.gc_texts.specs.declared.tasks.Task.{Task}
@@ -35,7 +36,8 @@ pub record RanTo (plan : Plan) (commands : List Task) (scope : Scope) (text : Re
 -- a run in which the book failed at a record. From `told` to `told'` the link recorded `acts` and `last`, each the one that was
 -- to be made next, and after them a close. From `taken` to `taken'` the book took the texts of all records of `acts`, and of
 -- the records that `last` adds a part
-pub record FailedAtRecord (plan : Plan) (commands : List Task) (scope : Scope) (text : Record → List ℕ) (told told' : Option (List Act)) (taken taken' : Option (List ℕ)) : Type 0 where
+pub record FailedAtRecord (plan : Plan) (commands : List Task) (scope : Scope) (text : Record → List ℕ) (told told' : Option (List Act))
+    (taken taken' : Option (List ℕ)) : Type 0 where
   pub acts : List Act
   pub last : Act
   pub tells : Tells told told' (acts ++ last ∷ (Closed ∷ []))
@@ -44,54 +46,58 @@ pub record FailedAtRecord (plan : Plan) (commands : List Task) (scope : Scope) (
 
 -- a run in which the book couldn't make its records last. From `told` to `told'` the link recorded `acts`, each the one that
 -- was to be made next, and after them a close. From `taken` to `taken'` the book took the texts of all records of these acts
-pub record FailedAtSync (plan : Plan) (commands : List Task) (scope : Scope) (text : Record → List ℕ) (told told' : Option (List Act)) (taken taken' : Option (List ℕ)) : Type 0 where
+pub record FailedAtSync (plan : Plan) (commands : List Task) (scope : Scope) (text : Record → List ℕ) (told told' : Option (List Act))
+    (taken taken' : Option (List ℕ)) : Type 0 where
   pub acts : List Act
   pub tells : Tells told told' (acts ++ Closed ∷ [])
   pub runs : Runs plan commands (opening plan scope) acts
   pub took : Appends taken taken' (texts_of text (state_after plan commands scope acts).records)
 
 -- a run in which the book failed: at a record (`FailedAtRecord`), or when its records were to be made durable (`FailedAtSync`)
-abbrev pub BookFailed : Plan → List Task → Scope → (Record → List ℕ) → Option (List Act) → Option (List Act) → Option (List ℕ) → Option (List ℕ) → Type 0
+abbrev pub BookFailed : Plan → List Task → Scope → (Record → List ℕ) → (told told' : Option (List Act)) → (taken taken' : Option (List ℕ)) → Type 0
 BookFailed plan commands scope text told told' taken taken' =
     FailedAtRecord plan commands scope text told told' taken taken' ⊎ FailedAtSync plan commands scope text told told' taken taken'
 
 -- a run with this result: it ended for the cause of the result, with its tally (`Ok`); or the book failed (`Err`)
-abbrev pub EndsAs : {E : Type 0} → Plan → List Task → Scope → (Record → List ℕ) → Option (List Act) → Option (List Act) → Option (List ℕ) → Option (List ℕ)
+abbrev pub EndsAs : {E : Type 0} → Plan → List Task → Scope → (Record → List ℕ) → (told told' : Option (List Act)) → (taken taken' : Option (List ℕ))
     → Result (Cause × Tally) E → Type 0
 EndsAs plan commands scope text told told' taken taken' (Ok end) = RanTo plan commands scope text told told' taken taken' end.0 end.1
 EndsAs plan commands scope text told told' taken taken' (Err _) = BookFailed plan commands scope text told told' taken taken'
 
 -- a run with this result. `Ok`: it ended for a cause without a fault, because it is done or its end was asked for. `Err
 -- Output`: the book failed. Any other fault: it ended for a cause with that fault
-abbrev pub Ran : Plan → List Task → Scope → (Record → List ℕ) → Option (List Act) → Option (List Act) → Option (List ℕ) → Option (List ℕ) → Result Tally RunFault → Type 0
+abbrev pub Ran : Plan → List Task → Scope → (Record → List ℕ) → (told told' : Option (List Act)) → (taken taken' : Option (List ℕ))
+    → Result Tally RunFault → Type 0
 Ran plan commands scope text told told' taken taken' (Ok tally) =
     (cause : Cause) × RanTo plan commands scope text told told' taken taken' cause tally × (fault_of cause ≡ None)
 Ran plan commands scope text told told' taken taken' (Err Output) = BookFailed plan commands scope text told told' taken taken'
 Ran plan commands scope text told told' taken taken' (Err fault) =
     (cause : Cause) × (tally : Tally) × RanTo plan commands scope text told told' taken taken' cause tally × (fault_of cause ≡ Some fault)
 
--- a run with this result and at most `turns` acts ended as `EndsAs` says, for each function that gives each line's reading for a
--- call. From `told` to `told'` its link recorded the acts, and from `taken` to `taken'` its book took the records by `text`
-abbrev pub EndsForReadings : {E : Type 0} → Plan → List Task → (turns : ℕ) → (Record → List ℕ) → (told told' : Option (List Act)) → (taken taken' : Option (List ℕ)) → Result (Cause × Tally) E → Type 0
+-- a run with this result and this many turns ended as `EndsAs` says, for each function that gives each line's reading for a call.
+-- From `told` to `told'` its link recorded the acts, and from `taken` to `taken'` its book took the records by `text`
+abbrev pub EndsForReadings : {E : Type 0} → Plan → List Task → (turns : ℕ) → (Record → List ℕ) → (told told' : Option (List Act))
+    → (taken taken' : Option (List ℕ)) → Result (Cause × Tally) E → Type 0
 EndsForReadings plan commands turns text told told' taken taken' result =
     ForEachReadings (λ reads. EndsAs plan commands (scoped turns reads) text told told' taken taken' result)
 
--- a run with this result and at most `turns` acts is as `Ran` says, for each function that gives each line's reading for a call;
+-- a run with this result and this many turns is as `Ran` says, for each function that gives each line's reading for a call;
 -- and there is such a function. From `told` to `told'` its link recorded the acts, and from `taken` to `taken'` its book took the
 -- records by `text`
-abbrev pub RanForReadings : Plan → List Task → (turns : ℕ) → (Record → List ℕ) → (told told' : Option (List Act)) → (taken taken' : Option (List ℕ)) → Result Tally RunFault → Type 0
+abbrev pub RanForReadings : Plan → List Task → (turns : ℕ) → (Record → List ℕ) → (told told' : Option (List Act)) → (taken taken' : Option (List ℕ))
+    → Result Tally RunFault → Type 0
 RanForReadings plan commands turns text told told' taken taken' result =
     ForReadings (λ reads. Ran plan commands (scoped turns reads) text told told' taken taken' result)
 
--- after a run with the fault `Output` its book has failed (`new`); after any other run the book has failed only if it had
+-- after a run with the fault `Output` its book has failed (`new`); after any other run the book has failed exactly if it had
 -- before (`old`)
-abbrev pub FailsAtOutput : {X : Type 0} → Bool → Bool → Result X RunFault → Type 0
+abbrev pub FailsAtOutput : {X : Type 0} → (old new : Bool) → Result X RunFault → Type 0
 FailsAtOutput old new (Ok _) = new ≡ old
 FailsAtOutput old new (Err Output) = new ≡ true
 FailsAtOutput old new (Err fault) = new ≡ old
 
--- after a run with this result all records are durable; nothing is said if the book failed (`Output`)
-abbrev pub LastsBut : {X : Type 0} → Bool → Result X RunFault → Type 0
-LastsBut is_durable (Ok _) = is_durable ≡ true
-LastsBut is_durable (Err Output) = Unit {0}
-LastsBut is_durable (Err fault) = is_durable ≡ true
+-- after a run with this result all records are durable (`is_durable`); nothing is said if the book failed (`Output`)
+abbrev pub LastUnlessFailed : {X : Type 0} → (is_durable : Bool) → Result X RunFault → Type 0
+LastUnlessFailed is_durable (Ok _) = is_durable ≡ true
+LastUnlessFailed is_durable (Err Output) = Unit {0}
+LastUnlessFailed is_durable (Err fault) = is_durable ≡ true

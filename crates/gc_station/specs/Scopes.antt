@@ -1,5 +1,5 @@
--- What the laws on a run take beside its plan and its commands, this project's own: how many acts it makes at most, and what
--- each reply says of its call.
+-- What the laws on a run take beside its plan and its commands, this project's own: how many turns it has, and what each reply
+-- says of its call.
 use Rattle.std.specs.Prelude.{◌≡◌, ℕ, List}
 use Rattle.gc_catalogue.specs.declared.answer.Reading.{Reading}
 use Rattle.gc_catalogue.specs.declared.asked.Asked.{Asked}
@@ -8,7 +8,7 @@ use Rattle.gc_client.specs.Settlements.{ReadsBy}
 
 -- what a run is given besides its plan and commands
 pub record Scope : Type 0 where
-  -- how many acts it makes at most
+  -- how many turns it has: each act takes one. When none is left, a connection that is still there is closed by one act more
   pub turns : ℕ
   -- what the line of a reply says of a call
   pub reads : Asked → List ℕ → Reading
@@ -25,7 +25,7 @@ OneReadingForALine = (call : Asked) (line : List ℕ) (x y : Reading) → ReadsB
 abbrev pub SomeReadings : Type 0
 SomeReadings = (reads : Asked → List ℕ → Reading) × AreReadings reads
 
--- the scope of a run with at most `turns` acts, in which `reads` gives what the line of a reply says of a call
+-- the scope of a run with this many turns, in which `reads` gives what the line of a reply says of a call
 abbrev pub scoped : ℕ → (Asked → List ℕ → Reading) → Scope
 scoped turns reads = record { turns = turns; reads = reads }
 

@@ -12,7 +12,8 @@ use Rattle.gc_station.specs.declared.progress.Action.TheVariants.{Prepare, Send,
 use Rattle.gc_station.specs.Deciding.{has_begun, later}
 use Rattle.gc_station.specs.Lists.{with_if}
 use Rattle.gc_station.specs.Marks.{is_well}
-use Rattle.gc_station.specs.Model.{Model, opening, action_at, mark_setup, after, Runs}
+use Rattle.gc_station.specs.Model.{Model, opening, action_at, after, Runs}
+use Rattle.gc_station.specs.NextCommand.{mark_setup}
 use Rattle.gc_station.specs.Quiet.{KeepsOpen}
 use Rattle.gc_station.specs.Records.{Record}
 use Rattle.gc_station.specs.Runs.{state_after}
@@ -79,7 +80,7 @@ pub record EachSetUpOnce (plan : Plan) (commands : List Task) (scope : Scope) (a
 
 -- `y` is the command of the setup that follows `x`: the next one in the same attempt, or the first one in the next attempt.
 -- Attempts count up to 2^64 - 1
-abbrev pub IsNextAfter : Dispatch → Dispatch → Type 0
+abbrev pub IsNextAfter : (x y : Dispatch) → Type 0
 IsNextAfter x y = ((y.attempt ≡ x.attempt) × (y.place ≡ x.place + 1)) ⊎ ((y.attempt ≡ later x.attempt 1) × (y.place ≡ 0))
 
 -- each of these commands of the setup follows the one before it (`IsNextAfter`), and the first one follows `x`
@@ -96,7 +97,8 @@ AreInOrder (x ∷ xs) = (x.attempt ≡ 1) × (x.place ≡ 0) × GoOn x xs
 -- the commands of the setup that a run sends are in order, as `AreInOrder` says, if the list has at least `plan.setup` commands
 abbrev pub SetUpsGoOn : Type 0
 SetUpsGoOn =
-    (plan : Plan) (commands : List Task) (scope : Scope) (acts : List Act) → plan.setup ≤ length commands → AreInOrder (setup_sent_by plan commands (opening plan scope) acts)
+    (plan : Plan) (commands : List Task) (scope : Scope) (acts : List Act)
+    → plan.setup ≤ length commands → AreInOrder (setup_sent_by plan commands (opening plan scope) acts)
 
 -- Before a command is sent.
 
@@ -104,7 +106,8 @@ SetUpsGoOn =
 -- them
 abbrev pub StaysUp : Plan → List Task → Model → List Act → Type 0
 StaysUp plan commands s [] = Unit {0}
-StaysUp plan commands s (act ∷ acts) = KeepsOpen act × (has_begun (after plan commands s act).progress ≡ true) × StaysUp plan commands (after plan commands s act) acts
+StaysUp plan commands s (act ∷ acts) =
+    KeepsOpen act × (has_begun (after plan commands s act).progress ≡ true) × StaysUp plan commands (after plan commands s act) acts
 
 -- among `acts` the act `request` sent the command of the setup at `place`, and it was answered well. Since then no connection
 -- was closed, and the station didn't resynchronize (`stays`). Its record `answer`, which was written since, has its cycle,

@@ -11,7 +11,7 @@ use Rattle.gc_station.specs.Model.{Model, is_reply, lines_completed, after}
 use Rattle.gc_station.specs.Scopes.{Scope}
 
 -- the moment that these acts read last; `now` if they read none
-abbrev pub latest : ℕ → List Act → ℕ
+abbrev pub latest : (now : ℕ) → List Act → ℕ
 latest now [] = now
 latest now (Told m ∷ acts) = latest m.elapsed acts
 latest now (Gave bytes m ∷ acts) = latest m.elapsed acts

@@ -1,14 +1,14 @@
 -- No part of a promise: what the functions of a station do to it, in terms of its model. An act is one call on the link, with
 -- its result.
-use Rattle.std.specs.Prelude.{◌≡◌, ℕ, ◌<◌, false, List, [], ◌∷◌, ◌++◌, length, drop, Option, Some, None, Result, Ok, Err}
+use Rattle.std.specs.Prelude.{◌≡◌, ℕ, ◌<◌, false, min, List, [], ◌∷◌, ◌++◌, length, drop, Option, Some, None, Result, Ok, Err}
 use Rattle.std.specs.Io.KnownBytes.{Appends}
 use Rattle.std.specs.Option.{option_to_list}
 use Rattle.gc_lines.specs.Assembler.{StandsFor}
 use Rattle.gc_lines.specs.Frames.{line_in}
 use Rattle.gc_lines.specs.Lent.{lent_seen}
 use Rattle.gc_lines.specs.declared.frame.Lent.{Lent}
-use Rattle.gc_client.specs.Rule.{deadlines}
 use Rattle.gc_client.specs.declared.window.TheConstants.{WINDOW}
+use Rattle.gc_client.specs.Rule.{expires}
 use Rattle.gc_texts.specs.declared.tasks.Task.{Task}
 use Rattle.gc_texts.specs.declared.wish.Wish.{Wish}
 use Rattle.gc_station.specs.declared.plan.Plan.{Plan}
@@ -26,34 +26,24 @@ use Rattle.gc_catalogue.specs.declared.call.Call.TheVariants.{NullProc}
 use Rattle.gc_links.specs.Acts.{Act, Told, Tells}
 use Rattle.gc_links.specs.declared.link.Moment.{Moment}
 use Rattle.gc_station.specs.Deciding.{has_begun}
-use Rattle.gc_station.specs.Marks.{commands_in, last_well}
+use Rattle.gc_station.specs.Marks.{last_well}
 use Rattle.gc_station.specs.Scopes.{AreReadings}
-use Rattle.gc_station.specs.Progressing.{turned, failing}
+use Rattle.gc_station.specs.Progressing.{failing}
 use Rattle.gc_station.specs.Records.{Record, texts_of, WritesPart}
 use Rattle.gc_station.specs.Requests.{command_at}
-use Rattle.gc_station.specs.Model.{Model, Performs, moved, ended, with_progress, is_heard, lines_came, after_piece, sent_to, unsent_record, listed_unsent}
+use Rattle.gc_station.specs.Model.{Model, Performs, moved, stepped, waiting_by, is_heard, lines_came, after_piece, sent_to, unsent_record, listed_unsent}
 use Rattle.gc_station.specs.Tallies.{nothing_yet, tallied}
 
--- what a decision looks at besides the progress, of a station: how many requests are outstanding in all, of those that haven't
--- timed out, and of commands; whether the command recorded last was answered well, and whether one of its attempt ended as its
--- rule names; and when one was answered well last
+-- what a decision looks at besides the progress, of a station
 abbrev pub waiting_in : Station → Waiting
-waiting_in station =
-    record {
-      all = length station.client.ids.waiting;
-      current = length (deadlines station.client.ids.waiting);
-      commands = commands_in station.marks.items;
-      well = station.well;
-      listed = station.listed;
-      fresh = station.fresh;
-    }
+waiting_in station = waiting_by station.client.ids station.marks.items station.recorded.well station.recorded.listed station.recorded.fresh
 
 -- a station has one mark for each outstanding request
 abbrev pub IsPaired : Station → Type 0
 IsPaired station = length station.marks.items ≡ length station.client.ids.waiting
 
--- the model `s` describes `station`. Its tally and what it notes of its last records are as the records of `s` give them, if
--- `s.reads` gives each reply's reading for its call
+-- the model `s` describes `station`. The station's tally and what it notes of its last records are as `s` gives them, if `s.reads`
+-- gives each reply's reading for its call
 pub record Refines (station : Station) (s : Model) : Type 0 where
   -- the progress is the model's
   pub progress : station.progress ≡ s.progress
@@ -67,22 +57,23 @@ pub record Refines (station : Station) (s : Model) : Type 0 where
   -- the assembler stores the model's bytes since the last line feed
   pub assembles : StandsFor station.assembler s.rest
   -- the tally counts the model's records
-  pub tally : AreReadings s.reads → station.tally ≡ tallied nothing_yet s.records
-  -- whether the last of the model's records is of a command that was answered well
-  pub well : AreReadings s.reads → station.well ≡ last_well false s.records
-  -- whether a command of the last record's attempt ended as its rule names
-  pub listed : AreReadings s.reads → station.listed ≡ s.listed
-  -- when a command that was answered well was recorded last
-  pub fresh : AreReadings s.reads → station.fresh ≡ s.fresh
+  pub tally : AreReadings s.reads → station.recorded.tally ≡ tallied nothing_yet s.records
+  -- whether the last of the model's records is of a command that was answered well; false if there is none
+  pub well : AreReadings s.reads → station.recorded.well ≡ last_well false s.records
+  -- whether the command of a cycle that was recorded last, or one before it in the same attempt, ended as its rule names: as the
+  -- model says
+  pub listed : AreReadings s.reads → station.recorded.listed ≡ s.listed
+  -- the moment at which a command that was answered well was recorded last, or what stands for it: as the model says
+  pub fresh : AreReadings s.reads → station.recorded.fresh ≡ s.fresh
 
 -- from `start`, what it had taken before the run, to `taken` a book took the texts of the records of the model `s`, each
 -- written by `text`; if `s.reads` gives each reply's reading for its call
-abbrev pub Took : (Record → List ℕ) → Option (List ℕ) → Option (List ℕ) → Model → Type 0
+abbrev pub Took : (Record → List ℕ) → (start taken : Option (List ℕ)) → Model → Type 0
 Took text start taken s = AreReadings s.reads → Appends start taken (texts_of text s.records)
 
 -- from `start`, what it had taken before the run, to `taken` a book took the records `before`, which the model `s` had earlier,
 -- and a part of the further records of `s`; if `s.reads` gives each reply's reading for its call
-abbrev pub TookPart : (Record → List ℕ) → List Record → Option (List ℕ) → Option (List ℕ) → Model → Type 0
+abbrev pub TookPart : (Record → List ℕ) → (before : List Record) → (start taken : Option (List ℕ)) → Model → Type 0
 TookPart text before start taken s = AreReadings s.reads → WritesPart text before s.records start taken
 
 -- what contracts see of a run at a moment
@@ -112,7 +103,8 @@ pub record Makes (commands : List Task) (action : Action) (next : Model → Act 
 -- the link recorded one act after those of `old`, up to `told`, and it performs `action`. If the model `s` describes the
 -- station before it, and the book had taken the records of `s`, the book has taken `taken` by now: it failed at one of the
 -- records that the model `next s act` has beyond those of `s`
-pub record Breaks (commands : List Task) (action : Action) (next : Model → Act → Model) (old : Seen) (told : Option (List Act)) (taken : Option (List ℕ)) : Type 0 where
+pub record Breaks (commands : List Task) (action : Action) (next : Model → Act → Model) (old : Seen) (told : Option (List Act))
+    (taken : Option (List ℕ)) : Type 0 where
   pub act : Act
   pub tells : Tells old.acts told (act ∷ [])
   pub goes : (s : Model) (start : Option (List ℕ)) → Refines old.station s → Took old.text start old.taken s
@@ -120,12 +112,12 @@ pub record Breaks (commands : List Task) (action : Action) (next : Model → Act
 
 -- the link recorded one act that performs `action`. If the result is `Ok`, the model changed by `next`, and the book has the
 -- new records (`Makes`); if it is `Err`, the book failed at one of them (`Breaks`)
-abbrev pub Made : {X E : Type 0} → List Task → Action → (Model → Act → Model) → Seen → Seen → Result X E → Type 0
+abbrev pub Made : {X E : Type 0} → List Task → Action → (next : Model → Act → Model) → (old new : Seen) → Result X E → Type 0
 Made commands action next old new (Ok _) = Makes commands action next old new
 Made commands action next old new (Err _) = Breaks commands action next old new.acts new.taken
 
 -- the station made an act that performs `action`, and its model changed as `moved` says
-abbrev pub Does : Plan → List Task → Action → Seen → Seen → Type 0
+abbrev pub Does : Plan → List Task → Action → (old new : Seen) → Type 0
 Does plan commands action old new = Makes commands action (moved plan commands action) old new
 
 -- the station `old`, which became `new`, made an act that performs `action` (`Does`), whatever a book is like and has taken.
@@ -136,35 +128,33 @@ DoesAlone plan commands action told told' old new =
 
 -- the station `old`, which became `new`, made an act that performs `action` (`Made`), and its model changed as `moved` says. From
 -- `told` to `told'` the link recorded the act; from `taken` to `taken'` a book took its records, each written by `text`
-abbrev pub Moves : {X E : Type 0} → Plan → List Task → Action → (Record → List ℕ) → (told told' : Option (List Act)) → (taken taken' : Option (List ℕ)) → (old new : Station) → Result X E → Type 0
+abbrev pub Moves : {X E : Type 0} → Plan → List Task → Action → (Record → List ℕ) → (told told' : Option (List Act)) → (taken taken' : Option (List ℕ))
+    → (old new : Station) → Result X E → Type 0
 Moves plan commands action text told told' taken taken' old new result =
     Made commands action (moved plan commands action) (seen told text taken old) (seen told' text taken' new) result
 
 -- the station `old`, which became `new`, made a read that ends as `until` says (`Moves`), whatever its commands are
-abbrev pub MovesByReading : {X E : Type 0} → Plan → Until → (Record → List ℕ) → (told told' : Option (List Act)) → (taken taken' : Option (List ℕ)) → (old new : Station) → Result X E → Type 0
+abbrev pub MovesByReading : {X E : Type 0} → Plan → Until → (Record → List ℕ) → (told told' : Option (List Act)) → (taken taken' : Option (List ℕ))
+    → (old new : Station) → Result X E → Type 0
 MovesByReading plan until text told told' taken taken' old new result =
     (commands : List Task) → Moves plan commands (Read until) text told told' taken taken' old new result
 
--- the model `s` after an act that performs `action`: a turn is taken, then `moved`, and then all outstanding requests are lost
--- if `ended` says so
-abbrev pub stepped : Plan → List Task → Action → Model → Act → Model
-stepped plan commands action s act = ended (moved plan commands action (with_progress turned s) act)
-
 -- the station `old`, which became `new`, took a turn with an act that performs `action` (`Made`), and its model changed as `stepped`
 -- says. From `told` to `told'` the link recorded the act; from `taken` to `taken'` a book took its records, each written by `text`
-abbrev pub Steps : {X E : Type 0} → Plan → List Task → Action → (Record → List ℕ) → (told told' : Option (List Act)) → (taken taken' : Option (List ℕ)) → (old new : Station) → Result X E → Type 0
+abbrev pub Steps : {X E : Type 0} → Plan → List Task → Action → (Record → List ℕ) → (told told' : Option (List Act)) → (taken taken' : Option (List ℕ))
+    → (old new : Station) → Result X E → Type 0
 Steps plan commands action text told told' taken taken' old new result =
     Made commands action (stepped plan commands action) (seen told text taken old) (seen told' text taken' new) result
 
 -- the progress after a write with this result: `p` itself or, if the write was cut after `n` bytes (`Err n`), failing for a
 -- cause that has `n` and the number `requests`
-abbrev pub cut_progress : Result (Unit {0}) ℕ → ℕ → Progress → Progress
+abbrev pub cut_progress : Result (Unit {0}) ℕ → (requests : ℕ) → Progress → Progress
 cut_progress (Ok _) requests p = p
 cut_progress (Err n) requests p = failing (cause.Write requests n) p
 
 -- what an action needs, at the progress `p` with `waiting` outstanding requests: room in the window for a request, a command
 -- that is left to be sent or skipped, and for a null procedure of a synchronization that the station hasn't synchronized
-abbrev pub IsFitting : Progress → ℕ → Action → Type 0
+abbrev pub IsFitting : Progress → (waiting : ℕ) → Action → Type 0
 IsFitting p waiting Send = (0 < p.unsent) × (waiting < WINDOW)
 IsFitting p waiting Prepare = waiting < WINDOW
 IsFitting p waiting Skip = 0 < p.unsent
@@ -174,7 +164,7 @@ IsFitting p waiting _ = Unit {0}
 
 -- after a call with this result: the model `s` describes the station, and the book, which had taken `start` before the run, has
 -- taken the records of `s` (`Ok`); or the book failed at one of the records of `s` that come after `before` (`Err`)
-abbrev pub ComesTo : {X E : Type 0} → (Record → List ℕ) → List Record → Station → Option (List ℕ) → Option (List ℕ) → Model → Result X E → Type 0
+abbrev pub ComesTo : {X E : Type 0} → (Record → List ℕ) → (before : List Record) → Station → (start taken : Option (List ℕ)) → Model → Result X E → Type 0
 ComesTo text before station start taken s (Ok _) = Refines station s × Took text start taken s
 ComesTo text before station start taken s (Err _) = TookPart text before start taken s
 
@@ -197,18 +187,27 @@ abbrev pub piece_taken : List ℕ → Model → Model
 piece_taken piece s = after_piece (is_heard s.progress.phase) s.progress.word piece s
 
 -- the station once it sent the request for `command` with `mark`, which waits for `wait` milliseconds
-abbrev pub station_asking : Wish → ℕ → Option Mark → Station → Station
+abbrev pub station_asking : Wish → (wait : ℕ) → Option Mark → Station → Station
 station_asking command wait mark station = record station {
   client = record station.client { ids = sent_to station.client.width station.client.ids command station.progress.moment.elapsed wait };
   marks = record { items = station.marks.items ++ mark ∷ [] };
 }
 
+-- the station at the moment `now`: requests whose deadline has come have timed out, and `fresh` is `now` at the latest
+abbrev pub station_expiring : (now : ℕ) → Station → Station
+station_expiring now station = record station {
+  client = record station.client { ids = expires station.client.ids now };
+  recorded = record station.recorded { fresh = min station.recorded.fresh now };
+}
+
 -- the station once the record of its next command, which isn't sent, is written at the moment `moment`, counted and noted
 abbrev pub station_skipping : Plan → List Task → Moment → Station → Station
 station_skipping plan commands moment station = record station {
-  tally = tallied station.tally (unsent_record plan commands station.progress (Told moment));
-  well = false;
-  listed = listed_unsent plan commands station.progress station.listed;
+  recorded = record station.recorded {
+    tally = tallied station.recorded.tally (unsent_record plan commands station.progress (Told moment));
+    well = false;
+    listed = listed_unsent plan commands station.progress station.recorded.listed;
+  };
 }
 
 -- from `old` to `new` a station dropped the marks of the requests that it settled; its tally and what it notes of its last records
@@ -216,10 +215,7 @@ station_skipping plan commands moment station = record station {
 abbrev pub DropsSettledMarks : (old new : Station) → Type 0
 DropsSettledMarks old new = new ≡ record old {
   marks = record { items = drop (length old.settled.items) old.marks.items };
-  tally = new.tally;
-  well = new.well;
-  listed = new.listed;
-  fresh = new.fresh;
+  recorded = new.recorded;
 }
 
 -- what `next_setup` of a station returns: the request for the first of these commands of the setup, with `mark`; if there is no

@@ -20,7 +20,7 @@ use Rattle.gc_station.specs.Scopes.{Scope}
 
 -- the least of `n` and the moments that these acts read, by the clock for deadlines. If that clock doesn't go back, and `n` was
 -- read before them, it is `n`
-abbrev pub least_moment : ℕ → List Act → ℕ
+abbrev pub least_moment : (n : ℕ) → List Act → ℕ
 least_moment n [] = n
 least_moment n (Told m ∷ acts) = least_moment (min n m.elapsed) acts
 least_moment n (Gave bytes m ∷ acts) = least_moment (min n m.elapsed) acts
@@ -28,7 +28,7 @@ least_moment n (Silent m ∷ acts) = least_moment (min n m.elapsed) acts
 least_moment n (act ∷ acts) = least_moment n acts
 
 -- whether the end of the run was asked for by one of the moments that these acts read, or before (`asked`)
-abbrev pub asked_after : Bool → List Act → Bool
+abbrev pub asked_after : (asked : Bool) → List Act → Bool
 asked_after asked [] = asked
 asked_after asked (Told m ∷ acts) = asked_after (asked || m.stops) acts
 asked_after asked (Gave bytes m ∷ acts) = asked_after (asked || m.stops) acts
@@ -66,14 +66,15 @@ pub record NoneWellSince (plan : Plan) (commands : List Task) (scope : Scope) (a
   pub unwell : AllByRecursion IsNotWell records
   pub fresh : (state_after plan commands scope acts).fresh ≡ least_moment from behind
 
--- after `acts` the moment read last lies `plan.stale` milliseconds or more after the start, or after the last act that recorded
--- a command that was answered well; if the clock went back since, after the least moment that was read since
+-- the plan sets a limit (`wanted`), and after `acts` the moment read last lies `plan.stale` milliseconds or more after that of the
+-- last act that recorded a command that was answered well, or after 0 if none did; if the clock went back past that since, after
+-- the least moment that was read since
 pub record IsStaleAt (plan : Plan) (commands : List Task) (scope : Scope) (acts : List Act) : Type 0 where
   pub since : NoneWellSince plan commands scope acts
   pub wanted : 0 < plan.stale
   pub long : plan.stale ≤ (state_after plan commands scope acts).progress.moment.elapsed - least_moment since.from since.behind
 
--- if a connection is closed, or a run ends, because it is stale, it is (`IsStaleAt`)
+-- a close for the cause `Stale` is next, whether there is a connection or not, only where the run is stale (`IsStaleAt`)
 abbrev pub ClosesStale : Type 0
 ClosesStale =
     (plan : Plan) (commands : List Task) (scope : Scope) (acts : List Act) → Runs plan commands (opening plan scope) acts
@@ -86,10 +87,11 @@ StopsAtItsClose why =
     → action_at plan (state_after plan commands scope acts) ≡ Stop why
     → (earlier : List Act) × (acts ≡ earlier ++ Closed ∷ []) × (action_at plan (state_after plan commands scope earlier) ≡ Close why)
 
--- the first moment read at which a run with turns left is stale ends it: no act is after it but one close
+-- a moment read at which a run with turns left is stale ends the run: no act is after the act that read it, but at most one close
 abbrev pub EndsOnceStale : Type 0
 EndsOnceStale =
-    (plan : Plan) (commands : List Task) (scope : Scope) (earlier behind : List Act) (telling : Act) → Runs plan commands (opening plan scope) (earlier ++ telling ∷ behind) → IsListening telling
+    (plan : Plan) (commands : List Task) (scope : Scope) (earlier behind : List Act) (telling : Act)
+    → Runs plan commands (opening plan scope) (earlier ++ telling ∷ behind) → IsListening telling
     → 0 < (state_after plan commands scope (earlier ++ telling ∷ [])).progress.turns
     → is_stale plan (state_after plan commands scope (earlier ++ telling ∷ [])).progress (waiting_of (state_after plan commands scope (earlier ++ telling ∷ []))) ≡ true
     → (behind ≡ []) ⊎ (behind ≡ Closed ∷ [])
@@ -102,9 +104,9 @@ GoesOnInItsChain =
     → (action_at plan (state_after plan commands scope acts) ≡ Send → (state_after plan commands scope acts).progress.next_is_chained ≡ true)
     × (action_at plan (state_after plan commands scope acts) ≡ Begin → ⊥) × (action_at plan (state_after plan commands scope acts) ≡ Prepare → ⊥)
 
--- if a connection is closed, or a run ends, because that was asked for, a moment was read at which it was; and there is no
--- connection, or the station synchronizes, or it is between two chains, or two attempts of one, and nothing is in flight that hasn't
--- timed out. No command of an attempt that has begun is left that may be sent
+-- a close for the cause `Stopped` is next, whether there is a connection or not, only where the end of the run was asked for at a
+-- moment that was read; and there is no connection, or the station synchronizes, or it is between two chains, or two attempts of
+-- one, and nothing is in flight that hasn't timed out. No command of an attempt that has begun is left that may be sent
 abbrev pub ClosesBetweenChains : Type 0
 ClosesBetweenChains =
     (plan : Plan) (commands : List Task) (scope : Scope) (acts : List Act) → Runs plan commands (opening plan scope) acts

@@ -1,4 +1,5 @@
--- How many commands ended how, this project's own: the counts are those of the last attempt of each chain.
+-- How many commands ended how, this project's own: the counts are those of the last attempt of each chain. Commands of the setup
+-- aren't counted.
 use Rattle.std.specs.Prelude.{ℕ, List, [], ◌∷◌, if◌then◌else◌, nat_eq, nat_lt}
 use Rattle.gc_texts.specs.Endings.{End, Answered, Unreadable, Elsewhere, Late, Lost, Skipped, Missed}
 use Rattle.gc_texts.specs.declared.turn.Turn.{Turn}
@@ -26,7 +27,7 @@ counted (Elsewhere line) t = record t { elsewhere = one_more t.elsewhere }
 counted Missed t = record t { missed = one_more t.missed }
 
 -- the sum of the tallies `a` and `b`, count by count, each up to 2^64 - 1
-abbrev pub sum : Tally → Tally → Tally
+abbrev pub sum : (a b : Tally) → Tally
 sum a b = record {
   answered = later a.answered b.answered;
   late = later a.late b.late;
@@ -43,7 +44,7 @@ abbrev pub nothing_yet : Counts
 nothing_yet = record { settled = none_yet; attempt = none_yet }
 
 -- the counts `c` once an attempt begins, in this turn. If it is a further attempt, the counts of the attempt before are
--- discarded, and one chain more was sent again; otherwise they are added to those of the chains that are over
+-- discarded, and `again` counts one more; otherwise they are added to those of the chains that are over
 abbrev pub started : Turn → Counts → Counts
 started turn c =
     if nat_lt 1 turn.attempt then record { settled = record c.settled { again = one_more c.settled.again }; attempt = none_yet }
@@ -56,7 +57,7 @@ turned_to turn c = if nat_eq turn.link 0 then started turn c else c
 
 -- the counts `c` after one more command of this cycle and turn, with this ending. A command of the setup, whose cycle is 0,
 -- isn't counted
-abbrev pub counted_in : ℕ → Turn → End → Counts → Counts
+abbrev pub counted_in : (cycle : ℕ) → Turn → End → Counts → Counts
 counted_in cycle turn end c = if nat_eq cycle 0 then c else (let d = turned_to turn c in record d { attempt = counted end d.attempt })
 
 -- the counts `c` after the commands of these records, in order

@@ -12,7 +12,7 @@ use Rattle.gc_station.specs.Runs.{state_after}
 use Rattle.gc_station.specs.Model.{Model, after, action_at, opening, Runs}
 use Rattle.gc_station.specs.Scopes.{Scope}
 
--- a cause for which a connection ended or couldn't be made, and after which the run reconnects, unless no try is left
+-- a cause for which a connection ended or couldn't be made, and after which the run reconnects, unless it is done or no try is left
 abbrev pub IsTried : Cause → Type 0
 IsTried cause.Done = ⊥
 IsTried cause.Clock = ⊥
@@ -41,18 +41,19 @@ openings_in (Opened ∷ acts) = suc (openings_in acts)
 openings_in (Unopened ∷ acts) = suc (openings_in acts)
 openings_in (act ∷ acts) = openings_in acts
 
--- the act, from the model `s` to the model `t`, isn't a read that settles a command once the setup is done: if it gave bytes,
--- it wrote no record, or no command of a cycle had its turn since the setup (`preparing`)
+-- the act, from the model `s` to the model `t`, isn't a read that settles a command once the setup is over: if it gave bytes, it
+-- wrote no record, or there is a setup, after which no cycle began or went on (`preparing`)
 abbrev pub SettlesNone : Model → Act → Model → Type 0
 SettlesNone s (Gave bytes m) t = (t.records ≡ s.records) ⊎ (t.progress.preparing ≡ true)
 SettlesNone s act t = Unit {0}
 
--- none of these acts, from the model `s` on, is a read that settles a command once the setup is done (`SettlesNone`)
+-- none of these acts, from the model `s` on, is a read that settles a command once the setup is over (`SettlesNone`)
 abbrev pub NoneSettled : Plan → List Task → Model → List Act → Type 0
 NoneSettled plan commands s [] = Unit {0}
 NoneSettled plan commands s (act ∷ acts) = SettlesNone s act (after plan commands s act) × NoneSettled plan commands (after plan commands s act) acts
 
--- the last of `acts` is a read that settled a command, and the setup, if there is one, was over by then (`preparing` is false)
+-- the last of `acts` is a read that settled a command, and if there is a setup, a cycle had begun or gone on after it by then
+-- (`preparing` is false)
 pub record EndsSettled (plan : Plan) (commands : List Task) (scope : Scope) (acts : List Act) : Type 0 where
   pub earlier : List Act
   pub piece : List ℕ

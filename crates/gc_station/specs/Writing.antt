@@ -19,13 +19,15 @@ use Rattle.gc_station.specs.declared.tally.Counts.{Counts}
 -- give none
 abbrev pub GiveSameRecord : (a b : List (Option Mark)) → Type 0
 GiveSameRecord a b =
-    (reads : Asked → List ℕ → Reading) (utc : ℕ) (settlement : Rule.Settlement Asked) → records_of reads utc a (settlement ∷ []) ≡ records_of reads utc b (settlement ∷ [])
+    (reads : Asked → List ℕ → Reading) (utc : ℕ) (settlement : Rule.Settlement Asked)
+    → records_of reads utc a (settlement ∷ []) ≡ records_of reads utc b (settlement ∷ [])
 
 -- after any one settlement, which is of the request with the first mark, a command of the current attempt has ended as its rule
 -- names by the marks `a` exactly if one has by the marks `b`
 abbrev pub ListAlike : (a b : List (Option Mark)) → Type 0
 ListAlike a b =
-    (reads : Asked → List ℕ → Reading) (listed : Bool) (settlement : Rule.Settlement Asked) → listed_by reads listed a (settlement ∷ []) ≡ listed_by reads listed b (settlement ∷ [])
+    (reads : Asked → List ℕ → Reading) (listed : Bool) (settlement : Rule.Settlement Asked)
+    → listed_by reads listed a (settlement ∷ []) ≡ listed_by reads listed b (settlement ∷ [])
 
 -- the records of these settlements, all made at the moment `utc` by the clock of time stamps, by the marks of all outstanding
 -- requests, if `reads` gives what a line says of a call
@@ -63,19 +65,19 @@ news_settled station reads = news_of station.progress.moment.utc station.marks.i
 
 -- if the call with this result succeeded, the counts of the station `new` are those of `old` with what `old` has settled counted
 abbrev pub CountsSettled : {X E : Type 0} → (old new : Station) → Result X E → Type 0
-CountsSettled old new result = CountsNews old.tally new.tally old.progress.moment old.marks.items old.settled.items result
+CountsSettled old new result = CountsNews old.recorded.tally new.recorded.tally old.progress.moment old.marks.items old.settled.items result
 
 -- if the call with this result succeeded, the station `new` notes whether the last command that `old` has settled was answered
 -- well, as `NotesWell` says
 abbrev pub NotesSettledWell : {X E : Type 0} → (old new : Station) → Result X E → Type 0
-NotesSettledWell old new result = NotesWell old.well new.well old.progress.moment old.marks.items old.settled.items result
+NotesSettledWell old new result = NotesWell old.recorded.well new.recorded.well old.progress.moment old.marks.items old.settled.items result
 
 -- if the call with this result succeeded, the station `new` notes whether a command of the current attempt has ended as its rule
 -- names after what `old` has settled, as `NotesListed` says
 abbrev pub NotesSettledListed : {X E : Type 0} → (old new : Station) → Result X E → Type 0
-NotesSettledListed old new result = NotesListed old.listed new.listed old.marks.items old.settled.items result
+NotesSettledListed old new result = NotesListed old.recorded.listed new.recorded.listed old.marks.items old.settled.items result
 
 -- if the call with this result succeeded, the station `new` notes when a command was answered well last, after what `old` has
 -- settled, as `NotesFresh` says
 abbrev pub NotesSettledFresh : {X E : Type 0} → (old new : Station) → Result X E → Type 0
-NotesSettledFresh old new result = NotesFresh old.fresh new.fresh old.progress.moment old.marks.items old.settled.items result
+NotesSettledFresh old new result = NotesFresh old.recorded.fresh new.recorded.fresh old.progress.moment old.marks.items old.settled.items result

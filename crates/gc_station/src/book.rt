@@ -9,19 +9,21 @@ use gc_lines::PortFailed;
 use gc_links::Moment;
 use gc_texts::{Ending, Stamp, Wish};
 
-/// The health of the link before an act, for whoever watches the station.
+/// The health of the link before an act, for whoever watches the station. Where two of these fit, it is the one listed later.
 #[derive(Clone, Copy, Debug, PartialEq, Eq)]
 pub enum LinkHealth {
-    /// None of the others: requests are sent, and are answered.
+    /// None of the others: no request was sent since the last reply line, since the connection was made, or since the station
+    /// resynchronized between two cycles.
     Fine,
-    /// No command of the cycle is left, and each one that was sent is settled; or there is no connection, and none is wanted until the
-    /// next cycle is due.
+    /// The station has synchronized, no command of the cycle is left, and each one that was sent is settled; or there is no
+    /// connection, and none is wanted until the next cycle is due.
     Idle,
     /// There is no connection, though one is wanted.
     Unconnected,
-    /// A connection was made, and no request was sent over it yet: it is being cleared, or drained until it is quiet.
+    /// A connection was made, and is being cleared, or drained until it is quiet: no request was sent over it yet.
     Unquiet,
-    /// A request was sent, and no reply line came since.
+    /// A request was sent on this connection, and since then no reply line came, and the station didn't resynchronize between two
+    /// cycles.
     Unheard,
 }
 
@@ -54,7 +56,7 @@ pub trait Book {
         ensures form { text self.new ≡ text self.old };
 
     /// Makes all records so far durable: they outlast a crash, if the book is meant to outlast one. It is called before each
-    /// act and at the end. `Err`: the book has failed.
+    /// act, but for the close after the book failed, and at the end. `Err`: the book has failed.
     fn sync(&mut self) -> Result<(), PortFailed>
         ensures is_durable { OnOk result (is_durable self.new ≡ true) }
         ensures same { Keeps (taken self.old) (taken self.new) }
@@ -62,7 +64,8 @@ pub trait Book {
         ensures same_overruns { overruns self.new ≡ overruns self.old }
         ensures form { text self.new ≡ text self.old };
 
-    /// Takes note of the health of the link and of the last moment read on the link. It is called before each act.
+    /// Takes note of the health of the link and of the last moment read on the link, whose times are 0 if none was read yet. It
+    /// is called before each act, but for the close after the book failed.
     fn sees(&mut self, health: LinkHealth, moment: Moment)
         ensures same_overruns { overruns self.new ≡ overruns self.old }
         ensures same { taken self.new ≡ taken self.old }

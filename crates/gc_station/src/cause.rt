@@ -8,14 +8,15 @@ use gc_texts::RunFault;
 /// Why a connection is closed, or a run ends.
 #[derive(Clone, Copy, Debug, PartialEq, Eq)]
 pub enum Cause {
-    /// Each command of each cycle is settled.
+    /// No command of any cycle is left to be sent, and none is outstanding.
     Done,
-    /// No command may be sent, and no reply line came for twice the longest deadline, counted from the last reply line, or from
-    /// the first request that was sent after that or on this connection.
+    /// No command may be sent, and no reply line came for twice the longest deadline. This time counts from the latest of: the
+    /// last reply line; the first request after that line, on this connection, or after a resynchronization between two cycles;
+    /// and the end of this connection's draining.
     Dead,
     /// A read failed.
     Read,
-    /// The other end closed the connection.
+    /// The other end closed the connection, or the device is at its end.
     End,
     /// A write failed: only its first `bytes` bytes were sent. `requests` is the number of commands before the cycle's next one
     /// in the station's list, those of the setup included; 0 before the first cycle.

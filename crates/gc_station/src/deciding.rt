@@ -113,7 +113,7 @@ impl Progress {
     }
 
     // Whether the next cycle is due: the first at once, and each other one `every` milliseconds after `began`, the moment that counts
-    // as the beginning of the one before it. Whether a cycle is left (`left`) isn't looked at.
+    // as the beginning of the one before it. After the last cycle, too: whether there is a next one makes no difference.
     pub(crate) fn is_due(&self, plan: &Plan) -> bool
         ensures { result ≡ is_due plan.now self.now }
     {
@@ -143,8 +143,8 @@ impl Progress {
         }
     }
 
-    // The next action if the run isn't over and the connection isn't to be closed for a cause already: the four cases that come first
-    // in the table above, and then that of the phase.
+    // The next action if the run isn't over and the connection isn't to be closed for a cause already: that of the first of the
+    // four cases listed at the head of this file that applies, and if none does, that of the phase.
     fn action_on(&self, plan: &Plan, waiting: Waiting) -> Action
         ensures { result ≡ action_on plan.now self.now waiting }
     {
@@ -214,10 +214,11 @@ impl Progress {
         }
     }
 
-    // The next action when the next command may be sent, of a cycle (`action` is `Send`) or of the setup (`Prepare`): `action`, if one
-    // of the seven requests before it is a call of the table that a reply ended (`behind`). Else a null procedure is sent first
-    // (`Flush`), once no request is in flight that hasn't timed out: an instrument that retains the reply to its last call of the
-    // table may still send that reply for the next id. Without room for either it is the action of a station that waits.
+    // The next action when the next command may be sent, of a cycle (`action` is `Send`) or of the setup (`Prepare`): `action`,
+    // if one of the seven requests before it is a call of the table that a reply ended (`behind`). Else a null procedure is sent
+    // first (`Flush`), once no request is in flight that hasn't timed out: an instrument that retains the reply to its last call
+    // of the table may still send that reply for the next id. Until then, and without room for either, it is the action of a
+    // station that waits.
     fn action_next(&self, plan: &Plan, waiting: Waiting, action: Action) -> Action
         ensures { result ≡ action_next plan.now self.now waiting action }
     {
@@ -244,9 +245,9 @@ impl Progress {
         }
     }
 
-    // Whether the setup is still to be done: no cycle began or went on since the connection was made and the station synchronized
-    // (`preparing`), and a command of the setup wasn't sent yet, or a command is outstanding, or the one recorded last wasn't answered
-    // well. Without a setup `false`.
+    // Whether the setup is still to be done: there is one, and no cycle began or went on since the connection was made and the
+    // station synchronized (`preparing`); and a command of the setup wasn't sent yet, or a command is outstanding, or the one
+    // recorded last wasn't answered well.
     fn is_preparing(&self, plan: &Plan, waiting: Waiting) -> bool
         ensures { result ≡ is_preparing plan.now self.now waiting }
     {
@@ -265,10 +266,11 @@ impl Progress {
         }
     }
 
-    // The next action while the setup isn't done. Nothing is sent if no command is left to be sent after it, nor between
-    // cycles. Its first command may be sent at once (`action_next`), and each other one once the one before it was answered well.
-    // If it wasn't, the connection is closed: the setup begins with its first command on the next one. Where commands are
-    // outstanding, and all outstanding requests have timed out, a null procedure is sent, if there is room; its reply settles them.
+    // The next action while the setup isn't done. Nothing is sent if no command is left to be sent after it and none is
+    // outstanding, nor between cycles. Its first command may be sent at once (`action_next`), and each other one once the one
+    // before it was answered well. If it wasn't, the connection is closed: the setup begins with its first command on the next
+    // one. Where commands are outstanding, and all outstanding requests have timed out, a null procedure is sent, if there is
+    // room; its reply settles them. While some haven't timed out, it is the action of a station that waits.
     fn action_preparing(&self, plan: &Plan, waiting: Waiting) -> Action
         ensures { result ≡ action_preparing plan.now self.now waiting }
     {
@@ -293,7 +295,7 @@ impl Progress {
     }
 
     // The next action once the station has synchronized and its setup is done: that of `action_next`, if there is a command
-    // that needn't wait for the answer of the command before it; otherwise that of `action_sent`.
+    // that needn't wait for those before it (`waits_for_all`); otherwise that of `action_sent`.
     fn action_cycle(&self, plan: &Plan, waiting: Waiting) -> Action
         ensures { result ≡ action_cycle plan.now self.now waiting }
     {
@@ -304,9 +306,10 @@ impl Progress {
         }
     }
 
-    // The next action if no command may be sent before those that are outstanding are settled: all of the cycle were sent, or
-    // the next one is chained or begins a further attempt. Where commands are outstanding, and all outstanding requests have
-    // timed out, a null procedure is sent, if there is room; its reply settles them. Where none is, that of `action_settled`.
+    // The next action if no command may be sent before those that are outstanding are settled: all of the cycle had their turn,
+    // or the next one is chained or begins a further attempt. Where no command is outstanding, it is that of `action_settled`.
+    // Where some are, and all outstanding requests have timed out, a null procedure is sent, if there is room; its reply settles
+    // them. While some haven't timed out, it is the action of a station that waits.
     fn action_sent(&self, plan: &Plan, waiting: Waiting) -> Action
         ensures { result ≡ action_sent plan.now self.now waiting }
     {
@@ -320,7 +323,7 @@ impl Progress {
     }
 
     // The next action if each command that was sent is settled: that of a done cycle if no command is left; that of a further
-    // attempt if the next command begins one; to send the next command if it may be sent; and else to skip it.
+    // attempt if the next command begins one; that of `action_next` if the next command may be sent; and else to skip it.
     fn action_settled(&self, plan: &Plan, waiting: Waiting) -> Action
         ensures { result ≡ action_settled plan.now self.now waiting }
     {

@@ -1,5 +1,6 @@
 //! Laws of a station's runs, whatever its link does. A run is the list of its acts: an act is one call of the link, with what
-//! came of it. A request is put where its bytes are written, all of them or some; a moment is read if the clock is read. A run
+//! came of it. A run is given a number of turns: each act takes one, and once none is left, a connection that is still there is
+//! closed by one act more. A request is put where its bytes are written, all of them or some; a moment is read if the clock is read. A run
 //! begins with eight null procedures, one after the other, and resynchronizes where seven requests are outstanding, all timed
 //! out. Then it sends the commands of its text, cycle by cycle. A request waits from its sending until it is settled; at its
 //! deadline it has timed out, but stays outstanding. A chain is a row of commands for one target, each sent only once the one
@@ -111,8 +112,8 @@ pub fn closes_a_dead_line_only_after_silence()
         → action_at plan (state_after plan commands scope acts) ≡ Close cause.Dead → IsMuteFor (dead_after plan) plan commands scope acts }
 {}
 
-/// After a command was sent, whatever acts follow, the next command sent has a later place in the same cycle, or is of a later
-/// cycle: no command is sent twice in its cycle.
+/// After a command of a cycle was sent, whatever acts follow, the next one of a cycle has a later place in the same cycle, or
+/// is of a later cycle: no command is sent twice in its cycle.
 pub fn each_send_goes_on()
     ensures { (plan : Plan) (commands : List Task) (scope : Scope) (earlier later : List Act) (act : Act)
         → action_at plan (state_after plan commands scope earlier) ≡ Send
@@ -172,7 +173,8 @@ pub fn stops_only_after_all_tries()
     ensures { StopsOnlyAfterAllTries }
 {}
 
-/// If a connection is closed or a run stops because its turns are used up, the run made at least as many acts as it had turns.
+/// If a connection is closed or a run stops because the run's turns are used up, the run made at least as many acts as it was
+/// given turns.
 pub fn ends_for_turns_only_after_as_many_acts()
     ensures { EndsForTurnsOnlyAfterAsManyActs }
 {}
@@ -192,9 +194,9 @@ pub fn rest_is_what_came()
         → (state_after plan commands scope acts).rest ≡ rest_of (bytes_heard plan commands scope acts) }
 {}
 
-/// No command, and no null procedure after the synchronization, is sent before the last answer of a synchronization. Take the null
-/// procedures of it that aren't answered at some point of a run: before such a request is sent, replies arrived with the ids of all
-/// of them, in their order.
+/// No command, and no null procedure after the synchronization, is sent before the last answer of a synchronization. From any
+/// point of a run to the sending of such a request, replies are heard with the ids of all null procedures of the synchronization
+/// that aren't answered at that point, in their order.
 pub fn no_command_goes_out_before_the_last_answer()
     ensures { NoneBeforeTheLastAnswer }
 {}
@@ -294,8 +296,8 @@ pub fn cycles_begin_when_due()
     ensures { CyclesBeginWhenDue }
 {}
 
-/// If the plan's `every` is above 0 and the clock doesn't go back: when a command is sent, its cycle began before the next one
-/// was due. So nothing of a missed cycle is sent.
+/// If the plan's `every` is above 0 and the clock doesn't go back: when a command of a cycle is sent, its cycle began before the
+/// next one was due. So nothing of a missed cycle is sent.
 pub fn missed_cycles_are_not_sent()
     ensures { SentOnlyInTime }
 {}
@@ -308,11 +310,11 @@ pub fn unsent_ones_are_so_for_a_cause()
     ensures { UnsentForACause }
 {}
 
-/// How consecutive failures are counted. Each takes one try, and one without a try left ends the run. The pause after the first
-/// is the quiet time, and after each further one twice the pause before it, up to a minute and never below the quiet time. A
+/// How consecutive failures are counted. Each takes one try, and one without a try left ends the run. The pause after a failure
+/// is the quiet time if the pause before was 0, and otherwise twice that pause, up to a minute and never below the quiet time. A
 /// read that settles a command once a command of a cycle had its turn after the setup restores all tries and makes the pause 0;
-/// other bytes change neither. A close while no connection is wanted takes no try, and makes a pause of 0 the quiet time. No
-/// act but an opening, a read or a close changes the tries or the pause.
+/// other bytes change neither. A close while no connection is wanted takes no try, and makes a pause of 0 the quiet time. No act
+/// but an opening, a read or a close changes the tries or the pause.
 pub fn tries_and_pauses_are_counted()
     ensures { TriesAndPausesAreCounted }
 {}
@@ -332,8 +334,8 @@ pub fn the_table_is_never_held_up()
 
 /// A run ends because it is stale only if it is. Take the acts after the last one that recorded an answer of a good quality, or
 /// all acts if none did: none of their records is of such an answer, and the time read last is as long as the plan allows, or
-/// longer, after that one, or after the start; if the clock went back since, after the least time read since. And the first
-/// time read at which a run with turns left is stale ends it: no act follows but one close.
+/// longer, after that one, or after 0 if none did; if the clock went back since, after the least time read since. And the first
+/// time read at which a run with turns left is stale ends it: no act follows but at most one close.
 pub fn ends_stale_only_without_a_good_answer()
     ensures closes { ClosesStale }
     ensures stops { StopsAtItsClose cause.Stale }

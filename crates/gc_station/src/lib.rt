@@ -11,6 +11,7 @@ mod pace;
 mod plan;
 mod progress;
 mod progressing;
+mod recorded;
 mod run;
 mod station;
 mod tally;

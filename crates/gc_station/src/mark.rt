@@ -15,7 +15,7 @@ pub(crate) struct Mark {
     /// The last moment read on the link before the command was sent, in milliseconds since 1970-01-01, UTC.
     pub sent: u64,
     /// What the text says of the answer: where the target is, which return codes are accepted, and which endings send the chain
-    /// again; and which command of the text it is, in which attempt.
+    /// again; and which command of the text was sent, in which attempt.
     pub expected: Expected,
 }
 

@@ -1,11 +1,12 @@
-//! Pace: how long a read waits, and which cycle is reported as overrun, because it wasn't done in time. No record, and nothing
-//! that is sent, rests on either. Moments are by the clock for deadlines, in milliseconds.
+//! Pace: how long a read waits, what health of the link is reported, and which cycle is reported as overrun, because it wasn't
+//! done in time. No record, and nothing that is sent, rests on these; records have the number of their cycle (`cycle`). Moments
+//! are by the clock for deadlines, in milliseconds.
 
 ghost use Rattle.std.specs.Prelude.{◌≡◌, ℕ, Option};
 ghost use Rattle.std.specs.Option.{option_to_list};
 ghost use Rattle.std.specs.Io.KnownBytes.{Appends};
 ghost use Rattle.gc_client.specs.Rule.{IsEarliest, deadlines};
-ghost use Rattle.gc_station.specs.Model.{cycles_begun};
+ghost use Rattle.gc_station.specs.NextCommand.{cycles_begun};
 ghost use Rattle.gc_station.specs.Pace.{dead_at, due_at, retry_at, stale_at, longest_timeout, read_end_in, read_end_without_deadline, read_end, read_timeout, overrun, reported_then};
 
 use crate::book::{Book, LinkHealth};
@@ -15,7 +16,7 @@ use crate::progressing::later;
 use crate::station::Station;
 
 // The moment from which on the run is stale, if no answer of a good quality is recorded until then; `u64::MAX` if it never is.
-// `fresh` is the moment at which the last such answer was recorded.
+// `fresh` is when such an answer was recorded last; 0 if none was; an earlier moment if the clock went back past it since.
 fn stale_at(plan: &Plan, fresh: u64) -> u64
     ensures { result ≡ stale_at plan.now fresh }
 {
@@ -62,7 +63,8 @@ impl Progress {
     }
 
     // The moment at which a read in this phase ends if nothing comes, leaving out the deadlines of the outstanding requests: at
-    // the end of a pause or a drain, when the line is dead, or when a null procedure of the synchronization is sent again.
+    // the next attempt to connect (`retry_at`), or at the end of a drain; otherwise when the line is dead, or, while the station
+    // synchronizes, when the null procedure is sent again, if that is earlier.
     fn read_end_in_phase(&self, plan: &Plan) -> u64
         ensures { result ≡ read_end_in self.now.phase plan.now self.now }
     {
@@ -101,15 +103,15 @@ impl Progress {
     }
 
     // The number of the cycle that began last, counted from 1; 0 before the first.
-    fn cycle(&self, plan: &Plan) -> u64
+    pub(crate) fn cycle(&self, plan: &Plan) -> u64
         ensures { result ≡ cycles_begun plan.now self.now }
     {
         plan.cycles.saturating_sub(self.left)
     }
 
     // The number of the cycle that began last, if it has overrun and that wasn't reported yet: it isn't missed, and it wasn't
-    // done when the next one was due. `reported` is the last cycle that was reported as overrun, 0 if none was. `None` for the last
-    // cycle of all, and if cycles have no due moments (`every` is 0).
+    // done when the next one was due. `None` otherwise, and always before the first cycle, for the last cycle of all, and if
+    // cycles have no due moments (`every` is 0). `reported` is the last cycle that was reported as overrun, 0 if none was.
     fn overrun(&self, plan: &Plan, reported: u64) -> Option<u64>
         ensures { result ≡ overrun plan.now self.now reported }
     {
@@ -131,19 +133,19 @@ impl Station {
     // least 1 and at most `longest_timeout`.
     pub(crate) fn read_timeout(&self, plan: &Plan, until: Until) -> u64
         ensures { (deadline : Option ℕ) × IsEarliest (deadlines self.now.client.ids.waiting) deadline
-            × (result ≡ read_timeout plan.now self.now.progress self.now.fresh until deadline) }
+            × (result ≡ read_timeout plan.now self.now.progress self.now.recorded.fresh until deadline) }
     {
         let deadline = self.client.next_deadline();
         self.progress
             .read_end(plan, until, deadline)
-            .min(stale_at(plan, self.fresh))
+            .min(stale_at(plan, self.recorded.fresh))
             .saturating_sub(self.progress.moment.elapsed)
             .max(1)
             .min(longest_timeout(plan))
     }
 
-    // The health of the link before the next act, as `LinkHealth` explains it. A connection that is about to be closed for a cause
-    // counts as `Unheard` or `Fine`, by what was heard on it.
+    // The health of the link before the next act, as `LinkHealth` explains it. In the phase `Closing` it is `Unheard` if
+    // `asked` says so, and else `Fine`.
     fn health(&self, plan: &Plan) -> LinkHealth {
         match self.progress.phase {
             Phase::Down | Phase::Pausing if self.progress.is_idle(plan) => LinkHealth::Idle,
@@ -155,7 +157,8 @@ impl Station {
         }
     }
 
-    // Whether no command of the cycle is left, as before the first cycle, and none is outstanding, of the setup either.
+    // Whether no command of the cycle is left, as before the first cycle, and no command is outstanding, of a cycle or of the
+    // setup.
     fn is_done(&self) -> bool {
         self.progress.unsent == 0 && self.commands_waiting() == 0
     }

@@ -6,16 +6,17 @@ pub struct Plan {
     /// How many requests that haven't timed out may be in flight: 1 to 7. A number outside counts as the nearest of these.
     pub width: u8,
     /// The longest deadline: after this time a null procedure times out; a command does after the time of its task. A null
-    /// procedure of a synchronization is sent again after this time. A line is dead after twice this time without a reply line.
+    /// procedure of a synchronization is sent again after this time. While a reply is awaited, a line is dead after twice this
+    /// time without a reply line.
     pub deadline: u64,
     /// How far apart the cycles are due, counted from when the first one begins. 0: each begins when the one before it is done.
     /// A cycle that can't begin before the next is due is missed.
     pub every: u64,
     /// How many cycles are measured or missed.
     pub cycles: u64,
-    /// How long the station pauses before it connects again, twice as long at each further failure, up to a minute; and how
-    /// long nothing may come on a new connection before a command is sent on it. A synchronization doesn't wait for that quiet
-    /// time.
+    /// The quiet time: how long the station pauses before it connects again, twice as long at each further failure, up to a
+    /// minute, but never below the quiet time; and for how long nothing may come on a new connection before a command is sent on
+    /// it. A synchronization doesn't wait for the quiet time.
     pub quiet: u64,
     /// How many tries the station has to reconnect before the run ends. A reply that settles a command gives all of them back;
     /// if there is a setup, only once a command of a cycle had its turn after it. A connection that ends once a cycle is done
@@ -25,8 +26,8 @@ pub struct Plan {
     /// How many commands at the front of the station's list are the setup: at most as many as there are. The others are those of
     /// a cycle. The setup is sent on each connection, and after each synchronization, before any of them.
     pub setup: usize,
-    /// How long the run goes on without an answer of a good quality, counted from the start, or from when the last one was
-    /// recorded. 0: without a limit.
+    /// How long the run goes on without an answer of a good quality, counted from when the last one was recorded, or if none was,
+    /// from the start of the link's clock for deadlines. 0: without a limit.
     pub stale: u64,
     /// Whether somebody may ask for the end of the run. Then no read waits longer than a second, so that the station sees it.
     pub watched: bool,

@@ -51,10 +51,10 @@ pub(crate) enum Action {
     Send,
     /// To read the clock, and to write the next command down without sending it.
     Skip,
-    /// To read the clock, and to leave out the further attempts of a chain that the next command begins.
+    /// To read the clock, and to leave out the further attempt that the next command begins, and those of its chain after it.
     Pass,
-    /// To send a null procedure after requests that have all timed out: its reply settles them. Or before a command, if none of
-    /// the seven requests before that is a call of the table that a reply ended.
+    /// To send a null procedure after requests that have all timed out: its reply settles them. Or to send one before a command,
+    /// if none of the seven requests before the command is a call of the table that a reply ended.
     Flush,
     /// To read.
     Read(Until),
@@ -64,17 +64,17 @@ pub(crate) enum Action {
     Stop(Cause),
 }
 
-/// When a read that brings nothing ends.
+/// When a read that brings nothing ends. It ends earlier if the run becomes stale, or the longest time-out of a read is over.
 #[derive(Clone, Copy)]
 pub(crate) enum Until {
     /// Until something may have to be done: a deadline is reached, a pause or a drain is over, the line is dead, or a null
     /// procedure of a synchronization is sent again.
     Limit,
-    /// Until the next cycle is due: each command of this one is settled.
+    /// Until the next cycle is due, or a null procedure times out: no command of this cycle is left, and none is outstanding.
     Due,
 }
 
-/// How many requests are outstanding, how the commands that were recorded last ended, and when one was answered well last.
+/// How many requests are outstanding, and what a station keeps of the records that it wrote, but for their tally (`Recorded`).
 #[derive(Clone, Copy)]
 pub(crate) struct Waiting {
     /// All outstanding requests.
@@ -83,18 +83,20 @@ pub(crate) struct Waiting {
     pub current: usize,
     /// Those of `all` that are commands, of a cycle or of the setup. The others are null procedures.
     pub commands: usize,
-    /// Whether the command that was recorded last was answered well, as `is_well` says.
+    /// Whether the command that was recorded last, of a cycle or of the setup, was answered well, as `is_well` says; `false`
+    /// before the first.
     pub well: bool,
-    /// Whether the command that was recorded last, or one before it in the same attempt, ended in a way after which the text
-    /// sends its chain again.
+    /// Whether the command of a cycle that was recorded last, or one before it in the same attempt, ended in a way after which
+    /// the text sends its chain again; `false` before the first. A command of the setup leaves it as it is.
     pub listed: bool,
-    /// The moment at which a command that was answered well was recorded last, by the clock for deadlines; 0 if none was; an
-    /// earlier one if the clock went back since.
+    /// When a command that was answered well was recorded last, by the clock for deadlines; 0 if none was; an earlier moment if
+    /// the clock went back past it since.
     pub fresh: u64,
 }
 
 /// How far a station is: its phase, the last moment read, and where it is in its synchronization, its setup, its cycles and its
-/// tries. Moments are by the clock for deadlines, and times in milliseconds, unless a field says otherwise.
+/// tries. Moments are by the clock for deadlines, and times in milliseconds, unless a field says otherwise. A moment is 0 as
+/// long as there is none yet. `again` and `asked` are of the last connection until a new one is cleared.
 #[derive(Drop)]
 pub(crate) struct Progress {
     pub phase: Phase,
@@ -109,15 +111,17 @@ pub(crate) struct Progress {
     /// The last moment read on the link.
     pub moment: Moment,
     /// From when a pause and the quiet time count: the last moment that was read, leaving out reads that gave nothing; or an
-    /// earlier one if the clock went back since.
+    /// earlier one if the clock went back past it since.
     pub since: u64,
-    /// From when a dead line counts: the latest of the moments at which the last reply line came, the first request after it or
-    /// on this connection was sent, and a connection was last drained; an earlier one if the clock went back since.
+    /// From when a dead line counts. It is the latest of the moments of: the last reply line; the first request after that line,
+    /// on this connection, or after a resynchronization between two cycles; and the end of the last draining. It is an earlier one
+    /// if the clock went back past it since.
     pub alive: u64,
-    /// Whether a request was sent on this connection, and no reply line came since.
+    /// Whether a request was sent on this connection, and since then no reply line came and the station didn't resynchronize
+    /// between two cycles.
     pub asked: bool,
     /// The moment that counts as the beginning of the cycle: its due moment, or if it has none, as the first, the one at which
-    /// it began.
+    /// it began; an earlier one if the clock went back past it since.
     pub began: u64,
     /// Whether the cycle was done before the next was due.
     pub early: bool,
@@ -134,11 +138,13 @@ pub(crate) struct Progress {
     pub next_is_chained: bool,
     /// If it begins a further attempt of its chain: how many commands this attempt and those after it have. Else 0.
     pub next_others: usize,
-    /// Whether the command before it was sent, and since then no connection was closed and the station didn't resynchronize.
+    /// Whether the command before the next one was sent, and since then no connection was closed and the station didn't
+    /// resynchronize; `false` at the beginning of a cycle.
     pub chain_unbroken: bool,
     /// How many tries to reconnect are left.
     pub tries: u32,
-    /// The length of the current pause, or of the last one. 0: there was none yet, or a reply settled a command since.
+    /// The length of the current pause, or of the last one. 0: there was none yet, or all tries were given back since
+    /// (`note_bytes`), or the quiet time is 0.
     pub pause: u64,
     /// How many turns are left: each act takes one.
     pub turns: u64,
@@ -163,7 +169,7 @@ pub(crate) fn width(plan: &Plan) -> u8
     plan.width.max(1).min(7)
 }
 
-// After how many milliseconds without a reply line the line is dead: twice the longest deadline.
+// After how many milliseconds without a reply line the line is dead: twice the longest deadline, at most the greatest `u64`.
 pub(crate) fn dead_after(plan: &Plan) -> u64
     ensures { result ≡ dead_after plan.now }
 {

@@ -7,7 +7,7 @@ ghost use Rattle.gc_client.specs.Hearing.{HearsInto};
 ghost use Rattle.gc_client.specs.Rule.{ById};
 ghost use Rattle.gc_client.specs.declared.settlement.Settlement.{Settlement};
 ghost use Rattle.gc_station.specs.Deciding.{later};
-ghost use Rattle.gc_station.specs.Progressing.{turned, moment_noted, cycle_start, is_missed_at, due_of, cycle_begun, skipped, attempts_left_out, skipped_at, failing, opened, is_finished, is_idle, is_spared, phase_again, pause_again, after_failure, cleared, request_noted, null_sent, renewed, line_synchronizing, sent, caught_up, line_noted, early_after, bytes_noted, pause_ended, drained, quieted, time_passed, silent, early_noted, ended_for, closed, is_over, loses_all, next_attempt, setup_restarted, setup_sent, gives_back};
+ghost use Rattle.gc_station.specs.Progressing.{turned, moment_noted, cycle_start, is_missed_at, due_of, cycle_begun, had_turn, skipped, attempts_left_out, skipped_at, failing, opened, is_finished, is_idle, is_spared, phase_again, pause_again, after_failure, cleared, request_noted, null_sent, renewed, line_synchronizing, sent, caught_up, line_noted, early_after, bytes_noted, pause_ended, drained, quieted, time_passed, silent, early_noted, ended_for, closed, is_over, loses_all, next_attempt, setup_restarted, setup_sent, gives_back};
 ghost use Rattle.gc_station.specs.Lines.{is_reply};
 
 use crate::cause::Cause;
@@ -64,9 +64,10 @@ impl Progress {
         self.turns = self.turns.saturating_sub(1);
     }
 
-    // Notes a moment read on the link: the quiet time begins now. (`pass_time` notes the moment of a read that gave nothing.)
-    // Where the clock went back, the cycle is taken to have begun now at the latest, so that the next one isn't put off, and
-    // the line to have been alive now at the latest. If the moment asks for the end of the run, that stays asked for.
+    // Notes a moment read on the link: a pause and the quiet time count from now. (After a read that gave nothing they go on, as
+    // `pass_time` notes.) Where the clock went back, the cycle is taken to have begun now at the latest, so that the next one
+    // isn't put off, and the line to have been alive now at the latest. If the moment asks for the end of the run, that stays
+    // asked for.
     pub(crate) fn note_moment(&mut self, moment: Moment)
         ensures { self.new ≡ moment_noted moment self.old }
     {
@@ -140,31 +141,37 @@ impl Progress {
         if self.missed { self.due } else { moment.utc }
     }
 
-    // Notes that the next command was recorded at `moment` without being sent. `next_is_chained`: the command after it is sent only
-    // once the one before it was answered well. `others`: if the command after it begins a further attempt of its chain, how many
-    // commands this attempt and those after it have; otherwise 0.
+    // Notes that the next `count` commands of the cycle had their turn. `was_sent`: whether they were sent; otherwise they were
+    // recorded without being sent, or left out. `next_is_chained`: whether the command after them is sent only once the one
+    // before it was answered well; in a missed cycle `true`. `others`: if the command after them begins a further attempt of its
+    // chain, how many commands this attempt and those after it have together; otherwise 0, also if there is no such command.
+    fn have_turn(&mut self, count: usize, next_is_chained: bool, others: usize, was_sent: bool)
+        ensures { self.new ≡ had_turn count next_is_chained others was_sent self.old }
+    {
+        self.unsent = self.unsent.saturating_sub(count);
+        self.next_is_chained = next_is_chained;
+        self.next_others = others;
+        self.chain_unbroken = was_sent;
+        self.preparing = false;
+    }
+
+    // Notes that the next command was recorded at `moment` without being sent. `next_is_chained` and `others` are of the command
+    // after it, as of `have_turn`.
     pub(crate) fn skip(&mut self, next_is_chained: bool, others: usize, moment: Moment)
         ensures { self.new ≡ skipped next_is_chained others moment self.old }
     {
         self.note_moment(moment);
-        self.unsent = self.unsent.saturating_sub(1);
-        self.next_is_chained = next_is_chained;
-        self.next_others = others;
-        self.chain_unbroken = false;
-        self.preparing = false;
+        self.have_turn(1, next_is_chained, others, false);
     }
 
-    // Leaves out the further attempts of a chain that the next command begins. `next_is_chained` and `others` are of the
-    // command after them, as of `skip`.
+    // Leaves out the further attempt that the next command begins, and those of its chain after it, at `moment`.
+    // `next_is_chained` and `others` are of the command after all these attempts, as of `have_turn`.
     pub(crate) fn leave_out(&mut self, next_is_chained: bool, others: usize, moment: Moment)
         ensures { self.new ≡ attempts_left_out next_is_chained others moment self.old }
     {
+        let count = self.next_others;
         self.note_moment(moment);
-        self.unsent = self.unsent.saturating_sub(self.next_others);
-        self.next_is_chained = next_is_chained;
-        self.next_others = others;
-        self.chain_unbroken = false;
-        self.preparing = false;
+        self.have_turn(count, next_is_chained, others, false);
     }
 
     // Notes the cause of a failure: a connection is to be closed for it next, and without a connection the run is over for it.
@@ -217,8 +224,8 @@ impl Progress {
         }
     }
 
-    // The length of the next pause, in milliseconds: the quiet time after a first failure, and after each further one twice the
-    // last pause, up to a minute. Where no try is taken (`is_spared`) it is the last pause. It is never below the quiet time.
+    // The length of the next pause, in milliseconds: twice the last pause, up to a minute, or the last pause itself where no try
+    // is taken (`is_spared`); but never below the quiet time. So it is the quiet time if the last pause counts as 0 (`pause`).
     fn pause_again(&self, plan: &Plan, cause: Cause) -> u64
         ensures { result ≡ pause_again plan.now cause self.now }
     {
@@ -250,7 +257,7 @@ impl Progress {
     }
 
     // Notes that a connection was closed, or couldn't be made: the phase is `phase_again`, the pause `pause_again`, and a try
-    // is taken unless the next attempt is spared. The setup is sent again on the next connection.
+    // is taken unless the next attempt is spared. The setup, if there is one, is sent again on the next connection.
     pub(crate) fn note_unconnected(&mut self, plan: &Plan, commands: usize, cause: Cause)
         ensures { self.new ≡ after_failure plan.now commands cause self.old }
     {
@@ -279,8 +286,9 @@ impl Progress {
         self.clock_due = true;
     }
 
-    // Notes that a request was sent. The time after which the line is dead begins with the first request after a reply line or on a
-    // connection. The request counts as one more after the last call of the table that a reply ended, up to seven.
+    // Notes that a request was sent. The time after which the line is dead begins with the first request after a reply line, on a
+    // connection, or after a resynchronization between two cycles (`asked`). The request counts as one more after the last
+    // call of the table that a reply ended, up to seven.
     pub(crate) fn note_request(&mut self)
         ensures { self.new ≡ request_noted self.old }
     {
@@ -331,16 +339,13 @@ impl Progress {
         self.note_line(reads_as_reply(line));
     }
 
-    // Notes that the next command was sent. `next_is_chained` and `others` are of the command after it, as of `skip`.
+    // Notes that the cycle's next command was sent. `next_is_chained` and `others` are of the command after it, as of
+    // `have_turn`.
     pub(crate) fn note_sent(&mut self, next_is_chained: bool, others: usize)
         ensures { self.new ≡ sent next_is_chained others self.old }
     {
         self.note_request();
-        self.unsent = self.unsent.saturating_sub(1);
-        self.next_is_chained = next_is_chained;
-        self.next_others = others;
-        self.chain_unbroken = true;
-        self.preparing = false;
+        self.have_turn(1, next_is_chained, others, true);
     }
 
     // Notes that the next command of the setup was sent.
@@ -419,19 +424,16 @@ impl Progress {
         }
     }
 
-    // Notes the moment after a read that gave nothing: the quiet time goes on. If the clock went back, the quiet time and the
-    // cycle are taken to have begun now at the latest, and the line to have been alive now at the latest. `until` is what the read
-    // waited for: only a cycle that is done has a read until the next cycle is due, and so after `Until::Due` the cycle counts as
-    // done early.
+    // Notes the moment after a read that gave nothing: a pause and the quiet time go on. If the clock went back, these and the
+    // cycle are taken to have begun now at the latest, and the line to have been alive now at the latest. `until` is what the
+    // read waited for: only a cycle that is done has a read until the next cycle is due, and so after `Until::Due` the cycle
+    // counts as done early.
     fn pass_time(&mut self, until: Until, moment: Moment)
         ensures { self.new ≡ time_passed until moment self.old }
     {
-        self.moment = moment;
-        self.since = self.since.min(moment.elapsed);
-        self.alive = self.alive.min(moment.elapsed);
-        self.began = self.began.min(moment.elapsed);
-        self.clock_due = false;
-        self.stops = self.stops || moment.stops;
+        let since = self.since.min(moment.elapsed);
+        self.note_moment(moment);
+        self.since = since;
         self.early = early_after(until, self.early);
     }
 
@@ -443,16 +445,16 @@ impl Progress {
         self.end_quiet_phase(plan);
     }
 
-    // Notes whether the cycle was done early, where `commands` commands are outstanding: nothing of it is left, and the next
-    // one isn't due yet. Once that is noted it stays so until a cycle begins.
+    // Notes whether the cycle was done early: none of its commands is left, no command is outstanding (`commands` counts these),
+    // and the next cycle isn't due yet. A cycle that was noted as done early stays so until the next one begins.
     pub(crate) fn note_early(&mut self, plan: &Plan, commands: usize)
         ensures { self.new ≡ early_noted plan.now commands self.old }
     {
         self.early = self.early || (commands == 0 && self.unsent == 0 && !self.is_due(plan));
     }
 
-    // Notes that the connection was closed: for `Done`, `Clock`, `Turns`, `Stale` and `Stopped` the run is over, and for any other
-    // cause goes on as `note_unconnected` says.
+    // Notes that the connection, if there was one, was closed: for `Done`, `Clock`, `Turns`, `Stale` and `Stopped` the run is
+    // over; for any other cause it goes on, or is over, as `note_unconnected` says.
     pub(crate) fn close(&mut self, plan: &Plan, waiting: Waiting, cause: Cause)
         ensures { self.new ≡ closed plan.now waiting cause self.old }
     {
@@ -482,7 +484,7 @@ impl Progress {
         }
     }
 
-    // Whether all outstanding requests are lost: the station resynchronizes, or no act follows.
+    // Whether all outstanding requests, if any, are lost: the station synchronizes, or no act follows.
     pub(crate) fn loses_all(&self) -> bool
         ensures { result ≡ loses_all self.now }
     {

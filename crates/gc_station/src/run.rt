@@ -3,7 +3,7 @@
 ghost use Rattle.std.specs.Prelude.{◌≡◌, true, OnOk};
 ghost use Rattle.gc_lines.specs.Ports.{FailsWith};
 ghost use Rattle.gc_station.specs.Keeping.{KeepsUpForEachReadings, KeepsUpForReadings, close_if_failed, close_at_output};
-ghost use Rattle.gc_station.specs.Runs.{EndsForReadings, RanForReadings, FailsAtOutput, LastsBut};
+ghost use Rattle.gc_station.specs.Runs.{EndsForReadings, RanForReadings, FailsAtOutput, LastUnlessFailed};
 
 use crate::book::Book;
 use crate::cause::Cause;
@@ -45,7 +45,7 @@ pub(crate) fn run<L: Link, B: Book>(
         }
         let action = station.action(plan);
         if let Action::Stop(cause) = action {
-            return Ok((cause, station.tally.total()));
+            return Ok((cause, station.recorded.tally.total()));
         }
         reported = station.report_health_and_overrun(book, plan, reported);
         *kept = kept.and(link, book);
@@ -82,30 +82,32 @@ pub(crate) fn run<L: Link, B: Book>(
 ///
 /// A connection that failed, ended or is dead is closed. The outstanding requests stay outstanding on the next connection,
 /// and the ids go on. Before each new attempt to connect the station pauses: for the quiet time, at each further failure
-/// twice as long, up to a minute. Once a cycle is done it connects again only when the next is due. Each connection is
-/// cleared by a line feed. Unless a synchronization goes on with it, bytes on it are then discarded until none came for the
-/// quiet time. The station resynchronizes where seven requests are outstanding that have all timed out: all of them are
-/// lost, and the null procedures are sent on the same connection. A synchronization whose connection was lost goes on with
-/// the next one.
+/// twice as long, up to a minute, but never below the quiet time. Once a cycle is done it connects again only when the next is
+/// due. Each connection is cleared by a line feed. Unless a synchronization goes on with it, bytes on it are then discarded until
+/// none came for the quiet time. The station resynchronizes where seven requests are outstanding that have all timed out: all of
+/// them are lost, and the null procedures are sent on the same connection. A synchronization whose connection was lost goes on
+/// with the next one.
 ///
 /// `Ok`: each command of each cycle is settled, was written as skipped or missed, or was left out, and the tally counts how
 /// they ended; or the end of the run was asked for, and each command that was sent is settled or lost. Between two chains, or two
 /// attempts of one, nothing more is sent then: what is in flight is waited for until it is settled or timed out, the connection
 /// is closed, and commands that had no turn aren't written.
 ///
-/// `Err`: for each fault but `Output` the connection is closed, and the outstanding commands are written as lost.
+/// `Err`: for each fault but `Output` no connection is left open, and the outstanding commands are written as lost.
 /// - `Clock`: the clock couldn't be read; no try is made after that.
 /// - If no try is left: `Read`, a read failed; `Mute`, the line was dead; `Write`, a write was cut, with the number of
 ///   commands before the cycle's next one in the list (0 before the first cycle); `LinkClosed`, the other end closed the
-///   connection; `Socket`, no connection could be made; `SetUp`, a command of the setup wasn't answered well.
-/// - `Stale`: no answer of a good quality was recorded for `stale` milliseconds, counted from the start or the last one.
+///   connection; `Socket`, no connection could be made; `SetUp`, a command of the setup wasn't answered well. `Read` and
+///   `LinkClosed` also while tries are left, if a read without a connection failed or gave an end.
+/// - `Stale`: no answer of a good quality was recorded for `stale` milliseconds, counted from the last one, or if there was none,
+///   from the start of the link's clock for deadlines.
 /// - `TooManyReads`: `max_turns` acts were made. A connection that is open then is closed by one act more.
 /// - `Output`: the book failed. If it failed at a record of the last act, it has all records of the acts before, those of
 ///   the last act before that record, and a first part of that record. If the records couldn't be made to last, it has all
-///   of them. Then nothing more is sent: the link is closed, and the outstanding commands aren't written.
+///   of them. In both cases nothing more is sent: the link is closed, and the outstanding commands aren't written.
 ///
-/// Before each act all records of the acts before outlast what the book is meant to outlast. What is seen of the link and
-/// the book then is noted in `kept`.
+/// Before each act but the close after the book failed, all records of the acts before outlast what the book is meant to
+/// outlast. What is seen of the link and the book then is noted in `kept`.
 pub fn run_station<L: Link, B: Book>(
     link: &mut L,
     book: &mut B,
@@ -124,7 +126,7 @@ pub fn run_station<L: Link, B: Book>(
         (B.taken book.old) kept.old.turns kept.new.turns (close_at_output result) }
 
     // Unless the book failed, all records last at the end.
-    ensures is_durable { LastsBut (B.is_durable book.new) result }
+    ensures is_durable { LastUnlessFailed (B.is_durable book.new) result }
 
     // If the fault is `Output` the book has failed; otherwise whether it has failed is as before.
     ensures output { FailsAtOutput (B.failed book.old) (B.failed book.new) result }

@@ -10,8 +10,9 @@ ghost use Rattle.gc_station.specs.Deciding.{action_of};
 ghost use Rattle.gc_station.specs.Marks.{commands_in};
 ghost use Rattle.gc_station.specs.Scopes.{AreReadings, scoped};
 ghost use Rattle.gc_station.specs.Records.{WritesNews};
-ghost use Rattle.gc_station.specs.Model.{Model, opening, action_at, place_next, expected_first, mark_next, commands_before, is_chained, others_in, is_chained_after, others_after, ended, mark_setup};
-ghost use Rattle.gc_station.specs.Stations.{waiting_in, IsPaired, Refines, DoesAlone, Moves, Steps, OnCall, Becomes, DropsSettledMarks, IsFitting};
+ghost use Rattle.gc_station.specs.Model.{Model, opening, action_at, ended};
+ghost use Rattle.gc_station.specs.NextCommand.{place_next, expected_first, mark_next, commands_before, is_chained, others_in, is_chained_after, others_after, mark_setup};
+ghost use Rattle.gc_station.specs.Stations.{waiting_in, IsPaired, Refines, DoesAlone, Moves, Steps, OnCall, Becomes, DropsSettledMarks, IsFitting, station_expiring};
 ghost use Rattle.gc_station.specs.Writing.{news_settled, CountsSettled, NotesSettledWell, NotesSettledListed, NotesSettledFresh};
 ghost use Rattle.gc_station.specs.declared.progress.Action.TheVariants.{ReadClock, Renew, Begin, Open, Close};
 ghost use Rattle.gc_texts.specs.declared.tasks.Task.{Task};
@@ -25,7 +26,7 @@ use crate::cause::Cause;
 use crate::mark::{Mark, commands_in};
 use crate::plan::Plan;
 use crate::progress::{Action, Progress, Waiting};
-use crate::tally::Counts;
+use crate::recorded::Recorded;
 use crate::writing::write_settlements;
 use arrayvec::ArrayVec;
 use gc_catalogue::Asked;
@@ -90,16 +91,8 @@ pub(crate) struct Station {
     // The first part of a line that came on this connection and hasn't ended.
     pub(crate) assembler: Assembler,
     pub(crate) progress: Progress,
-    // How the commands that were recorded ended.
-    pub(crate) tally: Counts,
-    // Whether the command that was recorded last was answered well.
-    pub(crate) well: bool,
-    // Whether the command that was recorded last, or one before it in the same attempt, ended in a way after which the text
-    // sends its chain again.
-    pub(crate) listed: bool,
-    // When a command that was answered well was recorded last, by the clock for deadlines; 0 if none was; an earlier moment if
-    // the clock went back since.
-    pub(crate) fresh: u64,
+    // What is kept of the records written so far.
+    pub(crate) recorded: Recorded,
     // What the last line or restart of the client settled, which `write` records.
     pub(crate) settled: ArrayVec<Settlement<Asked>, WINDOW>,
 }
@@ -114,16 +107,12 @@ impl Station {
             marks: ArrayVec::new(),
             assembler: Assembler::new(),
             progress: Progress::at_start(plan, max_turns),
-            tally: Counts::new(),
-            well: false,
-            listed: false,
-            fresh: 0,
+            recorded: Recorded::new(),
             settled: ArrayVec::new(),
         }
     }
 
-    // What a decision looks at besides the progress: how many requests are outstanding, whether the command recorded last was
-    // answered well, whether one of its attempt ended as its rule names, and when one was answered well last.
+    // What a decision looks at besides the progress: how many requests are outstanding, and what `recorded` has but for the tally.
     fn waiting(&self) -> Waiting
         ensures { result ≡ waiting_in self.now }
     {
@@ -131,9 +120,9 @@ impl Station {
             all: self.client.waiting(),
             current: self.client.current(),
             commands: self.commands_waiting(),
-            well: self.well,
-            listed: self.listed,
-            fresh: self.fresh,
+            well: self.recorded.well,
+            listed: self.recorded.listed,
+            fresh: self.recorded.fresh,
         }
     }
 
@@ -166,7 +155,7 @@ impl Station {
         ensures { result ≡ mark_next plan.now commands.now self.now.progress }
     {
         Mark {
-            cycle: plan.cycles.saturating_sub(self.progress.left),
+            cycle: self.progress.cycle(plan),
             place: self.place(commands),
             sent: self.progress.moment.utc,
             expected: expected_at(commands, self.place(commands)),
@@ -217,8 +206,17 @@ impl Station {
         self.place(commands)
     }
 
-    // Reads the clock, and times out the requests whose deadline has come. If the clock can't be read, that is noted as the
-    // cause to close for.
+    // Times out the requests whose deadline has come at the moment `now`. If `fresh` is later than `now`, because the clock went
+    // back, it becomes `now`.
+    fn expire(&mut self, now: u64)
+        ensures { self.new ≡ station_expiring now self.old }
+    {
+        self.client.expire(now);
+        self.recorded.fresh = self.recorded.fresh.min(now);
+    }
+
+    // Reads the clock, and times out the requests whose deadline has come. If the clock can't be read, that is noted (`fail`):
+    // the connection is to be closed for it, and without a connection the run is over for it.
     fn read_clock<L: Link>(&mut self, link: &mut L, plan: &Plan)
         ensures { (commands : List Task) → DoesAlone plan.now commands ReadClock (L.acts link.old) (L.acts link.new) self.old self.new }
     {
@@ -227,8 +225,7 @@ impl Station {
                 let commands = self.commands_waiting();
                 self.progress.note_moment(moment);
                 self.progress.note_early(plan, commands);
-                self.client.expire(moment.elapsed);
-                self.fresh = self.fresh.min(moment.elapsed);
+                self.expire(moment.elapsed);
             }
             Err(_) => self.progress.fail(Cause::Clock),
         }
@@ -243,8 +240,7 @@ impl Station {
             Ok(moment) => {
                 self.progress.resynchronize(plan, moment);
                 self.progress.note_early(plan, 0);
-                self.client.expire(moment.elapsed);
-                self.fresh = self.fresh.min(moment.elapsed);
+                self.expire(moment.elapsed);
             }
             Err(_) => self.progress.fail(Cause::Clock),
         }
@@ -259,8 +255,7 @@ impl Station {
             Ok(moment) => {
                 let count = commands.len().saturating_sub(plan.setup);
                 self.progress.begin_cycle(plan, count, moment);
-                self.client.expire(moment.elapsed);
-                self.fresh = self.fresh.min(moment.elapsed);
+                self.expire(moment.elapsed);
             }
             Err(_) => self.progress.fail(Cause::Clock),
         }
@@ -277,8 +272,8 @@ impl Station {
         }
     }
 
-    // Writes the records of `settled`, and removes the marks of the requests that were settled, the oldest first. `Err`: the book
-    // failed at a record.
+    // Writes the records of `settled`, the oldest request's first, notes them in `recorded`, and removes the marks of the requests
+    // that were settled. `Err`: the book failed at a record.
     fn write<B: Book>(&mut self, book: &mut B) -> Result<(), PortFailed>
         requires { AreReadBy IsAskedReading self.old.settled.items }
         ensures wrote { WritesNews (B.text book.old) (B.taken book.old) (B.taken book.new) (news_settled self.old) result }
@@ -293,10 +288,7 @@ impl Station {
         let now = self.progress.moment;
         write_settlements(
             book,
-            &mut self.tally,
-            &mut self.well,
-            &mut self.listed,
-            &mut self.fresh,
+            &mut self.recorded,
             &mut self.marks,
             now,
             self.settled.as_slice(),
@@ -351,8 +343,8 @@ impl Station {
         }
     }
 
-    // Records all outstanding commands as lost, if the station resynchronizes or no act follows; otherwise does nothing. `Err`:
-    // the book failed at a record.
+    // Records all outstanding commands as lost, and restarts the client, if the station synchronizes or no act follows
+    // (`loses_all`); otherwise does nothing. `Err`: the book failed at a record.
     fn record_lost<B: Book>(&mut self, book: &mut B) -> Result<(), PortFailed>
         ensures ends { Becomes ended (B.text book.old) (B.taken book.old) (B.taken book.new) self.old self.new result }
         ensures fails { FailsWith result (B.failed book.old) (B.failed book.new) }

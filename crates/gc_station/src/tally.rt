@@ -81,7 +81,7 @@ impl Tally {
 /// The tallies of a run: of the chains that are over, and of the current attempt, which a further one may replace.
 #[derive(Clone, Copy, Debug, PartialEq, Eq)]
 pub(crate) struct Counts {
-    /// Of the last attempts of the chains that are over.
+    /// Of the last attempts of the chains that are over. Only `again` has how many times the current chain was sent again, too.
     pub settled: Tally,
     /// Of the current attempt.
     pub attempt: Tally,

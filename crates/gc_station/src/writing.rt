@@ -19,7 +19,7 @@ ghost use Rattle.gc_station.specs.Writing.{GiveSameRecord, ListAlike, news_of, C
 
 use crate::book::Book;
 use crate::mark::Mark;
-use crate::tally::Counts;
+use crate::recorded::Recorded;
 use arrayvec::ArrayVec;
 use gc_catalogue::{Answer, Asked, Reading};
 use gc_client::{Outcome, Settlement, WINDOW};
@@ -27,7 +27,8 @@ use gc_lines::{Line, PortFailed};
 use gc_links::Moment;
 use gc_texts::{Ending, Expected, Near, Quality, Stamp, Wish, is_elsewhere, reading_as_zero};
 
-// Removes the mark of the oldest outstanding request. `None`: that request is a null procedure, or none is outstanding.
+// Removes the mark of the oldest outstanding request, and returns it. `None`: that request is a null procedure, or none is
+// outstanding.
 fn take_mark(marks: &mut ArrayVec<Option<Mark>, WINDOW>) -> Option<Mark>
     ensures goes { marks.new.items ≡ drop 1 marks.old.items }
     ensures listed { ListAlike marks.old.items (result ∷ []) }
@@ -39,8 +40,9 @@ fn take_mark(marks: &mut ArrayVec<Option<Mark>, WINDOW>) -> Option<Mark>
     }
 }
 
-// The ending of a command whose reply, this line, has this answer: elsewhere if the answer has a direction that isn't near where the
-// target is (`near`), else answered with this quality. Without `near`, where the text doesn't say it, it never is elsewhere.
+// The ending of a command whose reply, this line, has this answer: elsewhere if the answer has a direction that isn't near where
+// the target is (`near`), else answered with this quality. Without `near` the text doesn't say where that is, and the ending is
+// answered.
 fn value_ending<'a>(
     quality: Quality,
     near: Option<Near>,
@@ -78,8 +80,7 @@ fn refused_ending<'a>(
     }
 }
 
-// What the line of a reply with a return code other than 0 would say with return code 0. For any other outcome: a refusal, which
-// isn't used.
+// What the line of a reply with a return code other than 0 would say with return code 0. For any other outcome: `Refused(0)`.
 fn zero_of(call: &Asked, outcome: &Outcome) -> Reading
     ensures { IsZeroOf call.now outcome.now result }
 {
@@ -111,8 +112,8 @@ fn ending_of<'a>(expected: &Expected, zero: &'a Reading, outcome: &'a Outcome) -
     }
 }
 
-/// Whether a command with this ending was answered well: with both codes 0 and values that read, or with an accepted return code,
-/// and not elsewhere.
+/// Whether a command with this ending was answered well: its reply has both codes 0 and values that read, or an accepted return
+/// code; and in either case it isn't elsewhere.
 pub fn is_well(ending: Ending<'_>) -> bool
     ensures { result ≡ is_well (ending_seen ending.entry) }
 {
@@ -135,8 +136,9 @@ fn code_of(outcome: &Outcome) -> Option<u16>
     }
 }
 
-// Whether a command of the current attempt has ended as its rule names, once this command has ended. `listed`: whether one before
-// it had, which doesn't count if the attempt begins with this command. `code`: the return code of its reply, if that isn't 0.
+// Whether a command of the current attempt has ended as the chain's rule names, once this command has ended. `listed`: whether a
+// command before this one had, which doesn't count if the attempt begins with this one. `code`: what `code_of` returns for this
+// command; `None` if it wasn't sent.
 pub(crate) fn is_listed_after(
     listed: bool,
     expected: &Expected,
@@ -148,25 +150,23 @@ pub(crate) fn is_listed_after(
     (expected.turn.link != 0 && listed) || expected.again.repeats_after(code, ending)
 }
 
-// Writes how a request with this mark ended, and counts its ending. Notes in `well` whether it was answered well, and if so in
-// `fresh` that it is recorded at the moment `now`; and in `listed` whether it or one before it of its attempt ended as its rule
-// names. A null procedure has no mark: nothing is written or counted of it. `Err`: the book failed.
+// Writes how a request with this mark ended, and notes that in `recorded`: its ending in `tally`; in `well` whether it was
+// answered well, and if so in `fresh` the moment `now`; in `listed` whether it or one before it of its attempt ended as its rule
+// names. A command of the setup leaves `tally` and `listed` as they are. A null procedure has no mark: nothing is written or
+// noted of it. `Err`: the book failed, and nothing is noted.
 fn write_one<B: Book>(
     book: &mut B,
-    tally: &mut Counts,
-    well: &mut bool,
-    listed: &mut bool,
-    fresh: &mut u64,
+    recorded: &mut Recorded,
     now: Moment,
     mark: Option<Mark>,
     settlement: &Settlement<Asked>,
 ) -> Result<(), PortFailed>
     requires { IsReadBy IsAskedReading settlement.now.call settlement.now.outcome }
     ensures wrote { WritesNews (B.text book.old) (B.taken book.old) (B.taken book.new) (news_of now.utc (mark ∷ []) (settlement.now ∷ [])) result }
-    ensures tally { CountsNews tally.old tally.new now (mark ∷ []) (settlement.now ∷ []) result }
-    ensures well { NotesWell well.old well.new now (mark ∷ []) (settlement.now ∷ []) result }
-    ensures listed { NotesListed listed.old listed.new (mark ∷ []) (settlement.now ∷ []) result }
-    ensures fresh { NotesFresh fresh.old fresh.new now (mark ∷ []) (settlement.now ∷ []) result }
+    ensures tally { CountsNews recorded.old.tally recorded.new.tally now (mark ∷ []) (settlement.now ∷ []) result }
+    ensures well { NotesWell recorded.old.well recorded.new.well now (mark ∷ []) (settlement.now ∷ []) result }
+    ensures listed { NotesListed recorded.old.listed recorded.new.listed (mark ∷ []) (settlement.now ∷ []) result }
+    ensures fresh { NotesFresh recorded.old.fresh recorded.new.fresh now (mark ∷ []) (settlement.now ∷ []) result }
     ensures fails { FailsWith result (B.failed book.old) (B.failed book.new) }
     ensures form { B.text book.new ≡ B.text book.old }
 {
@@ -189,11 +189,15 @@ fn write_one<B: Book>(
     if let Err(failed) = book.write(stamp, &command, ending) {
         return Err(failed);
     }
-    tally.count(mark.cycle, mark.expected.turn, ending);
-    *well = is_well(ending);
+    recorded.tally.count(mark.cycle, mark.expected.turn, ending);
+    recorded.well = is_well(ending);
     let code = code_of(&settlement.outcome);
-    *listed = is_listed_after(*listed, &mark.expected, code, ending);
-    *fresh = if is_well(ending) { now.elapsed } else { *fresh };
+    recorded.listed = is_listed_after(recorded.listed, &mark.expected, code, ending);
+    recorded.fresh = if is_well(ending) {
+        now.elapsed
+    } else {
+        recorded.fresh
+    };
     Ok(())
 }
 
@@ -207,34 +211,29 @@ pub(crate) fn ends_with_table(settlements: &[Settlement<Asked>]) -> bool
     }
 }
 
-// Writes and counts the records of these settlements, which are those of the oldest outstanding requests, and removes the marks
-// of these requests. `well` becomes whether the command written last was answered well, and stays as it is if none was written.
-// If one was answered well, `fresh` becomes the moment `now`. `listed` becomes whether one of the attempt that was settled last
-// ended as its rule names, and stays as it is if none was written. `Err`: the book failed at a record, and no record after it was
-// written or counted.
+// Writes the records of these settlements, which are those of the oldest outstanding requests, notes each in `recorded`, as
+// `write_one` does, and removes the marks of these requests. `Err`: the book failed at a record. It isn't noted, and none after
+// it is written or noted.
 pub(crate) fn write_settlements<B: Book>(
     book: &mut B,
-    tally: &mut Counts,
-    well: &mut bool,
-    listed: &mut bool,
-    fresh: &mut u64,
+    recorded: &mut Recorded,
     marks: &mut ArrayVec<Option<Mark>, WINDOW>,
     now: Moment,
     settlements: &[Settlement<Asked>],
 ) -> Result<(), PortFailed>
     requires { AreReadBy IsAskedReading settlements.now }
     ensures wrote { WritesNews (B.text book.old) (B.taken book.old) (B.taken book.new) (news_of now.utc marks.old.items settlements.now) result }
-    ensures tally { CountsNews tally.old tally.new now marks.old.items settlements.now result }
-    ensures well { NotesWell well.old well.new now marks.old.items settlements.now result }
-    ensures listed { NotesListed listed.old listed.new marks.old.items settlements.now result }
-    ensures fresh { NotesFresh fresh.old fresh.new now marks.old.items settlements.now result }
+    ensures tally { CountsNews recorded.old.tally recorded.new.tally now marks.old.items settlements.now result }
+    ensures well { NotesWell recorded.old.well recorded.new.well now marks.old.items settlements.now result }
+    ensures listed { NotesListed recorded.old.listed recorded.new.listed marks.old.items settlements.now result }
+    ensures fresh { NotesFresh recorded.old.fresh recorded.new.fresh now marks.old.items settlements.now result }
     ensures marks { OnOk result (marks.new.items ≡ drop (length settlements.now) marks.old.items) }
     ensures fails { FailsWith result (B.failed book.old) (B.failed book.new) }
     ensures form { B.text book.new ≡ B.text book.old }
 {
     for settlement in settlements {
         let mark = take_mark(marks);
-        if let Err(failed) = write_one(book, tally, well, listed, fresh, now, mark, settlement) {
+        if let Err(failed) = write_one(book, recorded, now, mark, settlement) {
             return Err(failed);
         }
     }

@@ -10,10 +10,11 @@ use gc_texts::{Ending, Quality, Stamp, Wish};
 
 /// A book that stores a word for each record: the last digits of its cycle and its place, a letter for its ending, and after the
 /// letter the codes of a reply, unless both are 0, and its values; if a case is stamped, last the moment at which the request was
-/// sent. A case may have it fail at one write, or at each sync after the first few.
+/// sent, if it was. A case may have it fail at one write, or at each sync after the first few.
 #[derive(Drop)]
 pub struct WordBook {
-    /// The words of the records, and for each cycle that was reported as overrun its last digit and `!`, each with a blank after it.
+    /// The words of the records, and for each cycle that was reported as overrun its last digit and `!`, each with a blank after
+    /// it. What has no room any more is left out.
     pub text: ArrayVec<u8, 256>,
     // How many writes there were.
     writes: u64,

@@ -46,7 +46,7 @@ impl Sink for StoringSink {
 }
 
 // The link of a case, with a log whose sink fails after `writes` writes. Until the link reads a moment, the log's lines have
-// the moment at which the link's clock starts.
+// the moment `START`, also where the link's time of day is ahead of its clock (`ahead`).
 fn logged_link<'a>(
     alloc: Global,
     steps: &'a [Step<'a>],
@@ -61,8 +61,8 @@ fn logged_link<'a>(
     Logged::new(Script::new(steps, setting), sink, START)
 }
 
-/// Runs a station over a link with a log, and takes what came of it into `outcome`. A log whose sink failed is reported as `lost`,
-/// provided that it is the first part of the log of the same run over a sink that never fails.
+/// Runs a station over a link with a log, and takes what came of it into `outcome`. A log whose sink failed is reported as
+/// `lost`, provided that it is the first part of the log of the same run over a sink that takes all for which there is memory.
 pub fn play_logged(
     alloc: Global,
     tasks: &[Task],
@@ -76,8 +76,8 @@ pub fn play_logged(
     }
 }
 
-// Runs the station once more, over a sink that takes all, and has `outcome` report its own log as `lost`, if that is the first part of
-// the log of this run.
+// Runs the station once more, over a sink that takes all for which there is memory, and has `outcome` report its own log as
+// `lost`, if that is the first part of the log of this run.
 fn compare_with_whole_log(
     alloc: Global,
     tasks: &[Task],
@@ -109,8 +109,8 @@ fn play_over_sink(
     );
 }
 
-/// Without a station: reads once for each of `steps` over a link with a log, closes the link, and takes the log into `outcome`. Where a
-/// write of the log failed, that is what was written before.
+/// Without a station: reads once for each of `steps` over a link with a log, closes the link, and takes the log into `outcome`.
+/// Where a write of the log failed, `outcome` takes what was written before.
 pub fn read_logged(alloc: Global, steps: &[Step<'_>], setting: &Setting, outcome: &mut Outcome) {
     let mut link = logged_link(alloc, steps, setting, setting.writes);
     // Room for more than the longest line: 512 bytes, CR and LF.

@@ -66,8 +66,8 @@ impl Outcome {
         tell_end(fault, script.gone, &mut self.end);
     }
 
-    /// Takes the counts of a run that is done: of answered, late, skipped and missed commands, and how many chains were sent
-    /// again.
+    /// Takes the counts of a run that ended without a fault: of answered, late, skipped and missed commands, and how many times a
+    /// chain was sent again.
     pub fn take_counts(&mut self, tally: &Tally) {
         self.counts.titled("answered ", &tally.answered);
         self.counts.titled(" late ", &tally.late);
@@ -87,7 +87,7 @@ impl Outcome {
         self.is_log_lost
     }
 
-    /// Reports a log whose sink failed as `lost`, if the log of `whole`, whose sink took all, begins with it; else leaves it as it is.
+    /// Reports the log as `lost`, if the log of `whole` begins with it; else leaves it as it is.
     pub fn tell_lost_log(&mut self, whole: &Outcome) {
         if whole.log.as_bytes().starts_with(self.log.as_bytes()) {
             self.log.clear();
@@ -132,7 +132,8 @@ impl<'a> Run<'a> {
         }
     }
 
-    // Runs the station with this setting. If a word of the steps isn't known, nothing is run, and the outcome says so.
+    // Runs the station with this setting. If a word of the steps isn't known, or memory runs out for a step, nothing is run, and
+    // the outcome says that a word isn't known.
     fn play_set(&self, alloc: Global, setting: &Setting, outcome: &mut Outcome) {
         let mut steps = Vec::new(alloc);
         if self.push_steps(&mut steps, setting) {
@@ -150,8 +151,8 @@ impl<'a> Run<'a> {
         push_words(steps, text_of(self.then), setting.split) && are_known
     }
 
-    // Reads the station's text, and runs the station with its tasks over these steps. If the text can't be read, nothing is run, and
-    // the outcome says so.
+    // Reads the station's text, and runs the station with its tasks over these steps. If the text can't be read, or memory runs
+    // out for its tasks, nothing is run, and the outcome says that a word isn't known.
     fn play_steps(
         &self,
         alloc: Global,
@@ -190,7 +191,8 @@ pub fn text_of(bytes: &[u8]) -> &str {
     str::from_utf8(bytes).unwrap_or("?")
 }
 
-// Runs a station over a link without a log, and takes what came of it into `outcome`, with its counts if the setting asks for them.
+// Runs a station over a link without a log, and takes what came of it into `outcome`; with its counts if the setting asks for
+// them, and the run ended without a fault.
 fn play_unlogged(tasks: &[Task], steps: &[Step<'_>], setting: &Setting, outcome: &mut Outcome) {
     let mut link = Telling::new(Script::new(steps, setting));
     let mut book = WordBook::new(setting);

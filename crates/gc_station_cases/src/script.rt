@@ -17,13 +17,15 @@ pub enum Step<'a> {
     Id(u8, u64),
     /// Nothing comes.
     Silence(u64),
-    /// The reply to the last request that was sent comes. Its value is the last digit of the request's number, counted from 0.
+    /// The reply to the last request that was sent comes. Its value is the last digit of the request's number, counted from 0
+    /// modulo 256.
     Reply(u64),
     /// Nothing comes, and the clock goes back by this many milliseconds.
     Back(u64),
     /// Nothing comes any more, until the connection is closed.
     Dead,
-    /// A line that is no reply comes each 5 milliseconds, until the connection is closed.
+    /// At each read, until the connection is closed, a line that is no reply comes: after 5 milliseconds, or when the read's time
+    /// is over.
     Noise,
     /// From now on the last request that was sent on this connection is answered, if it isn't yet.
     Answers,
@@ -41,8 +43,8 @@ pub const START: u64 = 1000;
 // The ids of a synchronization's null procedures, in the order in which they are sent.
 const NULL_IDS: [u8; 8] = *b"65432107";
 
-/// A link that plays steps: each read makes the next one, and once none is left nothing comes for as long as the read waits. The
-/// calls that open, close or write are stored as text.
+/// A link that plays steps: each read, unless it is the failing call, makes the next one, and once none is left nothing comes for
+/// as long as the read waits. The calls that open, close or write are stored as text.
 #[derive(Drop)]
 pub struct Script<'a> {
     // The steps that are played.
@@ -56,7 +58,8 @@ pub struct Script<'a> {
     cut: u64,
     kept: usize,
     puts: u64,
-    // How many requests were sent, the digit of the last one's id, and how many were sent when one was answered last.
+    // How many requests were sent, modulo 256; the digit of the last one's id; and the value of `requests` when one was answered
+    // last, or when the connection was closed since.
     requests: u8,
     id: u8,
     answered: u8,
@@ -83,7 +86,7 @@ pub struct Script<'a> {
     /// How many bytes were sent of the last put that was cut; 0 if none was.
     pub gone: usize,
     /// The words of the calls that opened, closed or wrote, each with a blank after it: `open`, `shut`, `close`, `lf`, `begin` or a
-    /// request. The word of a put that was cut has `cut:` before it.
+    /// request. The word of a put that was cut has `cut:` before it. What has no room any more is left out.
     pub text: ArrayVec<u8, 1024>,
 }
 
@@ -227,8 +230,9 @@ impl<'a> Script<'a> {
         self.bring(buf, &line, later)
     }
 
-    // Counts the last request as answered, lets `later` milliseconds pass, and returns what a read gives then: the reply to that request.
-    // Its one value is the last digit of the request's number among all requests, counted from 0.
+    // Counts the last request as answered, lets `later` milliseconds pass, and returns what a read gives then: the reply to that
+    // request. Its one value is the last digit of the request's number among all requests, counted from 0 modulo 256. If none was
+    // sent yet, the reply is one with id 0 and value 5.
     fn reply(&mut self, buf: &mut [u8], later: u64) -> Came
         ensures { IsWithin result buf.new }
     {

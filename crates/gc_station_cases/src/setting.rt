@@ -100,7 +100,8 @@ impl Setting {
         self.set_plan(key, value) || self.set_other(key, value)
     }
 
-    // Sets a value of the plan, and returns whether the key is one of the plan's.
+    // Sets a value of the plan, and returns whether the key is one of the plan's. A number that is too great for the value counts
+    // as the greatest that it can have.
     fn set_plan(&mut self, key: &str, value: u64) -> bool {
         match key {
             "width" => self.plan.width = u8::try_from(value).unwrap_or(u8::MAX),

@@ -14,8 +14,8 @@
 //!                                 `stamped`, `@` and the moment at which its request was sent, in milliseconds since 1970, if it was;
 //!                                 and the last digit of a cycle that overran, with `!`
 //!     end fault 46                the fault, if there is one
-//!     counts answered 3 ..        how many commands were answered, late, skipped and missed, and how many chains were sent again, where
-//!                                 `with` says `counted`, after a run without a fault over a link without a log
+//!     counts answered 3 ..        how many commands were answered, late, skipped and missed, and how many times a chain was sent
+//!                                 again, where `with` says `counted`, after a run without a fault over a link without a log
 //!     log ..                      what the log has, over a link with one; without tasks the link is only read
 //!     row cut=3: PUT | ENDS | END the same once more with this word behind the others, in place of the three lines
 //!     each kept=11                once for each number below this one: all come to the same
@@ -91,7 +91,8 @@ fn push_lines(lines: &mut Vec<u8>, value: &str) -> Result<(), AllocError> {
     Ok(())
 }
 
-// Plays a case. If memory runs out for its texts, `wrong` notes that it lacks a part, so the case counts as wrong.
+// Plays a case. If memory runs out for its texts, it is played with what there is of them, and `wrong` notes that it lacks a
+// part, so that this case and each later one of the file count as wrong.
 fn play_case(alloc: Global, case: &Case<'_>, wrong: &mut Told) {
     let mut values = Values::new(alloc);
     if values.take(case).is_err() {
@@ -139,9 +140,9 @@ fn play_into_row(alloc: Global, word: &str, run: &Run<'_>, came: &mut Told) {
     outcome.tell_row(came);
 }
 
-// Plays the run. Where the case has a line `each KEY=COUNT`, it is played once for each number N below COUNT, with the setting word
-// `KEY=N` more, up to the first that comes otherwise than the case has it; a COUNT that is 0 or no number is reported as wrong. Without
-// such a line the run is played once, as it is set.
+// Plays the run. Where the case has a line `each KEY=COUNT`, it is played once for each number N below COUNT, with the setting
+// word `KEY=N` more, up to the first that `wrong` reports; a COUNT that is 0 or no number is reported as wrong. Without such a
+// line the run is played once, as it is set.
 fn play_each(alloc: Global, case: &Case<'_>, run: &Run<'_>, wrong: &mut Told) {
     let Some((key, count)) = case.value("each").split_once('=') else {
         return play_once(alloc, case, "", run, wrong);
@@ -159,7 +160,7 @@ fn play_each(alloc: Global, case: &Case<'_>, run: &Run<'_>, wrong: &mut Told) {
     }
 }
 
-// Plays the run with one setting word more, which sets `key` to the number `n`.
+// Plays the run with one setting word more, which sets `key` to the number `n`; with a part of that word if memory runs out for it.
 fn play_with_value(
     alloc: Global,
     case: &Case<'_>,

@@ -1,5 +1,5 @@
-//! The words of steps. Milliseconds come after `@`, and are 5 if none do. `dead` and the words after it in this list have none: what
-//! stands after their `@` has no effect.
+//! The words of steps. Milliseconds come after `@`, and are 5 if none do. `dead` and the words after it in this list have none: a
+//! number after their `@` has no effect.
 //!
 //!     BEGUN              the synchronization is answered: the replies of its eight null procedures come, the last of them after 15
 //!                        milliseconds
@@ -10,7 +10,7 @@
 //!     <<%R1P,0,1:0\r\n   these bytes come in two pieces, cut where `split` says, each after the milliseconds
 //!     silence@70         nothing comes for 70 milliseconds
 //!     reply@1            the reply to the request that was sent last comes; its value is the last digit of that request's number among
-//!                        all of them, counted from 0
+//!                        all of them, counted from 0 modulo 256
 //!     back@500           the clock goes back by 500 milliseconds
 //!     dead, noise        nothing comes any more, or lines that are no replies, until the connection is closed
 //!     answers            from now on the request that was sent last is answered, if it isn't yet

@@ -15,10 +15,15 @@ use Rattle.gc_texts.specs.Faults.{run_fault_text, Tells}
 use Rattle.gc_texts.specs.declared.fault.RunFault.{RunFault}
 use Rattle.gc_world.specs.declared.event.Event.{Event}
 
--- a source gave bytes, which were played as a schedule on an instrument with this opening state, or refused; and the status and the
--- messages report how that ended. `text` is what is written of events that are played, by the opening state, the width, the events,
--- and whether totals are written: `drill_text_on` for the table's instrument, `scene_drill_text` for that of a scene with rules
-pub record TellsSchedule {S : Type 0} (text : S → ℕ → List Event → Bool → List ℕ) (start : S) (drilling : Drilling) (old new : Ports) (status : ℕ) (told told' : Option (List ℕ)) : Type 0 where
+-- what is written of events that are played, by the instrument's opening state, the width of the client's window, the events, and whether
+-- totals are written: `drill_text_on` for the table's instrument, `scene_drill_text` for that of a scene with rules
+abbrev pub PlayText : Type 0 → Type 0
+PlayText S = (opening : S) → (width : ℕ) → List Event → (totals : Bool) → List ℕ
+
+-- a source gave bytes, which were played as a schedule on an instrument with this opening state, or refused; whether source and sink have
+-- failed then is as `source_failed` and `sink_failed` say, and the status and the messages report how that ended
+pub record TellsSchedule {S : Type 0} (text : PlayText S) (start : S) (drilling : Drilling) (old new : Ports) (status : ℕ)
+    (told told' : Option (List ℕ)) : Type 0 where
   pub end : Result (Unit {0}) RunFault
   pub given : List ℕ
   pub gave : Consumes old.remaining new.remaining given
@@ -27,25 +32,28 @@ pub record TellsSchedule {S : Type 0} (text : S → ℕ → List Event → Bool 
   pub sink : new.sink_failed ≡ sink_failed end old.sink_failed
   pub tells : Tells run_fault_text end status told told'
 
--- the width was out of its range, which is reported with status 2, and nothing was read or written
+-- the width was out of its range, which is reported with status 2, and source and sink weren't used (`AreUnused`)
 pub record RefusesWidth (old new : Ports) (status : ℕ) (told told' : Option (List ℕ)) : Type 0 where
   pub is : status ≡ 2
   pub tells : Appends told told' range_line
   pub unused : AreUnused old new
 
 -- the width was refused, or a schedule was played, and how that ended is reported
-abbrev pub TellsWithin : {S : Type 0} → (text : S → ℕ → List Event → Bool → List ℕ) → S → Drilling → (old new : Ports) → ℕ → (told told' : Option (List ℕ)) → Type 0
-TellsWithin text start drilling old new status told told' = RefusesWidth old new status told told' ⊎ TellsSchedule text start drilling old new status told told'
+abbrev pub TellsWithin : {S : Type 0} → (text : PlayText S) → (start : S) → Drilling → (old new : Ports) → (status : ℕ)
+    → (told told' : Option (List ℕ)) → Type 0
+TellsWithin text start drilling old new status told told' =
+    RefusesWidth old new status told told' ⊎ TellsSchedule text start drilling old new status told told'
 
 -- the scene or the width was refused, or the schedule was played on the instrument of the scene, and how that ended is reported; the
 -- instrument has rules only where a scene is named
-abbrev pub TellsDrill : Drilling → (old new : Ports) → ℕ → (told told' : Option (List ℕ)) → Type 0
+abbrev pub TellsDrill : Drilling → (old new : Ports) → (status : ℕ) → (told told' : Option (List ℕ)) → Type 0
 TellsDrill drilling old new status told told' =
-    RefusesScene drilling.scene old new status told told' ⊎ (((start : State) × IsSimulatorUnlessNamed drilling.scene start × TellsWithin drill_text_on start drilling old new status told told')
+    RefusesScene drilling.scene old new status told told'
+    ⊎ (((start : State) × IsSimulatorUnlessNamed drilling.scene start × TellsWithin drill_text_on start drilling old new status told told')
     ⊎ ((drilling.scene ≡ None → ⊥) × ((start : SceneState) × TellsWithin scene_drill_text start drilling old new status told told')))
 
--- the sink took the output of the events of the schedule that a source gave. `text` is as in `TellsSchedule`
-abbrev pub PlaysWhole : {S : Type 0} → (text : S → ℕ → List Event → Bool → List ℕ) → S → Drilling → (old new : Ports) → Type 0
+-- a source gave a schedule, and the sink took the output of its events
+abbrev pub PlaysWhole : {S : Type 0} → (text : PlayText S) → (start : S) → Drilling → (old new : Ports) → Type 0
 PlaysWhole text start drilling old new = (given : List ℕ) × Consumes old.remaining new.remaining given
     × ((events : List Event) × IsSchedule given events × Appends old.taken new.taken (text start drilling.width events drilling.totals))
 

@@ -6,12 +6,12 @@ use Rattle.gc_lines.specs.Answering.{Ports}
 use Rattle.gc_subcommands.specs.Refusing.{refusal_text}
 use Rattle.gc_subcommands.specs.declared.refusal.Refusal.{Refusal}
 
--- nothing was read, and nothing written
+-- nothing was read from the source, and nothing written into the sink
 abbrev pub AreUnused : (old new : Ports) → Type 0
 AreUnused old new = (new.remaining ≡ old.remaining) × (new.taken ≡ old.taken)
 
--- the scene that was named was refused, which is reported with status 1, and nothing was read or written; the messages had
--- `told` before, and have `told'` now
+-- the scene that was named was refused, which is reported with status 1, and source and sink weren't used (`AreUnused`); the
+-- messages had `told` before, and have `told'` now
 pub record RefusesScene {Name : Type 0} (scene : Option Name) (old new : Ports) (status : ℕ) (told told' : Option (List ℕ)) : Type 0 where
   pub refusal : Refusal
   pub is : status ≡ 1
@@ -20,5 +20,5 @@ pub record RefusesScene {Name : Type 0} (scene : Option Name) (old new : Ports) 
   pub named : scene ≡ None → ⊥
 
 -- where no scene is named the instrument is the simulator
-abbrev pub IsSimulatorUnlessNamed : {Name : Type 0} → Option Name → State → Type 0
+abbrev pub IsSimulatorUnlessNamed : {Name : Type 0} → (scene : Option Name) → (start : State) → Type 0
 IsSimulatorUnlessNamed scene start = scene ≡ None → start ≡ simulator_opening

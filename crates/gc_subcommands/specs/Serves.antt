@@ -16,8 +16,8 @@ use Rattle.gc_texts.specs.Faults.{Tells}
 -- an instrument with this opening state served a source, and the status and the messages tell how that ended. `Serves` says
 -- what serving does to instruments with these states: `IsServing` to the table's, `IsSceneServing` to that of a scene with
 -- rules
-pub record TellsServing {S : Type 0} (Serves : S → S → Ports → Ports → ℕ → Result Served ServeFault → Type 0) (start : S) (old new : Ports) (status : ℕ)
-    (told told' : Option (List ℕ)) : Type 0 where
+pub record TellsServing {S : Type 0} (Serves : (from to : S) → (ports ports' : Ports) → (most : ℕ) → Result Served ServeFault → Type 0)
+    (start : S) (old new : Ports) (status : ℕ) (told told' : Option (List ℕ)) : Type 0 where
   pub end : Result Served ServeFault
   pub after : S
   pub serves : Serves start after old new 4294967295 end
@@ -25,26 +25,27 @@ pub record TellsServing {S : Type 0} (Serves : S → S → Ports → Ports → �
 
 -- the scene was refused, or its instrument served a source, and how that ended is reported; the instrument has rules only
 -- where a scene is named
-abbrev pub TellsExec : {Name : Type 0} → Option Name → (old new : Ports) → ℕ → (told told' : Option (List ℕ)) → Type 0
+abbrev pub TellsExec : {Name : Type 0} → (scene : Option Name) → (old new : Ports) → (status : ℕ) → (told told' : Option (List ℕ)) → Type 0
 TellsExec scene old new status told told' =
-    RefusesScene scene old new status told told' ⊎ (((start : State) × IsSimulatorUnlessNamed scene start × TellsServing IsServing start old new status told told')
+    RefusesScene scene old new status told told'
+    ⊎ (((start : State) × IsSimulatorUnlessNamed scene start × TellsServing IsServing start old new status told told')
     ⊎ ((scene ≡ None → ⊥) × ((start : SceneState) × TellsServing IsSceneServing start old new status told told')))
 
--- a log (`true`) or a stream (`false`) was checked, with this result
-abbrev pub ChecksInput : Bool → (old new : Ports) → Result Served ServeFault → Type 0
+-- an input was checked, as a log (`is_log`) or as a stream, with this result
+abbrev pub ChecksInput : (is_log : Bool) → (old new : Ports) → Result Served ServeFault → Type 0
 ChecksInput true old new end = IsCheckingLog old new 4294967295 end
 ChecksInput false old new end = IsChecking old new 4294967295 end
 
--- an input was checked, and the status and the messages tell how that ended
+-- an input was checked, as a log (`log`) or as a stream, and the status and the messages tell how that ended
 pub record TellsChecking (log : Bool) (old new : Ports) (status : ℕ) (told told' : Option (List ℕ)) : Type 0 where
   pub end : Result Served ServeFault
   pub checks : ChecksInput log old new end
   pub tells : Tells fault_text end status told told'
 
 -- status 0 exactly where the last read was the end
-abbrev pub IsDoneAtEnd : (old new : Ports) → ℕ → Type 0
+abbrev pub IsDoneAtEnd : (old new : Ports) → (status : ℕ) → Type 0
 IsDoneAtEnd old new status = (status ≡ 0) ↔ ((old.reads < new.reads) × (new.ended ≡ true))
 
 -- status 1 only where a port failed, or all reads that a u32 counts were used up
-abbrev pub FailsByPorts : (old new : Ports) → ℕ → Type 0
+abbrev pub FailsByPorts : (old new : Ports) → (status : ℕ) → Type 0
 FailsByPorts old new status = status ≡ 1 → (new.source_failed ≡ true) ⊎ ((new.sink_failed ≡ true) ⊎ (new.reads ≡ old.reads + 4294967295))

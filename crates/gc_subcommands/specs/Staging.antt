@@ -24,12 +24,13 @@ abbrev pub IsTimed : List ℕ → Timed → Type 0
 IsTimed text (Still staged) = IsStaged text staged
 IsTimed text (Slow state) = IsTimedScene text state
 
--- why a text sets up no instrument: for this reason it is no scene without rules, or no scene with rules
+-- why a text sets up no instrument: the fault is the one for which it is no scene without rules, or the one for which it is no scene with
+-- rules that needs no clock
 abbrev pub StagedFault : List ℕ → RunFault → Type 0
 StagedFault text fault = SceneFault text fault ⊎ SceneFaultOf IsStillLine text fault
 
--- why a text sets up no instrument for `serve`, which has a clock: for this reason it is no scene that needs no clock, or no scene
--- that may need one
+-- why a text sets up no instrument for `serve`, which has a clock: the fault is the one for which it is no scene that needs no clock
+-- (`StagedFault`), or the one for which it is no scene that may need one
 abbrev pub TimedStagedFault : List ℕ → RunFault → Type 0
 TimedStagedFault text fault = StagedFault text fault ⊎ TimedFault text fault
 
@@ -44,12 +45,12 @@ GivesStaged old new staged = (text : List ℕ) × Consumes old new text × IsAtE
 abbrev pub GivesTimed : (old new : Option (List ℕ)) → Timed → Type 0
 GivesTimed old new timed = (text : List ℕ) × Consumes old new text × IsAtEnd new × IsTimed text timed
 
--- for this reason a source wasn't read to its end, or what it gave sets up no instrument
+-- a source wasn't read to its end, or what it gave sets up no instrument, for the reason that `r` has
 abbrev pub RefusesStaged : (old new : Option (List ℕ)) → Refusal → Type 0
 RefusesStaged old new r =
     (given : List ℕ) × Consumes old new given × (IsReadFault given (refusal_fault r) ⊎ StagedFault given (refusal_fault r))
 
--- for this reason a source wasn't read to its end, or what it gave sets up no instrument for `serve`
+-- a source wasn't read to its end, or what it gave sets up no instrument for `serve`, for the reason that `r` has
 abbrev pub RefusesTimed : (old new : Option (List ℕ)) → Refusal → Type 0
 RefusesTimed old new r =
     (given : List ℕ) × Consumes old new given × (IsReadFault given (refusal_fault r) ⊎ TimedStagedFault given (refusal_fault r))

@@ -21,7 +21,7 @@ use std::time::Clock;
 // The arguments of `ask`.
 const ARGUMENTS: &[Argument<'static>] = &[PLACE];
 
-/// The subcommand `ask` for clap: its help and its arguments.
+/// The subcommand `ask` for clap, with this name: its help and its arguments. `Err`: memory ran out.
 pub fn ask_command<'a>(alloc: Global, name: &'a str) -> Result<Command<'a>, AllocError> {
     command_of(
         alloc,
@@ -33,7 +33,7 @@ pub fn ask_command<'a>(alloc: Global, name: &'a str) -> Result<Command<'a>, Allo
 }
 
 /// Asks the commands of a source at a place, writes a line for each settlement into a sink, and reports how that ended, with status 0
-/// or 1. `Err`: the messages couldn't be written.
+/// or 1. `Err`: the line of the fault couldn't be written.
 ///
 /// The clause has only the range of the status. What is asked and written `ask_at` promises; that the status and the messages report
 /// its result no clause says.

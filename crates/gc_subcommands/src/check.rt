@@ -22,7 +22,7 @@ const ARGUMENTS: &[Argument<'static>] = &[Argument {
     ..FLAG
 }];
 
-/// The subcommand `check` for clap: its help and its arguments.
+/// The subcommand `check` for clap, with this name: its help and its arguments. `Err`: memory ran out.
 pub fn check_command<'a>(alloc: Global, name: &'a str) -> Result<Command<'a>, AllocError> {
     command_of(
         alloc,
@@ -33,7 +33,8 @@ pub fn check_command<'a>(alloc: Global, name: &'a str) -> Result<Command<'a>, Al
     )
 }
 
-/// Checks a log where `log` is set, else a stream, and reports how that ended, with status 0 or 1. `Err`: the messages couldn't be written.
+/// Checks the source as a log where `log` is set (`run_check_log`), else as a stream (`run_check`), and reports how that ended, with
+/// status 0 or 1. `Err`: the messages couldn't be written.
 pub fn check<S: Source, K: Sink, E: Write>(
     log: bool,
     source: &mut S,

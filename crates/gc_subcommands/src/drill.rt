@@ -18,7 +18,8 @@ use std::fs::Files;
 use std::io::{self, Write};
 use std::process::ExitCode;
 
-/// What the words of `drill` ask for: the file of the scene, whether totals are written, and how many requests may wait.
+/// What the words of `drill` ask for: the path of the scene's file, if one is named, whether totals are written, and how many
+/// requests may wait, 1 to 7.
 #[derive(Clone, Copy)]
 pub struct Drilling<'a> {
     pub scene: Option<&'a str>,
@@ -44,7 +45,7 @@ const ARGUMENTS: &[Argument<'static>] = &[
     SCENE,
 ];
 
-/// The subcommand `drill` for clap: its help and its arguments.
+/// The subcommand `drill` for clap, with this name: its help and its arguments. `Err`: memory ran out.
 pub fn drill_command<'a>(alloc: Global, name: &'a str) -> Result<Command<'a>, AllocError> {
     command_of(
         alloc,
@@ -65,8 +66,9 @@ pub fn drilling_of<'a>(words: &ArgMatches<'a>) -> Drilling<'a> {
     }
 }
 
-/// Reads the scene, plays the schedule of the source on its instrument, and reports how that ended: with status 0, 1, or 2 for a width
-/// out of its range. A faulty scene is reported before such a width. `Err`: the messages couldn't be written.
+/// Reads the scene, if one is named, plays the schedule of the source on its instrument, or else on the simulator, and reports
+/// how that ended: with status 0, 1, or 2 for a width that isn't 1 to 7. If the scene is
+/// refused, that alone is reported, whatever the width. `Err`: the messages couldn't be written.
 pub fn drill_scene<R: Files, S: Source, K: Sink, E: Write>(
     rt: &R,
     alloc: Global,
@@ -75,7 +77,7 @@ pub fn drill_scene<R: Files, S: Source, K: Sink, E: Write>(
     sink: &mut K,
     messages: &mut E,
 ) -> io::Result<ExitCode>
-    // Either the scene or the width was refused, which is reported, and nothing was read or written; or the schedule was
+    // Either the scene or the width was refused, which is reported, and source and sink weren't used; or the schedule was
     // played on the instrument, which is the simulator if no scene is named, and how that ended is reported.
     ensures told { IfOk result (λ status. TellsDrill drilling.entry
         (ports_of S.Source source.old K.Sink sink.old)
@@ -107,9 +109,9 @@ pub fn drill_scene<R: Files, S: Source, K: Sink, E: Write>(
     }
 }
 
-// Plays the schedule of the source on an instrument, and reports how that ended, with status 0 or 1; with status 2 it refuses a width
-// out of its range, before anything is read. clap refuses it first, though no clause of clap's says so. The clauses are those of
-// `drill_scene`, of this instrument.
+// Plays the schedule of the source on an instrument, and reports how that ended, with status 0 or 1; with status 2 it refuses a
+// width that isn't 1 to 7, before anything of the source is read. clap refuses it first, though no clause of clap's says so. The
+// clauses are those of `drill_scene`, of this instrument.
 fn drill_within<I: Drilled, S: Source, K: Sink, E: Write>(
     alloc: Global,
     instrument: I,

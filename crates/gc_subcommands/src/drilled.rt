@@ -18,8 +18,8 @@ pub(crate) trait Drilled: Drop {
     /// What is written of events that are played on it, with a window of this width, and with the line of totals if that is asked for.
     ghost text: { Self → ℕ → List Event → Bool → List ℕ };
 
-    /// Plays the schedule that a source gives, with a client that lets `width` requests wait, as `run_drill_on` does; the clauses
-    /// mean what they mean there.
+    /// Plays the schedule that a source gives, with a client that lets at most `width` requests wait, as `run_drill_on` does; the
+    /// clauses mean what they mean there.
     fn play<S: Source, K: Sink>(
         self,
         alloc: Global,

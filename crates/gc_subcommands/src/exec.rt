@@ -20,7 +20,7 @@ use std::process::ExitCode;
 // The arguments of `exec`.
 const ARGUMENTS: &[Argument<'static>] = &[SCENE];
 
-/// The subcommand `exec` for clap: its help and its arguments.
+/// The subcommand `exec` for clap, with this name: its help and its arguments. `Err`: memory ran out.
 pub fn exec_command<'a>(alloc: Global, name: &'a str) -> Result<Command<'a>, AllocError> {
     command_of(
         alloc,
@@ -31,8 +31,8 @@ pub fn exec_command<'a>(alloc: Global, name: &'a str) -> Result<Command<'a>, All
     )
 }
 
-/// Reads the scene, answers the requests of the source with its instrument, and reports how that ended, with status 0 or 1. `Err`: the
-/// messages couldn't be written.
+/// Reads the scene, if one is named, answers the requests of the source with its instrument, or else with the simulator, and
+/// reports how that ended, with status 0 or 1. `Err`: the messages couldn't be written.
 pub fn exec_scene<R: Files, S: Source, K: Sink, E: Write>(
     rt: &R,
     alloc: Global,
@@ -41,7 +41,7 @@ pub fn exec_scene<R: Files, S: Source, K: Sink, E: Write>(
     sink: &mut K,
     messages: &mut E,
 ) -> io::Result<ExitCode>
-    // Either the scene was refused, which is reported, and nothing was read or written; or the instrument served, which is the
+    // Either the scene was refused, which is reported, and source and sink weren't used; or the instrument served, which is the
     // simulator where no scene is named, and how that ended is reported.
     ensures told { IfOk result (λ status. TellsExec scene.entry
         (ports_of S.Source source.old K.Sink sink.old)

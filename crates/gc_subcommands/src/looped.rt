@@ -20,7 +20,7 @@ use std::rt::Files;
 // The arguments of `loop`.
 const ARGUMENTS: &[Argument<'static>] = &[SCENE];
 
-/// The subcommand `loop` for clap: its help and its arguments.
+/// The subcommand `loop` for clap, with this name: its help and its arguments. `Err`: memory ran out.
 pub fn loop_command<'a>(alloc: Global, name: &'a str) -> Result<Command<'a>, AllocError> {
     command_of(
         alloc,
@@ -32,8 +32,8 @@ pub fn loop_command<'a>(alloc: Global, name: &'a str) -> Result<Command<'a>, All
 }
 
 /// Asks the commands of a source over a connection to the instrument of a scene, which is read first, or to the simulator where no
-/// scene is named; writes a line for each settlement into a sink, and reports how that ended, with status 0 or 1. `Err`: the messages
-/// couldn't be written.
+/// scene is named; writes a line for each settlement into a sink, and reports how that ended, with status 0 or 1. `Err`: the line
+/// of the fault couldn't be written, or the line after it on what is at fault in the scene.
 ///
 /// The clause has only the range of the status. What is asked and written `loop_tcp_on` promises; which instrument the scene sets up,
 /// and that the status and the messages report the result, no clause says.
@@ -63,9 +63,9 @@ pub fn loop_scene<
     }
 }
 
-// Asks the commands of a source over a connection to this instrument, that of the scene if one is named, and reports how that ended, with
-// status 0 or 1. If a scene is named, a further line after a fault of the commands' text (`Schedule`, `InputTooLong`) says that it is of
-// standard input. `Err`: the line of the fault couldn't be written.
+// Asks the commands of a source over a connection to this instrument, that of the scene if one is named, and reports how that
+// ended, with status 0 or 1. If a scene is named, and the fault is one of the commands' text (`Schedule`, `InputTooLong`), a
+// further line says that the fault is of standard input. `Err`: the line of the fault couldn't be written.
 fn loop_on<
     R: Net<Listener = TcpListener, Stream = TcpStream>,
     T: Answers + Drop,

@@ -1,6 +1,6 @@
 //! Why a scene was refused, and how that is reported.
 
-ghost use Rattle.std.specs.Prelude.{◌≡◌, IfOk, OnOk};
+ghost use Rattle.std.specs.Prelude.{◌≡◌, IfOk};
 ghost use Rattle.std.specs.Io.KnownBytes.{Appends};
 ghost use Rattle.std.specs.Process.{exit_status};
 ghost use Rattle.gc_subcommands.specs.Refusing.{refusal_fault, refusal_text};
@@ -14,15 +14,16 @@ use std::process::ExitCode;
 /// Why a scene was refused.
 #[derive(Clone, Copy, Debug, PartialEq, Eq)]
 pub(crate) enum Refusal {
-    /// Its file can't be read, or its text sets up no instrument for this reason.
+    /// Its file couldn't be read whole, or its text sets up no instrument, with this fault: also `Memory`, where memory was
+    /// refused.
     Fault(RunFault),
     /// The line of its text with this number, counted from 1, is the first faulty one, and this is at fault in it.
     Line(u32, SceneTrouble),
 }
 
 impl Refusal {
-    /// The refusal of a scene's text for this reason: a faulty line (`Schedule`) with what is at fault in it. `has_clock` says whether the
-    /// scene is for an instrument with a clock, as that of `serve`.
+    /// The refusal of a scene's text with this fault: `Line` with what is at fault in the line if a line is faulty (`Schedule`),
+    /// else `Fault`. `has_clock` says whether the scene is for an instrument with a clock, as that of `serve`.
     pub(crate) fn of(fault: RunFault, text: &[u8], has_clock: bool) -> Refusal
         ensures { refusal_fault result ≡ fault }
     {
@@ -42,7 +43,7 @@ impl Refusal {
         match self {
             Refusal::Fault(fault) => report_end(Err(fault), messages),
             Refusal::Line(line, trouble) => {
-                tell_line(line, trouble, messages)?;
+                trouble.tell_with_fault(line, messages)?;
                 Ok(ExitCode::from(1))
             }
         }
@@ -70,12 +71,4 @@ fn tell_file<E: Write>(scene: Option<&str>, messages: &mut E) -> io::Result<()> 
         Some(path) => writeln!(messages, "geocom: of the scene in {path}"),
         None => Ok(()),
     }
-}
-
-// Writes the fault of a faulty line of a scene, and a second line: what is at fault in it.
-fn tell_line<E: Write>(line: u32, trouble: SceneTrouble, messages: &mut E) -> io::Result<()>
-    ensures { OnOk result (Appends (E.contents messages.old) (E.contents messages.new) (refusal_text (Refusal.Line line trouble))) }
-{
-    RunFault::Schedule { line }.tell(messages)?;
-    trouble.tell(line, messages)
 }

@@ -19,7 +19,7 @@ use gc_texts::{RunFault, read_text};
 use std::alloc::Global;
 use std::fs::{File, Files};
 
-/// The instrument that a scene sets up: that of the execution table, or one with rules, where a line of the scene is one.
+/// The instrument that a scene sets up: that of the execution table, or one with rules, where a line of the scene is a rule.
 #[derive(Drop)]
 pub(crate) enum Staged {
     /// That of the execution table.
@@ -39,7 +39,7 @@ pub(crate) enum Timed {
 }
 
 /// The instrument of the scene in a file, with rules or without them, or the simulator if no file is named. The file is read to its
-/// end, or until it is found too long, and closed.
+/// end, or until it is found too long, a read fails or memory is refused, and closed.
 ///
 /// `Read` comes where the file can't be opened. The faults of its reading are those of `read_text`; those of a scene's text are those of
 /// `read_scene`, and of one with rules those of `read_still_scene`. The clause speaks only of the simulator: what a file holds isn't known.
@@ -53,10 +53,16 @@ pub(crate) fn staged_of<R: Files>(
     let Some(path) = scene else {
         return Ok(Staged::Plain(Instrument::simulator()));
     };
-    let Ok(file) = File::open(rt, path) else {
-        return Err(Refusal::Fault(RunFault::Read));
-    };
-    staged_in(alloc, &mut FromReader::new(file))
+    let mut source = source_at(rt, path)?;
+    staged_in(alloc, &mut source)
+}
+
+// Opens the file at this path as a source. `Read` comes where it can't be opened.
+fn source_at<R: Files>(rt: &R, path: &str) -> Result<FromReader<R::File>, Refusal> {
+    match File::open(rt, path) {
+        Ok(file) => Ok(FromReader::new(file)),
+        Err(_) => Err(Refusal::Fault(RunFault::Read)),
+    }
 }
 
 // The instrument of the scene that a source gives, with rules or without them. The faults are those of `staged_of`.
@@ -64,7 +70,7 @@ fn staged_in<S: Source>(alloc: Global, source: &mut S) -> Result<Staged, Refusal
     // The whole of what the source gave is its text.
     ensures found { IfOk result (λ staged. GivesStaged (S.remaining source.old) (S.remaining source.new) staged) }
 
-    // Either the source wasn't read to its end, or its text is faulty.
+    // Either the source wasn't read to its end, or what it gave sets up no instrument, also for want of memory.
     ensures fault { IfErr result (λ r. RefusesStaged (S.remaining source.old) (S.remaining source.new) r) }
 {
     let text = match read_text(alloc, source) {
@@ -116,10 +122,8 @@ pub(crate) fn timed_of<R: Files>(
     let Some(path) = scene else {
         return Ok(Timed::Still(Staged::Plain(Instrument::simulator())));
     };
-    let Ok(file) = File::open(rt, path) else {
-        return Err(Refusal::Fault(RunFault::Read));
-    };
-    timed_in(alloc, &mut FromReader::new(file))
+    let mut source = source_at(rt, path)?;
+    timed_in(alloc, &mut source)
 }
 
 // The instrument of the scene that a source gives, for `serve`, which has a clock. The faults are those of `timed_of`.
@@ -127,7 +131,7 @@ fn timed_in<S: Source>(alloc: Global, source: &mut S) -> Result<Timed, Refusal>
     // The whole of what the source gave is its text.
     ensures found { IfOk result (λ timed. GivesTimed (S.remaining source.old) (S.remaining source.new) timed) }
 
-    // Either the source wasn't read to its end, or its text is faulty.
+    // Either the source wasn't read to its end, or what it gave sets up no instrument, also for want of memory.
     ensures fault { IfErr result (λ r. RefusesTimed (S.remaining source.old) (S.remaining source.new) r) }
 {
     let text = match read_text(alloc, source) {

@@ -27,8 +27,8 @@ use std::time::Clock;
 // The longest time for which a kept connection may be idle, in seconds: a day.
 const LONGEST_IDLE: u32 = 86_400;
 
-/// What the words of `serve` ask for: the file of the scene, the port, address or device, the number of connections where one is given,
-/// and with `--keep` the seconds without bytes after which a connection is idle (`None`: without `--keep`).
+/// What the words of `serve` ask for: the path of the scene's file, if one is named; the port, address or device; the number of
+/// connections, if one is given; and with `--keep` the seconds without bytes after which a connection is idle (`None`: without `--keep`).
 #[derive(Clone, Copy)]
 pub struct Serving<'a> {
     pub scene: Option<&'a str>,
@@ -72,7 +72,7 @@ const ARGUMENTS: &[Argument<'static>] = &[
     SCENE,
 ];
 
-/// The subcommand `serve` for clap: its help and its arguments.
+/// The subcommand `serve` for clap, with this name: its help and its arguments. `Err`: memory ran out.
 pub fn serve_command<'a>(alloc: Global, name: &'a str) -> Result<Command<'a>, AllocError> {
     command_of(
         alloc,
@@ -107,10 +107,13 @@ fn idle_of(words: &ArgMatches) -> Option<u32> {
     }
 }
 
-/// Serves a port, an address or a device, or keeps it where `serving.idle` is set, and reports how that ended, with status 0, 1, or 2 for
-/// a number out of its range. The places of standard streams that are closed are filled first, and stay filled until it ends.
-/// `StreamClosed` comes where that can't be done. Then the scene is read, and only then a port is bound or a device opened. `Err`: the
-/// messages couldn't be written.
+/// Serves a port, an address or a device, and reports how that ended, with status 0, 1, or 2 for a number out of its range. Where
+/// `serving.idle` is set, a connection that fails is reported, and doesn't end it.
+///
+/// The places of standard streams that are closed are filled first, and stay filled until the end. Where that can't be done,
+/// nothing is served, and `StreamClosed` is reported, with status 1 (no line if the messages are closed). Next the scene is read,
+/// if one is named, and after that a port is bound or a device opened. `Err`: the line of the fault, that on what is at fault in
+/// the scene, or that of a number out of its range couldn't be written.
 ///
 /// The clause has only the range of the status: what is served, and which lines are written, no clause says.
 pub fn serve_with_places_filled<
@@ -271,9 +274,10 @@ fn serve_address<
     )
 }
 
-// Serves a port, an address or a device, goes on after a connection that fails (`--keep`), and reports how that ended. A connection that
-// isn't a device's is closed after `idle` seconds without a byte. Numbers out of their range are refused with status 2, also 0 connections
-// and the `idle` of a device. The status is 0 also where the line of a connection's fault couldn't be written.
+// Serves a port, an address or a device, goes on after a connection that fails (`--keep`), and reports how that ended. A
+// connection that isn't a device's is closed after `idle` seconds without a byte. Numbers out of their range are refused with
+// status 2: for a device, too, 0 connections, and an `idle` out of its range, which a device doesn't use. The status is 0 also
+// where the line of a connection's fault couldn't be written.
 fn keep_place<
     R: Net<Listener = TcpListener, Stream = TcpStream> + Clock + Files<File = File>,
     I: Simulates,

@@ -32,8 +32,8 @@ pub enum Job<'a> {
     Client(ClientJob<'a>),
     /// The word for the place is no place: none to serve a simulator on where `serves` is set, else none of an instrument.
     Nowhere { serves: bool },
-    /// A number is missing that has a default. clap fills it in, though no clause of clap's says so. It is reported as one out of
-    /// its range.
+    /// A number is missing that has a default, or is none of its type. clap fills the first in and refuses the second, though no
+    /// clause of clap's says so. Either is reported as a number out of its range.
     NumberMissing,
     /// A station's run would end for want of an answer before its second cycle is due.
     StaleTooSoon,
@@ -113,8 +113,8 @@ impl Subcommand {
         None
     }
 
-    /// Whether the subcommand reads a text from standard input: a schedule, commands, or what a station measures. `exec` and `check` read
-    /// a stream, and `serve` nothing.
+    /// Whether the subcommand reads a text from standard input: a schedule, commands, or what a station measures. `exec` reads a
+    /// stream, `check` a stream or a log, and `serve` nothing.
     pub fn reads_a_text(self) -> bool {
         match self {
             Subcommand::Drill
@@ -161,8 +161,8 @@ impl Subcommand {
     }
 }
 
-/// What the words of a command line ask for, the first of which is the program's name. `Err`: they don't parse, as without a subcommand,
-/// or ask for the help or the version, or memory ran out.
+/// What the words of a command line ask for. The first word is the program's name. `Err`: the words don't parse, as without a
+/// subcommand, or ask for the help or the version, or memory ran out.
 // A loop makes the subcommands: the proof of a chain of `.subcommand(..)?` grows faster than the chain.
 pub fn job_of<'a>(alloc: Global, words: &'a [String]) -> Result<Job<'a>, Error> {
     let subcommands = subcommands_of(alloc)?;
@@ -219,9 +219,10 @@ fn ask_job<'a>(words: &ArgMatches<'a>) -> Job<'a> {
     }
 }
 
-// A station at a place, with its records and its log in files where the words name them; with `--check` only the outline of what it would
-// do. `Nowhere`: the words name no place. `NumberMissing`: a number is missing, though it has a default; clap fills it in, but no clause of
-// clap's says so. `StaleTooSoon`: the run would end for want of an answer before its second cycle is due.
+// A station at a place, with its records and its log in files where the words name them; with `--check` only the outline of what
+// it would do. `Nowhere`: the words name no place. `NumberMissing`: a number is missing or none of its type, which clap doesn't
+// let happen, though no clause of clap's says so. `StaleTooSoon`: the run would end for want of an answer before its second cycle
+// is due.
 fn station_job<'a>(words: &ArgMatches<'a>) -> Job<'a> {
     let Some(place) = named_place(words) else {
         return Job::Nowhere { serves: false };

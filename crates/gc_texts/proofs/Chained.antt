@@ -1,7 +1,7 @@
 -- What holds of a command in a station's text, by the lines before it. The mode at a line is what these lines make hold there:
--- the deadline, the accepted return codes, the retry, whether commands are chained, and the target of the group that a command may
--- continue. A group is a run of commands for one target, which a line `chained`, `unchained`, `retry`, `at start` or `each cycle`
--- ends. `Says` says that a mode is what these lines say.
+-- the deadline, the accepted return codes, the retry, whether commands are chained, and the target of the group that a command
+-- may continue. A group is a run of commands for one target, which a line `chained`, `unchained`, `retry`, `at start` or `each
+-- cycle` ends. `Says` says that a mode is what these lines say.
 use Rattle.std.proofs.Common.{◌≡◌, inl, inr, ◌+◌, ◌≤◌, nat_lt, if◌then◌else◌, arith, ℕ, ◌&&◌, Bool, true, false, List, [], ◌∷◌, ◌++◌, length, map, Option, Some, None, refl, sym, ap, ◌∙◌, subst, append_assoc, append-nil}
 use Rattle.std.specs.List.{AllByRecursion}
 use Rattle.std.proofs.lemmas.Bool.{eq-eqb, and_parts, and_from}
@@ -29,13 +29,14 @@ use Rattle.gc_texts.proofs.TaskReading.{mode_after_lines, mode_after_both, setup
 use Rattle.gc_texts.proofs.FirstAttempts.{chains_have_first}
 use Rattle.gc_texts.proofs.TaskLaws.{continued_group}
 
--- the section after lines is the mode's
+-- whether the setup holds in the mode after lines is what `section_after` says of these lines, from whether it
+-- holds in the mode before them on
 section_after_lines : (mode : Mode) (lines : List TaskLine) → (mode_after_lines mode lines).setup ≡ section_after mode.setup lines
 section_after_lines mode [] = refl
 section_after_lines mode (says.AtStart ∷ later) = section_after_lines (mode_after mode says.AtStart) later
 section_after_lines mode (line ∷ later) = section_after_lines (mode_after mode line) later
 
--- with a task in front of it where `b` is true, and nothing where it is false, a list is longer by one, or as long as before
+-- with a task in front of it if `b` is true, a list is longer by one, and else, without it, as long as before
 setup_one : (b : Bool) (t : Task) (ts : List Task) (n : ℕ) → length ts ≡ n → length ((if b then t ∷ [] else []) ++ ts) ≡ (if b then 1 else 0) + n
 setup_one true t ts n e = omega (arith, e)
 setup_one false t ts n e = omega (arith, e)
@@ -43,39 +44,40 @@ setup_one false t ts n e = omega (arith, e)
 -- the setup of lines has as many tasks as there are commands of it
 setup_count : (mode : Mode) (lines : List TaskLine) → length (setup_of mode lines) ≡ setup_commands mode.setup lines
 setup_count mode [] = refl
-setup_count mode (says.Command c now ∷ later) = setup_one mode.setup (task_at mode c now) (setup_of (mode_after mode (says.Command c now)) later) (setup_commands mode.setup later)
+setup_count mode (says.Command c now ∷ later) =
+    setup_one mode.setup (task_at mode c now) (setup_of (mode_after mode (says.Command c now)) later) (setup_commands mode.setup later)
     (setup_count (mode_after mode (says.Command c now)) later)
 setup_count mode (line ∷ later) = setup_count (mode_after mode line) later
 
--- a command counts 1 in the section that is counted if it is of that section (`b`): the sum m of the counts is the same, whether the 1 is
--- added to the count n before the command or to the count k after it
+-- the sum m of the counts n and k, and of 1 for a command if it is of the section that is counted (`b`), is the same, whether the
+-- 1 is added to n or to k
 counted_in_section : (b : Bool) (n m k : ℕ) → m ≡ (if b then n + 1 else n) + k → m ≡ n + ((if b then 1 else 0) + k)
 counted_in_section true n m k e = omega (arith, e)
 counted_in_section false n m k e = omega (arith, e)
 
--- a command counts 1 in the other section if it isn't of this one (`b` is false): the sum m of the counts is the same, whether the 1 is
--- added to the count n before the command or to the count k after it
+-- the sum m of the counts n and k, and of 1 for a command if it isn't of the other section (`b` is false), is the same, whether
+-- the 1 is added to n or to k
 counted_in_other_section : (b : Bool) (n m k : ℕ) → m ≡ (if b then n else n + 1) + k → m ≡ n + ((if b then 0 else 1) + k)
 counted_in_other_section true n m k e = omega (arith, e)
 counted_in_other_section false n m k e = omega (arith, e)
 
--- after lines, the mode's count of the setup's commands (`begun`) is greater by as many as these lines have
+-- after lines, the mode's count of the setup's commands (`begun`) is greater by as many of them as these lines have
 setup_counted : (mode : Mode) (lines : List TaskLine) → (mode_after_lines mode lines).begun ≡ mode.begun + setup_commands mode.setup lines
 setup_counted mode [] = omega arith
 setup_counted mode (says.Command c now ∷ later) = counted_in_section mode.setup mode.begun (mode_after_lines (mode_after mode (says.Command c now)) later).begun (setup_commands mode.setup later)
     (setup_counted (mode_after mode (says.Command c now)) later)
 setup_counted mode (line ∷ later) = setup_counted (mode_after mode line) later
 
--- after lines, the mode's count of the cycle's commands (`place`) is greater by as many as these lines have
+-- after lines, the mode's count of the cycle's commands (`place`) is greater by as many of them as these lines have
 cycle_counted : (mode : Mode) (lines : List TaskLine) → (mode_after_lines mode lines).place ≡ mode.place + cycle_commands mode.setup lines
 cycle_counted mode [] = omega arith
 cycle_counted mode (says.Command c now ∷ later) = counted_in_other_section mode.setup mode.place (mode_after_lines (mode_after mode (says.Command c now)) later).place (cycle_commands mode.setup later)
     (cycle_counted (mode_after mode (says.Command c now)) later)
 cycle_counted mode (line ∷ later) = cycle_counted (mode_after mode line) later
 
--- `mode` is what these lines say. Its deadline, its accepted codes, its retry and whether commands are chained are as the last
--- line that sets them says; where none does, they are `deadline`, none, none, and `chained`. Where the mode has a group, the group's
--- target is that of the last command
+-- `mode` is what these lines say. Its deadline, its accepted codes, its retry and whether commands are chained are each as the
+-- last line that sets it says; where none does, they are `deadline`, none, none, and `chained`. Where the mode has a group, the
+-- group's target is that of the last command, and no line after that command ends the group (`EndsInGroupOf`)
 record Says (deadline : ℕ) (chained : Bool) (lines : List TaskLine) (mode : Mode) : Type 0 where
   deadline_is : IsDeadlineAfter deadline lines mode.deadline
   chained_is : IsChainingAfter chained lines mode.chained
@@ -83,39 +85,47 @@ record Says (deadline : ℕ) (chained : Bool) (lines : List TaskLine) (mode : Mo
   retry_is : IsRetryAfter lines mode.retry
   group : (target : ℕ) → mode.group ≡ Some target → EndsInGroupOf lines target
 
--- where `value` is that of a setting after some lines (`IsSetAfter`), it is so after one more line that leaves the setting as it is
+-- where `value` is that of a setting after some lines (`IsSetAfter`), it is so after one more line that leaves the setting as it
+-- is
 more_set : {Value : Type 0} (SetsNone : TaskLine → Type 0) (line_of : Value → TaskLine) (given value : Value) (lines : List TaskLine) (line : TaskLine)
     → SetsNone line → IsSetAfter SetsNone line_of given lines value → IsSetAfter SetsNone line_of given (lines ++ line ∷ []) value
 more_set SetsNone line_of given value lines line none (inl all) = inl (all_by_recursion_push SetsNone lines line all.0 none, all.1)
 more_set SetsNone line_of given value lines line none (inr (before, between, at, without)) =
     inr (before, between ++ line ∷ [], ap (λ xs. xs ++ line ∷ []) at ∙ append_assoc before (line_of value ∷ between) (line ∷ []), all_by_recursion_push SetsNone between line without none)
 
--- where the mode has the deadline after some lines, the mode after one more line has the deadline after all of them
+-- where the mode has the deadline that holds after some lines (`IsDeadlineAfter`), the mode after one more line has the one that
+-- holds after all of them
 deadline_more : (deadline : ℕ) (lines : List TaskLine) (mode : Mode) (line : TaskLine) → IsDeadlineAfter deadline lines mode.deadline
     → IsDeadlineAfter deadline (lines ++ line ∷ []) (mode_after mode line).deadline
 deadline_more deadline lines mode (says.Deadline d) is = inr (lines, [], refl, tt)
 deadline_more deadline lines mode line is = more_set SaysNoDeadline says.Deadline deadline mode.deadline lines line tt is
 
--- where the mode says whether commands are chained after some lines, the mode after one more line says it after all of them
+-- where the mode says whether commands are chained after some lines (`IsChainingAfter`), the mode after one more line says
+-- whether they are after all of these lines
 chaining_more : (chained : Bool) (lines : List TaskLine) (mode : Mode) (line : TaskLine) → IsChainingAfter chained lines mode.chained
     → IsChainingAfter chained (lines ++ line ∷ []) (mode_after mode line).chained
 chaining_more chained lines mode says.Chained is = inr (lines, [], refl, tt)
 chaining_more chained lines mode says.Unchained is = inr (lines, [], refl, tt)
 chaining_more chained lines mode line is = more_set SaysNoChaining chaining_line chained mode.chained lines line tt is
 
--- where the mode has the codes that are accepted after some lines, the mode after one more line has those after all of them
-codes_more : (lines : List TaskLine) (mode : Mode) (line : TaskLine) → AreAcceptedAfter lines mode.accepted → AreAcceptedAfter (lines ++ line ∷ []) (mode_after mode line).accepted
+-- where the mode has the codes that are accepted after some lines (`AreAcceptedAfter`), the mode after one more line has those
+-- that are accepted after all of them
+codes_more : (lines : List TaskLine) (mode : Mode) (line : TaskLine)
+    → AreAcceptedAfter lines mode.accepted → AreAcceptedAfter (lines ++ line ∷ []) (mode_after mode line).accepted
 codes_more lines mode (says.Accepting cs) are = inr (lines, [], refl, tt)
 codes_more lines mode line are = more_set SaysNoCodes says.Accepting no_codes mode.accepted lines line tt are
 
--- where the mode has the retry after some lines, the mode after one more line has the retry after all of them
-retry_more : (lines : List TaskLine) (mode : Mode) (line : TaskLine) → IsRetryAfter lines mode.retry → IsRetryAfter (lines ++ line ∷ []) (mode_after mode line).retry
+-- where the mode has the retry that holds after some lines (`IsRetryAfter`), the mode after one more line has the
+-- one that holds after all of them
+retry_more : (lines : List TaskLine) (mode : Mode) (line : TaskLine)
+    → IsRetryAfter lines mode.retry → IsRetryAfter (lines ++ line ∷ []) (mode_after mode line).retry
 retry_more lines mode (says.Retrying r) is = inr (lines, [], refl, tt)
 retry_more lines mode line is = more_set SaysNoRetry says.Retrying no_retry mode.retry lines line tt is
 
--- where the last command of some lines is for a target, and only lines that keep its group (`KeepsGroup`) follow it, the same holds
--- with one more line that keeps the group
-more_group : (lines : List TaskLine) (line : TaskLine) (target : ℕ) → KeepsGroup line → EndsInGroupOf lines target → EndsInGroupOf (lines ++ line ∷ []) target
+-- where the last command of some lines is for a target, and only lines that keep its group (`KeepsGroup`) follow it, the same
+-- holds with one more line that keeps the group
+more_group : (lines : List TaskLine) (line : TaskLine) (target : ℕ)
+    → KeepsGroup line → EndsInGroupOf lines target → EndsInGroupOf (lines ++ line ∷ []) target
 more_group lines line target keeps (before, command, now, between, at, all, same) = (
   before,
   command,
@@ -127,12 +137,12 @@ more_group lines line target keeps (before, command, now, between, at, all, same
   same,
 )
 
--- a mode without a group has no group of a target, so nothing has to be shown of one
+-- from `None ≡ Some target`, which is false, `EndsInGroupOf` follows: so nothing has to be shown of a mode without a group
 no_group : (lines : List TaskLine) (target : ℕ) → None ≡ Some target → EndsInGroupOf lines target
 no_group lines target e = cc
 
--- where each group of the mode is that of the last command of the lines before (`EndsInGroupOf`), each group of the mode after one more
--- line is that of the last command of all of them
+-- where the group of the mode, if it has one, is that of the last command of the lines before (`EndsInGroupOf`), the group of the
+-- mode after one more line, if it has one, is that of the last command of all of these lines
 group_more : (lines : List TaskLine) (mode : Mode) (line : TaskLine) → ((target : ℕ) → mode.group ≡ Some target → EndsInGroupOf lines target)
     → (target : ℕ) → (mode_after mode line).group ≡ Some target → EndsInGroupOf (lines ++ line ∷ []) target
 group_more lines mode (says.Command c now) group target e = (lines, c, now, [], refl, tt, same_Some c.target target e)
@@ -164,7 +174,13 @@ says_all deadline chained done mode (line ∷ later) h =
 
 -- before all lines the opening mode holds, which has the caller's deadline and chaining: no line has said otherwise
 says_opening : (deadline : ℕ) (chained : Bool) → Says deadline chained [] (opening deadline chained)
-says_opening deadline chained = record { deadline_is = inl (tt, refl); chained_is = inl (tt, refl); accepted_are = inl (tt, refl); retry_is = inl (tt, refl); group = λ target e. no_group [] target e }
+says_opening deadline chained = record {
+  deadline_is = inl (tt, refl);
+  chained_is = inl (tt, refl);
+  accepted_are = inl (tt, refl);
+  retry_is = inl (tt, refl);
+  group = λ target e. no_group [] target e;
+}
 
 -- lines that are deadlines, names, places and accepted codes leave the group as it is
 group_stays : (mode : Mode) (lines : List TaskLine) → AllByRecursion KeepsGroup lines → (mode_after_lines mode lines).group ≡ mode.group
@@ -175,8 +191,8 @@ group_stays mode (says.Locating n ∷ later) keeps = group_stays mode later keep
 group_stays mode (says.Accepting cs ∷ later) keeps = group_stays (mode_after mode (says.Accepting cs)) later keeps.1
 group_stays mode (line ∷ later) keeps = absurd keeps.0
 
--- where the last command of lines is for a target, and only lines that keep its group (`KeepsGroup`) follow it, the group after them
--- is of that target
+-- where the last command of lines is for a target, and only lines that keep its group (`KeepsGroup`) follow it, the group after
+-- them is of that target
 group_of : (mode : Mode) (lines : List TaskLine) (target : ℕ) → EndsInGroupOf lines target → (mode_after_lines mode lines).group ≡ Some target
 group_of mode lines target (before, command, now, between, at, keeps, same) =
     ap (λ xs. (mode_after_lines mode xs).group) at ∙ ap (λ (m : Mode). m.group) (mode_after_both mode before (says.Command command now ∷ between))
@@ -206,11 +222,11 @@ chaining_of_lines mode lines b (inr (before, between, at, none)) =
 group_continued : (group : Option ℕ) (target : ℕ) → group ≡ Some target → continues_group group target ≡ true
 group_continued group target e = ap (λ r. continues_group r target) e ∙ eq-eqb target target refl
 
--- a command of the cycle is chained where the mode chains commands and the command continues the group
+-- a command of the cycle is chained exactly where the mode chains commands and the command continues the group
 cycle_joined : (mode : Mode) (target : ℕ) → mode.setup ≡ false → is_chained mode target ≡ (mode.chained && continues_group mode.group target)
 cycle_joined mode target e = ap (λ b. if b then nat_lt 0 mode.begun else mode.chained && continues_group mode.group target) e
 
--- a task of a command is sent as the lines before it say, whatever its rule, its place and its count of others
+-- the task of the command after the lines `front`, with any rule, place and count of others
 module _ (deadline : ℕ) (chained : Bool) (front : List TaskLine) (command : Wish) (now : Bool) (near : Option Near) (again : Again) (others : ℕ) where
   -- the mode before the command
   abbrev mode : Mode
@@ -231,11 +247,11 @@ module _ (deadline : ℕ) (chained : Bool) (front : List TaskLine) (command : Wi
         now = now;
       }
 
-  -- that mode is what the lines before the command say
+  -- the mode before the command is what the lines before the command say (`Says`)
   said_so : Says deadline chained front mode
   said_so = says_all deadline chained [] (opening deadline chained) front (says_opening deadline chained)
 
-  -- that task is as these lines say
+  -- `its_task` is as the lines before the command say, as `IsTaskOf` has it
   goes_out : IsTaskOf deadline chained front command now its_task
   goes_out =
       record {
@@ -267,7 +283,8 @@ module _ (deadline : ℕ) (chained : Bool) (front : List TaskLine) (command : Wi
 
 -- a command of a text, after the lines `front`
 module _
-    (text : List ℕ) (deadline : ℕ) (chained : Bool) (setup : ℕ) (tasks : List Task) (names : List Name) (nears : List Near) (is : IsTasks text deadline chained setup tasks names nears)
+    (text : List ℕ) (deadline : ℕ) (chained : Bool) (setup : ℕ) (tasks : List Task) (names : List Name) (nears : List Near)
+    (is : IsTasks text deadline chained setup tasks names nears)
     (front later : List TaskLine) (command : Wish) (now : Bool) (at : is.said ≡ front ++ says.Command command now ∷ later) where
   -- the mode before the command
   abbrev here : Mode
@@ -290,12 +307,13 @@ module _
   next = mode_after here (says.Command command now)
 
   -- all tasks of the text without their places; `b` says whether the command is of the setup
-  abbrev all : Bool → List Task
+  abbrev all : (b : Bool) → List Task
   all b =
       (setups ++ ((if b then own ∷ [] else []) ++ setup_of next later))
       ++ laid_out (planned ++ ((if b then [] else record { task = own; retry = here.retry } ∷ []) ++ planned_of next later))
 
-  -- the text's tasks are these, with their places
+  -- where b says whether the command is of the setup, the text's tasks are `all b`, each with the place of its target, if a line
+  -- of the text says that place
   all_are : (b : Bool) → here.setup ≡ b → tasks ≡ map (placed nears) (all b)
   all_are b e =
       is.tasks_are ∙ ap (λ said. map (placed nears) (tasks_of (opening deadline chained) said)) at
@@ -341,12 +359,14 @@ module _
         refl,
       )
 
--- the law: each command is sent as the lines before it say
+-- the law: each command of a text has a task that is as the lines before it say (`IsTaskOf`), with the place of its target, if
+-- any. Before the task of a command of the setup there are as many tasks as commands of the setup before that command, and before
+-- that of one of the cycle at least as many as the setup has
 pub tasks_follow_their_lines : TasksFollowTheirLines
 tasks_follow_their_lines text deadline chained setup tasks names nears is front later command now at =
     by_section text deadline chained setup tasks names nears is front later command now at (mode_after_lines (opening deadline chained) front).setup refl
 
--- the law: a command of the cycle has the retry that the last line `retry` before it says
+-- the law: a command of the cycle has the retry that the last line `retry` before it says, and without such a line isn't repeated
 pub retries_hold : RetriesHold
 retries_hold deadline chained front later command now cycle =
     let first = opening deadline chained in

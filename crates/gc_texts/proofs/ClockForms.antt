@@ -1,5 +1,5 @@
--- The line `T 5007 now`: it asks one target, and has the form of no other command, because `now` is no list of the six parameters that
--- procedure 5007 has.
+-- The line `T 5007 now`: it asks one target, and has the form of no other command, because `now` is no list of the six parameters
+-- that procedure 5007 has.
 use Rattle.std.proofs.Common.{◌≡◌, ◌≢◌, ℕ, List, [], ◌∷◌, length, Some, arith, refl, ap, subst, sym, ◌∙◌, codes, unwrap_or}
 use Rattle.std.proofs.lemmas.List.{length-map}
 use Rattle.gc_catalogue.specs.Calls.{IsCall, call_fields}
@@ -26,7 +26,7 @@ use Rattle.gc_texts.proofs.WishForms.{same_wish, no_wish}
 spaceless : Lacks 32 (codes "5007")
 spaceless = ((λ e. omega (arith, e)), ((λ e. omega (arith, e)), ((λ e. omega (arith, e)), ((λ e. omega (arith, e)), tt))))
 
--- `now` has no byte that is a space or a comma
+-- `now` lacks a mark that is none of its bytes, n (110), o (111) and w (119)
 lacks_in_now : (mark : ℕ) → 110 ≢ mark → 111 ≢ mark → 119 ≢ mark → Lacks mark (codes "now")
 lacks_in_now mark a b c = (a, (b, (c, tt)))
 
@@ -48,7 +48,7 @@ now_is =
       commas = λ front rest e. absurd (has_mark 44 front rest (codes "now") (sym e) no_commas);
     }
 
--- no call of procedure 5007 has `now` for its parameters: it has six
+-- no call of procedure 5007 has `now` for its parameters: the procedure has six
 pub no_now : (call : Call) → IsCall 5007 (codes "now") call → ⊥
 no_now call is =
     let one : is.values.items ≡ codes "now" ∷ [] = one_list (codes "now") is.values.items (codes "now" ∷ []) is.values.split (joined_params (codes "now" ∷ []) (now_is, tt) (omega arith, tt)) in
@@ -57,7 +57,7 @@ no_now call is =
     let single : length is.values.items ≡ 1 = ap length one in
     omega (arith, many, six, single)
 
--- a command's line doesn't end in `5007 now`
+-- what follows the first word of a command's line isn't `5007 now`
 pub command_is_no_clock : (line : List ℕ) (command : Command) → IsCommand line command → behind 32 line ≡ codes "5007 now" → ⊥
 command_is_no_clock line command is e =
     let procedure : is.procedure ≡ codes "5007 now" = sym (behind_mark 32 is.target_text is.procedure (digits_lack_spaces is.target_text is.target_is.names.digits))
@@ -68,7 +68,7 @@ command_is_no_clock line command is e =
     let params : unwrap_or p.params [] ≡ codes "now" = ap (λ o. unwrap_or o []) (sym parts.1) in
     no_now command.call (subst (λ (n : ℕ). IsCall n (codes "now") command.call) rpc (subst (λ (ps : List ℕ). IsCall p.rpc ps command.call) params p.calls))
 
--- a line that asks for a procedure that isn't in the table doesn't end in `5007 now`
+-- where the second word of a line is `raw`, what follows its first word isn't `5007 now`
 raw_is_no_clock : (line : List ℕ) → before 32 (behind 32 line) ≡ codes "raw" → behind 32 line ≡ codes "5007 now" → ⊥
 raw_is_no_clock line raw e = let bad : codes "5007" ≡ codes "raw" = ap (before 32) (sym e) ∙ raw in cc
 
@@ -77,6 +77,6 @@ pub wish_is_no_clock : (line : List ℕ) (v w : Wish) → IsWish line v → Sets
 wish_is_no_clock line v w is sets =
     no_wish line (λ target raw asks. raw_is_no_clock line asks.word sets.rest_is) (λ command asks. command_is_no_clock line command asks sets.rest_is) v is
 
--- a line sets the clock of one target at most
+-- a line sets a clock with one wish at most
 pub one_clock : (line : List ℕ) (v w : Wish) → SetsClock line v → SetsClock line w → v ≡ w
 one_clock line v w x y = same_wish v w (one_number (before 32 line) v.target w.target 4294967295 x.target_is y.target_is) (x.call_is ∙ sym y.call_is)

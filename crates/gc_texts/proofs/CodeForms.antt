@@ -2,15 +2,16 @@
 -- space (byte 32) between two. A line `accept` with no code after it sets none; a line `accept ` with a list after it sets
 -- those. While a list is read, `left` is what is unread of the text (`None` at its end), `read` the codes so far, and
 -- `count` how many they are; `rest` is what is left after the next word.
-use Rattle.std.proofs.Common.{◌≡◌, ◌<◌, ◌≤◌, ◌+◌, ◌-◌, inl, inr, ℕ, suc, replicate, slice_set, List, [], ◌∷◌, ◌++◌, length, get_or, Option, Some, None, MatchOption, arith, refl, ap, subst, sym, ◌∙◌, append_assoc, append-nil, codes}
-use Rattle.std.proofs.lemmas.List.{append_cancel_left, length_push, length-append}
-use Rattle.gc_texts.specs.Codes.{IsCodeList, IsCode, AreCodes, padded_codes, no_codes}
+use Rattle.std.proofs.Common.{◌≡◌, ◌<◌, ◌≤◌, ◌+◌, ◌-◌, inl, inr, ℕ, suc, replicate, slice_set, List, [], ◌∷◌, ◌++◌, length, get_or, Option, Some, None, MatchOption, arith, ap, subst, sym, ◌∙◌, append_assoc, append-nil, codes}
+use Rattle.std.proofs.Math.Seq.{set-append_seam}
+use Rattle.std.proofs.lemmas.List.{append_cancel_left, length_push}
+use Rattle.gc_texts.specs.Codes.{IsCodeList, IsCode, AreCodes, padded_codes}
 use Rattle.gc_texts.specs.Cuts.{Cuts, Lacks}
 use Rattle.gc_texts.specs.TaskLines.{SetsAccepted}
 use Rattle.gc_texts.specs.declared.codes.Codes.{Codes}
 use Rattle.gc_texts.proofs.Cutting.{read_alike, digits_lack_spaces}
 use Rattle.gc_texts.proofs.Procedures.{one_number}
-use Rattle.gc_texts.proofs.WordForms.{IsWordForm, one_word_list, AreLeft, ReadsWords, none_read, all_read_are, next_item_of, one_more_read}
+use Rattle.gc_texts.proofs.WordForms.{IsWordForm, one_word_list, AreLeft, ReadsWords, all_read_are, next_item_of, one_more_read}
 
 -- a word is one code at most
 one_listed : (word : List ℕ) (a b : ℕ) → IsCode word a → IsCode word b → a ≡ b
@@ -43,8 +44,8 @@ one_accepting line a b (inr x) (inl y) = absurd (not_both line x.rest y.0 x.line
 one_accepting line a b (inr x) (inr y) =
     one_filled y.rest a b (subst (λ (r : List ℕ). IsCodeList r a) (append_cancel_left (codes "accept ") x.rest y.rest (sym x.line_is ∙ y.line_is)) x.listed) y.listed
 
--- where a line is `accept ` and `rest`, and `r` is the codes that `rest` lists, or `None` where it lists none, `r` is the codes
--- that the line sets, too
+-- where a line is `accept ` and `rest`, but not `accept` alone, and `r` is the codes that `rest` lists, or `None` where it lists
+-- none, `r` is the codes that the line sets, too, or `None` where it sets none
 pub accepts_so : (line rest : List ℕ) (r : Option Codes) → (line ≡ codes "accept" → ⊥) → line ≡ codes "accept " ++ rest
     → MatchOption r ((found : Codes) → IsCodeList rest found → ⊥) (λ found. IsCodeList rest found)
     → MatchOption r ((found : Codes) → SetsAccepted line found → ⊥) (λ found. SetsAccepted line found)
@@ -54,11 +55,6 @@ accepts_so line rest r other e = read_alike (IsCodeList rest) (SetsAccepted line
   rest_lists found (inl alone) = absurd (other alone.0)
   rest_lists found (inr is) = subst (λ (t : List ℕ). IsCodeList t found) (append_cancel_left (codes "accept ") is.rest rest (sym is.line_is ∙ e)) is.listed
 
--- a line that is neither `accept` nor begins with `accept ` sets no codes
-pub accepts_none : (line : List ℕ) → (line ≡ codes "accept" → ⊥) → ((rest : List ℕ) → line ≡ codes "accept " ++ rest → ⊥) → (found : Codes) → SetsAccepted line found → ⊥
-accepts_none line other none found (inl alone) = other alone.0
-accepts_none line other none found (inr is) = none is.rest is.line_is
-
 -- How far the reading has come.
 
 -- the codes `read` were read from the text (`ReadsWords`), at most 16
@@ -66,48 +62,38 @@ pub record ReadsCodes (text : List ℕ) (left : Option (List ℕ)) (read : List 
   pub words : ReadsWords IsCode text left read
   pub few : length read ≤ 16
 
--- `count` codes of the text were read (`ReadsCodes`), and are in the first places of the codes given, with 0 in the others
-abbrev pub Fills : List ℕ → Option (List ℕ) → Codes → ℕ → Type 0
+-- `count` codes of the text were read (`ReadsCodes`), and are in the first places of `codes`, with 0 in the others
+abbrev pub Fills : (text : List ℕ) → (left : Option (List ℕ)) → (codes : Codes) → (count : ℕ) → Type 0
 Fills text left codes count = (read : List ℕ) × ReadsCodes text left read × (codes.codes ≡ padded_codes read) × (length read ≡ count)
 
--- before the first word none is read, and no place is filled
-pub fills_opening : (text : List ℕ) (left : Option (List ℕ)) (codes : Codes) → left ≡ Some text → codes ≡ no_codes → Fills text left codes 0
-fills_opening text left codes some none =
-    subst (λ o. Fills text o codes 0) (sym some)
-    ([], record { words = none_read IsCode text; few = omega arith }, ap (λ (c : Codes). c.codes) none, refl)
-
--- where `old` has the codes `listed` in its first `count` places, `new`, with the code in the next place, has one more
-one_filled_more : (old new listed : List ℕ) (count code : ℕ) → count < 16 → new ≡ slice_set old count code → length listed ≡ count → old ≡ padded_codes listed
+-- where fewer than 16 codes, `listed`, fill the first `count` places of `old`, with 0 in the others, `new`, which is `old` with
+-- `code` in the next place, is filled with these and `code`
+one_filled_more : (old new listed : List ℕ) (count code : ℕ)
+    → count < 16 → new ≡ slice_set old count code → length listed ≡ count → old ≡ padded_codes listed
     → new ≡ padded_codes (listed ++ code ∷ [])
 one_filled_more old new listed count code room set n is =
     let some : 16 - length listed ≡ suc (15 - length listed) = omega (arith, n, room) in
     let less : 16 - length (listed ++ code ∷ []) ≡ 15 - length listed = omega (arith, length_push listed code) in
     set ∙ ap (λ l. slice_set l count code) (is ∙ ap (λ k. listed ++ replicate k 0) some) ∙ ap (λ k. slice_set (listed ++ 0 ∷ replicate (15 - length listed) 0) k code) (sym n)
-    ∙ set_behind listed (replicate (15 - length listed) 0) code ∙ sym (append_assoc listed (code ∷ []) (replicate (15 - length listed) 0))
-    ∙ ap (λ k. (listed ++ code ∷ []) ++ replicate k 0) (sym less) where
-      -- the place after the elements `xs`, which has 0, is set to c
-      set_behind : (xs zs : List ℕ) (c : ℕ) → slice_set (xs ++ 0 ∷ zs) (length xs) c ≡ xs ++ c ∷ zs
-      set_behind [] zs c = refl
-      set_behind (x ∷ xs) zs c = ap (λ l. x ∷ l) (set_behind xs zs c)
+    ∙ set-append_seam listed 0 (replicate (15 - length listed) 0) code ∙ sym (append_assoc listed (code ∷ []) (replicate (15 - length listed) 0))
+    ∙ ap (λ k. (listed ++ code ∷ []) ++ replicate k 0) (sym less)
 
-module _ (text now word : List ℕ) (left rest : Option (List ℕ)) (old : Codes) (count : ℕ) (f : Fills text left old count) (some : left ≡ Some now) (cut : Cuts 32 now word rest) where
+-- the text `now` is left, and `word` is its next word
+module _
+    (text now word : List ℕ) (left rest : Option (List ℕ)) (old : Codes) (count : ℕ) (f : Fills text left old count)
+    (some : left ≡ Some now) (cut : Cuts 32 now word rest) where
   -- the codes of the text are those that were read, the one of the next word, and those of the rest
-  next_code : (all : List ℕ) → AreCodes text all → (code : ℕ) × (others : List ℕ) × (all ≡ f.0 ++ code ∷ others) × IsCode word code × AreLeft IsCode rest others
+  next_code : (all : List ℕ) → AreCodes text all
+      → (code : ℕ) × (others : List ℕ) × (all ≡ f.0 ++ code ∷ others) × IsCode word code × AreLeft IsCode rest others
   next_code all are = next_item_of IsCode code_form text now word left rest f.0 f.1.words some cut all are
 
   -- where the next word is no code, the text is no list of codes
   pub code_fails : ((code : ℕ) → IsCode word code → ⊥) → (found : Codes) → IsCodeList text found → ⊥
   code_fails none found is = let next = next_code is.listed is.are in none next.0 next.3
 
-  -- where 16 codes were read, and a word is left, the text has more codes than there are places
-  pub code_too_many : count ≡ 16 → (found : Codes) → IsCodeList text found → ⊥
-  code_too_many full found is =
-      let next = next_code is.listed is.are in
-      let long : length is.listed ≡ length f.0 + length (next.0 ∷ next.1) = ap length next.2 ∙ length-append f.0 (next.0 ∷ next.1) in
-      omega (arith, long, is.few, full, f.3)
-
   -- where the next word is a code, a place is free, and the code is put there, one more code is read
-  pub code_reads : (code : ℕ) (new : Codes) → IsCode word code → count < 16 → new.codes ≡ slice_set old.codes count code → Fills text rest new (count + 1)
+  pub code_reads : (code : ℕ) (new : Codes)
+      → IsCode word code → count < 16 → new.codes ≡ slice_set old.codes count code → Fills text rest new (count + 1)
   code_reads code new is room set =
       let read = f.0 in (
         read ++ code ∷ [],
@@ -119,7 +105,8 @@ module _ (text now word : List ℕ) (left rest : Option (List ℕ)) (old : Codes
         length_push read code ∙ ap (λ n. n + 1) f.3,
       )
 
--- where nothing is left, the codes that were read are those of the text
-pub codes_are : (text : List ℕ) (left : Option (List ℕ)) (codes : Codes) (count : ℕ) → Fills text left codes count → left ≡ None → IsCodeList text codes
+-- where nothing is left, the text is the list of the codes that were read
+pub codes_are : (text : List ℕ) (left : Option (List ℕ)) (codes : Codes) (count : ℕ)
+    → Fills text left codes count → left ≡ None → IsCodeList text codes
 codes_are text left codes count (read, r, is, n) e =
     record { listed = read; are = subst (AreCodes text) (append-nil read) (all_read_are IsCode text left read r.words e); few = r.few; filled_are = is }

@@ -1,4 +1,5 @@
--- Texts cut at the first mark, which is a byte, as LF between lines or a space between words; and what is read of a text, if anything.
+-- Texts cut at the first mark, which is a byte, as LF between lines or a space between words; and what is read of a text, if
+-- anything.
 use Rattle.std.proofs.Common.{◌≡◌, ◌≢◌, ◌<◌, ◌+◌, ◌≤◌, ℕ, zero, suc, List, [], ◌∷◌, ◌++◌, length, take, drop, get_or, Option, Some, None, MatchOption, arith, refl, ap, subst, sym, ◌∙◌}
 use Rattle.std.proofs.lemmas.Bool.{eqb-true, eq-eqb}
 use Rattle.std.proofs.lemmas.List.{take_all}
@@ -6,13 +7,14 @@ use Rattle.memchr.specs.Find.{IsFirstByte, is_byte}
 use Rattle.gc_values.specs.Digits.{AreDigits}
 use Rattle.gc_texts.specs.Cuts.{Lacks, Cuts}
 
--- where one text says a value exactly if another sets it, what is read of the one (`r`; `None`: nothing) is right of the other, too
+-- where `Says` and `Sets` hold of the same values, and `r` is a value of which `Says` holds, or `None` where it holds of none,
+-- the same is so of `r` and `Sets`
 pub read_alike : {Value : Type 0} (Says Sets : Value → Type 0) (r : Option Value) → ((v : Value) → Says v → Sets v) → ((v : Value) → Sets v → Says v)
     → MatchOption r ((v : Value) → Says v → ⊥) (λ v. Says v) → MatchOption r ((v : Value) → Sets v → ⊥) (λ v. Sets v)
 read_alike Says Sets None to from none = λ v is. none v (from v is)
 read_alike Says Sets (Some v) to from is = to v is
 
--- no byte before place i is the mark
+-- where a text has at least i bytes, and none of the first i is the mark, these lack it
 lacks_before : (mark : ℕ) (bs : List ℕ) (i : ℕ) → i ≤ length bs → ((j : ℕ) → j < i → get_or bs j 0 ≢ mark) → Lacks mark (take i bs)
 lacks_before mark bs zero le none = tt
 lacks_before mark [] (suc i) le none = tt
@@ -26,19 +28,21 @@ split_place mark (b ∷ bs) (suc i) lt e =
     let next : suc i + 1 ≡ suc (i + 1) = omega arith in
     ap (λ l. b ∷ l) (split_place mark bs i (omega (arith, lt)) e) ∙ ap (λ n. b ∷ (take i bs ++ mark ∷ drop n (b ∷ bs))) (sym next)
 
--- where place i is the first that has the mark, the text is cut there
-pub first_cuts : (mark : ℕ) (bs : List ℕ) (i : ℕ) (rest : List ℕ) → IsFirstByte (is_byte mark) bs (Some i) → rest ≡ drop (i + 1) bs → Cuts mark bs (take i bs) (Some rest)
+-- where place i is the first that has the mark, the text's cut has the first i bytes as the front, and what follows that place as
+-- the rest
+pub first_cuts : (mark : ℕ) (bs : List ℕ) (i : ℕ) (rest : List ℕ)
+    → IsFirstByte (is_byte mark) bs (Some i) → rest ≡ drop (i + 1) bs → Cuts mark bs (take i bs) (Some rest)
 first_cuts mark bs i rest first is = (
   split_place mark bs i first.0.high (eqb-true (get_or bs i 0) mark first.1) ∙ ap (λ l. take i bs ++ mark ∷ l) (sym is),
   lacks_before mark bs i (omega (arith, first.0.high)) (λ j lt e. first.0.before j (omega arith) lt (eq-eqb (get_or bs j 0) mark e)),
 )
 
--- where a text has no mark, the whole of it is before the cut
+-- where a text has no mark, its cut has the whole of it as the front, and no rest
 pub none_cuts : (mark : ℕ) (bs : List ℕ) → IsFirstByte (is_byte mark) bs None → Cuts mark bs bs None
 none_cuts mark bs none =
     (refl, subst (Lacks mark) (take_all (length bs) bs (omega arith)) (lacks_before mark bs (length bs) (omega arith) (λ j lt e. none j (omega arith) lt (eq-eqb (get_or bs j 0) mark e))))
 
--- a text has one front before its first mark and one rest after it
+-- a text is a front without the mark, then the mark, then a rest, with one front and one rest at most
 pub one_front : (mark : ℕ) (f g r s : List ℕ) → f ++ mark ∷ r ≡ g ++ mark ∷ s → Lacks mark f → Lacks mark g → (f ≡ g) × (r ≡ s)
 one_front mark [] [] r s e lf lg = (refl, cc)
 one_front mark [] (b ∷ g) r s e lf lg = let same : b ≡ mark = cc in absurd (lg.0 same)
@@ -57,14 +61,16 @@ has_mark mark (a ∷ f) r [] e lg = cc
 has_mark mark (a ∷ f) r (b ∷ g) e lg = let tails : f ++ mark ∷ r ≡ g = cc in has_mark mark f r g tails lg.1
 
 -- where a text is `g` without a mark, then a mark, then `s`, its cut gives `g` as the front and `s` as the rest
-pub cut_found : (mark : ℕ) (text front : List ℕ) (rest : Option (List ℕ)) (g s : List ℕ) → Cuts mark text front rest → text ≡ g ++ mark ∷ s → Lacks mark g → (front ≡ g) × (rest ≡ Some s)
+pub cut_found : (mark : ℕ) (text front : List ℕ) (rest : Option (List ℕ)) (g s : List ℕ)
+    → Cuts mark text front rest → text ≡ g ++ mark ∷ s → Lacks mark g → (front ≡ g) × (rest ≡ Some s)
 cut_found mark text front None g s cut e lg = absurd (has_mark mark g s front (sym e ∙ cut.0) cut.1)
 cut_found mark text front (Some rest) g s cut e lg =
     let both = one_front mark front g rest s (sym cut.0 ∙ e) cut.1 lg in
     (both.0, ap Some both.1)
 
--- a text without the mark is cut nowhere: its front is the text, and nothing is after
-pub cut_none : (mark : ℕ) (text front : List ℕ) (rest : Option (List ℕ)) → Cuts mark text front rest → Lacks mark text → (front ≡ text) × (rest ≡ None)
+-- where a text has no mark, its cut has the whole of it as the front, and `None` as the rest
+pub cut_none : (mark : ℕ) (text front : List ℕ) (rest : Option (List ℕ))
+    → Cuts mark text front rest → Lacks mark text → (front ≡ text) × (rest ≡ None)
 cut_none mark text front None cut lacks = (sym cut.0, refl)
 cut_none mark text front (Some rest) cut lacks = absurd (has_mark mark front rest text (sym cut.0) lacks)
 

@@ -1,14 +1,16 @@
--- How days pass: within a month, to its end, and to the end of a year. `y`, `m`, `d` are a year, a month and a day of it.
--- `days` is counted from a date `d`, and `left` from the first of a month or a year, as the loops count down what is left.
+-- How days pass: within a month, to its end, and to the end of a year. `y`, `m`, `d` are a year, a month and a day of that month.
+-- Where `d` is a date, `days` is counted from it, and `left` from the first of a month or a year, as the loops count down what is
+-- left.
 use Rattle.std.proofs.Common.{◌≡◌, ℕ, zero, suc, ◌+◌, ◌<◌, ◌≤◌, ◌-◌, ◌==◌, ◌||◌, Bool, true, false, if◌then◌else◌, inl, inr, refl, sym, ap, subst, ◌∙◌, arith}
 use Rattle.std.specs.Prelude.{nat_lt}
 use Rattle.std.proofs.lemmas.Bool.{lt-ltb, le-ltb, cond-true, cond-false, cond_both}
 use Rattle.std.proofs.lemmas.Bool.Decides.{leb_tells}
 use Rattle.gc_texts.specs.declared.stamp.Date.{Date}
-use Rattle.gc_texts.specs.Stamps.{is_leap, month_days, year_days, days_of_months, next_day, days_after}
+use Rattle.gc_catalogue.specs.Calendar.{is_leap}
+use Rattle.gc_texts.specs.Stamps.{month_days, year_days, days_of_months, next_day, days_after}
 
 -- day `d` of month `m` of year `y`
-abbrev pub on : ℕ → ℕ → ℕ → Date
+abbrev pub on : (y m d : ℕ) → Date
 on y m d = record { year = y; month = m; day = d }
 
 -- going on by a + b days from a date is going on by a days, and then by b days
@@ -21,7 +23,7 @@ days_sum (suc a) b d = let e : suc a + b ≡ suc (a + b) = omega arith in rw e (
 next_within : (y m d : ℕ) → d < month_days y m → next_day (on y m d) ≡ on y m (d + 1)
 next_within y m d below = cond-true (nat_lt d (month_days y m)) _ _ (lt-ltb d (month_days y m) below)
 
--- where the month has as many days, the date k days after day d is day d + k of the same month
+-- where a month has at least d + k days, the date k days after its day d is its day d + k
 pub within : (k y m d : ℕ) → d + k ≤ month_days y m → days_after k (on y m d) ≡ on y m (d + k)
 unfolding days_after
 within zero y m d le = let e : d ≡ d + 0 = omega arith in ap (on y m) e
@@ -89,7 +91,7 @@ whole_year y left =
     ap (λ n. days_after (n + left) (on y 1 1)) (sym (months_of_year y)) ∙ ap (λ n. days_after n (on y 1 1)) e
     ∙ whole_months 11 y (31 + left) (omega arith) ∙ days_sum 31 left (on y 12 1) ∙ ap (days_after left) (december y)
 
--- the first m months have the days of the first m - 1, and those of month m
+-- where m is at least 1, the first m months have the days of the first m - 1, and those of month m
 pub one_month_more : (y m : ℕ) → 1 ≤ m → days_of_months y m ≡ days_of_months y (m - 1) + month_days y m
 unfolding days_of_months
 one_month_more y zero le = absurd (omega (arith, le))
@@ -123,14 +125,16 @@ month_left y m days left d below whole so =
 
 -- a day that lies within the year, `left` days after the first of month `m` and not in that month, lies within the year, too,
 -- when it is counted from the first of the next month
-pub part_left : (y m left : ℕ) → 1 ≤ m → month_days y m ≤ left → days_of_months y (m - 1) + left < year_days y → days_of_months y (m + 1 - 1) + (left - month_days y m) < year_days y
+pub part_left : (y m left : ℕ) → 1 ≤ m → month_days y m ≤ left → days_of_months y (m - 1) + left < year_days y
+    → days_of_months y (m + 1 - 1) + (left - month_days y m) < year_days y
 part_left y m left low whole part =
     let e : m + 1 - 1 ≡ m = omega arith in
     rw e (omega (arith, one_month_more y m low, whole, part))
 
 -- a date that is `left` days after 1 January, where `left` is the year's days or more, is `left` minus the year's days after 1
 -- January of the next year
-pub year_left : (y days left : ℕ) (d : Date) → year_days y ≤ left → days_after days d ≡ days_after left (on y 1 1) → days_after days d ≡ days_after (left - year_days y) (on (y + 1) 1 1)
+pub year_left : (y days left : ℕ) (d : Date) → year_days y ≤ left → days_after days d ≡ days_after left (on y 1 1)
+    → days_after days d ≡ days_after (left - year_days y) (on (y + 1) 1 1)
 year_left y days left d whole so =
     let e : left ≡ year_days y + (left - year_days y) = omega (arith, whole) in
     so ∙ ap (λ n. days_after n (on y 1 1)) e ∙ whole_year y (left - year_days y)
@@ -148,11 +152,12 @@ unfolding days_of_months
 no_months y left part = omega (arith, part)
 
 -- a date that is `left` days after the first of a month, fewer than the month has, is day left + 1 of that month
-pub day_in_month : (y m days left : ℕ) (d : Date) → left < month_days y m → days_after days d ≡ days_after left (on y m 1) → on y m (left + 1) ≡ days_after days d
+pub day_in_month : (y m days left : ℕ) (d : Date) → left < month_days y m → days_after days d ≡ days_after left (on y m 1)
+    → on y m (left + 1) ≡ days_after days d
 day_in_month y m days left d part so =
     let e : 1 + left ≡ left + 1 = omega arith in
     sym (so ∙ within left y m 1 (omega (arith, part)) ∙ ap (on y m) e)
 
--- a year has days
+-- a year has at least one day
 pub year_has_days : (y : ℕ) → 0 < year_days y
 year_has_days y = cond_both (is_leap y) 366 365 (λ n. 0 < n) (λ _. omega arith) (λ _. omega arith)

@@ -12,7 +12,7 @@ use Rattle.gc_catalogue.specs.declared.call.Call.{Call}
 use Rattle.gc_catalogue.specs.declared.call.Call.TheVariants.{NullProc}
 use Rattle.gc_texts.specs.Nears.{direction_of, call_gives_direction, DirectionsAreAskedFor}
 
--- the shapes of answers that have a direction
+-- whether the answers of this shape have a direction
 abbrev has_direction : Shape → Bool
 has_direction shape.Angles = true
 has_direction shape.Measured = true
@@ -29,11 +29,15 @@ call_has_direction : (call : Call) → call_gives_direction call ≡ has_directi
 call_has_direction NullProc = refl
 call_has_direction call = refl
 
--- the calls whose answers have a direction are those of these procedures
+-- the answers of a call have a direction exactly where its procedure is 2107, 2108, 2117 or 17017
 direction_procedures : (call : Call) → call_gives_direction call ≡ list_any (λ n. n == (call_fields call).number) (2107 ∷ 2108 ∷ 2117 ∷ 17017 ∷ [])
 direction_procedures NullProc = refl
 direction_procedures call = refl
 
--- the law: the answers that have a direction are those of the four procedures
+-- the law: the answers that have a direction are those of procedures 2107, 2108, 2117 and 17017
 pub directed : DirectionsAreAskedFor
-directed = record { answers = λ call answer of. answer_has_direction answer ∙ ap has_direction of ∙ sym (call_has_direction call); procedures = direction_procedures }
+directed =
+    record {
+      answers = λ call answer of. answer_has_direction answer ∙ ap has_direction of ∙ sym (call_has_direction call);
+      procedures = direction_procedures;
+    }

@@ -1,4 +1,4 @@
--- Texts that are no double, and doubles that are no place or no tolerance.
+-- What can't be read of a text as a double, and doubles that are no place or no tolerance.
 use Rattle.std.proofs.Common.{◌≡◌, List, ℕ, Bool, true, false, Result, Ok, Err, sym, ap, ◌∙◌}
 use Rattle.std.proofs.lemmas.Bool.{both_ways}
 use Rattle.gc_values.specs.Directions.{is_place, is_tolerance}
@@ -9,12 +9,12 @@ use Rattle.gc_texts.specs.Nears.{IsDouble, AreNearWords}
 use Rattle.gc_texts.specs.declared.near.Near.{Near}
 
 -- the reading of a text doesn't both fail and give a number
-pub no_double : (r : Result Decimal ValueFault) (e : ValueFault) (d : Decimal) → r ≡ Err e → r ≡ Ok d → ⊥
-no_double r e d failed read = let bad : ◌≡◌ {A = Result Decimal ValueFault} (Err e) (Ok d) = sym failed ∙ read in cc
+pub fails_or_reads : (r : Result Decimal ValueFault) (e : ValueFault) (d : Decimal) → r ≡ Err e → r ≡ Ok d → ⊥
+fails_or_reads r e d failed read = let bad : ◌≡◌ {A = Result Decimal ValueFault} (Err e) (Ok d) = sym failed ∙ read in cc
 
--- what can't be of four words that say where a target is
+-- which numbers can't be written by the words of four that say where a target is
 module _ (target hz v tolerance : List ℕ) (near : Near) (are : AreNearWords target hz v tolerance near) where
-  -- where the numbers that two words write are no direction of a place, the four words say no place
+  -- where the numbers that the words `hz` and `v` write are no direction of a place, the four words say no place
   pub no_place : (h w : Decimal) → IsDouble hz h → IsDouble v w → is_place (record { hz = h; v = w }) ≡ false → ⊥
   no_place h w is_h is_w isnt =
       let one = spells_unique hz near.place.hz h are.hz_is is_h in
@@ -22,6 +22,6 @@ module _ (target hz v tolerance : List ℕ) (near : Near) (are : AreNearWords ta
       both_ways (is_place near.place)
       (ap (λ x. is_place (record { hz = x; v = near.place.v })) one ∙ ap (λ x. is_place (record { hz = h; v = x })) other ∙ isnt) are.place_is
 
-  -- where the number that the last word writes is no tolerance, the four words say no place
+  -- where the number that the word `tolerance` writes is no tolerance, the four words say no place
   pub no_tolerance : (t : Decimal) → IsDouble tolerance t → is_tolerance t ≡ false → ⊥
   no_tolerance t is isnt = both_ways (is_tolerance near.tolerance) (ap is_tolerance (spells_unique tolerance near.tolerance t are.tolerance_is is) ∙ isnt) are.tolerance_in

@@ -1,15 +1,15 @@
 -- What is before the first mark of a text, and what follows it. A mark is a byte, as LF or a space.
-use Rattle.std.proofs.Common.{◌≡◌, ◌≢◌, ℕ, ◌==◌, List, [], ◌∷◌, ◌++◌, Option, Some, None, false, inl, inr, refl, sym, ap, ◌∙◌}
+use Rattle.std.proofs.Common.{◌≡◌, ◌≢◌, ℕ, ◌==◌, List, [], ◌∷◌, ◌++◌, Option, Some, None, unwrap_or, false, inl, inr, refl, sym, ap, ◌∙◌}
 use Rattle.std.proofs.lemmas.Bool.{cond-true, cond-false, eq-eqb, ne_eqb}
 use Rattle.gc_texts.specs.Cuts.{Lacks, Cuts, before, behind}
 
--- where a front has no mark, what is before the first mark is that front
+-- in a text that is a front without the mark, then the mark, and then a rest, what is before the first mark is the front
 pub before_mark : (mark : ℕ) (front rest : List ℕ) → Lacks mark front → before mark (front ++ mark ∷ rest) ≡ front
 before_mark mark [] rest lacks = cond-true (mark == mark) [] (mark ∷ before mark rest) (eq-eqb mark mark refl)
 before_mark mark (b ∷ bs) rest lacks =
     cond-false (b == mark) [] (b ∷ before mark (bs ++ mark ∷ rest)) (ne_eqb b mark lacks.0) ∙ ap (λ l. b ∷ l) (before_mark mark bs rest lacks.1)
 
--- where a front has no mark, what follows the first mark is the rest
+-- in a text that is a front without the mark, then the mark, and then a rest, what follows the first mark is the rest
 pub behind_mark : (mark : ℕ) (front rest : List ℕ) → Lacks mark front → behind mark (front ++ mark ∷ rest) ≡ rest
 behind_mark mark [] rest lacks = cond-true (mark == mark) rest (behind mark rest) (eq-eqb mark mark refl)
 behind_mark mark (b ∷ bs) rest lacks =
@@ -32,10 +32,9 @@ cut_before mark text front (Some rest) cut = sym (ap (before mark) cut.0 ∙ bef
 
 -- the text in `Some`; the empty text for `None`
 abbrev pub unwrapped : Option (List ℕ) → List ℕ
-unwrapped None = []
-unwrapped (Some rest) = rest
+unwrapped rest = unwrap_or rest []
 
--- the rest of a cut is what follows the first mark
+-- the rest of a cut, the empty text for `None`, is what follows the first mark, which is empty, too, where there is no mark
 pub cut_behind : (mark : ℕ) (text front : List ℕ) (rest : Option (List ℕ)) → Cuts mark text front rest → unwrapped rest ≡ behind mark text
 cut_behind mark text front None cut = sym (ap (behind mark) cut.0 ∙ behind_none mark front cut.1)
 cut_behind mark text front (Some rest) cut = sym (ap (behind mark) cut.0 ∙ behind_mark mark front rest cut.1)

@@ -9,7 +9,7 @@ without_cr-end [] = refl
 without_cr-end (b ∷ []) = refl
 without_cr-end (b ∷ c ∷ front) = ap (λ rest. b ∷ rest) (without_cr-end (c ∷ front))
 
--- a lone byte that is no CR is kept
+-- where the line of the byte `b` alone doesn't end in CR, it is kept; `t` says whether `b` is CR (13)
 last_kept : (b : ℕ) (t : Bool) → (b == 13) ≡ t → ((front : List ℕ) → b ∷ [] ≢ front ++ 13 ∷ []) → cond t [] (b ∷ []) ≡ b ∷ []
 last_kept b true e none = absurd (none [] (ap (λ x. x ∷ []) (eqb-true b 13 e)))
 last_kept b false e none = refl

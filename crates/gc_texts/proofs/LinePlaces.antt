@@ -5,18 +5,21 @@ use Rattle.gc_texts.specs.Cuts.{Cuts}
 use Rattle.gc_texts.specs.LineForms.{without_cr}
 use Rattle.gc_texts.proofs.TextLines.{lines_left, lines-cut}
 
--- the lines of what is left, cut at its first LF, are the line before the LF, and the lines of the rest
-front_line : (left : Option (List ℕ)) (now line : List ℕ) (rest : Option (List ℕ)) → left ≡ Some now → Cuts 10 now line rest → lines_left left ≡ without_cr line ∷ lines_left rest
+-- the lines of what is left, which is cut at its first LF, if it has one, are the line that is cut off, without a CR at its end,
+-- and then those of the rest
+front_line : (left : Option (List ℕ)) (now line : List ℕ) (rest : Option (List ℕ))
+    → left ≡ Some now → Cuts 10 now line rest → lines_left left ≡ without_cr line ∷ lines_left rest
 front_line left now line rest some cut = ap lines_left some ∙ lines-cut now line rest cut
 
--- where the first of the lines left is wanted, the line that is cut off next is the wanted one
+-- where the first of the lines left is the wanted one (`wanted` is 1, or 0), the wanted line is the line that
+-- is cut off next, without its CR
 pub line_here : (wanted_line : List ℕ) (left : Option (List ℕ)) (now line : List ℕ) (rest : Option (List ℕ)) (wanted : ℕ)
     → wanted_line ≡ get_or (lines_left left) (wanted - 1) [] → left ≡ Some now → Cuts 10 now line rest → wanted ≤ 1 → without_cr line ≡ wanted_line
 line_here wanted_line left now line rest wanted so some cut last =
     let none : wanted - 1 ≡ 0 = omega (arith, last) in
     sym (so ∙ ap (λ n. get_or (lines_left left) n []) none ∙ ap (λ ls. get_or ls 0 []) (front_line left now line rest some cut))
 
--- where a later one of the lines left is wanted, it is among those after the line that is cut off next
+-- where a later one of the lines left is wanted, it is number `wanted - 1` of the rest's lines, and empty where they are fewer
 pub line_behind : (wanted_line : List ℕ) (left : Option (List ℕ)) (now line : List ℕ) (rest : Option (List ℕ)) (wanted : ℕ)
     → wanted_line ≡ get_or (lines_left left) (wanted - 1) [] → left ≡ Some now → Cuts 10 now line rest → 1 < wanted
     → wanted_line ≡ get_or (lines_left rest) (wanted - 1 - 1) []

@@ -11,7 +11,7 @@ use Rattle.std.proofs.lemmas.Bool.{cond_both, ltb-true, and_parts}
 use Rattle.std.proofs.lemmas.List.Elements.{recursion_from_All, All-from_recursion, All-append}
 use Rattle.gc_texts.specs.Cuts.{Lacks}
 use Rattle.gc_texts.specs.Laws.{LogLinesReadBack, LogLinesArePrintable}
-use Rattle.gc_texts.specs.Logs.{mark_text, is_unescaped, hex_digit, escape, escaped}
+use Rattle.gc_texts.specs.Logs.{mark_text, is_unescaped, hex_digit, escape, escaped, IsPrintable, IsPrintableByte}
 use Rattle.gc_texts.specs.Stamps.{next_day, days_after, date_of, month_days, two_digits, three_digits, date_text, time_text, stamp_text}
 use Rattle.gc_texts.specs.declared.log_line.LogMark.{LogMark}
 use Rattle.gc_texts.specs.declared.log_line.LogMark.TheVariants.{Went, WentPart, Came, CamePart, Link}
@@ -24,20 +24,16 @@ record IsVisible (b : ℕ) : Type 0 where
   above : 32 < b
   below : b ≤ 126
 
--- a byte of a log line: printable
-abbrev pub IsPrintableByte : ℕ → Type 0
-IsPrintableByte b = (32 ≤ b) × (b ≤ 126)
-
 -- a byte from 33 to 126 is printable, and no space
 visible_byte : (b : ℕ) → 32 < b → b ≤ 126 → IsVisible b
 visible_byte b above below = record { above = above; below = below }
 
--- digits are printable, and none is a space
+-- each digit of a numeral of base 10 is printable, and no space
 digits_visible : (ds : List ℕ) → AllDigits 10 ds → AllByRecursion IsVisible ds
 digits_visible [] digits = tt
 digits_visible (d ∷ ds) digits = let r = digit_from_value d digits.0 in (visible_byte d (omega (arith, r.0)) (omega (arith, r.1)), digits_visible ds digits.1)
 
--- a number in decimal is printable, without a space
+-- a number of 64 bits in decimal is printable, without a space
 decimal_visible : (n : ℕ) → n < 2 ^ 64 → All IsVisible (decimal n)
 decimal_visible n h = All-from_recursion IsVisible (decimal n) (digits_visible (decimal n) (decimal_is_IsNumeral n h).0.1)
 
@@ -45,13 +41,13 @@ decimal_visible n h = All-from_recursion IsVisible (decimal n) (digits_visible (
 one_visible : (b : ℕ) → 32 < b → b ≤ 126 → All IsVisible (b ∷ [])
 one_visible b above below = All-from_recursion IsVisible (b ∷ []) (visible_byte b above below, tt)
 
--- two digits are printable, without a space
+-- a number below 100, in two digits, is printable, without a space
 two_visible : (n : ℕ) → n < 100 → All IsVisible (two_digits n)
 two_visible n h =
     All-from_recursion IsVisible (two_digits n)
     (visible_byte (48 + n / 10) (omega arith) (omega (arith, h, div-add-mod n 10)), (visible_byte (48 + n % 10) (omega arith) (omega arith), tt))
 
--- three digits are printable, without a space
+-- a number below 1000, in three digits, is printable, without a space
 three_visible : (n : ℕ) → n < 1000 → All IsVisible (three_digits n)
 three_visible n h =
     All-append IsVisible ((48 + n / 100) ∷ []) (two_digits (n % 100)) (one_visible (48 + n / 100) (omega arith) (omega (arith, h, div-add-mod n 100)))
@@ -63,7 +59,7 @@ pub record IsWithin (d : Date) (year : ℕ) : Type 0 where
   pub day : d.day ≤ 31
   pub years : d.year ≤ year
 
--- where a date's year is at most `year`, the next day's is at most `year + 1`; its month and day keep their bounds
+-- where a date's year is at most `year`, the next day's is at most `year + 1`; month and day keep their bounds
 next_day_within : (d : Date) (year : ℕ) → IsWithin d year → IsWithin (next_day d) (suc year)
 next_day_within d year h =
     cond_both (nat_lt d.day (month_days d.year d.month)) _ _ (λ e. IsWithin e (suc year))
@@ -83,7 +79,7 @@ later_within (suc n) d year h = let e : year + suc n ≡ suc year + n = omega ar
 pub date_within : (n : ℕ) → IsWithin (date_of n) (1970 + n)
 date_within n = later_within n (record { year = 1970; month = 1; day = 1 }) 1970 (record { month = omega arith; day = omega arith; years = omega arith })
 
--- the text of a date is printable, without a space
+-- the text of a date with a year of 64 bits, and a month and a day below 100, is printable, without a space
 date_visible : (d : Date) → d.year < 2 ^ 64 → d.month < 100 → d.day < 100 → All IsVisible (date_text d)
 date_visible d year month day =
     let dash = one_visible 45 (omega arith) (omega arith) in
@@ -92,7 +88,7 @@ date_visible d year month day =
     let third = All-append IsVisible (decimal d.year ++ 45 ∷ [] ++ two_digits d.month) (45 ∷ []) second dash in
     All-append IsVisible (decimal d.year ++ 45 ∷ [] ++ two_digits d.month ++ 45 ∷ []) (two_digits d.day) third (two_visible d.day day)
 
--- the text of a time is printable, without a space
+-- the text of a time of day, `millis` milliseconds after midnight and before the next, is printable, without a space
 time_visible : (millis : ℕ) → millis < 86400000 → All IsVisible (time_text millis)
 time_visible millis h =
     let hours = two_visible (millis / 3600000) (omega (arith, h, div-add-mod millis 3600000)) in
@@ -109,7 +105,7 @@ time_visible millis h =
     (All-append IsVisible (two_digits (millis / 60000 % 60)) (58 ∷ (two_digits (millis / 1000 % 60) ++ 46 ∷ rest)) minutes third) in
     All-append IsVisible (two_digits (millis / 3600000)) (58 ∷ (two_digits (millis / 60000 % 60) ++ 58 ∷ (two_digits (millis / 1000 % 60) ++ 46 ∷ rest))) hours second
 
--- a stamp's bytes are printable, and none is a space
+-- of a stamp of a moment of 64 bits, the bytes are printable, and none is a space
 stamp_visible : (utc : ℕ) → utc < 2 ^ 64 → All IsVisible (stamp_text utc)
 stamp_visible utc h =
     let days = utc / 86400000 in
@@ -142,7 +138,7 @@ as_it_is_prints b e =
     (omega (arith, ltb-true 31 b bounds.0), omega (arith, ltb-true b 127 bounds.1))
 
 -- the escaped form of a byte is printable
-escape_prints : (b : ℕ) → b < 256 → All IsPrintableByte (escape b)
+escape_prints : (b : ℕ) → b < 256 → IsPrintable (escape b)
 escape_prints b h =
     cond_both (is_unescaped b) (b ∷ []) (92 ∷ 120 ∷ hex_digit (b / 16) ∷ hex_digit (b % 16) ∷ []) (All IsPrintableByte)
     (λ e. All-from_recursion IsPrintableByte (b ∷ []) (as_it_is_prints b e, tt))
@@ -150,12 +146,12 @@ escape_prints b h =
     ((omega arith, omega arith), ((omega arith, omega arith), (hex_digit_prints (b / 16) (high_digit_small b h), (hex_digit_prints (b % 16) (omega arith), tt)))))
 
 -- the escaped form of bytes is printable
-pub escaped_prints : (bs : List ℕ) → AllByRecursion (λ b. b < 256) bs → All IsPrintableByte (escaped bs)
+pub escaped_prints : (bs : List ℕ) → AllByRecursion (λ b. b < 256) bs → IsPrintable (escaped bs)
 escaped_prints [] h = All-from_recursion IsPrintableByte [] tt
 escaped_prints (b ∷ bs) h = All-append IsPrintableByte (escape b) (escaped bs) (escape_prints b h.0) (escaped_prints bs h.1)
 
 -- the text of a mark is printable
-mark_prints : (mark : LogMark) → All IsPrintableByte (mark_text mark)
+mark_prints : (mark : LogMark) → IsPrintable (mark_text mark)
 mark_prints Went = All-from_recursion IsPrintableByte (62 ∷ []) ((omega arith, omega arith), tt)
 mark_prints WentPart = All-from_recursion IsPrintableByte (62 ∷ 124 ∷ []) ((omega arith, omega arith), ((omega arith, omega arith), tt))
 mark_prints Came = All-from_recursion IsPrintableByte (60 ∷ []) ((omega arith, omega arith), tt)
@@ -163,27 +159,27 @@ mark_prints CamePart = All-from_recursion IsPrintableByte (60 ∷ 124 ∷ []) ((
 mark_prints Link = All-from_recursion IsPrintableByte (45 ∷ []) ((omega arith, omega arith), tt)
 
 -- a printable text after a space is printable
-space_prints : (bs : List ℕ) → All IsPrintableByte bs → All IsPrintableByte (32 ∷ bs)
+space_prints : (bs : List ℕ) → IsPrintable bs → IsPrintable (32 ∷ bs)
 space_prints bs h = All-append IsPrintableByte (32 ∷ []) bs (All-from_recursion IsPrintableByte (32 ∷ []) ((omega arith, omega arith), tt)) h
 
--- the text of a stamp is printable
-pub stamp_prints : (utc : ℕ) → utc < 2 ^ 64 → All IsPrintableByte (stamp_text utc)
+-- the text of a stamp of a moment of 64 bits is printable
+pub stamp_prints : (utc : ℕ) → utc < 2 ^ 64 → IsPrintable (stamp_text utc)
 stamp_prints utc h = All-from_recursion IsPrintableByte (stamp_text utc) (visible_prints (stamp_text utc) (recursion_from_All IsVisible (stamp_text utc) (stamp_visible utc h)))
 
--- the law: a log line that was written reads back, in one way alone
+-- the law: what is written of a moment of 64 bits, a mark and bytes is a log line of these, and no text is a log line of two
+-- moments, marks or lists of bytes
 pub read_back : LogLinesReadBack
 read_back = record {
   written = λ utc mark bytes h are. record {
     is = refl;
-    one_word = visible_lacks_space (stamp_text utc)
-        (recursion_from_All IsVisible (stamp_text utc) (stamp_visible utc h));
+    one_word = visible_lacks_space (stamp_text utc) (recursion_from_All IsVisible (stamp_text utc) (stamp_visible utc h));
     is_printable = stamp_prints utc h;
     are_bytes = are;
   };
-  once = λ text one other mark sign bytes more. one_reading text one other mark sign bytes more;
+  once = λ text one other mark other_mark bytes other_bytes. one_reading text one other mark other_mark bytes other_bytes;
 }
 
--- the law: a log line is printable before its line feed
+-- the law: the text of a log line (`log_text`) of a moment of 64 bits, a mark and bytes is printable
 pub printable : LogLinesArePrintable
 printable utc mark bytes h are =
     All-append IsPrintableByte (stamp_text utc) (32 ∷ (mark_text mark ++ 32 ∷ escaped bytes)) (stamp_prints utc h)

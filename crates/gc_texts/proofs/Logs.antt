@@ -17,7 +17,7 @@ use Rattle.gc_texts.proofs.Cutting.{cut_found, one_front}
 abbrev IsByte : ℕ → Type 0
 IsByte b = b < 256
 
--- a byte's text is it alone, or `\x` and its digits
+-- a byte's text is it alone, where it is written as it is (`is_unescaped`), and else `\x` and its two digits
 data IsEscape (b : ℕ) (text : List ℕ) : Type 0 where
   as_it_is : is_unescaped b ≡ true → text ≡ b ∷ [] → IsEscape b text
   as_digits : is_unescaped b ≡ false → text ≡ 92 ∷ 120 ∷ hex_digit (b / 16) ∷ hex_digit (b % 16) ∷ [] → IsEscape b text
@@ -56,11 +56,12 @@ pub high_digit_small : (b : ℕ) → b < 256 → b / 16 < 16
 high_digit_small b h = omega (arith, h, div-add-mod b 16)
 
 -- the second of a byte's two digits of base 16 is below 16
-small_low : (b : ℕ) → b % 16 < 16
-small_low b = omega arith
+low_digit_small : (b : ℕ) → b % 16 < 16
+low_digit_small b = omega arith
 
 -- where two texts are equal, and each is an escaped byte and a rest, the bytes are equal, and the rests are
-one_byte : (b c : ℕ) (s t xs ys : List ℕ) (small : b < 256) (few : c < 256) (one : IsEscape b s) (other : IsEscape c t) → s ++ xs ≡ t ++ ys → (b ≡ c) × (xs ≡ ys)
+one_byte : (b c : ℕ) (s t xs ys : List ℕ) (small : b < 256) (few : c < 256) (one : IsEscape b s) (other : IsEscape c t)
+    → s ++ xs ≡ t ++ ys → (b ≡ c) × (xs ≡ ys)
 one_byte b c s t xs ys small few (as_it_is is so) (as_it_is was to) e =
     let same : b ∷ xs ≡ c ∷ ys = sym (ap (λ z. z ++ xs) so) ∙ e ∙ ap (λ z. z ++ ys) to in
     (cc, cc)
@@ -75,10 +76,10 @@ one_byte b c s t xs ys small few (as_digits is so) (as_digits was to) e =
     let highs : hex_digit (b / 16) ≡ hex_digit (c / 16) = cc in
     let lows : hex_digit (b % 16) ≡ hex_digit (c % 16) = cc in
     let high = one_value (b / 16) (c / 16) highs (high_digit_small b small) (high_digit_small c few) in
-    let low = one_value (b % 16) (c % 16) lows (small_low b) (small_low c) in
+    let low = one_value (b % 16) (c % 16) lows (low_digit_small b) (low_digit_small c) in
     (omega (arith, high, low, div-add-mod b 16, div-add-mod c 16), cc)
 
--- the escaped form of a byte isn't empty
+-- the escaped form of a byte, with whatever after it, isn't empty
 escape_not_empty : (b : ℕ) (s xs : List ℕ) → IsEscape b s → s ++ xs ≡ [] → ⊥
 escape_not_empty b s xs (as_it_is is so) e = let bad : b ∷ xs ≡ [] = sym (ap (λ z. z ++ xs) so) ∙ e in cc
 escape_not_empty b s xs (as_digits is so) e = let bad : 92 ∷ 120 ∷ hex_digit (b / 16) ∷ hex_digit (b % 16) ∷ xs ≡ [] = sym (ap (λ z. z ++ xs) so) ∙ e in cc
@@ -90,8 +91,10 @@ record IsRestOf (bytes left all : List ℕ) : Type 0 where
   are : AllByRecursion IsByte more
   so : left ≡ escaped more
 
--- where the first bytes of a text were read, what is left is the escaped form of the others
-behind_bytes : (bytes left all : List ℕ) → AllByRecursion IsByte bytes → AllByRecursion IsByte all → escaped bytes ++ left ≡ escaped all → IsRestOf bytes left all
+-- where the escaped form of `bytes`, and `left` after it, are the escaped form of `all`, `left` is the escaped form of what `all`
+-- has after `bytes` (`IsRestOf`)
+behind_bytes : (bytes left all : List ℕ) → AllByRecursion IsByte bytes → AllByRecursion IsByte all
+    → escaped bytes ++ left ≡ escaped all → IsRestOf bytes left all
 behind_bytes [] left all h k e = record { more = all; joins = refl; are = k; so = e }
 behind_bytes (b ∷ bs) left [] h k e = absurd (escape_not_empty b (escape b) (escaped bs ++ left) (escapes b) (sym (append_assoc (escape b) (escaped bs) left) ∙ e))
 behind_bytes (b ∷ bs) left (c ∷ cs) h k e =
@@ -114,13 +117,15 @@ pub full_is_514 : (n : ℕ) → true ≡ (n == 514) → 514 ≤ n
 full_is_514 n full = omega (arith, eqb-true n 514 (sym full))
 
 -- a text that isn't empty, and doesn't begin with an escaped byte, isn't the escaped form of any bytes
-no_more : (left more : List ℕ) → left ≢ [] → ((b : ℕ) (rest : List ℕ) → b < 256 → left ≡ escape b ++ rest → ⊥) → AllByRecursion IsByte more → left ≡ escaped more → ⊥
+no_more : (left more : List ℕ) → left ≢ [] → ((b : ℕ) (rest : List ℕ) → b < 256 → left ≡ escape b ++ rest → ⊥)
+    → AllByRecursion IsByte more → left ≡ escaped more → ⊥
 no_more left [] some none h e = some e
 no_more left (b ∷ bs) some none h e = none b (escaped bs) h.0 e
 
 -- where what is left of a text isn't empty, and doesn't begin with an escaped byte, the text isn't the escaped form of any
 -- bytes
-pub reads_no_more : (text bytes left : List ℕ) (read : ReadsBytes text bytes left) (some : left ≢ []) (none : (b : ℕ) (rest : List ℕ) → b < 256 → left ≡ escape b ++ rest → ⊥)
+pub reads_no_more : (text bytes left : List ℕ) (read : ReadsBytes text bytes left) (some : left ≢ [])
+    (none : (b : ℕ) (rest : List ℕ) → b < 256 → left ≡ escape b ++ rest → ⊥)
     → (all : List ℕ) → All IsByte all → text ≡ escaped all → ⊥
 reads_no_more text bytes left h some none all are e =
     let k = behind_bytes bytes left all (recursion_from_All IsByte bytes h.are) (recursion_from_All IsByte all are) (sym h.so ∙ e) in
@@ -131,14 +136,14 @@ some_bytes_left : (left more : List ℕ) → left ≢ [] → left ≡ escaped mo
 some_bytes_left left [] some e = absurd (some e)
 some_bytes_left left (b ∷ bs) some e = omega arith
 
--- where 514 bytes were read and something is left, the text isn't the escaped form of at most 514 bytes
+-- where at least 514 bytes were read and something is left, the text isn't the escaped form of at most 514 bytes
 pub reads_too_many : (text bytes left : List ℕ) (read : ReadsBytes text bytes left) (some : left ≢ []) (full : 514 ≤ length bytes)
     → (all : List ℕ) → length all ≤ 514 → All IsByte all → text ≡ escaped all → ⊥
 reads_too_many text bytes left h some full all room are e =
     let k = behind_bytes bytes left all (recursion_from_All IsByte bytes h.are) (recursion_from_All IsByte all are) (sym h.so ∙ e) in
     omega (arith, full, room, ap length k.joins, length-append bytes k.more, some_bytes_left left k.more some k.so)
 
--- `ys` are `xs` and then `more`: where the escaped form of `more` is empty, `ys` are `xs`
+-- where `ys` are `xs` and then `more`, and the escaped form of `more` is empty, `xs` are `ys`
 none_left : (xs ys more : List ℕ) → ys ≡ xs ++ more → [] ≡ escaped more → xs ≡ ys
 none_left xs ys [] joins so = sym (joins ∙ append-nil xs)
 none_left xs ys (b ∷ bs) joins so = absurd (escape_not_empty b (escape b) (escaped bs) (escapes b) (sym so))
@@ -157,8 +162,11 @@ mark_lacks Came = ((λ e. absurd (omega (arith, e))), tt)
 mark_lacks CamePart = ((λ e. absurd (omega (arith, e))), ((λ e. absurd (omega (arith, e))), tt))
 mark_lacks Link = ((λ e. absurd (omega (arith, e))), tt)
 
-module _ (line front : List ℕ) (rest : Option (List ℕ)) (cut : Cuts 32 line front rest) (moment : List ℕ) (mark : LogMark) (bytes : List ℕ) (is : IsLogLine line moment mark bytes) where
-  -- the moment is before the first space
+-- the parts of a log line, cut at its spaces, and which lines are none
+module _
+    (line front : List ℕ) (rest : Option (List ℕ)) (cut : Cuts 32 line front rest)
+    (moment : List ℕ) (mark : LogMark) (bytes : List ℕ) (is : IsLogLine line moment mark bytes) where
+  -- the moment is before the first space, and the mark and the escaped bytes are after it
   first_word : (front ≡ moment) × (rest ≡ Some (mark_text mark ++ 32 ∷ escaped bytes))
   first_word = cut_found 32 line front rest moment (mark_text mark ++ 32 ∷ escaped bytes) cut is.is is.one_word
 
@@ -166,9 +174,11 @@ module _ (line front : List ℕ) (rest : Option (List ℕ)) (cut : Cuts 32 line 
   pub not_printable : (IsPrintable front → ⊥) → ⊥
   not_printable none = none (subst IsPrintable (sym first_word.0) is.is_printable)
 
-  -- the mark is before the second space
-  second_word : (behind word : List ℕ) (text : Option (List ℕ)) → rest ≡ Some behind → Cuts 32 behind word text → (word ≡ mark_text mark) × (text ≡ Some (escaped bytes))
-  second_word behind word text so next = cut_found 32 behind word text (mark_text mark) (escaped bytes) next (same_Some behind _ (sym so ∙ first_word.1)) (mark_lacks mark)
+  -- the mark is before the second space, and the escaped bytes are after it
+  second_word : (behind word : List ℕ) (text : Option (List ℕ)) → rest ≡ Some behind → Cuts 32 behind word text
+      → (word ≡ mark_text mark) × (text ≡ Some (escaped bytes))
+  second_word behind word text so next =
+      cut_found 32 behind word text (mark_text mark) (escaped bytes) next (same_Some behind _ (sym so ∙ first_word.1)) (mark_lacks mark)
 
   -- a line without a space is no log line
   pub no_moment : rest ≡ None → ⊥
@@ -176,19 +186,21 @@ module _ (line front : List ℕ) (rest : Option (List ℕ)) (cut : Cuts 32 line 
 
   -- a line without a second space is no log line
   pub no_mark : (behind word : List ℕ) (text : Option (List ℕ)) → rest ≡ Some behind → Cuts 32 behind word text → text ≡ None → ⊥
-  no_mark behind word text so next none = let bad : None ≡ Some (escaped bytes) = sym none ∙ (second_word behind word text so next).1 in cc
+  no_mark behind word text so next none =
+      let bad : None ≡ Some (escaped bytes) = sym none ∙ (second_word behind word text so next).1 in cc
 
   -- a line whose second word is no mark is no log line
-  pub another_mark : (behind word : List ℕ) (text : Option (List ℕ)) → rest ≡ Some behind → Cuts 32 behind word text → ((m : LogMark) → word ≡ mark_text m → ⊥) → ⊥
+  pub another_mark : (behind word : List ℕ) (text : Option (List ℕ)) → rest ≡ Some behind → Cuts 32 behind word text
+      → ((m : LogMark) → word ≡ mark_text m → ⊥) → ⊥
   another_mark behind word text so next none = none mark (second_word behind word text so next).0
 
-  -- a line whose text after the mark isn't the escaped form of any bytes, 514 at most, is no log line
+  -- a line whose text after the mark isn't the escaped form of any bytes, 514 at most, is no log line of 514 bytes at most
   pub other_bytes : (behind word text : List ℕ) → rest ≡ Some behind → Cuts 32 behind word (Some text) → length bytes ≤ 514
       → ((all : List ℕ) → length all ≤ 514 → All IsByte all → text ≡ escaped all → ⊥) → ⊥
   other_bytes behind word text so next room none = none bytes room is.are_bytes (same_Some text (escaped bytes) (second_word behind word (Some text) so next).1)
 
 -- one of two marks by the text after a mark's first byte: `whole` where there is none, else `part`
-by_end : List ℕ → LogMark → LogMark → LogMark
+by_end : List ℕ → (whole part : LogMark) → LogMark
 by_end [] whole part = whole
 by_end (b ∷ bs) whole part = part
 
@@ -212,7 +224,8 @@ one_mark : (m k : LogMark) → mark_text m ≡ mark_text k → m ≡ k
 one_mark m k e = sym (mark_reads_back m) ∙ ap mark_from e ∙ mark_reads_back k
 
 -- a text is a log line in one way at most
-pub one_reading : (text : List ℕ) (m k : List ℕ) (a b : LogMark) (xs ys : List ℕ) → IsLogLine text m a xs → IsLogLine text k b ys → (m ≡ k) × (a ≡ b) × (xs ≡ ys)
+pub one_reading : (text : List ℕ) (m k : List ℕ) (a b : LogMark) (xs ys : List ℕ)
+    → IsLogLine text m a xs → IsLogLine text k b ys → (m ≡ k) × (a ≡ b) × (xs ≡ ys)
 one_reading text m k a b xs ys one other =
     let first = one_front 32 m k (mark_text a ++ 32 ∷ escaped xs) (mark_text b ++ 32 ∷ escaped ys) (sym one.is ∙ other.is) one.one_word other.one_word in
     let second = one_front 32 (mark_text a) (mark_text b) (escaped xs) (escaped ys) first.1 (mark_lacks a) (mark_lacks b) in

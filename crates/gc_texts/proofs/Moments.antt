@@ -6,7 +6,7 @@ use Rattle.gc_texts.specs.Moments.{millis_of, digit, StampsAreMoments}
 use Rattle.gc_texts.specs.Stamps.{next_day, days_after, date_of, two_digits, three_digits, date_text, time_text, stamp_text}
 use Rattle.gc_texts.proofs.Dates.{days_sum}
 
--- a tens and b ones are written as the digit of a and the digit of b
+-- the number of `a` tens and `b` ones is written as the digit of a and the digit of b
 two_digits_are : (a b : ℕ) → b < 10 → two_digits (a * 10 + b) ≡ digit a ∷ digit b ∷ []
 two_digits_are a b h =
     let n = a * 10 + b in
@@ -14,7 +14,7 @@ two_digits_are a b h =
     let second : n % 10 ≡ b = omega (arith, h, div-add-mod n 10) in
     ap (λ x. digit x ∷ digit (n % 10) ∷ []) first ∙ ap (λ x. digit a ∷ digit x ∷ []) second
 
--- a hundreds, b tens and c ones are written as the digits of a, b and c
+-- the number of `a` hundreds, `b` tens and `c` ones is written as the digits of a, b and c
 three_digits_are : (a b c : ℕ) → b < 10 → c < 10 → three_digits (a * 100 + b * 10 + c) ≡ digit a ∷ digit b ∷ digit c ∷ []
 three_digits_are a b c h k =
     let n = a * 100 + b * 10 + c in
@@ -25,7 +25,8 @@ three_digits_are a b c h k =
 -- the text of a time of day, given in milliseconds, is its hours, minutes, seconds and milliseconds, with colons (58) and a
 -- point (46) between them
 time_is : (hours minutes seconds more : ℕ) → minutes < 60 → seconds < 60 → more < 1000
-    → time_text (hours * 3600000 + minutes * 60000 + seconds * 1000 + more) ≡ two_digits hours ++ 58 ∷ (two_digits minutes ++ 58 ∷ (two_digits seconds ++ 46 ∷ three_digits more))
+    → time_text (hours * 3600000 + minutes * 60000 + seconds * 1000 + more)
+    ≡ two_digits hours ++ 58 ∷ (two_digits minutes ++ 58 ∷ (two_digits seconds ++ 46 ∷ three_digits more))
 time_is hours minutes seconds more m s k =
     let n = hours * 3600000 + minutes * 60000 + seconds * 1000 + more in
     let a : n / 3600000 ≡ hours = omega (arith, m, s, k, div-add-mod n 3600000) in
@@ -40,13 +41,14 @@ time_is hours minutes seconds more m s k =
     ∙ ap (λ x. two_digits hours ++ 58 ∷ (two_digits minutes ++ 58 ∷ (two_digits seconds ++ 46 ∷ three_digits x))) d
 
 -- a stamp with this text of its date and this text of its time
-abbrev stamp_of : List ℕ → List ℕ → List ℕ
+abbrev stamp_of : (date time : List ℕ) → List ℕ
 stamp_of date time = date ++ codes "T" ++ time ++ codes "Z"
 
 -- the stamp of a moment is its date, and its hour, minute, second and millisecond in two, two, two and three digits
 stamp_is : (days hours minutes seconds more : ℕ) → hours < 24 → minutes < 60 → seconds < 60 → more < 1000
     → stamp_text (millis_of days hours minutes seconds more)
-    ≡ date_text (date_of days) ++ codes "T" ++ (two_digits hours ++ codes ":" ++ two_digits minutes ++ codes ":" ++ two_digits seconds ++ codes "." ++ three_digits more) ++ codes "Z"
+    ≡ date_text (date_of days) ++ codes "T"
+    ++ (two_digits hours ++ codes ":" ++ two_digits minutes ++ codes ":" ++ two_digits seconds ++ codes "." ++ three_digits more) ++ codes "Z"
 stamp_is days hours minutes seconds more h m s k =
     let n = millis_of days hours minutes seconds more in
     let day : n / 86400000 ≡ days = omega (arith, h, m, s, k, div-add-mod n 86400000) in
@@ -64,6 +66,7 @@ first_date : date_of 0 ≡ record { year = 1970; month = 1; day = 1 }
 unfolding days_after
 first_date = refl
 
--- the law: the text of a stamp reads as its moment
+-- the law: the text of a stamp gives its date, hour, minute, second and millisecond, each in digits of its value; the date of day
+-- 0 is 1 January 1970, and that of each later day is the day after the date of the day before
 pub are_moments : StampsAreMoments
 are_moments = record { moment = stamp_is; two = two_digits_are; three = three_digits_are; first = first_date; next = next_date }

@@ -1,4 +1,4 @@
--- One call is in a procedure's text, and lines give one list of items where each gives one item.
+-- A procedure's text gives one call at most, and lines give one list of items at most where each gives one item at most.
 use Rattle.std.proofs.Common.{◌≡◌, ℕ, List, [], ◌∷◌, ◌++◌, Option, Some, None, refl, ap, subst, ◌∙◌, unwrap_or}
 use Rattle.std.proofs.lemmas.List.{append-nil}
 use Rattle.gc_catalogue.specs.declared.call.Call.{Call}
@@ -10,7 +10,8 @@ use Rattle.gc_texts.specs.Procedures.{IsNumber, IsProcedure, params_text_of}
 use Rattle.gc_texts.proofs.Cutting.{digits_lack_spaces}
 use Rattle.gc_texts.proofs.Procedures.{one_number, procedure_parts}
 
--- digits without a space, and the parameters after them, are cut at the first space
+-- the cut at the first space of a text that is digits without a space, and then parameters after a space, or none, gives the
+-- digits and the parameters
 cut_text : (text digits : List ℕ) (params : Option (List ℕ)) → text ≡ digits ++ params_text_of params → Lacks 32 digits → Cuts 32 text digits params
 cut_text text digits None e lacks = (e ∙ append-nil digits, lacks)
 cut_text text digits (Some params) e lacks = (e, lacks)
@@ -24,7 +25,7 @@ one_procedure text c d p q =
     let lists : unwrap_or q.params [] ≡ unwrap_or p.params [] = ap (λ o. unwrap_or o []) parts.1 in
     one_call p.rpc (unwrap_or p.params []) c d p.calls (subst (λ (n : ℕ). IsCall n (unwrap_or p.params []) d) rpcs (subst (λ (ps : List ℕ). IsCall q.rpc ps d) lists q.calls))
 
--- where each line has the form of one item at most, lines stand for one list of items at most
+-- where each line has the form of one item at most, lines have the forms of one list of items at most (`AreItems`)
 pub one_list : {Item : Type 0} (form : Form Item) → ((line : List ℕ) (a b : Item) → form line a → form line b → a ≡ b)
     → (lines : List (List ℕ)) (xs ys : List Item) → AreItems form lines xs → AreItems form lines ys → xs ≡ ys
 one_list form one [] [] [] h k = refl

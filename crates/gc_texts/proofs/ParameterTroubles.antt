@@ -11,7 +11,8 @@ use Rattle.gc_texts.specs.declared.trouble.Trouble.{Trouble}
 
 -- where the procedure refuses the parameters with the fault `e`, what `parameters_trouble` reports of `e` is what is at fault in
 -- the procedure's number and these parameters
-trouble_of_fault : (rpc : ℕ) (params : List ℕ) (e : ValueFault) → IsRefusal rpc params (Parameters e) → IsCallTrouble rpc params (parameters_trouble rpc e)
+trouble_of_fault : (rpc : ℕ) (params : List ℕ) (e : ValueFault)
+    → IsRefusal rpc params (Parameters e) → IsCallTrouble rpc params (parameters_trouble rpc e)
 trouble_of_fault rpc params fault.Spelling refused = record { fault = fault.Spelling; refused = refused; is = refl }
 trouble_of_fault rpc params fault.Range refused = record { fault = fault.Range; refused = refused; is = refl }
 trouble_of_fault rpc params fault.OpenQuote refused = record { fault = fault.OpenQuote; refused = refused; is = refl }
@@ -20,7 +21,7 @@ trouble_of_fault rpc params fault.Count refused = record { fault = fault.Count; 
 
 -- where the procedure refuses the parameters with `of`, which is the fault `e`, and `t` is what `parameters_trouble` reports of
 -- `e`, then `t` is what is at fault in number and parameters
-pub trouble_of_refusal : (rpc : ℕ) (params : List ℕ) (of : CallFault) (e : ValueFault) (t : Trouble) → IsRefusal rpc params of → of ≡ Parameters e
-    → t ≡ parameters_trouble rpc e → IsCallTrouble rpc params t
+pub trouble_of_refusal : (rpc : ℕ) (params : List ℕ) (of : CallFault) (e : ValueFault) (t : Trouble)
+    → IsRefusal rpc params of → of ≡ Parameters e → t ≡ parameters_trouble rpc e → IsCallTrouble rpc params t
 trouble_of_refusal rpc params of e t refused same is =
     subst (λ (x : Trouble). IsCallTrouble rpc params x) (sym is) (trouble_of_fault rpc params e (subst (λ (f : CallFault). IsRefusal rpc params f) same refused))

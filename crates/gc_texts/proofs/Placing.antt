@@ -5,6 +5,7 @@ use Rattle.gc_catalogue.specs.declared.answer.Answer.{Answer}
 use Rattle.gc_values.specs.Directions.{is_near, IsNear}
 use Rattle.gc_values.specs.declared.direction.Direction.{Direction}
 use Rattle.gc_values.proofs.NearLemmas.{near_is_within}
+use Rattle.gc_lines.proofs.Lists.{cons_head, cons_tail}
 use Rattle.gc_texts.specs.Chained.{PlacesHoldForAll}
 use Rattle.gc_texts.specs.Nears.{has_near, near_of, direction_of, is_away, is_elsewhere}
 use Rattle.gc_texts.specs.Tasks.{opening, tasks_of, name_at, near_at, nears_of, placed, MayFollow}
@@ -15,39 +16,34 @@ use Rattle.gc_texts.specs.declared.task_line.TaskLine.TheVariants as says
 use Rattle.gc_texts.specs.declared.tasks.Task.{Task}
 use Rattle.gc_texts.proofs.TaskReading.{nears_both}
 
--- where each line of a text may follow those before it, and one of them says where a target is, no line before it says where
--- that target is
-no_place_before : (names : List Name) (nears : List Near) (front later : List TaskLine) (near : Near) → MayFollow names nears (front ++ says.Locating near ∷ later)
+-- where lines may follow these names and places, and one of them says where a target is, neither `nears` nor a line before it
+-- says where that target is
+no_place_before : (names : List Name) (nears : List Near) (front later : List TaskLine) (near : Near)
+    → MayFollow names nears (front ++ says.Locating near ∷ later)
     → has_near near.target (nears ++ nears_of front) ≡ false
 no_place_before names nears [] later near follow =
     ap (has_near near.target) (append-nil nears) ∙ not-true (has_near near.target nears) (and_parts (nat_lt (length nears) 64) (not (has_near near.target nears)) follow.0).1
 no_place_before names nears (line ∷ front) later near follow =
     ap (has_near near.target) (sym (append_assoc nears (near_at line) (nears_of front))) ∙ no_place_before (names ++ name_at line) (nears ++ near_at line) front later near follow.1
 
--- where none of `nears` is a target's place, and the next place is that target's, that is the place that is found
+-- where none of `nears` is of the target of `near`, the place that is found of this target in `nears`, then
+-- `near`, then others, is `near`
 found_near : (nears others : List Near) (near : Near) → has_near near.target nears ≡ false → near_of near.target (nears ++ near ∷ others) ≡ Some near
 found_near [] others near none = ap (λ b. cond b (Some near) (near_of near.target others)) (eq-eqb near.target near.target refl)
 found_near (n ∷ nears) others near none =
     let apart = or_parts (n.target == near.target) (has_near near.target nears) none in
     ap (λ b. cond b (Some n) (near_of near.target (nears ++ near ∷ others))) apart.0 ∙ found_near nears others near apart.1
 
--- equal lists have equal first tasks
-head_same : (t u : Task) (ts us : List Task) → ◌≡◌ {A = List Task} (t ∷ ts) (u ∷ us) → t ≡ u
-head_same t u ts us e = cc
-
--- equal lists have equal tasks after the first
-tail_same : (t u : Task) (ts us : List Task) → ◌≡◌ {A = List Task} (t ∷ ts) (u ∷ us) → ts ≡ us
-tail_same t u ts us e = cc
-
 -- once all tasks were given their places, each has the place of its target, if there is one
-each_has_its_place : (nears : List Near) (tasks earlier others : List Task) (task : Task) → map (placed nears) tasks ≡ earlier ++ task ∷ others → task.near ≡ near_of task.command.target nears
+each_has_its_place : (nears : List Near) (tasks earlier others : List Task) (task : Task)
+    → map (placed nears) tasks ≡ earlier ++ task ∷ others → task.near ≡ near_of task.command.target nears
 each_has_its_place nears [] [] others task e = cc
 each_has_its_place nears [] (t ∷ ts) others task e = cc
 each_has_its_place nears (t ∷ tasks) [] others task e =
-    let same = head_same (placed nears t) task (map (placed nears) tasks) others e in
+    let same = cons_head (placed nears t) task (map (placed nears) tasks) others e in
     ap (λ (u : Task). u.near) (sym same) ∙ ap (λ (u : Task). near_of u.command.target nears) same
 each_has_its_place nears (t ∷ tasks) (u ∷ earlier) others task e =
-    each_has_its_place nears tasks earlier others task (tail_same (placed nears t) u (map (placed nears) tasks) (earlier ++ task ∷ others) e)
+    each_has_its_place nears tasks earlier others task (cons_tail (placed nears t) u (map (placed nears) tasks) (earlier ++ task ∷ others) e)
 
 -- the law: a place holds for all commands of its target
 pub places_hold : PlacesHoldForAll
@@ -58,13 +54,14 @@ places_hold text deadline chained setup tasks names nears is front later near at
     ∙ ap (λ t. near_of t nears) same ∙ ap (near_of near.target) all ∙ found_near (nears_of front) (nears_of later) near (no_place_before [] [] front later near follow)
 
 -- an answer that isn't elsewhere, and has a direction, has one that is near its target's place
-pub near_unless_elsewhere : (near : Near) (answer : Answer) (d : Direction) → is_elsewhere (Some near) answer ≡ false → direction_of answer ≡ Some d → IsNear d near.place near.tolerance
+pub near_unless_elsewhere : (near : Near) (answer : Answer) (d : Direction)
+    → is_elsewhere (Some near) answer ≡ false → direction_of answer ≡ Some d → IsNear d near.place near.tolerance
 unfolding is_elsewhere
 near_unless_elsewhere near answer d isnt has =
     (near_is_within d near.place near.tolerance).0 (not-false (is_near d near.place near.tolerance) (ap (is_away near) (sym has) ∙ isnt))
 
 -- the tasks, when the loop has given the first i of them their places, and the others none yet
-abbrev halfway : List Near → ℕ → List Task → List Task
+abbrev halfway : List Near → (i : ℕ) → List Task → List Task
 halfway nears i tasks = map (placed nears) (take i tasks) ++ drop i tasks
 
 -- where the first i tasks have their places, and task i is given its own, the first i + 1 have theirs
@@ -77,13 +74,14 @@ placed_at nears (x ∷ tasks) (suc i) d below = let low : i < length tasks = ome
 
 -- where `now` is the tasks with the first i given their places, and task i of `now` is replaced by itself with its place, the
 -- first i + 1 have theirs
-pub placed_next : (nears : List Near) (tasks now : List Task) (i : ℕ) (d new : Task) → now ≡ halfway nears i tasks → i < length tasks → new ≡ placed nears (get_or now i d)
+pub placed_next : (nears : List Near) (tasks now : List Task) (i : ℕ) (d new : Task)
+    → now ≡ halfway nears i tasks → i < length tasks → new ≡ placed nears (get_or now i d)
     → slice_set now i new ≡ map (placed nears) (take (i + 1) tasks) ++ drop (i + 1) tasks
 placed_next nears tasks now i d new is below e =
     let one : suc i ≡ i + 1 = omega arith in
     ap (slice_set now i) e ∙ ap (λ ts. slice_set ts i (placed nears (get_or ts i d))) is ∙ placed_at nears tasks i d below ∙ ap (λ n. halfway nears n tasks) one
 
--- an answer that is elsewhere has a direction, which isn't near its target's place
+-- where an answer is elsewhere, a place is known of its target, and the answer has a direction that isn't near that place
 pub elsewhere_is : (place : Option Near) (answer : Answer) → is_elsewhere place answer ≡ true
     → (near : Near) × (d : Direction) × (place ≡ Some near) × (direction_of answer ≡ Some d) × (IsNear d near.place near.tolerance → ⊥)
 unfolding is_elsewhere

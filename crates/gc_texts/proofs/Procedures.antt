@@ -9,25 +9,29 @@ use Rattle.gc_texts.specs.Cuts.{Cuts, Lacks}
 use Rattle.gc_texts.specs.Procedures.{IsNumber, IsProcedure, HasBytes, params_text_of}
 use Rattle.gc_texts.proofs.Cutting.{cut_found, cut_none, digits_lack_spaces}
 
--- the first space of a procedure's text follows its digits
-cut_params : (text front digits : List ℕ) (rest params : Option (List ℕ)) → Cuts 32 text front rest → Lacks 32 digits → text ≡ digits ++ params_text_of params → (front ≡ digits) × (rest ≡ params)
+-- where a text is digits without a space, and then parameters after a space, or none, its cut at the first space gives the digits
+-- as the front and the parameters as the rest
+cut_params : (text front digits : List ℕ) (rest params : Option (List ℕ))
+    → Cuts 32 text front rest → Lacks 32 digits → text ≡ digits ++ params_text_of params → (front ≡ digits) × (rest ≡ params)
 cut_params text front digits rest None cut lacks e =
     let whole : text ≡ digits = e ∙ append-nil digits in
     let found = cut_none 32 text front rest cut (subst (λ (t : List ℕ). Lacks 32 t) (sym whole) lacks) in
     (found.0 ∙ whole, found.1)
 cut_params text front digits rest (Some params) cut lacks e = cut_found 32 text front rest digits params cut e lacks
 
--- the parts of a procedure's text, cut at its first space
-pub procedure_parts : (text front : List ℕ) (rest : Option (List ℕ)) (call : Call) → Cuts 32 text front rest → (p : IsProcedure text call) → (front ≡ p.rpc_text) × (rest ≡ p.params)
+-- the parts of a procedure's text, cut at its first space, are the text of its number and its parameters
+pub procedure_parts : (text front : List ℕ) (rest : Option (List ℕ)) (call : Call)
+    → Cuts 32 text front rest → (p : IsProcedure text call) → (front ≡ p.rpc_text) × (rest ≡ p.params)
 procedure_parts text front rest call cut p = cut_params text front p.rpc_text rest p.params cut (digits_lack_spaces p.rpc_text p.number.names.digits) p.text_is
 
--- a text whose front is no number is no procedure's
-pub no_procedure : (text front : List ℕ) (rest : Option (List ℕ)) → Cuts 32 text front rest → ((n : ℕ) → IsNumber front n 65535 → ⊥) → (call : Call) → IsProcedure text call → ⊥
+-- a text that is cut at its first space, and whose front is no number up to 65535, is no procedure's
+pub no_procedure : (text front : List ℕ) (rest : Option (List ℕ)) → Cuts 32 text front rest
+    → ((n : ℕ) → IsNumber front n 65535 → ⊥) → (call : Call) → IsProcedure text call → ⊥
 no_procedure text front rest cut none call p =
     let parts = procedure_parts text front rest call cut p in
     none p.rpc (subst (λ (t : List ℕ). IsNumber t p.rpc 65535) (sym parts.0) p.number)
 
--- an empty list of parameters, where one is given, has no byte
+-- parameters that are given and empty don't have at least one byte
 no_bytes : (params : Option (List ℕ)) → params ≡ Some [] → HasBytes params → ⊥
 no_bytes None e more = cc
 no_bytes (Some []) e more = absurd (omega (arith, more))
@@ -43,10 +47,11 @@ no_parameters text front cut call p =
 pub one_number : (digits : List ℕ) (m n max : ℕ) → IsNumber digits m max → IsNumber digits n max → m ≡ n
 one_number digits m n max h k = h.names.value ∙ sym k.names.value
 
--- where the front of a text is a number, and `r` is the call of that number and the parameters after it, or `None` where
--- they make none, `r` is the call of the text, too
-pub procedure_is : (text front params : List ℕ) (rest : Option (List ℕ)) (rpc : ℕ) (r : Option Call) (cut : Cuts 32 text front rest) (more : HasBytes rest)
-    (same : params ≡ unwrap_or rest []) (number : IsNumber front rpc 65535)
+-- where the front of a text, up to its first space, is the number `rpc`, up to 65535, what follows the space, if there is one, has
+-- at least one byte, and `params` is that, or else empty: if `r` is the call of `rpc` and `params`, it is the call of the text, too; and
+-- if it is `None`, as they make no call, the text is no procedure's
+pub procedure_is : (text front params : List ℕ) (rest : Option (List ℕ)) (rpc : ℕ) (r : Option Call)
+    (cut : Cuts 32 text front rest) (more : HasBytes rest) (same : params ≡ unwrap_or rest []) (number : IsNumber front rpc 65535)
     → MatchOption r ((call : Call) → IsCall rpc params call → ⊥) (λ call. IsCall rpc params call)
     → MatchOption r ((call : Call) → IsProcedure text call → ⊥) (λ call. IsProcedure text call)
 procedure_is text front params rest rpc None cut more same number none =
@@ -72,18 +77,22 @@ procedure_is text front params rest rpc (Some call) cut more same number calls =
     cut_text text front (Some rest) cut = cut.0
 
 -- in a cut, the rest may be replaced by one that equals it
-pub with_rest : (mark : ℕ) (text front : List ℕ) (o rest : Option (List ℕ)) → Cuts mark text front o → o ≡ rest → Cuts mark text front rest
+pub with_rest : (mark : ℕ) (text front : List ℕ) (o rest : Option (List ℕ))
+    → Cuts mark text front o → o ≡ rest → Cuts mark text front rest
 with_rest mark text front o rest cut e = let P : Option (List ℕ) → Type 0 = λ r. Cuts mark text front r in subst P e cut
 
--- where the front of a text is a number, with a space and at least one byte of parameters after it, and `r` is the call of
--- that number and these parameters, or `None` where they make none, `r` is the call of the text, too
-pub with_parameters : (text front params : List ℕ) (o : Option (List ℕ)) (rpc : ℕ) (r : Option Call) (cut : Cuts 32 text front o) (is : o ≡ Some params)
-    (more : 0 < length params) (number : IsNumber front rpc 65535)
+-- where the front of a text, up to its first space, is the number `rpc`, up to 65535, and what follows the space is `params`, at least
+-- one byte: if `r` is the call of `rpc` and `params`, it is the call of the text, too; and if it is `None`, as they make no call, the
+-- text is no procedure's
+pub with_parameters : (text front params : List ℕ) (o : Option (List ℕ)) (rpc : ℕ) (r : Option Call)
+    (cut : Cuts 32 text front o) (is : o ≡ Some params) (more : 0 < length params) (number : IsNumber front rpc 65535)
     → MatchOption r ((call : Call) → IsCall rpc params call → ⊥) (λ call. IsCall rpc params call)
     → MatchOption r ((call : Call) → IsProcedure text call → ⊥) (λ call. IsProcedure text call)
-with_parameters text front params o rpc r cut e more number called = procedure_is text front params (Some params) rpc r (with_rest 32 text front o (Some params) cut e) more refl number called
+with_parameters text front params o rpc r cut e more number called =
+    procedure_is text front params (Some params) rpc r (with_rest 32 text front o (Some params) cut e) more refl number called
 
--- a text with nothing after its space is no procedure's
-pub without_parameters : (text front params : List ℕ) (o : Option (List ℕ)) → Cuts 32 text front o → o ≡ Some params → length params ≡ 0 → (call : Call) → IsProcedure text call → ⊥
+-- a text that has a first space and nothing after it is no procedure's
+pub without_parameters : (text front params : List ℕ) (o : Option (List ℕ)) → Cuts 32 text front o → o ≡ Some params → length params ≡ 0
+    → (call : Call) → IsProcedure text call → ⊥
 without_parameters text front [] o cut e none call p = no_parameters text front (with_rest 32 text front o (Some []) cut e) call p
 without_parameters text front (b ∷ bs) o cut e none call p = absurd (omega (arith, none))

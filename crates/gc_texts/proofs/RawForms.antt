@@ -15,7 +15,7 @@ use Rattle.gc_texts.proofs.Cutting.{digits_lack_spaces}
 use Rattle.gc_texts.proofs.Fronts.{before_mark, before_none, behind_mark}
 use Rattle.gc_texts.proofs.Procedures.{one_number}
 
--- what is before the first space of digits and the parameters after them is the digits
+-- where a text is digits and then a space and parameters, or digits alone, what is before its first space is the digits
 before_params : (digits : List ℕ) (params : Option (List ℕ)) → AreDigits digits → before 32 (digits ++ params_text_of params) ≡ digits
 before_params digits None are = ap (before 32) (append-nil digits) ∙ before_none 32 digits (digits_lack_spaces digits are)
 before_params digits (Some params) are = before_mark 32 digits params (digits_lack_spaces digits are)
@@ -36,14 +36,14 @@ no_digits (d ∷ ds) are e = let first : d ≡ 114 = ap (λ bs. get_or bs 0 0) e
 pub never_both : (line : List ℕ) (command : Command) (target : ℕ) (raw : RawCall) → IsCommand line command → IsRawWish line target raw → ⊥
 never_both line command target raw x y = no_digits x.procedure_is.rpc_text x.procedure_is.number.names.digits (sym (number_word line command x) ∙ y.word)
 
--- a line asks one target at most for one procedure that isn't in the table
+-- a line asks at most one target for at most one request of a procedure that isn't in the table
 pub one_raw : (line : List ℕ) (m n : ℕ) (r s : RawCall) → IsRawWish line m r → IsRawWish line n s → (m ≡ n) × (Raw r ≡ Raw s)
 one_raw line m n r s x y = (
   one_number (first_word line) m n 4294967295 x.target_is y.target_is,
   one_asked s.rpc (raw_bytes s.params) (Raw r) (Raw s) (one_number (third_word line) r.rpc s.rpc 65535 x.number y.number, x.params_are ∙ sym y.params_are) (refl, refl),
 )
 
--- where digits are before the first space of a line, the line begins with a byte up to that of 9
+-- where what is before the first space of a line is digits, at least one, the line's first byte is at most 57, that of 9
 pub first_digit : (line : List ℕ) → AreDigits (first_word line) → 0 < length (first_word line) → get_or line 0 0 ≤ 57
 first_digit [] digits some = omega arith
 first_digit (b ∷ bs) digits some = low (b == 32) (before 32 bs) digits some where

@@ -1,17 +1,17 @@
 -- What is at fault in a line whose second word is `raw`, and the names of procedures by their numbers.
-use Rattle.std.proofs.Common.{◌≡◌, ◌≢◌, ◌==◌, ◌⊎◌, inl, inr, ℕ, List, [], ◌∷◌, ◌++◌, codes, append_assoc, Option, Some, None, IfSome, cond, refl, ap, subst, sym, ◌∙◌}
+use Rattle.std.proofs.Common.{◌≡◌, inl, inr, ℕ, List, [], ◌∷◌, ◌++◌, codes, append_assoc, cond, refl, ap, subst, sym, ◌∙◌}
 use Rattle.std.proofs.lemmas.Bool.{ne_eqb}
-use Rattle.gc_catalogue.specs.Calls.{call_fields, IsNoProcedure, IsProcedure}
+use Rattle.gc_catalogue.specs.Calls.{call_fields, IsNoProcedure}
 use Rattle.gc_catalogue.specs.Names.{call_name}
-use Rattle.gc_catalogue.specs.Raws.{IsRawCall, IsRawRefusal}
+use Rattle.gc_catalogue.specs.Raws.{IsRawRefusal}
 use Rattle.gc_catalogue.specs.declared.call.Call.{Call}
 use Rattle.gc_catalogue.specs.declared.call.Call.TheVariants.{NullProc}
 use Rattle.gc_catalogue.specs.declared.raw.RawFault.{RawFault}
 use Rattle.gc_catalogue.specs.declared.raw.RawFault.TheVariants.{InTable, NotPlain, TooLong, OpenQuote, TooMany}
 use Rattle.gc_texts.specs.Laws.{NamesAreTheCatalogues}
-use Rattle.gc_texts.specs.ProcedureNames.{each_procedure, name_among, name_of}
+use Rattle.gc_texts.specs.ProcedureNames.{name_among}
 use Rattle.gc_texts.specs.Procedures.{IsNumber}
-use Rattle.gc_texts.specs.Troubles.{raw_trouble, IsRawLine, IsRawCommandTrouble, IsRawTrouble, IsRawWordsTrouble, IsAskingTrouble}
+use Rattle.gc_texts.specs.Troubles.{raw_trouble, IsRawLine, IsRawWordsTrouble, IsAskingTrouble}
 use Rattle.gc_texts.specs.Words.{third_word, after_three_words}
 use Rattle.gc_texts.specs.declared.trouble.Trouble.{Trouble}
 use Rattle.gc_texts.specs.declared.trouble.Trouble.TheVariants as trouble
@@ -27,14 +27,12 @@ no_name [] rpc none = refl
 no_name (call ∷ calls) rpc none =
     ap (λ b. cond b (call_name call) (name_among calls rpc)) (ne_eqb (call_fields call).number rpc (none call)) ∙ no_name calls rpc none
 
--- where `name` is the name of each call with this number, and some call has it, `name` is what is found of the number
-pub name_found : (rpc : ℕ) (name : List ℕ) → ((call : Call) → (call_fields call).number ≡ rpc → name ≡ call_name call) → IsProcedure rpc → name ≡ name_of rpc
-name_found rpc name each is = each is.0 is.1 ∙ sym (printed_names_are is.0) ∙ ap name_of is.1
-
 -- a line whose second word is `raw`
 module _ (line : List ℕ) (word : IsRawLine line) where
-  -- where a number and what follows it may not be asked for, what is reported of the reason is a trouble of the line
-  refused : (rpc : ℕ) (fault : RawFault) → IsNumber (third_word line) rpc 65535 → IsRawRefusal rpc (after_three_words line) fault → IsAskingTrouble line (raw_trouble rpc fault)
+  -- where the third word is the number `rpc`, and `rpc` is refused with `fault` for a request with what follows that word
+  -- (`IsRawRefusal`), what `raw_trouble` reports of the two is at fault in the line (`IsAskingTrouble`)
+  refused : (rpc : ℕ) (fault : RawFault) → IsNumber (third_word line) rpc 65535 → IsRawRefusal rpc (after_three_words line) fault
+      → IsAskingTrouble line (raw_trouble rpc fault)
   refused rpc InTable number is = record { word = word; rpc = rpc; number = number; is = inl (InTable, is, refl) }
   refused rpc NotPlain number is = record { word = word; rpc = rpc; number = number; is = inl (NotPlain, is, refl) }
   refused rpc TooLong number is = record { word = word; rpc = rpc; number = number; is = inl (TooLong, is, refl) }
@@ -48,12 +46,15 @@ module _ (line : List ℕ) (word : IsRawLine line) where
   raw_words t (inr (rpc, number, inr (may, told))) =
       subst (IsAskingTrouble line) (sym told) (inr (inr (record { word = word; rpc = rpc; number = number; is = inr (may, refl) })))
 
--- where `t` is what is at fault in a word after `raw` and the parameters after it, it is at fault in an equal word and equal parameters
-pub same_raw_trouble : (word other params others : List ℕ) (t : Trouble) → word ≡ other → params ≡ others → IsRawWordsTrouble word params t → IsRawWordsTrouble other others t
+-- where `t` is what is at fault in a word after `raw` and the parameters after it, it is at fault in an equal word and equal
+-- parameters
+pub same_raw_trouble : (word other params others : List ℕ) (t : Trouble) → word ≡ other → params ≡ others
+    → IsRawWordsTrouble word params t → IsRawWordsTrouble other others t
 same_raw_trouble word other params others t e f is = subst (λ (w : List ℕ). IsRawWordsTrouble w others t) e (subst (λ (p : List ℕ). IsRawWordsTrouble word p t) f is)
 
 -- the text that a procedure is in the table, with a line feed at the end of its last part, is that text and then a line feed
-pub in_table_line : (rpc name : List ℕ) → rpc ++ (codes " is " ++ (name ++ codes ": leave out raw\n")) ≡ (((rpc ++ codes " is ") ++ name) ++ codes ": leave out raw") ++ codes "\n"
+pub in_table_line : (rpc name : List ℕ)
+    → rpc ++ (codes " is " ++ (name ++ codes ": leave out raw\n")) ≡ (((rpc ++ codes " is ") ++ name) ++ codes ": leave out raw") ++ codes "\n"
 in_table_line rpc name =
     sym (append_assoc ((rpc ++ codes " is ") ++ name) (codes ": leave out raw") (codes "\n")
     ∙ append_assoc (rpc ++ codes " is ") name (codes ": leave out raw\n") ∙ append_assoc rpc (codes " is ") (name ++ codes ": leave out raw\n"))

@@ -15,9 +15,9 @@ use Rattle.gc_texts.specs.declared.retry.Retry.{Retry}
 use Rattle.gc_values.specs.Digits.{AreDigits}
 use Rattle.gc_texts.proofs.Cutting.{read_alike, digits_lack_spaces}
 use Rattle.gc_texts.proofs.Procedures.{one_number}
-use Rattle.gc_texts.proofs.WordForms.{IsWordForm, one_word_list, AreLeft, ReadsWords, none_read, all_read_are, next_item_of, one_more_read}
+use Rattle.gc_texts.proofs.WordForms.{IsWordForm, one_word_list, AreLeft, ReadsWords, all_read_are, next_item_of, one_more_read}
 
--- the second byte of digits is at most 57, that of 9
+-- the second byte of digits, or 0 where there is none, is at most 57, that of 9
 second_low : (word : List ℕ) → AreDigits word → get_or word 1 0 ≤ 57
 second_low [] are = omega arith
 second_low (a ∷ []) are = omega arith
@@ -43,9 +43,9 @@ low_kind b low =
     ∙ ap (λ t. cond t 2 (if b == 97 then 3 else if b == 111 then 4 else if b == 107 then 5 else 0)) (ne_eqb b 108 (λ e. omega (arith, e, low)))
     ∙ ap (λ t. cond t 3 (if b == 111 then 4 else if b == 107 then 5 else 0)) (ne_eqb b 97 (λ e. omega (arith, e, low)))
     ∙ ap (λ t. cond t 4 (if b == 107 then 5 else 0)) (ne_eqb b 111 (λ e. omega (arith, e, low)))
-    ∙ ap (λ t. cond t 5 (0)) (ne_eqb b 107 (λ e. omega (arith, e, low)))
+    ∙ ap (λ t. cond t 5 0) (ne_eqb b 107 (λ e. omega (arith, e, low)))
 
--- the second byte of a word shows its kind
+-- the second byte of a word, or 0 where it has none, shows its kind
 kind_is : (word : List ℕ) (r : Reason) → IsReason word r → kind_at (get_or word 1 0) ≡ kind r
 kind_is word (reason.Code code) is = low_kind (get_or word 1 0) (second_low word is.number.names.digits)
 kind_is word reason.Unreadable is = ap (λ bs. kind_at (get_or bs 1 0)) is
@@ -54,7 +54,7 @@ kind_is word reason.Late is = ap (λ bs. kind_at (get_or bs 1 0)) is
 kind_is word reason.Lost is = ap (λ bs. kind_at (get_or bs 1 0)) is
 kind_is word reason.Skipped is = ap (λ bs. kind_at (get_or bs 1 0)) is
 
--- two readings of a word that are of one kind are one
+-- where a word is `a` and is `b`, and both are of one kind, they are the same
 same_reason : (word : List ℕ) (a b : Reason) → IsReason word a → IsReason word b → kind a ≡ kind b → a ≡ b
 same_reason word (reason.Code m) (reason.Code n) x y h = ap reason.Code (one_number word m n 65535 x.number y.number)
 same_reason word reason.Unreadable reason.Unreadable x y h = refl
@@ -137,7 +137,8 @@ one_retrying line a b (inr x) (inl y) =
 one_retrying line a b (inr x) (inr y) =
     one_rule y.rest a b (subst (λ (r : List ℕ). IsRetryRule r a) (append_cancel_left (codes "retry ") x.rest y.rest (sym x.line_is ∙ y.line_is)) x.rule_is) y.rule_is
 
--- where a line is `retry ` and `rest`, and `r` is the rule that `rest` is, or `None` where it is none, `r` is what the line sets, too
+-- where a line is `retry ` and `rest`, but not `retry 0`, and `r` is the rule that `rest` is, or `None` where it is none, `r` is
+-- what the line sets, too, or `None` where it sets none
 pub retries_so : (line rest : List ℕ) (r : Option Retry) → (line ≡ codes "retry 0" → ⊥) → line ≡ codes "retry " ++ rest
     → MatchOption r ((found : Retry) → IsRetryRule rest found → ⊥) (λ found. IsRetryRule rest found)
     → MatchOption r ((found : Retry) → SetsRetry line found → ⊥) (λ found. SetsRetry line found)
@@ -146,11 +147,6 @@ retries_so line rest r other e = read_alike (IsRetryRule rest) (SetsRetry line) 
   rest_rules : (found : Retry) → SetsRetry line found → IsRetryRule rest found
   rest_rules found (inl alone) = absurd (other alone.0)
   rest_rules found (inr is) = subst (λ (t : List ℕ). IsRetryRule t found) (append_cancel_left (codes "retry ") is.rest rest (sym is.line_is ∙ e)) is.rule_is
-
--- a line that is neither `retry 0` nor begins with `retry ` sets none
-pub retries_none : (line : List ℕ) → (line ≡ codes "retry 0" → ⊥) → ((rest : List ℕ) → line ≡ codes "retry " ++ rest → ⊥) → (found : Retry) → SetsRetry line found → ⊥
-retries_none line other none found (inl alone) = other alone.0
-retries_none line other none found (inr is) = none is.rest is.line_is
 
 -- How far the reading has come.
 
@@ -162,18 +158,13 @@ pub record NamesSoFar (text : List ℕ) (left : Option (List ℕ)) (again : Agai
   pub count_is : count ≡ codes_with 0 read
   pub few : count ≤ 16
 
--- before the first word nothing is named
-pub names_opening : (text : List ℕ) (left : Option (List ℕ)) (again : Again) → left ≡ Some text → again ≡ no_again → NamesSoFar text left again 0
-names_opening text left again some none =
-    subst (λ o. NamesSoFar text o again 0) (sym some)
-    (record { read = []; reads = none_read IsReason text; again_is = none; count_is = refl; few = omega arith })
-
 -- the rule that words and one more make is the rule of the words, with that word added
-more_named : (again : Again) (count : ℕ) (read : List Reason) (r : Reason) → named_with again count (read ++ r ∷ []) ≡ again_with (named_with again count read) (codes_with count read) r
+more_named : (again : Again) (count : ℕ) (read : List Reason) (r : Reason)
+    → named_with again count (read ++ r ∷ []) ≡ again_with (named_with again count read) (codes_with count read) r
 more_named again count [] r = refl
 more_named again count (x ∷ read) r = more_named (again_with again count x) (count_with count x) read r
 
--- words and one more have as many codes as the words, and that of the last if it is a code
+-- words and one more have as many codes as the words, and one code more if the last is a code
 more_codes : (count : ℕ) (read : List Reason) (r : Reason) → codes_with count (read ++ r ∷ []) ≡ count_with (codes_with count read) r
 more_codes count [] r = refl
 more_codes count (x ∷ read) r = more_codes (count_with count x) read r
@@ -195,19 +186,19 @@ codes_grow count (r ∷ later) =
     let all : count_with count r ≤ codes_with (count_with count r) later = codes_grow (count_with count r) later in
     omega (arith, one, all)
 
--- the codes of words and later ones are those of the words, and after them those of the later ones
+-- words and later ones have as many codes as the later ones have when they are counted on from the codes of the words
 codes_both : (count : ℕ) (read later : List Reason) → codes_with count (read ++ later) ≡ codes_with (codes_with count read) later
 codes_both count [] later = refl
 codes_both count (x ∷ read) later = codes_both (count_with count x) read later
 
--- where there is no room for a word, it is one code more, after 16 others
-no_room : (count : ℕ) (r : Reason) → count ≤ 16 → has_room count r ≡ false → 16 < count_with count r
-no_room count (reason.Code code) few e = let full : 16 ≤ count = ltb-false count 16 e in omega (arith, full)
-no_room count reason.Unreadable few e = cc
-no_room count reason.Elsewhere few e = cc
-no_room count reason.Late few e = cc
-no_room count reason.Lost few e = cc
-no_room count reason.Skipped few e = cc
+-- where there is no room for a word, there are more than 16 codes with it
+no_room : (count : ℕ) (r : Reason) → has_room count r ≡ false → 16 < count_with count r
+no_room count (reason.Code code) e = let full : 16 ≤ count = ltb-false count 16 e in omega (arith, full)
+no_room count reason.Unreadable e = cc
+no_room count reason.Elsewhere e = cc
+no_room count reason.Late e = cc
+no_room count reason.Lost e = cc
+no_room count reason.Skipped e = cc
 
 -- where there is room for a word, there are at most 16 codes with it
 room_for : (count : ℕ) (r : Reason) → count ≤ 16 → has_room count r ≡ true → count_with count r ≤ 16
@@ -218,19 +209,24 @@ room_for count reason.Late few e = few
 room_for count reason.Lost few e = few
 room_for count reason.Skipped few e = few
 
-module _ (text now word : List ℕ) (left rest : Option (List ℕ)) (old : Again) (count : ℕ) (f : NamesSoFar text left old count) (some : left ≡ Some now) (cut : Cuts 32 now word rest) where
+-- the text `now` is left, and `word` is its next word
+module _
+    (text now word : List ℕ) (left rest : Option (List ℕ)) (old : Again) (count : ℕ) (f : NamesSoFar text left old count)
+    (some : left ≡ Some now) (cut : Cuts 32 now word rest) where
   -- the words of the text are those that were read, the next one, and those of the rest
-  next_reason : (all : List Reason) → AreReasons text all → (r : Reason) × (others : List Reason) × (all ≡ f.read ++ r ∷ others) × IsReason word r × AreLeft IsReason rest others
+  next_reason : (all : List Reason) → AreReasons text all
+      → (r : Reason) × (others : List Reason) × (all ≡ f.read ++ r ∷ others) × IsReason word r × AreLeft IsReason rest others
   next_reason all are = next_item_of IsReason reason_form text now word left rest f.read f.reads some cut all are
 
-  -- where the next word is neither a code nor an outcome, the text names nothing
+  -- where the next word is neither a code nor an outcome, the text names no rule
   pub reason_fails : ((r : Reason) → IsReason word r → ⊥) → (found : Again) → NamesRule text found → ⊥
   reason_fails none found is =
       let next = next_reason is.reasons is.are in
       none next.0 next.3
 
-  -- where there is no room for the next word, the text has more codes than there are places
-  pub reasons_too_many : (r : Reason) (room : Bool) → IsReason word r → room ≡ has_room count r → room ≡ false → (found : Again) → NamesRule text found → ⊥
+  -- where the next word is a code or an outcome, and there is no room for it, the text names no rule: it has more than 16 codes
+  pub reasons_too_many : (r : Reason) (room : Bool) → IsReason word r → room ≡ has_room count r → room ≡ false
+      → (found : Again) → NamesRule text found → ⊥
   reasons_too_many r room says tested none found is =
       let next = next_reason is.reasons is.are in
       let same : next.0 ≡ r = one_reason word next.0 r next.3 says in
@@ -238,11 +234,12 @@ module _ (text now word : List ℕ) (left rest : Option (List ℕ)) (old : Again
       ap (codes_with 0) next.2 ∙ codes_both 0 f.read (next.0 ∷ next.1) ∙ ap (λ x. codes_with (count_with (codes_with 0 f.read) x) next.1) same
       ∙ ap (λ n. codes_with (count_with n r) next.1) (sym f.count_is) in
       let more : count_with count r ≤ codes_with (count_with count r) next.1 = codes_grow (count_with count r) next.1 in
-      let much : 16 < count_with count r = no_room count r f.few (sym tested ∙ none) in
+      let much : 16 < count_with count r = no_room count r (sym tested ∙ none) in
       omega (arith, all, more, much, is.few)
 
   -- where the next word is a code or an outcome, and there is room for it, one more is read
-  pub reason_reads : (r : Reason) (new : Again) (next : ℕ) (room : Bool) (is : IsReason word r) (more : new ≡ again_with old count r) (counted : next ≡ count_with count r)
+  pub reason_reads : (r : Reason) (new : Again) (next : ℕ) (room : Bool)
+      (is : IsReason word r) (more : new ≡ again_with old count r) (counted : next ≡ count_with count r)
       → room ≡ has_room count r → room ≡ true → NamesSoFar text rest new next
   reason_reads r new next room is more counted tested has =
       record {
@@ -253,8 +250,9 @@ module _ (text now word : List ℕ) (left rest : Option (List ℕ)) (old : Again
         few = subst (λ n. n ≤ 16) (sym counted) (room_for count r f.few (sym tested ∙ has));
       }
 
--- where nothing is left, the words that were read are those of the text
-pub reasons_are : (text : List ℕ) (left : Option (List ℕ)) (again : Again) (count : ℕ) → NamesSoFar text left again count → left ≡ None → NamesRule text again
+-- where nothing is left, the text names the rule that the words that were read make
+pub reasons_are : (text : List ℕ) (left : Option (List ℕ)) (again : Again) (count : ℕ)
+    → NamesSoFar text left again count → left ≡ None → NamesRule text again
 reasons_are text left again count f e =
     record {
       reasons = f.read;

@@ -19,13 +19,11 @@ use Rattle.gc_texts.specs.declared.task_line.TaskLine.TheVariants as says
 use Rattle.gc_texts.specs.declared.mode.Mode.{Mode}
 use Rattle.gc_texts.specs.declared.attempts.Planned.{Planned}
 use Rattle.gc_texts.specs.declared.tasks.Task.{Task}
-use Rattle.gc_texts.proofs.TaskLaws.{PlannedKeep, commands_keep}
+use Rattle.gc_texts.proofs.TaskLaws.{IsFirst, PlannedKeep, commands_keep}
 
--- the task of a command is as its line says it: in the first attempt of its chain, without a rule, and without a count of others
-record IsAsItsLineSays (planned : Planned) : Type 0 where
-  again : planned.task.again ≡ no_again
-  attempt : planned.task.turn.attempt ≡ 1
-  others : planned.task.others ≡ 0
+-- the task of a command is as its line says it: in the first attempt of its chain, without a place, a rule and a count of others
+abbrev IsAsItsLineSays : Planned → Type 0
+IsAsItsLineSays planned = IsFirst planned.task
 
 -- the cycle's commands are as their lines say them
 all_as_their_lines_say : (mode : Mode) (lines : List TaskLine) → AllByRecursion IsAsItsLineSays (planned_of mode lines)
@@ -33,32 +31,36 @@ all_as_their_lines_say mode [] = tt
 all_as_their_lines_say mode (says.Command c now ∷ later) = by_setup mode.setup (all_as_their_lines_say (mode_after mode (says.Command c now)) later) where
   -- the lemma above for a command and the lines after it, by whether the mode is that of the setup (`b`)
   by_setup : (b : Bool) → AllByRecursion IsAsItsLineSays (planned_of (mode_after mode (says.Command c now)) later)
-      → AllByRecursion IsAsItsLineSays ((if b then [] else record { task = task_at mode c now; retry = mode.retry } ∷ []) ++ planned_of (mode_after mode (says.Command c now)) later)
+      → AllByRecursion IsAsItsLineSays
+      ((if b then [] else record { task = task_at mode c now; retry = mode.retry } ∷ []) ++ planned_of (mode_after mode (says.Command c now)) later)
   by_setup true more = more
-  by_setup false more = (record { again = refl; attempt = refl; others = refl }, more)
+  by_setup false more = (record { near = refl; again = refl; attempt = refl; others = refl }, more)
 all_as_their_lines_say mode (line ∷ later) = all_as_their_lines_say (mode_after mode line) later
 
 -- each chained command has the retry of the one before it; `retry` is that of the command before these
-abbrev SameRules : Retry → List Planned → Type 0
-SameRules retry [] = Unit {0}
-SameRules retry (p ∷ later) = (p.task.chained ≡ true → p.retry ≡ retry) × SameRules p.retry later
+abbrev SameRetries : (retry : Retry) → List Planned → Type 0
+SameRetries retry [] = Unit {0}
+SameRetries retry (p ∷ later) = (p.task.chained ≡ true → p.retry ≡ retry) × SameRetries p.retry later
 
--- where there is no group, no command continues it
+-- where `group` is `None`, `continues_group` holds of no command's target
 no_group : (group : Option ℕ) (target : ℕ) → group ≡ None → continues_group group target ≡ true → ⊥
 no_group None target e on = cc
 no_group (Some t) target e on = cc
 
--- where the mode is the setup's, or has no group, or the retry of the command before, each chained command has the retry of the one
--- before it
-same_rules : (mode : Mode) (retry : Retry) (lines : List TaskLine) → (mode.setup ≡ true) ⊎ ((mode.group ≡ None) ⊎ (mode.retry ≡ retry)) → SameRules retry (planned_of mode lines)
-same_rules mode retry [] h = tt
-same_rules mode retry (says.Command c now ∷ later) h =
-    by_setup mode.setup refl h (λ e. same_rules (mode_after mode (says.Command c now)) retry later (inl e)) (same_rules (mode_after mode (says.Command c now)) mode.retry later (inr (inr refl))) where
+-- where the mode is the setup's, or has no group, or has `retry`, the retry of the command before these lines, each chained
+-- command of the cycle has the retry of the one before it (`SameRetries`)
+same_retries : (mode : Mode) (retry : Retry) (lines : List TaskLine)
+    → (mode.setup ≡ true) ⊎ ((mode.group ≡ None) ⊎ (mode.retry ≡ retry)) → SameRetries retry (planned_of mode lines)
+same_retries mode retry [] h = tt
+same_retries mode retry (says.Command c now ∷ later) h =
+    by_setup mode.setup refl h (λ e. same_retries (mode_after mode (says.Command c now)) retry later (inl e))
+    (same_retries (mode_after mode (says.Command c now)) mode.retry later (inr (inr refl))) where
       -- the lemma above for a command and the lines after it, by whether the mode is that of the setup (`b`)
       by_setup : (b : Bool) → mode.setup ≡ b → (mode.setup ≡ true) ⊎ ((mode.group ≡ None) ⊎ (mode.retry ≡ retry))
-          → (mode.setup ≡ true → SameRules retry (planned_of (mode_after mode (says.Command c now)) later))
-          → SameRules mode.retry (planned_of (mode_after mode (says.Command c now)) later)
-          → SameRules retry ((if b then [] else record { task = task_at mode c now; retry = mode.retry } ∷ []) ++ planned_of (mode_after mode (says.Command c now)) later)
+          → (mode.setup ≡ true → SameRetries retry (planned_of (mode_after mode (says.Command c now)) later))
+          → SameRetries mode.retry (planned_of (mode_after mode (says.Command c now)) later)
+          → SameRetries retry
+          ((if b then [] else record { task = task_at mode c now; retry = mode.retry } ∷ []) ++ planned_of (mode_after mode (says.Command c now)) later)
       by_setup true e h at_start in_cycle = at_start e
       by_setup false e (inl is) at_start in_cycle = let bad : true ≡ false = sym is ∙ e in cc
       by_setup false e (inr (inr is)) at_start in_cycle = ((λ on. is), in_cycle)
@@ -68,23 +70,25 @@ same_rules mode retry (says.Command c now ∷ later) h =
             absurd (no_group mode.group c.target is (and_parts mode.chained (continues_group mode.group c.target) so).1)),
         in_cycle,
       )
-same_rules mode retry (says.Chained ∷ later) h = same_rules (mode_after mode says.Chained) retry later (inr (inl refl))
-same_rules mode retry (says.Unchained ∷ later) h = same_rules (mode_after mode says.Unchained) retry later (inr (inl refl))
-same_rules mode retry (says.Retrying r ∷ later) h = same_rules (mode_after mode (says.Retrying r)) retry later (inr (inl refl))
-same_rules mode retry (says.AtStart ∷ later) h = same_rules (mode_after mode says.AtStart) retry later (inr (inl refl))
-same_rules mode retry (says.EachCycle ∷ later) h = same_rules (mode_after mode says.EachCycle) retry later (inr (inl refl))
-same_rules mode retry (line ∷ later) h = same_rules (mode_after mode line) retry later h
+same_retries mode retry (says.Chained ∷ later) h = same_retries (mode_after mode says.Chained) retry later (inr (inl refl))
+same_retries mode retry (says.Unchained ∷ later) h = same_retries (mode_after mode says.Unchained) retry later (inr (inl refl))
+same_retries mode retry (says.Retrying r ∷ later) h = same_retries (mode_after mode (says.Retrying r)) retry later (inr (inl refl))
+same_retries mode retry (says.AtStart ∷ later) h = same_retries (mode_after mode says.AtStart) retry later (inr (inl refl))
+same_retries mode retry (says.EachCycle ∷ later) h = same_retries (mode_after mode says.EachCycle) retry later (inr (inl refl))
+same_retries mode retry (line ∷ later) h = same_retries (mode_after mode line) retry later h
 
 module _ (nears : List Near) where
   -- the task of a command, with the place of its target
   abbrev own : Planned → Task
   own p = placed nears p.task
 
-  -- the tasks of an attempt, with their places
-  abbrev made : ℕ → Again → ℕ → List Planned → List Task
+  -- the tasks of an attempt of these commands, with their places; `n` is how many commands it and the later attempts have
+  -- together
+  abbrev made : (attempt : ℕ) → Again → (n : ℕ) → List Planned → List Task
   made attempt again n ps = map (placed nears) (map (in_attempt attempt again n) ps)
 
-  -- without the fields that distinguish attempts, the task of an attempt is the command's
+  -- where a command's task is as its line says it, the task of an attempt of it with its place is, without the fields that
+  -- distinguish attempts (`as_planned`), the command's own task (`own`)
   one_as_planned : (attempt : ℕ) (again : Again) (n : ℕ) (p : Planned) → IsAsItsLineSays p → as_planned (placed nears (in_attempt attempt again n p)) ≡ own p
   one_as_planned attempt again n p h =
       let near = near_of p.task.command.target nears in
@@ -92,27 +96,31 @@ module _ (nears : List Near) where
       ∙ ap (λ k. record p.task { near = near; turn = record { place = p.task.turn.place; attempt = k; link = p.task.turn.link }; others = 0 }) (sym h.attempt)
       ∙ ap (λ k. record p.task { near = near; others = k }) (sym h.others)
 
-  -- without these fields, all tasks of an attempt are the commands'
-  all_as_planned : (attempt : ℕ) (again : Again) (n : ℕ) (ps : List Planned) → AllByRecursion IsAsItsLineSays ps → map as_planned (made attempt again n ps) ≡ map own ps
+  -- where commands' tasks are as their lines say them, the tasks of an attempt of them, with their places (`made`), are, without
+  -- the fields that distinguish attempts (`as_planned`), the commands' own tasks (`own`)
+  all_as_planned : (attempt : ℕ) (again : Again) (n : ℕ) (ps : List Planned)
+      → AllByRecursion IsAsItsLineSays ps → map as_planned (made attempt again n ps) ≡ map own ps
   all_as_planned attempt again n [] all = refl
   all_as_planned attempt again n (p ∷ ps) all = ap (λ t. t ∷ map as_planned (made attempt again n ps)) (one_as_planned attempt again n p all.0)
       ∙ ap (λ ts. own p ∷ ts) (all_as_planned attempt again n ps all.1)
 
-  -- the tasks of an attempt say which it is
+  -- each task of an attempt has the attempt's number
   all_numbered : (attempt : ℕ) (again : Again) (n : ℕ) (ps : List Planned) → AllByRecursion (λ task. task.turn.attempt ≡ attempt) (made attempt again n ps)
   all_numbered attempt again n [] = tt
   all_numbered attempt again n (p ∷ ps) = (refl, all_numbered attempt again n ps)
 
-  -- the tasks of an attempt have its rule
+  -- each task of an attempt has the attempt's rule
   all_ruled : (attempt : ℕ) (again : Again) (n : ℕ) (ps : List Planned) → AllByRecursion (λ task. task.again ≡ again) (made attempt again n ps)
   all_ruled attempt again n [] = tt
   all_ruled attempt again n (p ∷ ps) = (refl, all_ruled attempt again n ps)
 
-  -- the tasks of an attempt are an attempt of the commands (`IsAttempt`)
-  attempt_is : (attempt : ℕ) (again : Again) (n : ℕ) (ps : List Planned) → AllByRecursion IsAsItsLineSays ps → IsAttempt attempt again (map own ps) (made attempt again n ps)
+  -- where commands' tasks are as their lines say them, those of an attempt of them are an attempt of the commands (`IsAttempt`)
+  attempt_is : (attempt : ℕ) (again : Again) (n : ℕ) (ps : List Planned)
+      → AllByRecursion IsAsItsLineSays ps → IsAttempt attempt again (map own ps) (made attempt again n ps)
   attempt_is attempt again n ps all = record { same = all_as_planned attempt again n ps all; numbered = all_numbered attempt again n ps; ruled = all_ruled attempt again n ps }
 
-  -- the tasks of all attempts of a chain are attempts of its commands (`AreAttempts`)
+  -- where the tasks of a chain's commands are as their lines say them, those of its attempts from number `attempt` on, with
+  -- `left` more after that one, are attempts of the commands (`AreAttempts`)
   attempts_are : (attempt left : ℕ) (again : Again) (ps : List Planned) → AllByRecursion IsAsItsLineSays ps
       → AreAttempts attempt left again (map own ps) (map (placed nears) (attempts_from attempt left again ps))
   attempts_are attempt zero again ps all = attempt_is attempt no_again (length ps) ps all
@@ -124,7 +132,8 @@ module _ (nears : List Near) where
     attempts_are (attempt + 1) left again ps all,
   )
 
-  -- with one more chained command, all commands are chained
+  -- where the tasks of all these commands are chained, and the task of one more command is, the tasks of all
+  -- of them and that one are chained
   chained_more : (ps : List Planned) (p : Planned) → AllByRecursion (λ task. task.chained ≡ true) (map own ps) → p.task.chained ≡ true
       → AllByRecursion (λ task. task.chained ≡ true) (map own (ps ++ p ∷ []))
   chained_more [] p all is = (is, tt)
@@ -140,19 +149,27 @@ module _ (nears : List Near) where
 
   -- these tasks are the attempts of some chains, and the chains' commands, in order, are these
   abbrev Laid : List Task → List Planned → Type 0
-  Laid tasks planned = (chains : List Chain) × AreLaidOut chains tasks × (flat_map {A = Planned} (λ (chain : Chain). map (with_retry chain.retry) chain.commands) chains ≡ map own_planned planned)
+  Laid tasks planned =
+      (chains : List Chain) × AreLaidOut chains tasks
+      × (flat_map {A = Planned} (λ (chain : Chain). map (with_retry chain.retry) chain.commands) chains ≡ map own_planned planned)
 
   -- each of these commands has this retry
   abbrev HaveRetry : Retry → List Planned → Type 0
   HaveRetry retry ps = AllByRecursion (λ p. p.retry ≡ retry) ps
 
-  -- where commands have one retry, their tasks with that retry are the commands
+  -- where commands have one retry, their tasks (`own`) with that retry are the commands with the places of their targets
+  -- (`own_planned`)
   retries_are : (retry : Retry) (ps : List Planned) → HaveRetry retry ps → map (with_retry retry) (map own ps) ≡ map own_planned ps
   retries_are retry [] have = refl
-  retries_are retry (p ∷ ps) have = ap (λ r. record { task = own p; retry = r } ∷ map (with_retry retry) (map own ps)) (sym have.0) ∙ ap (λ l. own_planned p ∷ l) (retries_are retry ps have.1)
+  retries_are retry (p ∷ ps) have =
+      ap (λ r. record { task = own p; retry = r } ∷ map (with_retry retry) (map own ps)) (sym have.0)
+      ∙ ap (λ l. own_planned p ∷ l) (retries_are retry ps have.1)
 
-  -- with the attempts of one more chain in front of those of other chains, tasks are still the attempts of chains (`Laid`)
-  one_more : (retry : Retry) (chain later : List Planned) (tasks : List Task) → IsOneChain (map own chain) → AllByRecursion IsAsItsLineSays chain → HaveRetry retry chain → Laid tasks later
+  -- where tasks are the attempts of the chains of the commands `later` (`Laid`), and `chain` is one chain of commands that have
+  -- this retry and tasks as their lines say them, the attempts of that chain and then those tasks are the attempts of the chains
+  -- of all these commands
+  one_more : (retry : Retry) (chain later : List Planned) (tasks : List Task)
+      → IsOneChain (map own chain) → AllByRecursion IsAsItsLineSays chain → HaveRetry retry chain → Laid tasks later
       → Laid (map (placed nears) (attempts retry chain) ++ tasks) (chain ++ later)
   one_more retry chain later tasks one all have (chains, laid, are) = (
     record { retry = retry; commands = map own chain } ∷ chains,
@@ -160,48 +177,57 @@ module _ (nears : List Near) where
     ap (λ ps. map (with_retry retry) (map own chain) ++ ps) are ∙ ap (λ ps. ps ++ map own_planned later) (retries_are retry chain have) ∙ sym (map-append own_planned chain later),
   )
 
-  -- without tasks there is no chain
+  -- `Laid` holds of the empty list of tasks and the empty list of commands
   none : Laid [] []
   none = ([], refl, refl)
 
-  -- the attempts of a chain that was begun, and of the chains after it, are attempts of chains with these commands (`Laid`)
-  laid_are : (retry : Retry) (first : Planned) (chain later : List Planned) (one : IsOneChain (map own (first ∷ chain))) (all : AllByRecursion IsAsItsLineSays (first ∷ chain))
-      (rest : AllByRecursion IsAsItsLineSays later) → HaveRetry retry (first ∷ chain) → SameRules retry later
+  -- where a chain was begun, whose commands have this retry, each chained command after it has the retry of the one before it,
+  -- and the tasks of all are as their lines say them, the attempts that are laid out of these commands are the attempts of their
+  -- chains (`Laid`)
+  laid_are : (retry : Retry) (first : Planned) (chain later : List Planned)
+      (one : IsOneChain (map own (first ∷ chain))) (all : AllByRecursion IsAsItsLineSays (first ∷ chain)) (rest : AllByRecursion IsAsItsLineSays later)
+      (have : HaveRetry retry (first ∷ chain)) (follow : SameRetries retry later)
       → Laid (map (placed nears) (laid_from retry (first ∷ chain) later)) ((first ∷ chain) ++ later)
   laid_are retry first chain [] one all rest have follow =
       subst (λ ts. Laid ts ((first ∷ chain) ++ [])) (append-nil (map (placed nears) (attempts retry (first ∷ chain)))) (one_more retry (first ∷ chain) [] [] one all have none)
   laid_are retry first chain (p ∷ later) one all rest have follow =
       by_chained p.task.chained refl
       (λ e. laid_are retry first (chain ++ p ∷ []) later (one.0, chained_more chain p one.1 e) (all.0, all_by_recursion_push IsAsItsLineSays chain p all.1 rest.0) rest.1
-      (have.0, all_by_recursion_push (λ (q : Planned). q.retry ≡ retry) chain p have.1 (follow.0 e)) (subst (λ r. SameRules r later) (follow.0 e) follow.1))
+      (have.0, all_by_recursion_push (λ (q : Planned). q.retry ≡ retry) chain p have.1 (follow.0 e)) (subst (λ r. SameRetries r later) (follow.0 e) follow.1))
       (λ e. laid_are p.retry p [] later (e, tt) (rest.0, tt) rest.1 (refl, tt) follow.1) where
         -- the lemma above for `p ∷ later`, by whether `p` goes on with the chain (`b`)
         by_chained : (b : Bool) → p.task.chained ≡ b
             → (p.task.chained ≡ true → Laid (map (placed nears) (laid_from retry (first ∷ (chain ++ p ∷ [])) later)) ((first ∷ (chain ++ p ∷ [])) ++ later))
             → (p.task.chained ≡ false → Laid (map (placed nears) (laid_from p.retry (p ∷ []) later)) (p ∷ later))
-            → Laid (map (placed nears) (if b then laid_from retry ((first ∷ chain) ++ p ∷ []) later else attempts retry (first ∷ chain)
-            ++ laid_from p.retry (p ∷ []) later)) ((first ∷ chain) ++ p ∷ later)
+            → Laid (map (placed nears) (if b then laid_from retry ((first ∷ chain) ++ p ∷ []) later
+            else attempts retry (first ∷ chain) ++ laid_from p.retry (p ∷ []) later)) ((first ∷ chain) ++ p ∷ later)
         by_chained true e on anew = subst (λ ps. Laid (map (placed nears) (laid_from retry ((first ∷ chain) ++ p ∷ []) later)) ps) (append_assoc (first ∷ chain) (p ∷ []) later) (on e)
         by_chained false e on anew =
             subst (λ ts. Laid ts ((first ∷ chain) ++ p ∷ later)) (sym (map-append (placed nears) (attempts retry (first ∷ chain)) (laid_from p.retry (p ∷ []) later)))
             (one_more retry (first ∷ chain) (p ∷ later) (map (placed nears) (laid_from p.retry (p ∷ []) later)) one all have (anew e))
 
-  -- the attempts of the chains that all commands form are attempts of chains with these commands (`Laid`)
-  all_laid : (planned : List Planned) → PlannedKeep None planned → AllByRecursion IsAsItsLineSays planned → SameRules no_retry planned → Laid (map (placed nears) (laid_out planned)) planned
+  -- where these commands keep targets with none before them (`PlannedKeep None`), so that the first isn't chained, each chained
+  -- one has the retry of the one before it, and the tasks of all are as their lines say them, the attempts that are laid out of
+  -- them are the attempts of their chains (`Laid`)
+  all_laid : (planned : List Planned)
+      → PlannedKeep None planned → AllByRecursion IsAsItsLineSays planned → SameRetries no_retry planned
+      → Laid (map (placed nears) (laid_out planned)) planned
   all_laid [] are all follow = none
   all_laid (p ∷ later) are all follow = by_chained p.task.chained refl (λ e. laid_are p.retry p [] later (e, tt) (all.0, tt) all.1 (refl, tt) follow.1) where
     -- the lemma above for `p ∷ later`: `p` isn't chained, because no command is before it
     by_chained : (b : Bool) → p.task.chained ≡ b → (p.task.chained ≡ false → Laid (map (placed nears) (laid_from p.retry (p ∷ []) later)) (p ∷ later))
-        → Laid (map (placed nears) (if b then laid_from no_retry ([] ++ p ∷ []) later else attempts no_retry [] ++ laid_from p.retry (p ∷ []) later)) (p ∷ later)
+        → Laid (map (placed nears) (if b then laid_from no_retry ([] ++ p ∷ []) later
+        else attempts no_retry [] ++ laid_from p.retry (p ∷ []) later)) (p ∷ later)
     by_chained true e anew = let bad : None ≡ Some p.task.command.target = are.0 e in cc
     by_chained false e anew = anew e
 
--- the law: the tasks after the setup are the attempts of the chains of the text's commands
+-- the law: the tasks after the setup are the attempts of chains, in order, whose commands are the text's commands of the cycle,
+-- in order, each with the retry that holds for it
 pub chains_go_out_again : ChainsGoOutAgain
 chains_go_out_again text deadline chained setup tasks names nears is =
     let first = opening deadline chained in
     let planned = planned_of first is.said in
-    let laid = all_laid nears planned (commands_keep first None is.said (inr (inl refl))) (all_as_their_lines_say first is.said) (same_rules first no_retry is.said (inr (inl refl))) in (
+    let laid = all_laid nears planned (commands_keep first None is.said (inr (inl refl))) (all_as_their_lines_say first is.said) (same_retries first no_retry is.said (inr (inl refl))) in (
       laid.0,
       map (placed nears) (setup_of first is.said),
       map (placed nears) (laid_out planned),

@@ -29,13 +29,7 @@ use Rattle.gc_texts.proofs.Procedures.{one_number}
 pub deadline_digits : (line rest : List ℕ) (deadline : ℕ) → line ≡ codes "deadline " ++ rest → (is : IsDeadline line deadline) → is.digits ≡ rest
 deadline_digits line rest deadline e is = append_cancel_left (codes "deadline ") is.digits rest (sym is.line_is ∙ e)
 
--- where the number after `deadline ` is 0, the line gives no deadline
-pub no_zero : (line rest : List ℕ) (n : ℕ) → line ≡ codes "deadline " ++ rest → IsNumber rest n 86400000 → n ≡ 0 → (deadline : ℕ) → IsDeadline line deadline → ⊥
-no_zero line rest n e number zero deadline is =
-    let same : n ≡ deadline = one_number rest n deadline 86400000 number (subst (λ (ds : List ℕ). IsNumber ds deadline 86400000) (deadline_digits line rest deadline e is) is.number) in
-    omega (arith, same, zero, is.some)
-
--- the parts of a line that gives a target a name
+-- the parts of a line that gives a target a name, and which lines can't give it one
 module _ (line rest : List ℕ) (name : Name) (e : line ≡ codes "name " ++ rest) (is : IsNameLine line name) where
   -- what follows `name ` is the target, a space and the name
   the_rest : rest ≡ is.target_text ++ 32 ∷ name.text.items
@@ -45,17 +39,18 @@ module _ (line rest : List ℕ) (name : Name) (e : line ≡ codes "name " ++ res
   the_cut : (target : List ℕ) (text : Option (List ℕ)) → Cuts 32 rest target text → (target ≡ is.target_text) × (text ≡ Some name.text.items)
   the_cut target text cut = cut_found 32 rest target text is.target_text name.text.items cut the_rest (digits_lack_spaces is.target_text is.target_is.names.digits)
 
-  -- the line of a name has a space after its target
-  pub no_space : (target : List ℕ) → Cuts 32 rest target None → ⊥
-  no_space target cut = let parts = the_cut target None cut in let bad : None ≡ Some name.text.items = parts.1 in cc
+  -- a line gives no name where what follows `name ` has no space
+  pub unspaced_is_no_name : (target : List ℕ) → Cuts 32 rest target None → ⊥
+  unspaced_is_no_name target cut = let parts = the_cut target None cut in let bad : None ≡ Some name.text.items = parts.1 in cc
 
-  -- what is before the first space after `name ` is a target
-  pub has_target : (target : List ℕ) (text : Option (List ℕ)) → Cuts 32 rest target text → ((n : ℕ) → IsNumber target n 4294967295 → ⊥) → ⊥
-  has_target target text cut none = none name.target (subst (λ (ds : List ℕ). IsNumber ds name.target 4294967295) (sym (the_cut target text cut).0) is.target_is)
+  -- a line gives no name where what follows `name `, up to the first space, is no target's number
+  pub targetless_is_no_name : (target : List ℕ) (text : Option (List ℕ)) → Cuts 32 rest target text
+      → ((n : ℕ) → IsNumber target n 4294967295 → ⊥) → ⊥
+  targetless_is_no_name target text cut none = none name.target (subst (λ (ds : List ℕ). IsNumber ds name.target 4294967295) (sym (the_cut target text cut).0) is.target_is)
 
-  -- what follows the first space after `name ` is a name
-  pub has_name : (target text : List ℕ) → Cuts 32 rest target (Some text) → is_name text ≡ false → ⊥
-  has_name target text cut isnt =
+  -- a line in which what follows the target isn't the text of a name gives no name
+  pub nameless_is_no_name : (target text : List ℕ) → Cuts 32 rest target (Some text) → is_name text ≡ false → ⊥
+  nameless_is_no_name target text cut isnt =
       let some : Some text ≡ Some name.text.items = (the_cut target (Some text) cut).1 in
       let same : text ≡ name.text.items = cc in
       let both : true ≡ false = sym is.text_is ∙ ap is_name (sym same) ∙ isnt in
@@ -75,15 +70,24 @@ kind (says.Retrying retry) = 6
 kind says.AtStart = 5
 kind says.EachCycle = 7
 
--- the kind of a line with this first byte: 100 is d, 99 c, 117 u, 110 n, 97 a, 114 r and 101 e; any other begins a command
+-- the kind of a line with this first byte: 100 is d, 99 c, 117 u, 110 n, 97 a, 114 r and 101 e; any other byte
+-- is of the kind of a command (0)
 abbrev first_kind : ℕ → ℕ
-first_kind b = if b == 100 then 1 else if b == 99 then 2 else if b == 117 then 3 else if b == 110 then 4 else if b == 97 then 5 else if b == 114 then 6 else if b == 101 then 7 else 0
+first_kind b =
+    if b == 100 then 1
+    else if b == 99 then 2
+    else if b == 117 then 3
+    else if b == 110 then 4
+    else if b == 97 then 5
+    else if b == 114 then 6
+    else if b == 101 then 7
+    else 0
 
 -- the kind of a line, by its first byte
 abbrev kind_in : List ℕ → ℕ
 kind_in line = first_kind (get_or line 0 0)
 
--- a line that begins with a digit is of the kind of a command (0)
+-- a line whose first byte is at most 57, that of 9, is of the kind of a command (0)
 digit_kind : (b : ℕ) → b ≤ 57 → first_kind b ≡ 0
 digit_kind b low =
     ap (λ t. cond t 1 (if b == 99 then 2 else if b == 117 then 3 else if b == 110 then 4 else if b == 97 then 5 else if b == 114 then 6 else if b == 101 then 7 else 0))
@@ -147,7 +151,8 @@ same_near m n e f g h =
     ∙ ap (λ z. record { target = n.target; place = n.place; tolerance = z }) h
 
 -- four words say one place at most
-one_near : (target hz v tolerance : List ℕ) (m n : Near) → AreNearWords target hz v tolerance m → AreNearWords target hz v tolerance n → m ≡ n
+one_near : (target hz v tolerance : List ℕ) (m n : Near)
+    → AreNearWords target hz v tolerance m → AreNearWords target hz v tolerance n → m ≡ n
 one_near target hz v tolerance m n x y =
     same_near m n (one_number target m.target n.target 4294967295 x.target_is y.target_is)
     (spells_unique hz m.place.hz n.place.hz x.hz_is y.hz_is) (spells_unique v m.place.v n.place.v x.v_is y.v_is) (spells_unique tolerance m.tolerance n.tolerance x.tolerance_is y.tolerance_is)
@@ -158,9 +163,10 @@ one_locating line m n x y =
     one_near (before 32 y.rest) (before 32 (behind 32 y.rest)) (before 32 (behind 32 (behind 32 y.rest))) (behind 32 (behind 32 (behind 32 y.rest))) m n
     (subst (λ (r : List ℕ). IsNearText r m) (append_cancel_left (codes "near ") x.rest y.rest (sym x.line_is ∙ y.line_is)) x.near_is) y.near_is
 
--- where a line is `near ` and `rest`, and `r` is the place that `rest` says, or `None` where it says none, `r` is the place
--- that the line says, too
-pub locates_so : (line rest : List ℕ) (r : Option Near) → line ≡ codes "near " ++ rest → MatchOption r ((near : Near) → IsNearText rest near → ⊥) (λ near. IsNearText rest near)
+-- where a line is `near ` and `rest`, and `r` is the place that `rest` says, or `None` where it says none, `r` is the place that
+-- the line says, too, or `None` where it says none
+pub locates_so : (line rest : List ℕ) (r : Option Near) → line ≡ codes "near " ++ rest
+    → MatchOption r ((near : Near) → IsNearText rest near → ⊥) (λ near. IsNearText rest near)
     → MatchOption r ((near : Near) → IsNearLine line near → ⊥) (λ near. IsNearLine line near)
 locates_so line rest r e =
     read_alike (IsNearText rest) (IsNearLine line) r (λ near is. record { rest = rest; line_is = e; near_is = is })
@@ -178,7 +184,8 @@ accept_is_no_start line accepted (inl alone) e = let second : ◌≡◌ {A = ℕ
 accept_is_no_start line accepted (inr is) e = let second : ◌≡◌ {A = ℕ} 99 116 = ap (λ bs. get_or bs 1 0) (sym is.line_is ∙ e) in omega (arith, second)
 
 -- a line asks for one thing at most, and either with the moment at which it is sent or without
-one_asked_for : (line : List ℕ) (v w : Wish) (m n : Bool) → AsksForWish line v m → AsksForWish line w n → says.Command v m ≡ says.Command w n
+one_asked_for : (line : List ℕ) (v w : Wish) (m n : Bool)
+    → AsksForWish line v m → AsksForWish line w n → says.Command v m ≡ says.Command w n
 one_asked_for line v w true true x y = ap (λ u. says.Command u true) (one_clock line v w x y)
 one_asked_for line v w false false x y = ap (λ u. says.Command u false) (one_wish line v w x y)
 one_asked_for line v w true false x y = absurd (wish_is_no_clock line w v y x)

@@ -5,7 +5,7 @@ use Rattle.std.specs.Prelude.{filter}
 use Rattle.std.specs.List.{AllByRecursion}
 use Rattle.std.proofs.lemmas.List.{length-map, map-append}
 use Rattle.std.proofs.SliceLists.{all_by_recursion_push}
-use Rattle.std.proofs.lemmas.Bool.{eqb-true, and_parts}
+use Rattle.std.proofs.lemmas.Bool.{eqb-true, and_parts, both_ways}
 use Rattle.std.proofs.lemmas.Bool.Decides.{nat_tests}
 use Rattle.gc_texts.specs.Again.{no_again}
 use Rattle.gc_texts.specs.Codes.{no_codes}
@@ -30,7 +30,8 @@ use Rattle.gc_texts.specs.declared.tasks.Task.{Task}
 use Rattle.gc_texts.proofs.OneReading.{one_list}
 use Rattle.gc_texts.proofs.TaskForms.{one_said}
 
--- the law: a text gives one number of setup tasks at most, one list of tasks, one of names, and one of places
+-- the law: with a caller's deadline and chaining, a text gives one number of setup tasks at most, one list of tasks, one of
+-- names, and one of places
 pub one_task_list : OneTaskList
 one_task_list text deadline chained m n xs ys ms ns ps qs h k =
     let same : h.said ≡ k.said = one_list IsTaskLine one_said (filter is_kept (text_lines text)) h.said k.said h.lines.forms k.lines.forms in
@@ -45,7 +46,7 @@ one_task_list text deadline chained m n xs ys ms ns ps qs h k =
 abbrev lines_of : List Command → List TaskLine
 lines_of commands = map (λ command. says.Command (wish_of command) false) commands
 
--- lines of commands have the forms of a station's text
+-- lines that have the forms of commands say these commands as lines of a station's text (`lines_of`)
 lines_have_forms : (lines : List (List ℕ)) (commands : List Command) → AreItems IsCommand lines commands → AreItems IsTaskLine lines (lines_of commands)
 lines_have_forms [] [] are = tt
 lines_have_forms [] (c ∷ cs) are = absurd are
@@ -68,13 +69,13 @@ lines_place_none [] = refl
 lines_place_none (c ∷ cs) = lines_place_none cs
 
 -- a task of a command in its first attempt: without a place, a rule and a count of others
-record IsFirst (task : Task) : Type 0 where
-  near : task.near ≡ None
-  again : task.again ≡ no_again
-  attempt : task.turn.attempt ≡ 1
-  others : task.others ≡ 0
+pub record IsFirst (task : Task) : Type 0 where
+  pub near : task.near ≡ None
+  pub again : task.again ≡ no_again
+  pub attempt : task.turn.attempt ≡ 1
+  pub others : task.others ≡ 0
 
--- a command whose chain is sent once
+-- a command that isn't repeated, with its task as in the first attempt (`IsFirst`)
 record IsSentOnce (planned : Planned) : Type 0 where
   retry : planned.retry ≡ no_retry
   first : IsFirst planned.task
@@ -101,7 +102,8 @@ laid_once retry chain (p ∷ later) none all rest =
       -- the lemma above for `p ∷ later`, by whether `p` goes on with the chain (`b`)
       by_chained : laid_from retry (chain ++ p ∷ []) later ≡ map (λ q. q.task) (chain ++ p ∷ []) ++ map (λ q. q.task) later
           → laid_from p.retry (p ∷ []) later ≡ p.task ∷ map (λ q. q.task) later → (b : Bool)
-          → (if b then laid_from retry (chain ++ p ∷ []) later else attempts retry chain ++ laid_from p.retry (p ∷ []) later) ≡ map (λ q. q.task) chain ++ p.task ∷ map (λ q. q.task) later
+          → (if b then laid_from retry (chain ++ p ∷ []) later else attempts retry chain ++ laid_from p.retry (p ∷ []) later)
+          ≡ map (λ q. q.task) chain ++ p.task ∷ map (λ q. q.task) later
       by_chained on anew true =
           on ∙ ap (λ ts. ts ++ map (λ q. q.task) later) (map-append (λ q. q.task) chain (p ∷ [])) ∙ append_assoc (map (λ q. q.task) chain) (p.task ∷ []) (map (λ q. q.task) later)
       by_chained on anew false =
@@ -113,15 +115,26 @@ unplaced : (tasks : List Task) → AllByRecursion (λ task. task.near ≡ None) 
 unplaced [] all = refl
 unplaced (t ∷ ts) all = ap (λ n. record t { near = n } ∷ map (placed []) ts) (sym all.0) ∙ ap (λ us. t ∷ us) (unplaced ts all.1)
 
--- commands alone, read in a mode of the cycle without accepted codes and without retries, in which `place` of them are in
--- front, and `link` of the chain
+-- commands alone, read in a mode of the cycle without accepted codes and without retries, which counts `place` commands before
+-- them, and `link` of the chain that the first may continue
 module _ (deadline : ℕ) (chained : Bool) where
   -- the mode with this group, with `place` commands in front, of which `link` are in the chain
-  abbrev at : Option ℕ → ℕ → ℕ → Mode
-  at group place link = record { deadline = deadline; chained = chained; group = group; accepted = no_codes; retry = no_retry; setup = false; begun = 0; place = place; link = link }
+  abbrev at : (group : Option ℕ) (place link : ℕ) → Mode
+  at group place link =
+      record {
+        deadline = deadline;
+        chained = chained;
+        group = group;
+        accepted = no_codes;
+        retry = no_retry;
+        setup = false;
+        begun = 0;
+        place = place;
+        link = link;
+      }
 
-  -- how far the chain of the next command for a target is
-  abbrev next_link : Option ℕ → ℕ → ℕ → ℕ
+  -- how many commands the chain has after a command for this target, where it has `link` before it
+  abbrev next_link : (group : Option ℕ) (link target : ℕ) → ℕ
   next_link group link target = (if chained && continues_group group target then link else 0) + 1
 
   -- commands that are read in that mode give no setup
@@ -130,13 +143,15 @@ module _ (deadline : ℕ) (chained : Bool) where
   no_setup group place link (c ∷ cs) = no_setup (Some c.target) (place + 1) (next_link group link c.target) cs
 
   -- the chain of each command that is read in that mode is sent once
-  all_once : (group : Option ℕ) (place link : ℕ) (commands : List Command) → AllByRecursion IsSentOnce (planned_of (at group place link) (lines_of commands))
+  all_once : (group : Option ℕ) (place link : ℕ) (commands : List Command)
+      → AllByRecursion IsSentOnce (planned_of (at group place link) (lines_of commands))
   all_once group place link [] = tt
   all_once group place link (c ∷ cs) =
       (record { retry = refl; first = record { near = refl; again = refl; attempt = refl; others = refl } }, all_once (Some c.target) (place + 1) (next_link group link c.target) cs)
 
   -- no task of commands that are read in that mode has a place of its target
-  none_placed : (group : Option ℕ) (place link : ℕ) (commands : List Command) → AllByRecursion (λ task. task.near ≡ None) (map (λ p. p.task) (planned_of (at group place link) (lines_of commands)))
+  none_placed : (group : Option ℕ) (place link : ℕ) (commands : List Command)
+      → AllByRecursion (λ task. task.near ≡ None) (map (λ p. p.task) (planned_of (at group place link) (lines_of commands)))
   none_placed group place link [] = tt
   none_placed group place link (c ∷ cs) = (refl, none_placed (Some c.target) (place + 1) (next_link group link c.target) cs)
 
@@ -146,7 +161,7 @@ module _ (deadline : ℕ) (chained : Bool) where
   asked_tasks group place link [] = refl
   asked_tasks group place link (c ∷ cs) = ap (λ l. wish_of c ∷ l) (asked_tasks (Some c.target) (place + 1) (next_link group link c.target) cs)
 
-  -- the text of the commands gives these tasks
+  -- the tasks of the commands, read in the opening mode, are the tasks that lines of these commands alone give
   tasks_are_asked : (commands : List Command)
       → map (λ p. p.task) (planned_of (opening deadline chained) (lines_of commands)) ≡ map (placed []) (tasks_of (opening deadline chained) (lines_of commands))
   tasks_are_asked commands =
@@ -155,7 +170,7 @@ module _ (deadline : ℕ) (chained : Bool) where
       sym (unplaced (map (λ p. p.task) planned) (none_placed None 0 0 commands)) ∙ ap (map (placed [])) (sym laid)
       ∙ ap (λ ts. map (placed []) (ts ++ laid_out planned)) (sym (no_setup None 0 0 commands))
 
--- the law: each command text is a station's text
+-- the law: each command text is a station's text, of the same commands in the same order, and without setup, names and places
 pub commands_are_tasks : CommandsAreTasks
 commands_are_tasks text commands deadline chained are = (
   map (λ p. p.task) (planned_of (opening deadline chained) (lines_of commands)),
@@ -170,7 +185,8 @@ commands_are_tasks text commands deadline chained are = (
   asked_tasks deadline chained None 0 0 commands,
 )
 
--- where commands aren't chained, each gives a task that isn't chained either, with the deadline `deadline`
+-- read in the mode `at` without chaining, commands give the tasks `plain_tasks`, which have the deadline `deadline` and are
+-- numbered from `place` on
 unchained_are_plain : (deadline : ℕ) (group : Option ℕ) (place link : ℕ) (commands : List Command)
     → plain_tasks deadline place commands ≡ map (λ p. p.task) (planned_of (at deadline false group place link) (lines_of commands))
 unchained_are_plain deadline group place link [] = refl
@@ -182,15 +198,14 @@ unchained_are_plain deadline group place link (c ∷ cs) =
       near = None;
       accepted = no_codes;
       again = no_again;
-      turn = record
-          { place = place; attempt = 1; link = 0 };
+      turn = record { place = place; attempt = 1; link = 0 };
       others = 0;
       now = false;
     } ∷ l)
     (unchained_are_plain deadline (Some c.target) (place + 1) 1 cs)
 
--- the law: a command text, read as a station's text without chains, gives one task for each command, not chained and with the
--- caller's deadline
+-- the law: a command text, read as a station's text without chains, gives one task for each command, in order, not chained and
+-- with the caller's deadline (`plain_tasks`), and neither setup nor names nor places
 pub commands_are_plain : CommandsArePlain
 commands_are_plain text commands deadline are =
     record {
@@ -207,8 +222,8 @@ pub continued_group : (group : Option ℕ) (target : ℕ) → continues_group gr
 continued_group None target e = cc
 continued_group (Some before) target e = ap Some (eqb-true before target e)
 
--- `before` is the target of the task before, if there is one. Where the group is none or that target, and it is `target`, the
--- task before is for `target`
+-- `group` is the target of the group, and `before` that of the task before, or `None` where there is none. Where `group` is
+-- `None` or equals `before`, and is `Some target`, `before` is `Some target`
 group_before : (group before : Option ℕ) (target : ℕ) → (group ≡ None) ⊎ (group ≡ before) → group ≡ Some target → before ≡ Some target
 group_before group before target (inl none) e = let bad : None ≡ Some target = sym none ∙ e in cc
 group_before group before target (inr same) e = sym same ∙ e
@@ -217,9 +232,10 @@ group_before group before target (inr same) e = sym same ∙ e
 abbrev pub PlannedKeep : Option ℕ → List Planned → Type 0
 PlannedKeep before planned = KeepTargets before (map (λ p. p.task) planned)
 
--- `before` is the target of the cycle's command before these lines, if there is one. Where the mode is the setup's, or its group is none or
--- that target, each chained command of the cycle follows one for the same target
-pub commands_keep : (mode : Mode) (before : Option ℕ) (said : List TaskLine) → (mode.setup ≡ true) ⊎ ((mode.group ≡ None) ⊎ (mode.group ≡ before)) → PlannedKeep before (planned_of mode said)
+-- `before` is the target of the cycle's command before these lines, if there is one. Where the mode is the setup's, or its group
+-- is none or that target, each chained command of the cycle follows one for the same target
+pub commands_keep : (mode : Mode) (before : Option ℕ) (said : List TaskLine)
+    → (mode.setup ≡ true) ⊎ ((mode.group ≡ None) ⊎ (mode.group ≡ before)) → PlannedKeep before (planned_of mode said)
 commands_keep mode before [] h = tt
 commands_keep mode before (says.Command c now ∷ later) h =
     by_setup mode.setup refl h (λ e. commands_keep (mode_after mode (says.Command c now)) before later (inl e))
@@ -228,7 +244,8 @@ commands_keep mode before (says.Command c now ∷ later) h =
       by_setup : (b : Bool) → mode.setup ≡ b → (mode.setup ≡ true) ⊎ ((mode.group ≡ None) ⊎ (mode.group ≡ before))
           → (mode.setup ≡ true → PlannedKeep before (planned_of (mode_after mode (says.Command c now)) later))
           → PlannedKeep (Some c.target) (planned_of (mode_after mode (says.Command c now)) later)
-          → PlannedKeep before ((if b then [] else record { task = task_at mode c now; retry = mode.retry } ∷ []) ++ planned_of (mode_after mode (says.Command c now)) later)
+          → PlannedKeep before
+          ((if b then [] else record { task = task_at mode c now; retry = mode.retry } ∷ []) ++ planned_of (mode_after mode (says.Command c now)) later)
       by_setup true e h at_start in_cycle = at_start e
       by_setup false e (inl is) at_start in_cycle = let bad : true ≡ false = sym is ∙ e in cc
       by_setup false e (inr is) at_start in_cycle = (
@@ -245,7 +262,8 @@ commands_keep mode before (says.AtStart ∷ later) h = commands_keep (mode_after
 commands_keep mode before (says.EachCycle ∷ later) h = commands_keep (mode_after mode says.EachCycle) before later (inr (inl refl))
 commands_keep mode before (line ∷ later) h = commands_keep (mode_after mode line) before later h
 
--- tasks that keep targets with no task before them do so after a task for any target, because their first isn't chained
+-- where tasks keep targets with no task before them, they do so after a task for any target, too,
+-- because their first isn't chained
 keep_behind : (before : Option ℕ) (tasks : List Task) → KeepTargets None tasks → KeepTargets before tasks
 keep_behind before [] are = tt
 keep_behind before (t ∷ ts) are = ((λ e. let bad : None ≡ Some t.command.target = are.0 e in cc), are.1)
@@ -255,13 +273,15 @@ keep_both : (before : Option ℕ) (xs ys : List Task) → KeepTargets before xs 
 keep_both before [] ys first second = keep_behind before ys second
 keep_both before (x ∷ xs) ys first second = (first.0, keep_both (Some x.command.target) xs ys first.1 second)
 
--- where commands keep targets, the tasks of one attempt of them do
-attempt_keeps : (attempt : ℕ) (again : Again) (n : ℕ) (before : Option ℕ) (ps : List Planned) → PlannedKeep before ps → KeepTargets before (map (in_attempt attempt again n) ps)
+-- where commands keep targets after a command for the target `before`, if there is one, so do the tasks of one attempt of them
+attempt_keeps : (attempt : ℕ) (again : Again) (n : ℕ) (before : Option ℕ) (ps : List Planned)
+    → PlannedKeep before ps → KeepTargets before (map (in_attempt attempt again n) ps)
 attempt_keeps attempt again n before [] are = tt
 attempt_keeps attempt again n before (p ∷ ps) are = (are.0, attempt_keeps attempt again n (Some p.task.command.target) ps are.1)
 
--- where the commands of a chain keep targets, the tasks of its attempts do
-attempts_keep : (attempt left : ℕ) (again : Again) (chain : List Planned) → PlannedKeep None chain → KeepTargets None (attempts_from attempt left again chain)
+-- where the commands of a chain keep targets with none before them, so do the tasks of its attempts from `attempt` on
+attempts_keep : (attempt left : ℕ) (again : Again) (chain : List Planned)
+    → PlannedKeep None chain → KeepTargets None (attempts_from attempt left again chain)
 attempts_keep attempt zero again chain are = attempt_keeps attempt no_again (length chain) None chain are
 attempts_keep attempt (suc left) again chain are =
     keep_both None (map (in_attempt attempt again (length chain * suc (suc left))) chain) (attempts_from (attempt + 1) left again chain)
@@ -272,36 +292,36 @@ abbrev last_target : Option ℕ → List Planned → Option ℕ
 last_target before [] = before
 last_target before (p ∷ ps) = last_target (Some p.task.command.target) ps
 
--- commands that keep targets, and one more that is chained only if the last of them is for its target, keep targets together
+-- where commands keep targets after `before` (`PlannedKeep`), and one more is chained only if `last_target` of them is its
+-- target, the commands and the one more keep targets after `before`, too
 keep_more : (before : Option ℕ) (ps : List Planned) (p : Planned) → PlannedKeep before ps
     → (p.task.chained ≡ true → last_target before ps ≡ Some p.task.command.target) → PlannedKeep before (ps ++ p ∷ [])
 keep_more before [] p are is = (is, tt)
 keep_more before (q ∷ ps) p are is = (are.0, keep_more (Some q.task.command.target) ps p are.1 is)
 
--- the last target of commands and one more is that of the one more
+-- the last target (`last_target`) of commands and one more is the target of the one more
 last_more : (before : Option ℕ) (ps : List Planned) (p : Planned) → last_target before (ps ++ p ∷ []) ≡ Some p.task.command.target
 last_more before [] p = refl
 last_more before (q ∷ ps) p = last_more (Some q.task.command.target) ps p
 
--- a command that isn't chained needs no target before it: if `b`, whether it is chained, is false, it isn't true
-not_chained : (b : Bool) (group : Option ℕ) → b ≡ false → b ≡ true → None ≡ group
-not_chained true group e f = cc
-not_chained false group e f = cc
-
--- where a chain that was begun and the commands after it keep targets, so do the tasks of all attempts of it and of the chains after it
-laid_keep : (retry : Retry) (chain later : List Planned) → PlannedKeep None chain → PlannedKeep (last_target None chain) later → KeepTargets None (laid_from retry chain later)
+-- where the commands of a chain that was begun keep targets with none before them, and the commands after it do so after its
+-- last, the tasks of all attempts of it and of the chains after it keep targets with none before them
+laid_keep : (retry : Retry) (chain later : List Planned)
+    → PlannedKeep None chain → PlannedKeep (last_target None chain) later → KeepTargets None (laid_from retry chain later)
 laid_keep retry chain [] are more = attempts_keep 1 retry.times retry.again chain are
 laid_keep retry chain (p ∷ later) are more =
     by_chained p.task.chained refl
     (laid_keep retry (chain ++ p ∷ []) later (keep_more None chain p are more.0) (subst (λ t. PlannedKeep t later) (sym (last_more None chain p)) more.1))
-    (λ e. laid_keep p.retry (p ∷ []) later (not_chained p.task.chained (Some p.task.command.target) e, tt) more.1) where
+    (λ e. laid_keep p.retry (p ∷ []) later ((λ f. absurd (both_ways p.task.chained e f)), tt) more.1) where
       -- the lemma above for `p ∷ later`, by whether `p` goes on with the chain (`b`)
-      by_chained : (b : Bool) → p.task.chained ≡ b → KeepTargets None (laid_from retry (chain ++ p ∷ []) later) → (p.task.chained ≡ false → KeepTargets None (laid_from p.retry (p ∷ []) later))
+      by_chained : (b : Bool) → p.task.chained ≡ b → KeepTargets None (laid_from retry (chain ++ p ∷ []) later)
+          → (p.task.chained ≡ false → KeepTargets None (laid_from p.retry (p ∷ []) later))
           → KeepTargets None (if b then laid_from retry (chain ++ p ∷ []) later else attempts retry chain ++ laid_from p.retry (p ∷ []) later)
       by_chained true e on anew = on
       by_chained false e on anew = keep_both None (attempts retry chain) (laid_from p.retry (p ∷ []) later) (attempts_keep 1 retry.times retry.again chain are) (anew e)
 
--- giving tasks their places changes neither which are chained nor for which target they are, so they keep targets
+-- tasks that keep targets do so, too, once they have their places, which change neither which are chained nor for which target
+-- they are
 placed_keep : (nears : List Near) (before : Option ℕ) (tasks : List Task) → KeepTargets before tasks → KeepTargets before (map (placed nears) tasks)
 placed_keep nears before [] are = tt
 placed_keep nears before (task ∷ later) are = (are.0, placed_keep nears (Some task.command.target) later are.1)
@@ -311,11 +331,12 @@ abbrev ContinueChain : ℕ → List Task → Type 0
 ContinueChain zero tasks = IsOneChain tasks
 ContinueChain (suc n) tasks = AllByRecursion (λ task. task.chained ≡ true) tasks
 
--- one more command goes on with the chain
+-- where tasks are the rest of a chain after n + 1 others, they and a task before them, which is chained exactly if n isn't 0, are
+-- the rest after n others
 chain_continued : (n : ℕ) (task : Task) (later : List Task) → task.chained ≡ nat_lt 0 n → ContinueChain (n + 1) later → ContinueChain n (task ∷ later)
 chain_continued zero task later is more = (is, more)
 chain_continued (suc n) task later is more = (is ∙ suc_above_zero n, subst (λ k. ContinueChain k later) (suc_and_one n) more) where
-  -- the test says that n + 1 is above 0
+  -- `nat_lt` says that n + 1 is above 0
   suc_above_zero : (n : ℕ) → nat_lt 0 (suc n) ≡ true
   suc_above_zero n = grind (arith, nat_tests)
 
@@ -323,17 +344,20 @@ chain_continued (suc n) task later is more = (is ∙ suc_above_zero n, subst (λ
   suc_and_one : (n : ℕ) → suc n + 1 ≡ suc (suc n)
   suc_and_one n = omega arith
 
--- the setup is one chain
+-- the setup tasks of these lines, with their places, continue as one chain (`ContinueChain`) the tasks that the mode before the
+-- lines has counted (`begun`)
 setup_chain : (nears : List Near) (mode : Mode) (said : List TaskLine) → ContinueChain mode.begun (map (placed nears) (setup_of mode said))
 setup_chain nears mode [] = none_continues mode.begun where
-  -- no tasks continue a chain of any number of tasks
+  -- the empty list of tasks continues a chain of whatever number of tasks (`ContinueChain`)
   none_continues : (n : ℕ) → ContinueChain n []
   none_continues zero = tt
   none_continues (suc n) = tt
 setup_chain nears mode (says.Command c now ∷ later) = by_setup mode.setup refl (setup_chain nears (mode_after mode (says.Command c now)) later) where
   -- the lemma above for a command and the lines after it, by whether the mode is that of the setup (`b`)
-  by_setup : (b : Bool) → mode.setup ≡ b → ContinueChain (mode_after mode (says.Command c now)).begun (map (placed nears) (setup_of (mode_after mode (says.Command c now)) later))
-      → ContinueChain mode.begun (map (placed nears) ((if b then task_at mode c now ∷ [] else []) ++ setup_of (mode_after mode (says.Command c now)) later))
+  by_setup : (b : Bool) → mode.setup ≡ b
+      → ContinueChain (mode_after mode (says.Command c now)).begun (map (placed nears) (setup_of (mode_after mode (says.Command c now)) later))
+      → ContinueChain mode.begun
+      (map (placed nears) ((if b then task_at mode c now ∷ [] else []) ++ setup_of (mode_after mode (says.Command c now)) later))
   by_setup true e more =
       chain_continued mode.begun (placed nears (task_at mode c now)) (map (placed nears) (setup_of (mode_after mode (says.Command c now)) later))
       (ap (λ b. if b then nat_lt 0 mode.begun else mode.chained && continues_group mode.group c.target) e)
@@ -341,7 +365,8 @@ setup_chain nears mode (says.Command c now ∷ later) = by_setup mode.setup refl
   by_setup false e more = subst (λ n. ContinueChain n (map (placed nears) (setup_of (mode_after mode (says.Command c now)) later))) (ap (λ b. if b then mode.begun + 1 else mode.begun) e) more
 setup_chain nears mode (line ∷ later) = setup_chain nears (mode_after mode line) later
 
--- the law: the setup is one chain, and after it each chained task follows one for the same target
+-- the law: the setup is one chain, and of the tasks after it the first isn't chained, and each chained one follows one for the
+-- same target
 pub chains_keep_targets : ChainsKeepTargets
 chains_keep_targets text deadline chained setup tasks names nears is =
     let first = opening deadline chained in

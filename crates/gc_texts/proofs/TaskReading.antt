@@ -1,13 +1,12 @@
 -- The tasks, names and places of lines that follow one another, and how far the reading of a station's text has come
 -- (`ReadsTasks`). The mode at a line is what the lines before it make hold there.
 use Rattle.std.proofs.lemmas.List.{length-append}
-use Rattle.std.proofs.Common.{◌⊎◌, inl, inr, ◌<◌, map, None, cond, arith, if◌then◌else◌, ◌≡◌, ◌+◌, ◌≤◌, ℕ, List, [], ◌∷◌, ◌++◌, length, Option, Some, Bool, true, false, refl, ap, subst, sym, ◌∙◌, append_assoc, append-nil}
+use Rattle.std.proofs.Common.{◌⊎◌, inr, cond, arith, if◌then◌else◌, ◌≡◌, ◌+◌, ◌≤◌, ℕ, List, [], ◌∷◌, ◌++◌, length, Option, Some, Bool, true, false, refl, ap, subst, sym, ◌∙◌, append_assoc, append-nil}
 use Rattle.std.specs.Prelude.{not, filter}
 use Rattle.gc_texts.specs.Cuts.{Cuts}
 use Rattle.gc_texts.specs.LineForms.{text_lines, is_skipped, is_kept, without_cr, AreItems}
 use Rattle.gc_texts.specs.TaskLines.{IsTaskLine}
-use Rattle.gc_texts.specs.Attempts.{laid_out}
-use Rattle.gc_texts.specs.Tasks.{opening, mode_after, is_chained, place_in_chain, task_at, setup_at, setup_of, planned_at, planned_of, placed, IsTasks, name_at, names_of, near_at, nears_of, may_follow, MayFollow, IsFirstFaultyTask, ReachesASoundTaskLine}
+use Rattle.gc_texts.specs.Tasks.{opening, mode_after, is_chained, place_in_chain, task_at, setup_at, setup_of, planned_at, planned_of, name_at, names_of, near_at, nears_of, may_follow, MayFollow, IsFirstFaultyTask, ReachesASoundTaskLine}
 use Rattle.gc_texts.specs.declared.name.Name.{Name}
 use Rattle.gc_texts.specs.declared.near.Near.{Near}
 use Rattle.gc_texts.specs.declared.task_line.TaskLine.{TaskLine}
@@ -35,19 +34,23 @@ setup_both mode (x ∷ xs) ys =
     ap (λ ts. setup_at mode x ++ ts) (setup_both (mode_after mode x) xs ys)
     ∙ sym (append_assoc (setup_at mode x) (setup_of (mode_after mode x) xs) (setup_of (mode_after_lines (mode_after mode x) xs) ys))
 
--- the cycle's commands of `xs` and then `ys` are those of `xs`, and then those of `ys`
+-- the cycle's commands of `xs` and then `ys` are those of `xs`, and then those of `ys`, where the mode after `xs` holds before
+-- `ys`
 pub planned_both : (mode : Mode) (xs ys : List TaskLine) → planned_of mode (xs ++ ys) ≡ planned_of mode xs ++ planned_of (mode_after_lines mode xs) ys
 planned_both mode [] ys = refl
 planned_both mode (x ∷ xs) ys =
     ap (λ ts. planned_at mode x ++ ts) (planned_both (mode_after mode x) xs ys)
     ∙ sym (append_assoc (planned_at mode x) (planned_of (mode_after mode x) xs) (planned_of (mode_after_lines (mode_after mode x) xs) ys))
 
--- the setup of lines, and of one more, is that of the lines, and that of the last in the mode after them
-setup_more : (mode : Mode) (lines : List TaskLine) (next : TaskLine) → setup_of mode (lines ++ next ∷ []) ≡ setup_of mode lines ++ setup_at (mode_after_lines mode lines) next
+-- the setup of lines and then `next` is that of the lines, and then that of `next` in the mode after the lines
+setup_more : (mode : Mode) (lines : List TaskLine) (next : TaskLine)
+    → setup_of mode (lines ++ next ∷ []) ≡ setup_of mode lines ++ setup_at (mode_after_lines mode lines) next
 setup_more mode lines next = setup_both mode lines (next ∷ []) ∙ ap (λ ts. setup_of mode lines ++ ts) (append-nil (setup_at (mode_after_lines mode lines) next))
 
--- the cycle's commands of lines, and of one more, are those of the lines, and that of the last in the mode after them
-planned_more : (mode : Mode) (lines : List TaskLine) (next : TaskLine) → planned_of mode (lines ++ next ∷ []) ≡ planned_of mode lines ++ planned_at (mode_after_lines mode lines) next
+-- the cycle's commands of lines and then `next` are those of the lines, and then that of `next`, if
+-- any, in the mode after the lines
+planned_more : (mode : Mode) (lines : List TaskLine) (next : TaskLine)
+    → planned_of mode (lines ++ next ∷ []) ≡ planned_of mode lines ++ planned_at (mode_after_lines mode lines) next
 planned_more mode lines next = planned_both mode lines (next ∷ []) ∙ ap (λ ps. planned_of mode lines ++ ps) (append-nil (planned_at (mode_after_lines mode lines) next))
 
 -- each count of a mode is at most n
@@ -56,12 +59,12 @@ record Counted (mode : Mode) (n : ℕ) : Type 0 where
   place : mode.place ≤ n
   link : mode.link ≤ n
 
--- one of two numbers that are both at most n is at most n
+-- where two numbers are both at most n, the one of the two that b chooses is at most n
 either_low : (b : Bool) (x y n : ℕ) → x ≤ n → y ≤ n → (if b then x else y) ≤ n
 either_low true x y n low other = low
 either_low false x y n low other = other
 
--- a line adds one at most to each count
+-- where each count of a mode is at most n, each count of the mode after one more line is at most n + 1
 counted_line : (mode : Mode) (line : TaskLine) (n : ℕ) → Counted mode n → Counted (mode_after mode line) (n + 1)
 counted_line mode (says.Command c now) n h = record {
   begun = either_low mode.setup (mode.begun + 1) mode.begun (n + 1) (omega (arith, h.begun)) (omega (arith, h.begun));
@@ -73,14 +76,14 @@ counted_line mode (says.Command c now) n h = record {
 }
 counted_line mode line n h = record { begun = omega (arith, h.begun); place = omega (arith, h.place); link = omega (arith, h.link) }
 
--- lines add at most one each to each count
+-- where each count of a mode is at most n, each count of the mode after lines is at most n plus the number of the lines
 counted_lines : (mode : Mode) (lines : List TaskLine) (n : ℕ) → Counted mode n → Counted (mode_after_lines mode lines) (n + length lines)
 counted_lines mode [] n h = record { begun = omega (arith, h.begun); place = omega (arith, h.place); link = omega (arith, h.link) }
 counted_lines mode (line ∷ lines) n h =
     let more = counted_lines (mode_after mode line) lines (n + 1) (counted_line mode line n h) in
     record { begun = omega (arith, more.begun); place = omega (arith, more.place); link = omega (arith, more.link) }
 
--- a list of one command or none has one command at most
+-- the list that is empty where b is true, and else has `p` alone, has one command at most
 one_planned : (b : Bool) (p : Planned) → length (if b then [] else p ∷ []) ≤ 1
 one_planned true p = omega arith
 one_planned false p = omega arith
@@ -90,7 +93,7 @@ planned_line : (mode : Mode) (line : TaskLine) → length (planned_at mode line)
 planned_line mode (says.Command c now) = one_planned mode.setup (record { task = task_at mode c now; retry = mode.retry })
 planned_line mode line = omega arith
 
--- lines give at most as many commands of the cycle as they are
+-- there are at most as many commands of the cycle as lines
 planned_few : (mode : Mode) (lines : List TaskLine) → length (planned_of mode lines) ≤ length lines
 planned_few mode [] = omega arith
 planned_few mode (line ∷ lines) =
@@ -100,14 +103,14 @@ planned_few mode (line ∷ lines) =
     length-append (planned_at mode line) (planned_of (mode_after mode line) lines) in
     omega (arith, one, more, all)
 
--- lines say as many things as they are: one each
+-- where each line says one thing, as many things are said as there are lines
 said_many : (lines : List (List ℕ)) (said : List TaskLine) → AreItems IsTaskLine lines said → length said ≡ length lines
 said_many [] [] are = refl
 said_many [] (s ∷ said) are = absurd are
 said_many (line ∷ lines) [] are = absurd are
 said_many (line ∷ lines) (s ∷ said) are = let n = said_many lines said are.1 in omega (arith, n)
 
--- where at most all lines are kept, this holds with one more line, kept or not
+-- where at most as many lines are kept as there are lines, the same holds with one more line, whether it is kept (`b`) or not
 kept_one : (b : Bool) (line : List ℕ) (kept all : List (List ℕ)) → length kept ≤ length all → length (cond b (line ∷ kept) kept) ≤ length (line ∷ all)
 kept_one true line kept all few = omega (arith, few)
 kept_one false line kept all few = omega (arith, few)
@@ -117,7 +120,7 @@ kept_few : (lines : List (List ℕ)) → length (filter is_kept lines) ≤ lengt
 kept_few [] = omega arith
 kept_few (line ∷ lines) = kept_one (is_kept line) line (filter is_kept lines) lines (kept_few lines)
 
--- the names of lines, and of one more, are those of the lines, and that of the last
+-- the names of lines and then `next` are those of the lines, and then that of `next`, if it gives one
 names_more : (lines : List TaskLine) (next : TaskLine) → names_of (lines ++ next ∷ []) ≡ names_of lines ++ name_at next
 names_more [] next = append-nil (name_at next)
 names_more (line ∷ lines) next = ap (λ ns. name_at line ++ ns) (names_more lines next) ∙ sym (append_assoc (name_at line) (names_of lines) (name_at next))
@@ -127,11 +130,12 @@ pub nears_both : (xs ys : List TaskLine) → nears_of (xs ++ ys) ≡ nears_of xs
 nears_both [] ys = refl
 nears_both (x ∷ xs) ys = ap (λ ns. near_at x ++ ns) (nears_both xs ys) ∙ sym (append_assoc (near_at x) (nears_of xs) (nears_of ys))
 
--- the places of lines, and of one more, are those of the lines, and that of the last
+-- the places of lines and then `next` are those of the lines, and then that of `next`, if it says one
 nears_more : (lines : List TaskLine) (next : TaskLine) → nears_of (lines ++ next ∷ []) ≡ nears_of lines ++ near_at next
 nears_more lines next = nears_both lines (next ∷ []) ∙ ap (λ ns. nears_of lines ++ ns) (append-nil (near_at next))
 
--- where lines may follow these names and places, and one more may follow the lines, all of them may follow there
+-- where lines may follow these names and places, and one more may follow these and, after them, the names and places of the
+-- lines, the lines and then that one may follow these names and places
 follow_more : (names : List Name) (nears : List Near) (lines : List TaskLine) (next : TaskLine) → MayFollow names nears lines
     → may_follow (names ++ names_of lines) (nears ++ nears_of lines) next ≡ true → MayFollow names nears (lines ++ next ∷ [])
 follow_more names nears [] next follow allowed = (ap (λ ns. may_follow ns nears next) (sym (append-nil names)) ∙ ap (λ ps. may_follow (names ++ []) ps next) (sym (append-nil nears)) ∙ allowed, tt)
@@ -142,11 +146,11 @@ follow_more names nears (line ∷ lines) next follow allowed = (
       ∙ ap (λ ps. may_follow (names ++ (name_at line ++ names_of lines)) ps next) (append_assoc nears (near_at line) (nears_of lines)) ∙ allowed),
 )
 
--- how far the reading has come: `left` of the text is unread, `number` lines were read, and they gave these tasks of the
--- setup, these commands of the cycle, names and places, and the mode after them. Where a line that says something was read,
--- a sound line was reached
-pub record ReadsTasks (text : List ℕ) (first : Mode) (left : Option (List ℕ)) (number : ℕ) (setup : List Task) (cycle : List Planned) (names : List Name) (nears : List Near)
-    (mode : Mode) : Type 0 where
+-- how far the reading has come, which began in the mode `first`: `left` of the text is unread, `number` lines were read, and they
+-- gave these tasks of the setup, commands of the cycle, names and places, and the mode after them. Where a line that isn't
+-- skipped was read, a line that isn't faulty was reached
+pub record ReadsTasks (text : List ℕ) (first : Mode) (left : Option (List ℕ)) (number : ℕ)
+    (setup : List Task) (cycle : List Planned) (names : List Name) (nears : List Near) (mode : Mode) : Type 0 where
   pub said : List TaskLine
   pub reads : Reads IsTaskLine text left number said
   pub follow : MayFollow [] [] said
@@ -158,13 +162,15 @@ pub record ReadsTasks (text : List ℕ) (first : Mode) (left : Option (List ℕ)
   pub reached : (said ≡ []) ⊎ ReachesASoundTaskLine text
 
 -- of a text of at most 65,536 bytes at most 65,537 lines are read, so that a u32 counts them
-pub tasks_few : (text : List ℕ) (first : Mode) (left : Option (List ℕ)) (number : ℕ) (setup : List Task) (cycle : List Planned) (names : List Name) (nears : List Near) (mode : Mode)
+pub tasks_few : (text : List ℕ) (first : Mode) (left : Option (List ℕ)) (number : ℕ)
+    (setup : List Task) (cycle : List Planned) (names : List Name) (nears : List Near) (mode : Mode)
     → length text ≤ 65536 → ReadsTasks text first left number setup cycle names nears mode → number ≤ 65537
 tasks_few text first left number setup cycle names nears mode within r = reads_few IsTaskLine text left number r.said within r.reads
 
 -- what holds of the lines that were read of a text of at most 65,536 bytes
 module _
-    (text : List ℕ) (deadline : ℕ) (chained : Bool) (left : Option (List ℕ)) (number : ℕ) (setup : List Task) (cycle : List Planned) (names : List Name) (nears : List Near) (mode : Mode)
+    (text : List ℕ) (deadline : ℕ) (chained : Bool) (left : Option (List ℕ)) (number : ℕ)
+    (setup : List Task) (cycle : List Planned) (names : List Name) (nears : List Near) (mode : Mode)
     (within : length text ≤ 65536) (r : ReadsTasks text (opening deadline chained) left number setup cycle names nears mode) where
   -- at most 65,537 of the lines that were read aren't skipped
   said_few : length r.said ≤ 65537
@@ -196,29 +202,6 @@ module _
   -- the cycle's commands are at most 65,537
   pub cycle_few : length cycle ≤ 65537
   cycle_few = let few = said_few in let all = planned_few (opening deadline chained) r.said in let is = ap length r.cycle_are in omega (arith, few, all, is)
-
-  -- where the cycle has a command, a sound line was reached
-  pub cycle_wants : 0 < length cycle → ReachesASoundTaskLine text
-  cycle_wants some = by_reached r.reached where
-    -- the lemma above, by whether a line says something
-    by_reached : (r.said ≡ []) ⊎ ReachesASoundTaskLine text → ReachesASoundTaskLine text
-    by_reached (inl none) = let empty = ap length (r.cycle_are ∙ ap (planned_of (opening deadline chained)) none) in absurd (omega (arith, empty, some))
-    by_reached (inr is) = is
-
-  -- where nothing is left, the text gives these tasks, once the chains are laid out and the tasks have their places
-  pub all_read : (tasks : List Task) → left ≡ None → tasks ≡ map (placed nears) (setup ++ laid_out cycle) → IsTasks text deadline chained (length setup) tasks names nears
-  all_read tasks none are =
-      record {
-        said = r.said;
-        lines = record {
-          forms = subst (λ ls. AreItems IsTaskLine (filter is_kept ls) r.said) (sym (r.reads.lines_are ∙ ap (λ o. r.reads.read ++ lines_left o) none ∙ append-nil r.reads.read)) r.reads.items_are;
-          follow = r.follow;
-        };
-        tasks_are = are ∙ ap (λ ts. map (placed nears) (ts ++ laid_out cycle)) r.setup_are ∙ ap (λ ps. map (placed nears) (setup_of (opening deadline chained) r.said ++ laid_out ps)) r.cycle_are;
-        setup_is = ap length r.setup_are;
-        names_are = r.names_are;
-        nears_are = r.nears_are;
-      }
 
 -- one turn of the reading loop: `line` is cut off what is left, `plain` is that line without its CR, and `skipped` whether it
 -- is skipped
@@ -254,12 +237,13 @@ module _
   split : text_lines text ≡ reads_before.read ++ without_cr line ∷ lines_left rest
   split = reads_before.lines_are ∙ ap (λ ls. reads_before.read ++ ls) (lines-cut now line rest cut)
 
-  -- a line that tested as not skipped is one that has to say something
+  -- where the test says that the line isn't skipped (`skipped` is false), the line without its CR is kept (`is_kept`)
   is_line : skipped ≡ false → is_kept (without_cr line) ≡ true
   is_line isnt = ap not (ap is_skipped (sym is_plain) ∙ sym tested ∙ isnt)
 
-  -- a line that isn't skipped, and says nothing that is allowed there, is the first faulty one
-  faulty : skipped ≡ false → ((said : TaskLine) → IsTaskLine plain said → may_follow names nears said ≡ false) → IsFirstFaultyTask text (number + 1)
+  -- a line that isn't skipped, and says nothing that may follow the lines before it, is the first faulty one
+  faulty : skipped ≡ false → ((said : TaskLine) → IsTaskLine plain said → may_follow names nears said ≡ false)
+      → IsFirstFaultyTask text (number + 1)
   faulty isnt none =
       record {
         front = reads_before.read;
@@ -273,16 +257,19 @@ module _
         faulty = λ said is. said_so said ∙ none said (subst (λ (l : List ℕ). IsTaskLine l said) (sym is_plain) is);
       }
 
-  -- a line that has no form is the first faulty one
+  -- a line that isn't skipped and has no form is the first faulty one
   pub task_fails : skipped ≡ false → ((said : TaskLine) → IsTaskLine plain said → ⊥) → IsFirstFaultyTask text (number + 1)
   task_fails isnt none = faulty isnt (λ said is. absurd (none said is))
 
-  -- a line that has a form, and isn't allowed there, is the first faulty one
-  pub task_refused : (said : TaskLine) (allowed : Bool) → skipped ≡ false → IsTaskLine plain said → allowed ≡ may_follow names nears said → allowed ≡ false → IsFirstFaultyTask text (number + 1)
+  -- a line that isn't skipped, has a form, and may not follow the names and places so far (`may_follow`), is the first faulty one
+  pub task_refused : (said : TaskLine) (allowed : Bool) → skipped ≡ false → IsTaskLine plain said
+      → allowed ≡ may_follow names nears said → allowed ≡ false → IsFirstFaultyTask text (number + 1)
   task_refused said allowed isnt is asked no_more = faulty isnt (λ other form. ap (may_follow names nears) (one_said plain other said form is) ∙ sym asked ∙ no_more)
 
-  -- where memory is refused at a line that has a form and is allowed there, no line up to it is faulty
-  pub task_wants : (said : TaskLine) (allowed : Bool) → skipped ≡ false → IsTaskLine plain said → allowed ≡ may_follow names nears said → allowed ≡ true → ReachesASoundTaskLine text
+  -- where the line isn't skipped, has a form and may follow the names and places so far (`may_follow`), the text has a line that
+  -- isn't faulty, with no faulty line before it (`ReachesASoundTaskLine`): this is needed where memory is refused at the line
+  pub task_wants : (said : TaskLine) (allowed : Bool) → skipped ≡ false → IsTaskLine plain said
+      → allowed ≡ may_follow names nears said → allowed ≡ true → ReachesASoundTaskLine text
   task_wants said allowed isnt is asked did =
       record {
         front = reads_before.read;
@@ -297,8 +284,8 @@ module _
         allowed = said_so said ∙ sym asked ∙ did;
       }
 
-  -- a line that isn't skipped, has a form and is allowed there is read: the lists grow by what it gives, and the mode is the
-  -- one after it
+  -- a line that isn't skipped, has a form and may follow the names and places so far (`may_follow`) is read: the lists grow by
+  -- what the line gives, and the mode is the one after it
   pub task_reads :
       (said : TaskLine) (new_setup : List Task) (new_cycle : List Planned) (new_names : List Name) (new_nears : List Near) (next : Mode) (allowed : Bool)
       (isnt : skipped ≡ false) (is : IsTaskLine plain said) (asked : allowed ≡ may_follow names nears said) (did : allowed ≡ true)

@@ -1,6 +1,6 @@
 -- The lines of a text, one after another. A text is cut into pieces at each LF; `before` is the beginning of the first piece. A
--- line is a piece without a CR at its end. `Reads` says how far the reading of a text has come. A line that is empty or begins
--- with `#` is skipped; any other has to have the form of an item. LF is byte 10, and CR byte 13.
+-- line is a piece without the CR at its end, if it has one. `Reads` says how far the reading of a text has come. A line that is
+-- empty or begins with `#` is skipped; any other has to have the form of an item. LF is byte 10, and CR byte 13.
 use Rattle.std.proofs.Common.{◌≡◌, ◌≢◌, ◌≤◌, ◌+◌, ℕ, List, [], ◌∷◌, ◌++◌, length, map, Option, Some, None, Bool, true, false, cond, arith, ap, subst, sym, ◌∙◌, ◌==◌, append_assoc, append-nil, length-append, ne_eqb}
 use Rattle.std.specs.Prelude.{filter, not}
 use Rattle.std.proofs.lemmas.List.{length-map}
@@ -8,12 +8,13 @@ use Rattle.std.proofs.lemmas.List.Elements.{filter-append}
 use Rattle.gc_texts.specs.Cuts.{Cuts, Lacks}
 use Rattle.gc_texts.specs.LineForms.{Form, text_pieces, without_cr, text_lines, is_skipped, is_kept, AreItems, FirstFaulty, ReachesASoundLine}
 
--- the lines of what is left of a text
+-- the lines of what is left of a text; none where nothing is (`None`). What is left after a last LF is the empty text, one empty
+-- line
 abbrev pub lines_left : Option (List ℕ) → List (List ℕ)
 lines_left None = []
 lines_left (Some text) = text_lines text
 
--- how much is left of a text, as a number that falls with each line: its bytes and one more, or 0 where nothing is left
+-- how much is left of a text, as a number that falls with each line: its bytes and one more, or 0 where nothing is left (`None`)
 abbrev pub much_left : Option (List ℕ) → ℕ
 much_left None = 0
 much_left (Some text) = length text + 1
@@ -22,44 +23,48 @@ much_left (Some text) = length text + 1
 piece-on : (before bs : List ℕ) (b : ℕ) → b ≢ 10 → text_pieces before (b ∷ bs) ≡ text_pieces (before ++ b ∷ []) bs
 piece-on before bs b other = ap (λ t. cond t (before ∷ text_pieces [] bs) (text_pieces (before ++ b ∷ []) bs)) (ne_eqb b 10 other)
 
--- a text without an LF is one piece
+-- where `bs` has no LF, there is one piece: `before`, and `bs` after it
 pieces-lacking : (before bs : List ℕ) → Lacks 10 bs → text_pieces before bs ≡ (before ++ bs) ∷ []
 pieces-lacking before [] lacks = ap (λ x. x ∷ []) (sym (append-nil before))
 pieces-lacking before (b ∷ bs) lacks =
     piece-on before bs b lacks.0 ∙ pieces-lacking (before ++ b ∷ []) bs lacks.1 ∙ ap (λ x. x ∷ []) (append_assoc before (b ∷ []) bs)
 
--- a text with an LF is the piece before its first LF, and the pieces after that
+-- where `front` has no LF, the pieces of `front`, an LF and `rest`, with `before` as the beginning of the first, are `before` and
+-- `front` as one, and then those of `rest`
 pieces-cut : (before front rest : List ℕ) → Lacks 10 front → text_pieces before (front ++ 10 ∷ rest) ≡ (before ++ front) ∷ text_pieces [] rest
 pieces-cut before [] rest lacks = ap (λ x. x ∷ text_pieces [] rest) (sym (append-nil before))
 pieces-cut before (b ∷ front) rest lacks =
     piece-on before (front ++ 10 ∷ rest) b lacks.0 ∙ pieces-cut (before ++ b ∷ []) front rest lacks.1 ∙ ap (λ x. x ∷ text_pieces [] rest) (append_assoc before (b ∷ []) front)
 
--- with one more byte b in front, which is a line feed (t) or not, a text has at most one piece more
-few_more :
-    (before bs : List ℕ) (b : ℕ) (t : Bool) → length (text_pieces [] bs) ≤ length bs + 1 → length (text_pieces (before ++ b ∷ []) bs) ≤ length bs + 1 →
-    length (cond t (before ∷ text_pieces [] bs) (text_pieces (before ++ b ∷ []) bs)) ≤ length (b ∷ bs) + 1
+-- where `bs` has at most one piece more than bytes, whether its first piece begins anew or goes on with `before` and b, the same
+-- holds of b and `bs` together; `t` says whether b is a line feed
+few_more : (before bs : List ℕ) (b : ℕ) (t : Bool)
+    → length (text_pieces [] bs) ≤ length bs + 1 → length (text_pieces (before ++ b ∷ []) bs) ≤ length bs + 1
+    → length (cond t (before ∷ text_pieces [] bs) (text_pieces (before ++ b ∷ []) bs)) ≤ length (b ∷ bs) + 1
 few_more before bs b true new on = omega (arith, new)
 few_more before bs b false new on = omega (arith, on)
 
--- there is at most one piece more than there are bytes
+-- there is at most one piece more than `bs` has bytes, whatever the first piece begins with (`before`)
 pieces-few : (before bs : List ℕ) → length (text_pieces before bs) ≤ length bs + 1
 pieces-few before [] = omega arith
 pieces-few before (b ∷ bs) = few_more before bs b (b == 10) (pieces-few [] bs) (pieces-few (before ++ b ∷ []) bs)
 
--- the lines of a text are what is before its first LF, without a CR at the end, and the rest's lines
+-- where a text is cut at its first LF, if it has one, its lines are `front` without a CR at its end, and then those of `rest`
 pub lines-cut : (text front : List ℕ) (rest : Option (List ℕ)) → Cuts 10 text front rest → text_lines text ≡ without_cr front ∷ lines_left rest
 lines-cut text front None cut = ap (map without_cr) (ap (text_pieces []) cut.0 ∙ pieces-lacking [] front cut.1)
 lines-cut text front (Some rest) cut = ap (map without_cr) (ap (text_pieces []) cut.0 ∙ pieces-cut [] front rest cut.1)
 
--- where the lines `xs` have the items `es`, and the lines `ys` the items `fs`, the lines of both lists have the items of both
-pub AreItems-append : {Item : Type 0} (form : Form Item) (xs ys : List (List ℕ)) (es fs : List Item) → AreItems form xs es → AreItems form ys fs → AreItems form (xs ++ ys) (es ++ fs)
+-- where the lines `xs` have the forms of the items `es`, and the lines `ys` those of the items `fs`, `xs` followed by `ys` have
+-- the forms of `es` followed by `fs`
+pub AreItems-append : {Item : Type 0} (form : Form Item) (xs ys : List (List ℕ)) (es fs : List Item)
+    → AreItems form xs es → AreItems form ys fs → AreItems form (xs ++ ys) (es ++ fs)
 AreItems-append form [] ys [] fs h k = k
 AreItems-append form [] ys (e ∷ es) fs h k = absurd h
 AreItems-append form (x ∷ xs) ys [] fs h k = absurd h
 AreItems-append form (x ∷ xs) ys (e ∷ es) fs h k = (h.0, AreItems-append form xs ys es fs h.1 k)
 
--- how far the reading of a text has come: `number` of its lines were read, and gave these items, and the others are those of
--- `left`
+-- how far the reading of a text has come: `number` of its lines were read, and gave these items, and the others are those of what
+-- is unread (`left`)
 pub record Reads {Item : Type 0} (form : Form Item) (text : List ℕ) (left : Option (List ℕ)) (number : ℕ) (items : List Item) : Type 0 where
   pub read : List (List ℕ)
   pub lines_are : text_lines text ≡ read ++ lines_left left
@@ -67,7 +72,8 @@ pub record Reads {Item : Type 0} (form : Form Item) (text : List ℕ) (left : Op
   pub items_are : AreItems form (filter is_kept read) items
 
 -- of a text of at most 65,536 bytes at most 65,537 lines are read, so that a u32 counts them
-pub reads_few : {Item : Type 0} (form : Form Item) (text : List ℕ) (left : Option (List ℕ)) (number : ℕ) (items : List Item) → length text ≤ 65536 → Reads form text left number items → number ≤ 65537
+pub reads_few : {Item : Type 0} (form : Form Item) (text : List ℕ) (left : Option (List ℕ)) (number : ℕ) (items : List Item)
+    → length text ≤ 65536 → Reads form text left number items → number ≤ 65537
 reads_few form text left number items within r =
     let all : length (text_lines text) ≡ length r.read + length (lines_left left) = ap length r.lines_are ∙ length-append r.read (lines_left left) in
     let pieces : length (text_lines text) ≡ length (text_pieces [] text) = length-map (text_pieces [] text) without_cr in
@@ -77,8 +83,8 @@ reads_few form text left number items within r =
 abbrev pub LineItems : {Item : Type 0} → Form Item → List ℕ → List Item → Type 0
 LineItems form line items = AreItems form (filter is_kept (line ∷ [])) items
 
--- where the reading has come to a line, and that line gives the items `more`, after it the reading has those before and then
--- `more`
+-- where the reading has come to the text `now`, and the line that is cut off it gives, without its CR, the items `more`, one more
+-- line is read with it, and the items are those before and then `more`
 pub reads_on : {Item : Type 0} (form : Form Item) (text now line : List ℕ) (rest : Option (List ℕ)) (number : ℕ) (items more : List Item)
     → Reads form text (Some now) number items → Cuts 10 now line rest → LineItems form (without_cr line) more
     → Reads form text rest (number + 1) (items ++ more)
@@ -96,14 +102,15 @@ reads_on form text now line rest number items more r cut of_line =
 pub skipped_line : {Item : Type 0} (form : Form Item) (line : List ℕ) → is_skipped line ≡ true → LineItems form line []
 skipped_line form line skipped = subst (λ ls. AreItems form ls []) (sym (ap (λ t. cond (not t) (line ∷ []) []) skipped)) tt
 
--- a line that isn't skipped gives its own item
-pub kept_line : {Item : Type 0} (form : Form Item) (line : List ℕ) (item : Item) → is_skipped line ≡ false → form line item → LineItems form line (item ∷ [])
+-- a line that isn't skipped and has the form of an item gives that item
+pub kept_line : {Item : Type 0} (form : Form Item) (line : List ℕ) (item : Item)
+    → is_skipped line ≡ false → form line item → LineItems form line (item ∷ [])
 kept_line form line item kept is = subst (λ ls. AreItems form ls (item ∷ [])) (sym (ap (λ t. cond (not t) (line ∷ []) []) kept)) (is, tt)
 
 -- where the next line isn't skipped and has the form of no item, it is the first faulty one
 pub first_faulty : {Item : Type 0} (form : Form Item) (text now line : List ℕ) (rest : Option (List ℕ)) (number : ℕ) (items : List Item)
-    → Reads form text (Some now) number items → Cuts 10 now line rest → is_skipped (without_cr line) ≡ false → ((e : Item) → form (without_cr line) e → ⊥)
-    → FirstFaulty form text (number + 1)
+    → Reads form text (Some now) number items → Cuts 10 now line rest → is_skipped (without_cr line) ≡ false
+    → ((e : Item) → form (without_cr line) e → ⊥) → FirstFaulty form text (number + 1)
 first_faulty form text now line rest number items r cut kept none =
     record {
       front = r.read;
@@ -117,7 +124,8 @@ first_faulty form text now line rest number items r cut kept none =
       before = r.items_are;
     }
 
--- where the next line isn't skipped and has the form of an item, the reading comes to an item with no faulty line before it
+-- where the next line isn't skipped and has the form of an item, the text has such a line with no faulty line before it
+-- (`ReachesASoundLine`)
 pub next_item : {Item : Type 0} (form : Form Item) (text now line : List ℕ) (rest : Option (List ℕ)) (number : ℕ) (items : List Item)
     → Reads form text (Some now) number items → Cuts 10 now line rest → is_skipped (without_cr line) ≡ false → (e : Item) → form (without_cr line) e
     → ReachesASoundLine form text
@@ -137,13 +145,14 @@ next_item form text now line rest number items r cut kept e is =
 -- one turn of the reading loop: `line` is cut off what is left, `plain` is that line without its CR, and `skipped` whether it
 -- is skipped
 module _
-    {Item : Type 0} (form : Form Item) (text : List ℕ) (left : Option (List ℕ)) (now line plain : List ℕ) (rest : Option (List ℕ)) (number : ℕ) (items : List Item) (skipped : Bool)
-    (r : Reads form text left number items) (some : left ≡ Some now) (cut : Cuts 10 now line rest) (is_plain : plain ≡ without_cr line) (tested : skipped ≡ is_skipped plain) where
+    {Item : Type 0} (form : Form Item) (text : List ℕ) (left : Option (List ℕ)) (now line plain : List ℕ) (rest : Option (List ℕ))
+    (number : ℕ) (items : List Item) (skipped : Bool) (r : Reads form text left number items) (some : left ≡ Some now)
+    (cut : Cuts 10 now line rest) (is_plain : plain ≡ without_cr line) (tested : skipped ≡ is_skipped plain) where
   -- how far the reading had come before this turn, with the text `now` left
   reads_before : Reads form text (Some now) number items
   reads_before = subst (λ o. Reads form text o number items) some r
 
-  -- a line that tested as not skipped isn't
+  -- where the test says that the line isn't skipped (`skipped` is false), the line without its CR isn't
   not_skipped : skipped ≡ false → is_skipped (without_cr line) ≡ false
   not_skipped isnt = ap is_skipped (sym is_plain) ∙ sym tested ∙ isnt
 
@@ -164,7 +173,8 @@ module _
   turn_fails isnt none =
       first_faulty form text now line rest number items reads_before cut (not_skipped isnt) (λ e is. none e (subst (λ l. form l e) (sym is_plain) is))
 
-  -- where memory is refused at a line that has the form of an item, no line up to it is faulty
+  -- where the line isn't skipped and has the form of an item, the text has such a line with no faulty line before it
+  -- (`ReachesASoundLine`): this is needed where memory is refused for the item
   pub turn_wants : (item : Item) → skipped ≡ false → form plain item → ReachesASoundLine form text
   turn_wants item isnt is =
       next_item form text now line rest number items reads_before cut (not_skipped isnt) item (subst (λ l. form l item) is_plain is)

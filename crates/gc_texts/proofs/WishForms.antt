@@ -10,11 +10,11 @@ use Rattle.gc_texts.specs.declared.wish.Wish.{Wish}
 use Rattle.gc_texts.proofs.CommandForms.{one_command}
 use Rattle.gc_texts.proofs.RawForms.{never_both, one_raw}
 
--- two wishes with equal targets, and for the same, are equal
+-- two wishes with equal targets that ask for the same are equal
 pub same_wish : (v w : Wish) → v.target ≡ w.target → v.call ≡ w.call → v ≡ w
 same_wish v w e f = ap (λ t. record { target = t; call = v.call }) e ∙ ap (λ x. record { target = w.target; call = x }) f
 
--- a line asks one target at most for one thing
+-- a line asks at most one target for at most one thing
 one_asking : (line : List ℕ) (m n : ℕ) (a b : Asked) → AsksFor line m a → AsksFor line n b → (m ≡ n) × (a ≡ b)
 one_asking line m n (Table a) (Table b) x y =
     let same : ◌≡◌ {A = Command} (record { target = m; call = a }) (record { target = n; call = b }) = one_command line (record { target = m; call = a }) (record { target = n; call = b }) x y in
@@ -28,7 +28,8 @@ pub one_wish : (line : List ℕ) (v w : Wish) → IsWish line v → IsWish line 
 one_wish line v w x y = let same = one_asking line v.target w.target v.call w.call x y in same_wish v w same.0 same.1
 
 -- a line that neither asks for a procedure that isn't in the table nor has the form of a command has the form of no wish
-pub no_wish : (line : List ℕ) → ((target : ℕ) (raw : RawCall) → IsRawWish line target raw → ⊥) → ((command : Command) → IsCommand line command → ⊥) → (wish : Wish) → IsWish line wish → ⊥
+pub no_wish : (line : List ℕ) → ((target : ℕ) (raw : RawCall) → IsRawWish line target raw → ⊥)
+    → ((command : Command) → IsCommand line command → ⊥) → (wish : Wish) → IsWish line wish → ⊥
 no_wish line no_raw no_command wish is = no_asking wish.target wish.call is where
   -- the lemma above, by what is asked for
   no_asking : (target : ℕ) (asked : Asked) → AsksFor line target asked → ⊥

@@ -1,5 +1,6 @@
--- Texts that are words of one form (`AreWords`), one for each item, with one space (byte 32) between two. While the words are read, `left`
--- is what is unread of the text (`None` at its end), `read` the items so far, and `rest` what is left after the next word.
+-- Texts that are words of one form (`AreWords`), one for each item, with one space (byte 32) between two. While the words are
+-- read, `left` is what is unread of the text (`None` at its end), `read` the items so far, and `rest` what is left after the next
+-- word.
 use Rattle.std.proofs.Common.{◌≡◌, ℕ, List, [], ◌∷◌, ◌++◌, Option, Some, None, refl, ap, subst, sym, ◌∙◌, append_assoc}
 use Rattle.gc_texts.specs.Cuts.{Cuts, Lacks}
 use Rattle.gc_texts.specs.LineForms.{Form}
@@ -11,8 +12,9 @@ pub record IsWordForm {Item : Type 0} (form : Form Item) : Type 0 where
   pub lacks : (word : List ℕ) (item : Item) → form word item → Lacks 32 word
   pub one : (word : List ℕ) (a b : Item) → form word a → form word b → a ≡ b
 
--- a text is one list of words at most
-pub one_word_list : {Item : Type 0} (form : Form Item) → IsWordForm form → (xs ys : List Item) (text : List ℕ) → AreWords form text xs → AreWords form text ys → xs ≡ ys
+-- where a word of the form has no space and is one item at most (`IsWordForm`), a text is the words of one list of items at most
+pub one_word_list : {Item : Type 0} (form : Form Item) → IsWordForm form → (xs ys : List Item) (text : List ℕ)
+    → AreWords form text xs → AreWords form text ys → xs ≡ ys
 one_word_list form f [] ys text a b = absurd a
 one_word_list form f (x ∷ xs) [] text a b = absurd b
 one_word_list form f (x ∷ []) (y ∷ []) text a b = ap (λ z. z ∷ []) (f.one text x y a b)
@@ -34,9 +36,11 @@ pub record ReadsWords {Item : Type 0} (form : Form Item) (text : List ℕ) (left
   pub found : (later : List Item) → AreLeft form left later → AreWords form text (read ++ later)
   pub only : (all : List Item) → AreWords form text all → (later : List Item) × (all ≡ read ++ later) × AreLeft form left later
 
--- words, cut at the first space, begin with the item of the word before the space, and the others are those of the rest
-first_item : {Item : Type 0} (form : Form Item) → IsWordForm form → (now word : List ℕ) (later : List Item) (rest : Option (List ℕ)) → Cuts 32 now word rest
-    → AreWords form now later → (item : Item) × (others : List Item) × (later ≡ item ∷ others) × form word item × AreLeft form rest others
+-- where a word of the form has no space (`IsWordForm`), and a text is the words of the items `later`, the first item is that of
+-- the word before the first space, and the others are those of the rest
+first_item : {Item : Type 0} (form : Form Item) → IsWordForm form → (now word : List ℕ) (later : List Item) (rest : Option (List ℕ))
+    → Cuts 32 now word rest → AreWords form now later
+    → (item : Item) × (others : List Item) × (later ≡ item ∷ others) × form word item × AreLeft form rest others
 first_item form f now word [] rest cut are = absurd are
 first_item form f now word (item ∷ []) rest cut are =
     let parts = cut_none 32 now word rest cut (f.lacks now item are) in
@@ -45,34 +49,38 @@ first_item form f now word (item ∷ next ∷ others) rest cut (front, behind, a
     let parts = cut_found 32 now word rest front behind cut at (f.lacks front item is) in
     (item, next ∷ others, refl, subst (λ (w : List ℕ). form w item) (sym parts.0) is, subst (λ (o : Option (List ℕ)). AreLeft form o (next ∷ others)) (sym parts.1) more)
 
--- a word before the first space, and the words of the rest, are the words of the whole text
-words_joined : {Item : Type 0} (form : Form Item) (now word : List ℕ) (rest : Option (List ℕ)) (item : Item) (others : List Item) → Cuts 32 now word rest → form word item
+-- where a text is cut at its first space, the word before it is `item`'s, and the rest is the words of `others`, the text is the
+-- words of `item` and `others`
+words_joined : {Item : Type 0} (form : Form Item) (now word : List ℕ) (rest : Option (List ℕ)) (item : Item) (others : List Item)
+    → Cuts 32 now word rest → form word item
     → AreLeft form rest others → AreWords form now (item ∷ others)
 words_joined form now word None item [] cut is left = subst (λ (w : List ℕ). form w item) (sym cut.0) is
 words_joined form now word None item (next ∷ others) cut is left = let bad : next ∷ others ≡ [] = left in cc
 words_joined form now word (Some behind) item [] cut is left = absurd left
 words_joined form now word (Some behind) item (next ∷ others) cut is left = (word, behind, cut.0, is, left)
 
--- before the first word none was read
+-- `ReadsWords` holds before the first word, with all of the text left and no items read
 pub none_read : {Item : Type 0} (form : Form Item) (text : List ℕ) → ReadsWords form text (Some text) []
 none_read form text = record { found = λ later are. are; only = λ all are. (all, refl, are) }
 
 -- where nothing is left, the words that were read are those of the text
-pub all_read_are : {Item : Type 0} (form : Form Item) (text : List ℕ) (left : Option (List ℕ)) (read : List Item) → ReadsWords form text left read → left ≡ None → AreWords form text (read ++ [])
+pub all_read_are : {Item : Type 0} (form : Form Item) (text : List ℕ) (left : Option (List ℕ)) (read : List Item)
+    → ReadsWords form text left read → left ≡ None → AreWords form text (read ++ [])
 all_read_are form text left read r none = r.found [] (subst (λ (o : Option (List ℕ)). AreLeft form o []) (sym none) refl)
 
 -- the text `now` is left, and `word` is its next word
 module _
-    {Item : Type 0} (form : Form Item) (f : IsWordForm form) (text now word : List ℕ) (left rest : Option (List ℕ)) (read : List Item) (r : ReadsWords form text left read)
-    (some : left ≡ Some now) (cut : Cuts 32 now word rest) where
+    {Item : Type 0} (form : Form Item) (f : IsWordForm form) (text now word : List ℕ) (left rest : Option (List ℕ)) (read : List Item)
+    (r : ReadsWords form text left read) (some : left ≡ Some now) (cut : Cuts 32 now word rest) where
   -- the items of the text are those that were read, the one of the next word, and those of the rest
-  pub next_item_of : (all : List Item) → AreWords form text all → (item : Item) × (others : List Item) × (all ≡ read ++ item ∷ others) × form word item × AreLeft form rest others
+  pub next_item_of : (all : List Item) → AreWords form text all
+      → (item : Item) × (others : List Item) × (all ≡ read ++ item ∷ others) × form word item × AreLeft form rest others
   next_item_of all are =
       let o = r.only all are in
       let first = first_item form f now word o.0 rest cut (subst (λ (l : Option (List ℕ)). AreLeft form l o.0) some o.2) in
       (first.0, first.1, o.1 ∙ ap (λ l. read ++ l) first.2, first.3, first.4)
 
-  -- where the next word is an item's, one more is read
+  -- where the next word is `item`'s, `ReadsWords` holds with `item` read after the items so far, and the rest left
   pub one_more_read : (item : Item) → form word item → ReadsWords form text rest (read ++ item ∷ [])
   one_more_read item is =
       record {

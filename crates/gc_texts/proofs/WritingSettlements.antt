@@ -2,8 +2,9 @@
 use Rattle.std.proofs.Common.{◌≡◌, ℕ, ◌+◌, ◌<◌, List, ◌∷◌, ◌++◌, length, take, drop, map, get_or, Option, sym, ap, ◌∙◌, subst}
 use Rattle.std.specs.Io.KnownBytes.{Appends}
 use Rattle.std.proofs.lemmas.List.{map-append}
+use Rattle.std.proofs.KnownBytes.{Appends-trans}
 use Rattle.gc_lines.specs.Ports.{TakesFront}
-use Rattle.gc_lines.proofs.Known.{Appends-append, Appends-is}
+use Rattle.gc_lines.proofs.Known.{Appends-is}
 use Rattle.gc_catalogue.specs.declared.call.Call.{Call}
 use Rattle.gc_client.specs.declared.settlement.Settlement.{Settlement}
 use Rattle.gc_client.specs.Settlements.{settlement_seen}
@@ -12,17 +13,19 @@ use Rattle.gc_texts.proofs.SettlementLines.{at_place, front_is, lines_to_next}
 
 -- where a sink took the lines of the first i settlements, numbered from `place` on, and then the line of the next one (s), it
 -- took the lines of the first i + 1. It has taken `old` at first, `mid` in between and `new` at the end
-pub took_next : (place : ℕ) (ss : List (Settlement Call)) (i : ℕ) (s : Settlement Call) (old mid new : Option (List ℕ)) (line : List ℕ) (below : i < length ss)
-    (is : s ≡ get_or ss i s) (text : line ≡ settlement_line (place + i) (settlement_seen s))
-    → Appends old mid (lines_from place (map settlement_seen (take i ss))) → Appends mid new line → Appends old new (lines_from place (map settlement_seen (take (i + 1) ss)))
+pub took_next : (place : ℕ) (ss : List (Settlement Call)) (i : ℕ) (s : Settlement Call) (old mid new : Option (List ℕ)) (line : List ℕ)
+    (below : i < length ss) (is : s ≡ get_or ss i s) (text : line ≡ settlement_line (place + i) (settlement_seen s))
+    → Appends old mid (lines_from place (map settlement_seen (take i ss))) → Appends mid new line
+    → Appends old new (lines_from place (map settlement_seen (take (i + 1) ss)))
 took_next place ss i s old mid new line below is text so more =
-    Appends-is old new _ _ (ap (λ t. lines_from place (map settlement_seen (take i ss)) ++ t) text ∙ sym (lines_to_next place ss i s below is)) (Appends-append old mid new _ _ so more)
+    Appends-is old new _ _ (ap (λ t. lines_from place (map settlement_seen (take i ss)) ++ t) text ∙ sym (lines_to_next place ss i s below is)) (Appends-trans old mid new _ _ so more)
 
 -- where a sink took the lines of the first i settlements, numbered from `place` on, and then only the first n bytes of the next
 -- line, it took a part of all lines (`WrotePartOfSettlements`)
-pub took_part : (place : ℕ) (ss : List (Settlement Call)) (i n : ℕ) (s : Settlement Call) (old mid new : Option (List ℕ)) (line : List ℕ) (below : i < length ss)
-    (is : s ≡ get_or ss i s) (text : line ≡ settlement_line (place + i) (settlement_seen s))
-    → Appends old mid (lines_from place (map settlement_seen (take i ss))) → TakesFront mid new n line → WrotePartOfSettlements place (map settlement_seen ss) old new
+pub took_part : (place : ℕ) (ss : List (Settlement Call)) (i n : ℕ) (s : Settlement Call) (old mid new : Option (List ℕ)) (line : List ℕ)
+    (below : i < length ss) (is : s ≡ get_or ss i s) (text : line ≡ settlement_line (place + i) (settlement_seen s))
+    → Appends old mid (lines_from place (map settlement_seen (take i ss))) → TakesFront mid new n line
+    → WrotePartOfSettlements place (map settlement_seen ss) old new
 took_part place ss i n s old mid new line below is text so part =
     let front = map settlement_seen (take i ss) in
     let at : line ≡ settlement_line (place + length front) (settlement_seen s) = text ∙ ap (λ m. settlement_line (place + m) (settlement_seen s)) (sym (front_is ss i below)) in
@@ -33,5 +36,5 @@ took_part place ss i n s old mid new line below is text so part =
       order = ap (map settlement_seen) (at_place ss i s below is).1 ∙ map-append settlement_seen (take i ss) (s ∷ drop (i + 1) ss);
       part = n;
       not_all = subst (λ (t : List ℕ). n < length t) at part.0;
-      took = Appends-append old mid new _ _ so (Appends-is mid new _ _ (ap (take n) at) part.1);
+      took = Appends-trans old mid new _ _ so (Appends-is mid new _ _ (ap (take n) at) part.1);
     }

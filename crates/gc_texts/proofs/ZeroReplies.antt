@@ -26,7 +26,9 @@ zero_is_reply line r is =
     subst (λ (l : List ℕ). IsReply l (record r { rc = 0 })) (sym (zero_text line r is))
     (reply_found (reply_text (record r { rc = 0 })) (record r { rc = 0 }) (reply_back (record r { rc = 0 }) (zero_in_range line r is)))
 
--- where a reply's fields with return code 0 mean `reading` for what was asked, the line with return code 0 reads as that
-pub zero_reads : (asked : Asked) (line : List ℕ) (r : ReplyFields) (reading : Reading) → IsReply line r → IsAskedReading asked (record r { rc = 0 }) reading
+-- where a reply's fields with return code 0 mean `reading` for what was asked, the line with return code 0
+-- (`as_zero`) reads as `reading` for it
+pub zero_reads : (asked : Asked) (line : List ℕ) (r : ReplyFields) (reading : Reading)
+    → IsReply line r → IsAskedReading asked (record r { rc = 0 }) reading
     → ReadsBy IsAskedReading asked (as_zero line) reading
 zero_reads asked line r reading is says = record { reply = record r { rc = 0 }; is_reply = zero_is_reply line r is; is_reading = says }

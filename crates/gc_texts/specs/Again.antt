@@ -5,18 +5,19 @@ use Rattle.gc_texts.specs.Endings.{End, Answered, Unreadable, Elsewhere, Late, L
 use Rattle.gc_texts.specs.declared.again.Again.{Again}
 use Rattle.gc_texts.specs.declared.codes.Codes.{Codes}
 
--- no return code and no outcome: a chain with this isn't repeated
+-- the rule with no return code and no outcome: a chain with it isn't repeated
 abbrev pub no_again : Again
 no_again = record { codes = no_codes; unreadable = false; elsewhere = false; late = false; lost = false; skipped = false }
 
--- whether a reply's return code is one of `listed`. `None`, which never is: the return code is 0, or the communication code isn't
+-- whether a reply's return code is one of `listed`; never where there is no code to look for (`None`), because the return code is 0, or the
+-- communication code is another than 0
 abbrev pub has_code : Codes → Option ℕ → Bool
 has_code listed None = false
 has_code listed (Some code) = lists_code listed code
 
 -- whether a chain with the rule `again` is repeated after this ending of one of its commands. An answered command decides by `code`, the
--- return code of its reply (`None`: it is 0, or the communication code isn't); any other ending by its outcome alone, and a missed cycle
--- never
+-- return code of its reply (`None` where it is 0, or the communication code is another than 0); any other ending decides by its outcome
+-- alone, and a missed cycle never repeats a chain
 abbrev pub repeats_after : Again → Option ℕ → End → Bool
 repeats_after again code (Answered quality answer line) = has_code again.codes code
 repeats_after again code (Unreadable line fault) = again.unreadable

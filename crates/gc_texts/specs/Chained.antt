@@ -14,16 +14,16 @@ use Rattle.gc_texts.specs.declared.task_line.TaskLine.{TaskLine}
 use Rattle.gc_texts.specs.declared.task_line.TaskLine.TheVariants as says
 use Rattle.gc_texts.specs.declared.tasks.Task.{Task}
 
--- whether the commands after these lines are setup, as the last line `at start` or `each cycle` says; `setup` says it
--- before them
-abbrev pub section_after : Bool → List TaskLine → Bool
+-- whether the commands after these lines are setup, as the last line `at start` or `each cycle` says, or as `setup` says where
+-- there is none
+abbrev pub section_after : (setup : Bool) → List TaskLine → Bool
 section_after setup [] = setup
 section_after setup (says.AtStart ∷ later) = section_after true later
 section_after setup (says.EachCycle ∷ later) = section_after false later
 section_after setup (line ∷ later) = section_after setup later
 
 -- how many of these lines are commands of the setup; `setup` says whether the setup holds before them
-abbrev pub setup_commands : Bool → List TaskLine → ℕ
+abbrev pub setup_commands : (setup : Bool) → List TaskLine → ℕ
 setup_commands setup [] = 0
 setup_commands setup (says.Command command now ∷ later) = (if setup then 1 else 0) + setup_commands setup later
 setup_commands setup (says.AtStart ∷ later) = setup_commands true later
@@ -31,7 +31,7 @@ setup_commands setup (says.EachCycle ∷ later) = setup_commands false later
 setup_commands setup (line ∷ later) = setup_commands setup later
 
 -- how many of these lines are commands of each cycle; `setup` says whether the setup holds before them
-abbrev pub cycle_commands : Bool → List TaskLine → ℕ
+abbrev pub cycle_commands : (setup : Bool) → List TaskLine → ℕ
 cycle_commands setup [] = 0
 cycle_commands setup (says.Command command now ∷ later) = (if setup then 0 else 1) + cycle_commands setup later
 cycle_commands setup (says.AtStart ∷ later) = cycle_commands true later
@@ -45,13 +45,14 @@ SaysNoDeadline _ = Unit {0}
 
 -- the value of a setting after these lines: that of the last line that sets it, or `given` where none does. `line_of` gives the line that
 -- sets a value, and `SetsNone` holds of the lines that leave the setting as it is
-abbrev pub IsSetAfter : {Value : Type 0} → (TaskLine → Type 0) → (Value → TaskLine) → Value → List TaskLine → Value → Type 0
+abbrev pub IsSetAfter : {Value : Type 0} → (SetsNone : TaskLine → Type 0) → (line_of : Value → TaskLine) → (given : Value)
+    → List TaskLine → (value : Value) → Type 0
 IsSetAfter SetsNone line_of given lines value =
     (AllByRecursion SetsNone lines × (value ≡ given))
     ⊎ ((before : List TaskLine) × (between : List TaskLine) × (lines ≡ before ++ line_of value ∷ between) × AllByRecursion SetsNone between)
 
 -- the deadline after these lines: that of the last one that says a deadline, or `given` where none does
-abbrev pub IsDeadlineAfter : ℕ → List TaskLine → ℕ → Type 0
+abbrev pub IsDeadlineAfter : (given : ℕ) → List TaskLine → (deadline : ℕ) → Type 0
 IsDeadlineAfter given lines deadline = IsSetAfter SaysNoDeadline says.Deadline given lines deadline
 
 -- a line doesn't set whether commands are chained: it is neither `chained` nor `unchained`
@@ -61,12 +62,12 @@ SaysNoChaining says.Unchained = ⊥
 SaysNoChaining _ = Unit {0}
 
 -- the line that sets whether commands are chained: `chained` or `unchained`
-abbrev pub chaining_line : Bool → TaskLine
+abbrev pub chaining_line : (chained : Bool) → TaskLine
 chaining_line true = says.Chained
 chaining_line false = says.Unchained
 
 -- whether commands are chained after these lines: as the last line `chained` or `unchained` says, or as `given` says where there is none
-abbrev pub IsChainingAfter : Bool → List TaskLine → Bool → Type 0
+abbrev pub IsChainingAfter : (given : Bool) → List TaskLine → (chained : Bool) → Type 0
 IsChainingAfter given lines chained = IsSetAfter SaysNoChaining chaining_line given lines chained
 
 -- a line doesn't set the accepted codes
@@ -74,7 +75,7 @@ abbrev pub SaysNoCodes : TaskLine → Type 0
 SaysNoCodes (says.Accepting accepted) = ⊥
 SaysNoCodes _ = Unit {0}
 
--- the codes that are accepted after these lines: those of the last line that sets codes, and none where no line sets any
+-- the codes that are accepted after these lines: as the last line `accept` says, and none where there is no such line
 abbrev pub AreAcceptedAfter : List TaskLine → Codes → Type 0
 AreAcceptedAfter lines accepted = IsSetAfter SaysNoCodes says.Accepting no_codes lines accepted
 
@@ -100,12 +101,12 @@ KeepsGroup _ = ⊥
 -- the last command of these lines is for this target, and only deadlines, names, places and codes follow it
 abbrev pub EndsInGroupOf : List TaskLine → ℕ → Type 0
 EndsInGroupOf lines target =
-    (before : List TaskLine) × (command : Wish) × (now : Bool) × (between : List TaskLine) × (lines ≡ before ++ says.Command command now ∷ between) × AllByRecursion KeepsGroup between
-    × (command.target ≡ target)
+    (before : List TaskLine) × (command : Wish) × (now : Bool) × (between : List TaskLine)
+    × (lines ≡ before ++ says.Command command now ∷ between) × AllByRecursion KeepsGroup between × (command.target ≡ target)
 
 -- the task of a command of the cycle that follows the lines `front`: its place counts the cycle's commands among them, and
 -- it is chained exactly where commands are chained there and the command before is for the same target, with no line between
--- the two that ends their group (`KeepsGroup`)
+-- the two that ends their group (`KeepsGroup`). `chained` says whether commands are chained where no line says so
 pub record IsTaskInCycle (chained : Bool) (front : List TaskLine) (command : Wish) (task : Task) : Type 0 where
   pub place : task.turn.place ≡ cycle_commands false front
   pub only : task.chained ≡ true → IsChainingAfter chained front true × EndsInGroupOf front command.target
@@ -117,9 +118,10 @@ pub record IsTaskOfSetUp (front : List TaskLine) (task : Task) : Type 0 where
   pub place : task.turn.place ≡ setup_commands false front
   pub chained : task.chained ≡ nat_lt 0 (setup_commands false front)
 
--- the task of a command that follows the lines `front`: it asks that command, in the first attempt of its chain, with the
--- deadline and the accepted codes that hold there, and is sent as one of its section. `deadline` and `chained` hold where no
--- line says otherwise
+-- the task of a command that follows the lines `front`: it is of that command, in the first attempt of its chain, with the
+-- deadline and the accepted codes that hold there, and is as a task of its section is (`IsTaskOfSetUp`, `IsTaskInCycle`).
+-- `deadline` and `chained` hold where no line says otherwise; `now` says whether the command sets the clock to the moment at
+-- which it is sent
 pub record IsTaskOf (deadline : ℕ) (chained : Bool) (front : List TaskLine) (command : Wish) (now : Bool) (task : Task) : Type 0 where
   pub asks : task.command ≡ command
   pub moment : task.now ≡ now
@@ -130,11 +132,12 @@ pub record IsTaskOf (deadline : ℕ) (chained : Bool) (front : List TaskLine) (c
   pub in_cycle : section_after false front ≡ false → IsTaskInCycle chained front command task
 
 -- each command of a text is sent as the lines before it say, and its task has the place that the text gives its target, if
--- any. A command of the setup is among the first `setup` tasks, after as many as are before it in the text; one of the
--- cycle after them
+-- any. Before the task of a command of the setup there are as many tasks as the text has commands of the setup before that
+-- command, and before the task of one of the cycle there are at least `setup` tasks
 abbrev pub TasksFollowTheirLines : Type 0
 TasksFollowTheirLines =
-    (text : List ℕ) (deadline : ℕ) (chained : Bool) (setup : ℕ) (tasks : List Task) (names : List Name) (nears : List Near) (is : IsTasks text deadline chained setup tasks names nears)
+    (text : List ℕ) (deadline : ℕ) (chained : Bool) (setup : ℕ) (tasks : List Task) (names : List Name) (nears : List Near)
+    (is : IsTasks text deadline chained setup tasks names nears)
     (front later : List TaskLine) (command : Wish) (now : Bool) → is.said ≡ front ++ says.Command command now ∷ later
     → (earlier : List Task) × (task : Task) × (others : List Task) × (tasks ≡ earlier ++ task ∷ others)
     × (section_after false front ≡ true → length earlier ≡ setup_commands false front) × (section_after false front ≡ false → setup ≤ length earlier)
@@ -143,6 +146,6 @@ TasksFollowTheirLines =
 -- where a line says where a target is, it says so of each command of that target, before it and after it
 abbrev pub PlacesHoldForAll : Type 0
 PlacesHoldForAll =
-    (text : List ℕ) (deadline : ℕ) (chained : Bool) (setup : ℕ) (tasks : List Task) (names : List Name) (nears : List Near) (is : IsTasks text deadline chained setup tasks names nears)
-    (front later : List TaskLine) (near : Near) → is.said ≡ front ++ says.Locating near ∷ later
+    (text : List ℕ) (deadline : ℕ) (chained : Bool) (setup : ℕ) (tasks : List Task) (names : List Name) (nears : List Near)
+    (is : IsTasks text deadline chained setup tasks names nears) (front later : List TaskLine) (near : Near) → is.said ≡ front ++ says.Locating near ∷ later
     → (earlier others : List Task) (task : Task) → tasks ≡ earlier ++ task ∷ others → task.command.target ≡ near.target → task.near ≡ Some near

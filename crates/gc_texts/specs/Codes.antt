@@ -11,10 +11,10 @@ pub record IsCode (word : List ℕ) (code : ℕ) : Type 0 where
   pub some : 1 ≤ code
 
 -- a text is these codes, at least one, with one space between two
-abbrev pub AreCodes : List ℕ → List ℕ → Type 0
+abbrev pub AreCodes : (text listed : List ℕ) → Type 0
 AreCodes text listed = AreWords IsCode text listed
 
--- these codes in the first of 16 places, and 0, which is no code, in the others
+-- these codes, which are at most 16, in the first of 16 places, and 0, which is no code, in the others
 abbrev pub padded_codes : List ℕ → List ℕ
 padded_codes listed = listed ++ replicate (16 - length listed) 0
 

@@ -22,15 +22,17 @@ IsCommands text commands = IsText IsCommand text commands
 abbrev pub IsFirstFaultyCommand : List ℕ → ℕ → Type 0
 IsFirstFaultyCommand text n = FirstFaulty IsCommand text n
 
--- the text has a line that has the form of a command, and no faulty line before it: a reader comes to such a line, and memory may be
--- refused there
+-- the text has a line that isn't skipped and has the form of a command, and no faulty line before it: a reader comes to such a
+-- line, and memory may be refused there
 abbrev pub ReachesASoundCommand : List ℕ → Type 0
 ReachesASoundCommand text = ReachesASoundLine IsCommand text
 
--- the reading of this text had this result, and if that is `Schedule`, its line is the first that has the form of no command
+-- if the reading of this text had this result, and it is `Schedule`, the line that it names is the first faulty one
+-- (`IsFirstFaultyCommand`)
 abbrev pub NamesFaultyCommand : {A : Type 0} → List ℕ → Result A RunFault → Type 0
 NamesFaultyCommand text result = NamesFaulty (IsFirstFaultyCommand text) result
 
--- the reading of this text had this result, and if that is `Memory`, the reader came to a line that has the form of a command
+-- if the reading of this text had this result, and it is `Memory`, the reader came to a line that has the form of a command, and to no
+-- faulty line before it (`ReachesASoundCommand`)
 abbrev pub MemoryAtCommand : {A : Type 0} → List ℕ → Result A RunFault → Type 0
 MemoryAtCommand text result = result ≡ Err Memory → ReachesASoundCommand text

@@ -6,9 +6,9 @@ abbrev pub Lacks : ℕ → List ℕ → Type 0
 Lacks mark [] = Unit {0}
 Lacks mark (b ∷ bs) = (b ≢ mark) × Lacks mark bs
 
--- a text, cut at the first mark: `front` is what is before the mark, and the last argument what follows it. Without a mark `front` is
--- all of the text, and the last argument `None`
-abbrev pub Cuts : ℕ → List ℕ → List ℕ → Option (List ℕ) → Type 0
+-- a text, cut at the first mark: `front` is what is before the mark, and `rest` what follows it. Without a mark `front` is all of the
+-- text, and `rest` is `None`
+abbrev pub Cuts : (mark : ℕ) (text front : List ℕ) (rest : Option (List ℕ)) → Type 0
 Cuts mark text front None = (text ≡ front) × Lacks mark front
 Cuts mark text front (Some rest) = (text ≡ front ++ mark ∷ rest) × Lacks mark front
 

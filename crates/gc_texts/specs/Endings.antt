@@ -10,7 +10,7 @@ use Rattle.gc_texts.specs.declared.ending.Ending.TheVariants as ending
 -- how a command of a station's setup or cycle ended
 pub data End : Type 0 where
   -- its reply came in time, with this line, and is an answer of this quality. `answer` is what the reply's values read as, where
-  -- both codes are 0, or where the return code is accepted and the values would read with return code 0
+  -- both codes are 0, or where the return code is accepted and the values would read with return code 0; else it is `None`
   Answered : (quality : Quality) (answer : Option Answer) (line : List ℕ) → End
   -- its reply came in time, with this line, whose codes are 0, and whose values have this fault
   Unreadable : (line : List ℕ) (fault : ValueFault) → End
@@ -21,7 +21,8 @@ pub data End : Type 0 where
   Late : End
   -- no reply came, and one that still comes will be ignored
   Lost : End
-  -- it wasn't sent, because the command before it in its chain wasn't answered well
+  -- it wasn't sent, because the command before it in its chain wasn't answered well, or because after that command was sent a
+  -- connection was closed or the station resynchronized
   Skipped : End
   -- it wasn't sent, because its cycle couldn't begin before the next was due
   Missed : End
@@ -58,7 +59,7 @@ line_of (Unreadable line fault) = Some line
 line_of (Elsewhere line) = Some line
 line_of _ = None
 
--- the quality of the command's answer, if it was answered
+-- the quality of the command's answer, if the ending is `Answered`
 abbrev pub quality_of : End → Option Quality
 quality_of (Answered quality answer line) = Some quality
 quality_of _ = None

@@ -25,7 +25,8 @@ pub record FaultsHaveTheirNumbers : Type 0 where
   pub of_calls : (fault : ValueFault) → map call_fault_number (call.Unknown ∷ call.Parameters fault ∷ []) ≡ 21 ∷ 22 ∷ []
   pub of_refusals : (fault : ValueFault) → map refusal_number (call.Unknown ∷ call.Parameters fault ∷ []) ≡ 21 ∷ of_value.fault_number fault ∷ []
   -- of serving: 42 to 44
-  pub of_serving : (replies bytes : ℕ) → map of_serving.fault_number (serving.Read replies ∷ serving.Write replies bytes ∷ serving.TooManyReads replies ∷ [])
+  pub of_serving : (replies bytes : ℕ)
+      → map of_serving.fault_number (serving.Read replies ∷ serving.Write replies bytes ∷ serving.TooManyReads replies ∷ [])
       ≡ 42 ∷ 43 ∷ 44 ∷ []
   -- of a run: 41 to 45, and 51 to 55
   pub of_runs : (replies bytes : ℕ) → map run_fault_number (run.SceneFull ∷ run.Read ∷ run.Write replies bytes ∷ run.TooManyReads ∷ run.LinkClosed ∷ [])
@@ -33,8 +34,8 @@ pub record FaultsHaveTheirNumbers : Type 0 where
   pub of_texts_and_ports : (number : ℕ) → map run_fault_number (run.Schedule number ∷ run.Memory ∷ run.InputTooLong ∷ run.Socket ∷ run.Output ∷ [])
       ≡ 51 ∷ 52 ∷ 53 ∷ 54 ∷ 55 ∷ []
   -- of the program: 46 to 50, 56 to 60, and 64 to 66
-  pub of_the_program : map run_fault_number (run.Mute ∷ run.Clock ∷ run.Stale ∷ run.SetUp ∷ run.NoCommand ∷ run.StreamClosed ∷ run.Log ∷ run.NoTerminal ∷ run.Held ∷ run.Forbidden
-      ∷ run.RecordsUnopened ∷ run.RecordsHeld ∷ run.RecordsForeign ∷ [])
+  pub of_the_program : map run_fault_number (run.Mute ∷ run.Clock ∷ run.Stale ∷ run.SetUp ∷ run.NoCommand
+      ∷ run.StreamClosed ∷ run.Log ∷ run.NoTerminal ∷ run.Held ∷ run.Forbidden ∷ run.RecordsUnopened ∷ run.RecordsHeld ∷ run.RecordsForeign ∷ [])
       ≡ 46 ∷ 47 ∷ 48 ∷ 49 ∷ 50 ∷ 56 ∷ 57 ∷ 58 ∷ 59 ∷ 60 ∷ 64 ∷ 65 ∷ 66 ∷ []
   -- the code's names of three of them
   pub names : READ_FAILED ∷ WRITE_FAILED ∷ READS_SPENT ∷ [] ≡ 42 ∷ 43 ∷ 44 ∷ []

@@ -51,7 +51,7 @@ fault_line text = codes "geocom: " ++ text ++ codes "\n"
 
 -- how the program reports the result of a run: status 0 and no message, or status 1 and the line of the fault. `text` gives a
 -- fault's text, and `old` and `new` are the messages before and after
-abbrev pub Tells : {X E : Type 0} → (E → List ℕ) → Result X E → ℕ → Option (List ℕ) → Option (List ℕ) → Type 0
+abbrev pub Tells : {X E : Type 0} → (text : E → List ℕ) → Result X E → (status : ℕ) → (old new : Option (List ℕ)) → Type 0
 Tells text (Ok _) status old new = (status ≡ 0) × (new ≡ old)
 Tells text (Err fault) status old new = (status ≡ 1) × Appends old new (fault_line (text fault))
 

@@ -36,9 +36,10 @@ CommandsAreTasks =
     (text : List ℕ) (commands : List Command) (deadline : ℕ) (chained : Bool) → IsCommands text commands →
     (tasks : List Task) × IsTasks text deadline chained 0 tasks [] [] × (map (λ task. task.command) tasks ≡ map wish_of commands)
 
--- the tasks of these commands, numbered from `place` on: each has this deadline, isn't chained, and has no place of its target, no
--- accepted code and no rule of repetition
-abbrev pub plain_tasks : ℕ → ℕ → List Command → List Task
+-- the tasks of these commands, numbered from `place` on: each is in its first attempt, has this deadline, isn't chained,
+-- doesn't set the clock to the moment at which it is sent, and has no place of its target, no accepted code and no rule of
+-- repetition
+abbrev pub plain_tasks : (deadline place : ℕ) → List Command → List Task
 plain_tasks deadline place [] = []
 plain_tasks deadline place (command ∷ others) =
     record {
@@ -54,27 +55,29 @@ plain_tasks deadline place (command ∷ others) =
     } ∷ plain_tasks deadline (place + 1) others
 
 -- a command text, read as a station's text without chains, gives one task for each command, in order: with the caller's
--- deadline, not chained, and without a place
+-- deadline, not chained, and without a place of its target (`plain_tasks`)
 abbrev pub CommandsArePlain : Type 0
 CommandsArePlain =
-    (text : List ℕ) (commands : List Command) (deadline : ℕ) → IsCommands text commands → IsTasks text deadline false 0 (plain_tasks deadline 0 commands) [] []
+    (text : List ℕ) (commands : List Command) (deadline : ℕ) → IsCommands text commands
+    → IsTasks text deadline false 0 (plain_tasks deadline 0 commands) [] []
 
 -- chains keep their targets: each chained task follows one for the same target; `before` is the target of the task before all of these,
 -- if there is one
-abbrev pub KeepTargets : Option ℕ → List Task → Type 0
+abbrev pub KeepTargets : (before : Option ℕ) → List Task → Type 0
 KeepTargets before [] = Unit {0}
 KeepTargets before (task ∷ later) = (task.chained ≡ true → before ≡ Some task.command.target) × KeepTargets (Some task.command.target) later
 
--- these tasks are one chain: the first isn't chained, and each after it is
+-- these tasks are one chain, or there are none: the first isn't chained, and each after it is
 abbrev pub IsOneChain : List Task → Type 0
 IsOneChain [] = Unit {0}
 IsOneChain (first ∷ later) = (first.chained ≡ false) × AllByRecursion (λ task. task.chained ≡ true) later
 
--- the setup is one chain, whatever its targets; of the tasks after it the first isn't chained, and each chained one follows one for the
--- same target (`KeepTargets`)
+-- the setup is one chain, whatever its targets, or empty (`IsOneChain`); of the tasks after it the first isn't chained, and
+-- each chained one follows one for the same target (`KeepTargets`)
 abbrev pub ChainsKeepTargets : Type 0
 ChainsKeepTargets =
-    (text : List ℕ) (deadline : ℕ) (chained : Bool) (setup : ℕ) (tasks : List Task) (names : List Name) (nears : List Near) → IsTasks text deadline chained setup tasks names nears
+    (text : List ℕ) (deadline : ℕ) (chained : Bool) (setup : ℕ) (tasks : List Task) (names : List Name) (nears : List Near)
+    → IsTasks text deadline chained setup tasks names nears
     → (front : List Task) × (cycle : List Task) × (tasks ≡ front ++ cycle) × (setup ≡ length front) × IsOneChain front × KeepTargets None cycle
 
 -- `parameter_count`, the number of parameters that is printed of a procedure, is the catalogue's number of its parameters
@@ -85,14 +88,16 @@ ParameterCountsAreTheCatalogues = (call : Call) → parameter_count (call_fields
 abbrev pub NamesAreTheCatalogues : Type 0
 NamesAreTheCatalogues = (call : Call) → name_of (call_fields call).number ≡ call_name call
 
--- a log line reads back: what is written of a moment, a mark and bytes is a log line of these (`written`), and no text is a log
--- line of two moments, marks or lists of bytes (`once`)
+-- a log line reads back: what is written of a moment of at most 64 bits, a mark and bytes is a log line of these (`written`),
+-- and no text is a log line of two moments, marks or lists of bytes (`once`)
 pub record LogLinesReadBack : Type 0 where
   pub written : (utc : ℕ) (mark : LogMark) (bytes : List ℕ) → utc < 2 ^ 64 → All (λ b. b < 256) bytes
       → IsLogLine (log_text (stamp_text utc) mark bytes) (stamp_text utc) mark bytes
-  pub once : (text one other : List ℕ) (mark other_mark : LogMark) (bytes other_bytes : List ℕ) → IsLogLine text one mark bytes → IsLogLine text other other_mark other_bytes
+  pub once : (text one other : List ℕ) (mark other_mark : LogMark) (bytes other_bytes : List ℕ)
+      → IsLogLine text one mark bytes → IsLogLine text other other_mark other_bytes
       → (one ≡ other) × (mark ≡ other_mark) × (bytes ≡ other_bytes)
 
--- a log line has printable bytes alone, before its line feed
+-- a log line of a moment of at most 64 bits has printable bytes alone, before its line feed
 abbrev pub LogLinesArePrintable : Type 0
-LogLinesArePrintable = (utc : ℕ) (mark : LogMark) (bytes : List ℕ) → utc < 2 ^ 64 → All (λ b. b < 256) bytes → IsPrintable (log_text (stamp_text utc) mark bytes)
+LogLinesArePrintable =
+    (utc : ℕ) (mark : LogMark) (bytes : List ℕ) → utc < 2 ^ 64 → All (λ b. b < 256) bytes → IsPrintable (log_text (stamp_text utc) mark bytes)

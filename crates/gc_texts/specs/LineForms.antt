@@ -9,7 +9,7 @@ abbrev pub Form : Type 0 → Type 1
 Form Item = List ℕ → Item → Type 0
 
 -- the pieces of a text, cut at each LF; `before` is the beginning of the first
-abbrev pub text_pieces : List ℕ → List ℕ → List (List ℕ)
+abbrev pub text_pieces : (before bs : List ℕ) → List (List ℕ)
 text_pieces before [] = before ∷ []
 text_pieces before (b ∷ bs) = if b == 10 then before ∷ text_pieces [] bs else text_pieces (before ++ b ∷ []) bs
 
@@ -59,8 +59,8 @@ pub record FirstFaulty {Item : Type 0} (form : Form Item) (text : List ℕ) (n :
   pub items : List Item
   pub before : AreItems form (filter is_kept front) items
 
--- the text has a line that has the form of an item, and no faulty line before it: a reader comes to such a line, and memory may be
--- refused there
+-- the text has a line that isn't skipped and has the form of an item, and no faulty line before it: a reader comes to such a
+-- line, and memory may be refused there
 pub record ReachesASoundLine {Item : Type 0} (form : Form Item) (text : List ℕ) : Type 0 where
   pub front : List (List ℕ)
   pub line : List ℕ
@@ -72,8 +72,8 @@ pub record ReachesASoundLine {Item : Type 0} (form : Form Item) (text : List ℕ
   pub items : List Item
   pub before : AreItems form (filter is_kept front) items
 
--- why the reading of a text gave no items: the text is too long; or else line n is its first faulty one; or else memory was
--- refused at a line that has the form of an item
+-- why the reading of a text gave no items: the text is too long; or it isn't, and either line n is its first faulty one, or memory was
+-- refused at a line that has the form of an item and follows no faulty one
 abbrev pub TextFault : {Item : Type 0} → Form Item → List ℕ → RunFault → Type 0
 TextFault form text InputTooLong = TEXT_LIMIT < length text
 TextFault form text (Schedule n) = (length text ≤ TEXT_LIMIT) × FirstFaulty form text n

@@ -28,16 +28,20 @@ hex_digit n = if nat_lt n 10 then 48 + n else 87 + n
 abbrev pub escape : ℕ → List ℕ
 escape b = if is_unescaped b then b ∷ [] else 92 ∷ 120 ∷ hex_digit (b / 16) ∷ hex_digit (b % 16) ∷ []
 
+-- a byte of printable ASCII
+abbrev pub IsPrintableByte : ℕ → Type 0
+IsPrintableByte b = (32 ≤ b) × (b ≤ 126)
+
 -- each byte of a text is printable ASCII
 abbrev pub IsPrintable : List ℕ → Type 0
-IsPrintable text = All (λ b. (32 ≤ b) × (b ≤ 126)) text
+IsPrintable text = All IsPrintableByte text
 
 -- bytes, each as it is or as \x and two digits
 abbrev pub escaped : List ℕ → List ℕ
 escaped bytes = flat_map escape bytes
 
 -- a log line without its line feed: the moment, the mark, and the bytes
-abbrev pub log_text : List ℕ → LogMark → List ℕ → List ℕ
+abbrev pub log_text : (moment : List ℕ) → LogMark → (bytes : List ℕ) → List ℕ
 log_text moment mark bytes = moment ++ 32 ∷ (mark_text mark ++ 32 ∷ escaped bytes)
 
 -- a log line with its line feed, of the moment `utc` milliseconds after the beginning of 1970
@@ -45,15 +49,15 @@ abbrev pub log_line : ℕ → LogMark → List ℕ → List ℕ
 log_line utc mark bytes = log_text (stamp_text utc) mark bytes ++ codes "\n"
 
 -- a sink took the log line of this moment, mark and bytes; `old` and `new` are what it has taken before and after
-abbrev pub TakesLogLine : (old new : Option (List ℕ)) → ℕ → LogMark → List ℕ → Type 0
+abbrev pub TakesLogLine : (old new : Option (List ℕ)) → (utc : ℕ) → LogMark → (bytes : List ℕ) → Type 0
 TakesLogLine old new utc mark bytes = Appends old new (log_line utc mark bytes)
 
 -- a sink took the first n bytes of the log line of this moment, mark and bytes, which aren't all of it
-abbrev pub TakesLogFront : (old new : Option (List ℕ)) → ℕ → ℕ → LogMark → List ℕ → Type 0
+abbrev pub TakesLogFront : (old new : Option (List ℕ)) → (n utc : ℕ) → LogMark → (bytes : List ℕ) → Type 0
 TakesLogFront old new n utc mark bytes = TakesFront old new n (log_line utc mark bytes)
 
--- a text is the log line of this moment, mark and bytes; the moment, in printable characters, is what is before its first
--- space
+-- a text is the log line of this moment, mark and bytes, without a line feed. The moment, in printable characters, is what is before the
+-- text's first space, and the bytes are numbers below 256
 pub record IsLogLine (text moment : List ℕ) (mark : LogMark) (bytes : List ℕ) : Type 0 where
   pub is : text ≡ log_text moment mark bytes
   pub one_word : Lacks 32 moment

@@ -19,7 +19,7 @@ abbrev pub HasBytes : Option (List ℕ) → Type 0
 HasBytes None = Unit {0}
 HasBytes (Some params) = 0 < length params
 
--- the text is a procedure's number, and after a space its parameters if there are any, and these make the call
+-- the text is a procedure's number, and after it a space and parameters, or nothing; the number and the parameters make the call
 pub record IsProcedure (text : List ℕ) (call : Call) : Type 0 where
   pub rpc_text : List ℕ
   pub rpc : ℕ

@@ -3,7 +3,7 @@ use Rattle.std.specs.Prelude.{ℕ, Bool, true, false, List, codes}
 use Rattle.gc_texts.specs.declared.quality.Quality.{Quality}
 use Rattle.gc_texts.specs.declared.quality.Quality.TheVariants.{Fine, Warning, Refused}
 
--- whether a command with an answer of this quality was answered well, so that its chain goes on
+-- whether a command with an answer of this quality was answered well, so that its chain may go on
 abbrev pub is_good : Quality → Bool
 is_good Fine = true
 is_good Warning = true

@@ -15,8 +15,8 @@ use Rattle.gc_texts.specs.declared.wish.Wish.{Wish}
 use Rattle.gc_texts.specs.declared.attempts.Planned.{Planned}
 use Rattle.gc_texts.specs.declared.tasks.Task.{Task}
 
--- a task without what distinguishes the attempts of its chain: the rule, the attempt's number and the count of others are those of a
--- first attempt, and all else is kept
+-- a task without what distinguishes the attempts of its chain: it has no rule, attempt number 1 and a count of others of 0, as before its
+-- chain was laid out in attempts, and all else is kept
 abbrev pub as_planned : Task → Task
 as_planned task = record task { again = no_again; turn = record { place = task.turn.place; attempt = 1; link = task.turn.link }; others = 0 }
 
@@ -28,33 +28,39 @@ pub record IsAttempt (attempt : ℕ) (again : Again) (commands tasks : List Task
 
 -- these tasks are a chain's attempts from this one on, in order; `left` more follow it. Each but the last has the rule
 -- `again`, and the last has none
-abbrev pub AreAttempts : ℕ → ℕ → Again → List Task → List Task → Type 0
+abbrev pub AreAttempts : (attempt left : ℕ) → Again → (commands tasks : List Task) → Type 0
 AreAttempts attempt zero again commands tasks = IsAttempt attempt no_again commands tasks
 AreAttempts attempt (suc left) again commands tasks =
-    (first : List Task) × (later : List Task) × (tasks ≡ first ++ later) × IsAttempt attempt again commands first × AreAttempts (attempt + 1) left again commands later
+    (first : List Task) × (later : List Task) × (tasks ≡ first ++ later)
+    × IsAttempt attempt again commands first × AreAttempts (attempt + 1) left again commands later
 
--- a chain of a text: its commands, and how often it may be repeated
+-- a chain of a text: its commands, and how often and after which endings it is repeated
 pub record Chain : Type 0 where
   pub retry : Retry
   pub commands : List Task
 
--- these tasks are the attempts of these chains, in order: of each the first, and as many more as its line `retry` says
+-- the commands of each of these chains are one chain (`IsOneChain`), and these tasks are the attempts of the chains, in order: of each
+-- chain the first, and as many more as its line `retry` says
 abbrev pub AreLaidOut : List Chain → List Task → Type 0
 AreLaidOut [] tasks = tasks ≡ []
 AreLaidOut (chain ∷ others) tasks =
     IsOneChain chain.commands
-    × ((mine : List Task) × (later : List Task) × (tasks ≡ mine ++ later) × AreAttempts 1 chain.retry.times chain.retry.again chain.commands mine × AreLaidOut others later)
+    × ((mine : List Task) × (later : List Task) × (tasks ≡ mine ++ later)
+    × AreAttempts 1 chain.retry.times chain.retry.again chain.commands mine × AreLaidOut others later)
 
 -- the tasks after the setup are the attempts of chains, in order, and the commands of these chains, each with its chain's
--- retry, are the text's commands of the cycle, in order, each once, with the retry that holds for it
+-- retry, are the text's commands of the cycle, in order, each once, with its target's place (`placed`) and the retry that holds
+-- for it
 abbrev pub ChainsGoOutAgain : Type 0
 ChainsGoOutAgain =
-    (text : List ℕ) (deadline : ℕ) (chained : Bool) (setup : ℕ) (tasks : List Task) (names : List Name) (nears : List Near) (is : IsTasks text deadline chained setup tasks names nears)
-    → (chains : List Chain) × (front : List Task) × (cycle : List Task) × (tasks ≡ front ++ cycle) × (setup ≡ length front) × AreLaidOut chains cycle
+    (text : List ℕ) (deadline : ℕ) (chained : Bool) (setup : ℕ) (tasks : List Task) (names : List Name) (nears : List Near)
+    (is : IsTasks text deadline chained setup tasks names nears)
+    → (chains : List Chain) × (front : List Task) × (cycle : List Task)
+    × (tasks ≡ front ++ cycle) × (setup ≡ length front) × AreLaidOut chains cycle
     × (flat_map {A = Planned} (λ (chain : Chain). map (λ task. record { task = task; retry = chain.retry }) chain.commands) chains
     ≡ map (λ planned. record { task = placed nears planned.task; retry = planned.retry }) (planned_of (opening deadline chained) is.said))
 
--- a command of the cycle has the retry that the last line `retry` before it says; without such a line it isn't repeated
+-- a command of the cycle has the retry that the last line `retry` before it says; without such a line its chain isn't repeated
 abbrev pub RetriesHold : Type 0
 RetriesHold =
     (deadline : ℕ) (chained : Bool) (front later : List TaskLine) (command : Wish) (now : Bool) → section_after false front ≡ false

@@ -37,10 +37,11 @@ pub record WrotePartOfSettlements (place : ℕ) (settled : List (Settlement Call
   pub not_all : part < length (settlement_line (place + length earlier) next)
   pub took : Appends old new (lines_from place earlier ++ take part (settlement_line (place + length earlier) next))
 
--- the result of writing the lines of these settlements, numbered from `place` on, to a sink: `Ok` if it took all of them, and `Output`
--- if it took a part of them and failed. `old` and `new` are what it has taken before and after, and `old_failed` and `new_failed` whether
--- it has failed
-abbrev pub WroteSettlements : ℕ → List (Settlement Call) → Option (List ℕ) → Option (List ℕ) → Bool → Bool → Result (Unit {0}) RunFault → Type 0
+-- the result of writing the lines of these settlements, numbered from `place` on, to a sink: `Ok` if the sink took all of them
+-- and no write failed, and `Output` if it took a part of them and failed. `old` and `new` are what it has taken before and
+-- after, and `old_failed` and `new_failed` whether it has failed before and after
+abbrev pub WroteSettlements : (place : ℕ) → List (Settlement Call) → (old new : Option (List ℕ)) → (old_failed new_failed : Bool)
+    → Result (Unit {0}) RunFault → Type 0
 WroteSettlements place settled old new old_failed new_failed (Ok _) = Appends old new (lines_from place settled) × (new_failed ≡ old_failed)
 WroteSettlements place settled old new old_failed new_failed (Err Output) = WrotePartOfSettlements place settled old new × (new_failed ≡ true)
 WroteSettlements place settled old new old_failed new_failed (Err _) = ⊥

@@ -1,15 +1,12 @@
 -- Moments as text: UTC by the Gregorian calendar, in the form of ISO 8601; that a stamp has milliseconds is this project's own.
-use Rattle.std.specs.Prelude.{ℕ, zero, suc, ◌+◌, ◌/◌, ◌%◌, ◌==◌, ◌&&◌, ◌||◌, Bool, not, nat_lt, List, [], ◌∷◌, ◌++◌, if◌then◌else◌, codes, min, pos}
+use Rattle.std.specs.Prelude.{ℕ, zero, suc, ◌+◌, ◌/◌, ◌%◌, ◌==◌, ◌||◌, nat_lt, List, [], ◌∷◌, ◌++◌, if◌then◌else◌, codes, min, pos}
 use Rattle.std.specs.Fmt.{decimal}
+use Rattle.gc_catalogue.specs.Calendar.{is_leap}
 use Rattle.gc_catalogue.specs.declared.call.DateTime.{DateTime}
 use Rattle.gc_texts.specs.declared.stamp.Date.{Date}
 
--- whether a year is a leap year: one divisible by 4, but of those divisible by 100 only one divisible by 400
-abbrev pub is_leap : ℕ → Bool
-is_leap year = (year % 4 == 0) && (not (year % 100 == 0) || (year % 400 == 0))
-
 -- how many days a month of a year has; months count from 1
-abbrev pub month_days : ℕ → ℕ → ℕ
+abbrev pub month_days : (year month : ℕ) → ℕ
 month_days year month =
     if month == 2 then (if is_leap year then 29 else 28)
     else (if (month == 4) || (month == 6) || (month == 9) || (month == 11) then 30 else 31)
@@ -18,8 +15,8 @@ month_days year month =
 abbrev pub year_days : ℕ → ℕ
 year_days year = if is_leap year then 366 else 365
 
--- how many days the first n months of a year have together; n is the second argument
-unfoldable pub days_of_months : ℕ → ℕ → ℕ
+-- how many days the first n months of a year have together
+unfoldable pub days_of_months : (year n : ℕ) → ℕ
 days_of_months year zero = 0
 days_of_months year (suc n) = days_of_months year n + month_days year (n + 1)
 

@@ -59,15 +59,15 @@ pub record IsRetryLine (line : List ℕ) (retry : Retry) : Type 0 where
 abbrev pub SetsRetry : List ℕ → Retry → Type 0
 SetsRetry line retry = ((line ≡ codes "retry 0") × (retry ≡ no_retry)) ⊎ IsRetryLine line retry
 
--- `T 5007 now`: a command that sets the clock of target T to the moment at which it is sent. Until then its call has the first moment
--- of 1970
+-- `T 5007 now`: a command that sets the clock of target T to the moment at which it is sent. In place of that moment the call of
+-- the wish has the first moment of 1970
 pub record SetsClock (line : List ℕ) (wish : Wish) : Type 0 where
   pub target_is : IsNumber (first_word line) wish.target 4294967295
   pub rest_is : behind 32 line ≡ codes "5007 now"
   pub call_is : wish.call ≡ Table (SetDate FIRST_MOMENT)
 
--- a line asks for this wish; `true`: the wish sets the clock to the moment at which it is sent
-abbrev pub AsksForWish : List ℕ → Wish → Bool → Type 0
+-- a line asks for this wish; `now` says whether the wish sets the clock to the moment at which it is sent
+abbrev pub AsksForWish : (line : List ℕ) → Wish → (now : Bool) → Type 0
 AsksForWish line wish true = SetsClock line wish
 AsksForWish line wish false = IsWish line wish
 

@@ -1,8 +1,8 @@
--- A station's text, and the tasks, the names and the places of targets that it gives: this project's own. The mode at a line
--- is what holds for a command there: its deadline, whether commands are chained, the target of the group that it may continue,
--- the codes that are accepted, how often its chain is repeated, whether it is setup, and how many commands of each section
--- are in front. A group is a run of commands for one target, with no line `chained`, `unchained`, `retry`, `at start` or `each
--- cycle` between them.
+-- A station's text, and the tasks, the names and the places of targets that it gives: this project's own. The mode at a
+-- line is what holds for a command there: its deadline, whether commands are chained, the target of the group that it may
+-- continue, the codes that are accepted, how often its chain is repeated, whether it is setup, how many commands of each
+-- section are in front, and how many of those in front are in the last chain. A group is a run of commands for one target,
+-- with no line `chained`, `unchained`, `retry`, `at start` or `each cycle` between them.
 use Rattle.std.specs.Prelude.{◌≡◌, ℕ, ◌+◌, ◌<◌, ◌≤◌, ◌==◌, ◌&&◌, Bool, true, false, not, nat_lt, List, [], ◌∷◌, ◌++◌, length, map, filter, Option, None, Some, Vec, vec_capacity, vec_len, Result, Err, if◌then◌else◌}
 use Rattle.gc_catalogue.specs.declared.asked.Asked.{Asked}
 use Rattle.gc_catalogue.specs.declared.asked.Asked.TheVariants.{Table}
@@ -32,8 +32,19 @@ use Rattle.gc_texts.specs.declared.text.TheConstants.{TEXT_LIMIT}
 
 -- the mode before any line: the caller's deadline and chaining, no group, no code that is accepted beside 0, and no retry; the commands
 -- after it are those of each cycle, and none came before it
-abbrev pub opening : ℕ → Bool → Mode
-opening deadline chained = record { deadline = deadline; chained = chained; group = None; accepted = no_codes; retry = no_retry; setup = false; begun = 0; place = 0; link = 0 }
+abbrev pub opening : (deadline : ℕ) (chained : Bool) → Mode
+opening deadline chained =
+    record {
+      deadline = deadline;
+      chained = chained;
+      group = None;
+      accepted = no_codes;
+      retry = no_retry;
+      setup = false;
+      begun = 0;
+      place = 0;
+      link = 0;
+    }
 
 -- whether a command for `target` continues the group before it, where there is one: that group is for the target `before`
 abbrev pub continues_group : Option ℕ → ℕ → Bool
@@ -47,11 +58,11 @@ is_chained mode target = if mode.setup then nat_lt 0 mode.begun else mode.chaine
 
 -- the place of a command in its chain, from 0: a setup command follows all of the setup's commands before it, a chained command of the
 -- cycle follows the one before it, and any other is the first
-abbrev pub place_in_chain : Mode → Bool → ℕ
+abbrev pub place_in_chain : Mode → (chained : Bool) → ℕ
 place_in_chain mode chained = if mode.setup then mode.begun else if chained then mode.link else 0
 
 -- the turn of a command, chained or not, in its first attempt: its place among the commands of its section, and its place in its chain
-abbrev pub turn_at : Mode → Bool → Turn
+abbrev pub turn_at : Mode → (chained : Bool) → Turn
 turn_at mode chained = record { place = if mode.setup then mode.begun else mode.place; attempt = 1; link = place_in_chain mode chained }
 
 -- the mode after a command for this target
@@ -80,8 +91,8 @@ mode_after mode says.AtStart = record mode { setup = true; group = None }
 mode_after mode says.EachCycle = record mode { setup = false; group = None }
 
 -- the task of a command in its first attempt; `now` says whether the command sets the clock to the moment at which it is sent. The place
--- of its target and the rule of its chain are set later (`placed`, `laid_out`)
-abbrev pub task_at : Mode → Wish → Bool → Task
+-- of its target is set later (`placed`), and so is the rule of its chain, if the command is one of the cycle (`laid_out`)
+abbrev pub task_at : Mode → Wish → (now : Bool) → Task
 task_at mode command now =
     record {
       command = command;
@@ -177,8 +188,8 @@ pub record IsTasks (text : List ℕ) (deadline : ℕ) (chained : Bool) (setup : 
   pub names_are : names ≡ names_of said
   pub nears_are : nears ≡ nears_of said
 
--- the text gives all of these: tasks, of which the first are the setup, names and places
-abbrev pub GivesTasks : List ℕ → ℕ → Bool → Tasks → Type 0
+-- the text gives the tasks, the names and the places of `all`, and the first `all.setup` tasks are the setup (`IsTasks`)
+abbrev pub GivesTasks : (text : List ℕ) (deadline : ℕ) (chained : Bool) (all : Tasks) → Type 0
 GivesTasks text deadline chained all = IsTasks text deadline chained all.setup all.tasks.items all.names.items all.nears.items
 
 -- line number n, counted from 1, is the first faulty one: it isn't skipped, and it has no form, or has one and may not
@@ -194,8 +205,8 @@ pub record IsFirstFaultyTask (text : List ℕ) (n : ℕ) : Type 0 where
   pub lines : AreTaskLines front before
   pub faulty : (said : TaskLine) → IsTaskLine line said → may_follow (names_of before) (nears_of before) said ≡ false
 
--- the text has a line that has a form and may follow the lines before it, and none of these is faulty: a reader comes to such a line,
--- and memory may be refused there
+-- the text has a line that isn't skipped, has a form and may follow the lines before it, and none of these is faulty: a reader
+-- comes to such a line, and memory may be refused there
 pub record ReachesASoundTaskLine (text : List ℕ) : Type 0 where
   pub front : List (List ℕ)
   pub line : List ℕ
@@ -208,23 +219,25 @@ pub record ReachesASoundTaskLine (text : List ℕ) : Type 0 where
   pub form : IsTaskLine line said
   pub allowed : may_follow (names_of before) (nears_of before) said ≡ true
 
--- the reading of this text had this result, and if that is `Schedule`, its line is the first faulty one
+-- if the reading of this text had this result, and it is `Schedule`, the line that it names is the first faulty one
+-- (`IsFirstFaultyTask`)
 abbrev pub NamesFaultyTask : {A : Type 0} → List ℕ → Result A RunFault → Type 0
 NamesFaultyTask text result = NamesFaulty (IsFirstFaultyTask text) result
 
--- the reading of this text had this result, and if that is `Memory`, the reader came to a line that isn't faulty
+-- if the reading of this text had this result, and it is `Memory`, the reader came to a line that has a form and isn't faulty, and to no
+-- faulty line before it (`ReachesASoundTaskLine`)
 abbrev pub MemoryAtTask : {A : Type 0} → List ℕ → Result A RunFault → Type 0
 MemoryAtTask text result = result ≡ Err Memory → ReachesASoundTaskLine text
 
--- why the reading of a station's text gave no tasks: the text is too long; or else line n is its first faulty one; or else
--- memory was refused, which happens only if the text has a line that isn't faulty and follows no faulty one
+-- why the reading of a station's text gave no tasks: the text is too long; or it isn't, and either line n is its first faulty one, or
+-- memory was refused at a line that has a form, isn't faulty and follows no faulty one
 abbrev pub TaskFault : List ℕ → RunFault → Type 0
 TaskFault text InputTooLong = TEXT_LIMIT < length text
 TaskFault text (Schedule n) = (length text ≤ TEXT_LIMIT) × IsFirstFaultyTask text n
 TaskFault text Memory = (length text ≤ TEXT_LIMIT) × ReachesASoundTaskLine text
 TaskFault text _ = ⊥
 
--- what a task asks for where it is sent at this moment, in milliseconds since 1970: what its command asks for, or that the
--- clock is set to the moment, cut to seconds
+-- what a task asks for when it is sent at the moment `utc`, in milliseconds since the beginning of 1970: what its command asks
+-- for; or, where the task's `now` is true, that the clock be set to that moment, as `date_time` has it
 abbrev pub call_at : Task → ℕ → Asked
 call_at task utc = if task.now then Table (SetDate (date_time utc)) else task.command.call

@@ -13,7 +13,7 @@ IsReadFault given Memory = length given ≤ TEXT_LIMIT
 IsReadFault given _ = ⊥
 
 -- whether a source has failed once a reading of it ended with this fault; `failed` is whether it had failed before the reading
-abbrev pub read_failed : RunFault → Bool → Bool
+abbrev pub read_failed : RunFault → (failed : Bool) → Bool
 read_failed Read failed = true
 read_failed _ failed = failed
 
@@ -23,6 +23,6 @@ abbrev pub FailsAtRead : {A : Type 0} → (old new : Bool) → Result A RunFault
 FailsAtRead old new result = MatchResult result (λ _. new ≡ old) (λ fault. new ≡ read_failed fault old)
 
 -- how many reads gave no byte: one if the source has ended, else none
-abbrev pub end_reads : Bool → ℕ
+abbrev pub end_reads : (ended : Bool) → ℕ
 end_reads true = 1
 end_reads false = 0

@@ -16,7 +16,7 @@ use Rattle.gc_texts.specs.Words.{first_word, second_word, third_word, after_two_
 use Rattle.gc_texts.specs.declared.trouble.Trouble.{Trouble}
 use Rattle.gc_texts.specs.declared.trouble.Trouble.TheVariants as trouble
 
--- how many parameters the procedure of a number has; 0 where there is none
+-- how many parameters the procedure with this number has; 0 where there is no such procedure
 abbrev pub parameter_count : ℕ → ℕ
 parameter_count rpc =
     if (rpc == 107) || (rpc == 2012) || (rpc == 2107) || (rpc == 17008) || (rpc == 17017) then 1
@@ -59,7 +59,8 @@ raw_trouble rpc _ = trouble.RawParameters
 -- a procedure's number and its parameters are refused after the word `raw`, and `t` is what is reported of the reason; or
 -- they make a request, and nothing is at fault in them (`NoForm`)
 abbrev pub IsRawTrouble : ℕ → List ℕ → Trouble → Type 0
-IsRawTrouble rpc params t = ((fault : RawFault) × IsRawRefusal rpc params fault × (t ≡ raw_trouble rpc fault)) ⊎ (IsRawCall rpc params × (t ≡ trouble.NoForm))
+IsRawTrouble rpc params t =
+    ((fault : RawFault) × IsRawRefusal rpc params fault × (t ≡ raw_trouble rpc fault)) ⊎ (IsRawCall rpc params × (t ≡ trouble.NoForm))
 
 -- the text is no number up to this maximum
 abbrev pub NoNumber : List ℕ → ℕ → Type 0
@@ -67,7 +68,7 @@ NoNumber text max = (n : ℕ) → IsNumber text n max → ⊥
 
 -- the word after `raw` is no procedure's number, and `t` is `Number`; or it is one, and `t` is what is at fault in it and the
 -- parameters after it
-abbrev pub IsRawWordsTrouble : List ℕ → List ℕ → Trouble → Type 0
+abbrev pub IsRawWordsTrouble : (word params : List ℕ) → Trouble → Type 0
 IsRawWordsTrouble word params t = ((t ≡ trouble.Number) × NoNumber word 65535) ⊎ ((rpc : ℕ) × IsNumber word rpc 65535 × IsRawTrouble rpc params t)
 
 -- the second word of a line is a procedure's number, and that number and the parameters after it have this trouble
@@ -112,9 +113,9 @@ IsSettingTrouble line trouble.Target =
     ⊎ ((first_word line ≡ codes "near") × NoNumber (second_word line) 4294967295)
 IsSettingTrouble line t = ⊥
 
--- a line that is taken for a command has this trouble; more than one may fit a line. `Now`: more follows `5007 now`. `NoForm`: the
--- line has one word alone, or its number and its parameters make a call, or may be asked for after the word `raw`, so that neither of
--- these is at fault
+-- a line that is taken for a command has this trouble; more than one may fit a line. `Now`: its second and third words are
+-- `5007 now`. `NoForm`: the line is one word, with or without a space after it, or its number and its parameters make a call, or
+-- may be asked for after the word `raw`, so that neither of these is at fault
 abbrev pub IsAskingTrouble : List ℕ → Trouble → Type 0
 IsAskingTrouble line trouble.Now = (second_word line ≡ codes "5007") × (third_word line ≡ codes "now")
 IsAskingTrouble line trouble.Target = NoNumber (first_word line) 4294967295

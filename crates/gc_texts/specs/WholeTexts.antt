@@ -24,24 +24,28 @@ input_of of_source source =
     record { remaining = of_source.remaining source; reads = of_source.reads source; ended = of_source.ended source; failed = of_source.failed source }
 
 -- a source gave some bytes, with at most one read for each byte and one for its end, and `claim` holds of these bytes
-abbrev pub Gave : Input → Input → (List ℕ → Type 0) → Type 0
+abbrev pub Gave : (old new : Input) → (claim : List ℕ → Type 0) → Type 0
 Gave old new claim =
     (given : List ℕ) × Consumes old.remaining new.remaining given × (new.reads ≤ old.reads + length given + end_reads new.ended) × claim given
 
--- reading took a source from `old` to `new`, and gave this text, which is within the limit
+-- reading took a source from `old` to `new`, with at most one read for each byte and one for the end, and gave this text, which is within
+-- the limit
 abbrev pub ReadsText : (old new : Input) → (text : List ℕ) → Type 0
-ReadsText old new text = Consumes old.remaining new.remaining text × (length text ≤ TEXT_LIMIT) × (new.reads ≤ old.reads + length text + end_reads new.ended)
+ReadsText old new text =
+    Consumes old.remaining new.remaining text × (length text ≤ TEXT_LIMIT) × (new.reads ≤ old.reads + length text + end_reads new.ended)
 
--- reading took a source from `old` to `new`, and gave no text, for the reason that this fault says
+-- reading took a source from `old` to `new`, with at most one read for each byte and one for the end, and gave no text, for the reason
+-- that this fault says
 abbrev pub ReadsNoText : (old new : Input) → RunFault → Type 0
 ReadsNoText old new fault =
-    (given : List ℕ) × Consumes old.remaining new.remaining given × IsReadFault given fault × (new.reads ≤ old.reads + length given + end_reads new.ended)
+    (given : List ℕ) × Consumes old.remaining new.remaining given × IsReadFault given fault
+    × (new.reads ≤ old.reads + length given + end_reads new.ended)
 
 -- reading took a source from `old` to `new`, by one read or more, of which the last was the end, and the source has no byte left
 abbrev pub IsReadToEnd : (old new : Input) → Type 0
 IsReadToEnd old new = IsAtEnd new.remaining × (new.ended ≡ true) × (old.reads < new.reads)
 
--- a source gave a text within the limit, to its end, by one read or more, and didn't fail
+-- a source gave a text within the limit, to its end, by one read or more, and has failed exactly if it had before
 pub record WasRead (given : List ℕ) (old new : Input) : Type 0 where
   pub within : length given ≤ TEXT_LIMIT
   pub whole : IsAtEnd new.remaining
@@ -49,15 +53,19 @@ pub record WasRead (given : List ℕ) (old new : Input) : Type 0 where
   pub last : old.reads < new.reads
   pub failed : new.failed ≡ old.failed
 
--- a text wasn't read to its end: the source failed, or gave too many bytes, or memory was refused for bytes that came
-abbrev pub IsUnread : List ℕ → Input → Input → RunFault → Type 0
+-- a text wasn't read to its end, for the reason that this fault says. `Read`: the source failed, after no more bytes than a
+-- text may have. `InputTooLong`: it gave one byte more than that. `Memory`: memory was refused for the bytes that came, at
+-- least one and no more than a text may have, and the source hasn't ended. With the last two the source has failed exactly if
+-- it had before
+abbrev pub IsUnread : (given : List ℕ) → (old new : Input) → RunFault → Type 0
 IsUnread given old new Read = (length given ≤ TEXT_LIMIT) × (new.failed ≡ true)
 IsUnread given old new InputTooLong = (length given ≡ TEXT_LIMIT + 1) × (new.failed ≡ old.failed)
 IsUnread given old new Memory = (0 < length given) × (length given ≤ TEXT_LIMIT) × (new.ended ≡ false) × (new.failed ≡ old.failed)
 IsUnread given old new _ = ⊥
 
--- why the text that a source gave was refused: it wasn't read to its end, or it was, and has this fault
-abbrev pub RefusesText : (HasFault : List ℕ → RunFault → Type 0) → List ℕ → Input → Input → RunFault → Type 0
+-- why the text that a source gave was refused: it wasn't read to its end (`IsUnread`), or it was, and `HasFault` says that it has
+-- this fault
+abbrev pub RefusesText : (HasFault : List ℕ → RunFault → Type 0) → (given : List ℕ) → (old new : Input) → RunFault → Type 0
 RefusesText HasFault given old new fault = IsUnread given old new fault ⊎ (WasRead given old new × HasFault given fault)
 
 -- a source gave a command text, to its end, and the text gives these commands
@@ -65,8 +73,9 @@ pub record GivesCommands (given : List ℕ) (old new : Input) (commands : List C
   pub read : WasRead given old new
   pub are : IsCommands given commands
 
--- the text that a source gave wasn't read to its end, or is no command text, and this fault says why
-abbrev pub RefusesCommands : List ℕ → Input → Input → RunFault → Type 0
+-- this fault says why a source gave no commands: its text wasn't read to its end; or it was, and it is no command text, or memory was
+-- refused for its commands (`TextFault`)
+abbrev pub RefusesCommands : (given : List ℕ) → (old new : Input) → RunFault → Type 0
 RefusesCommands given old new fault = RefusesText (TextFault IsCommand) given old new fault
 
 -- reading took a source from `old` to `new`, and gave the commands of the text that came

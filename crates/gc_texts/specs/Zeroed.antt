@@ -1,11 +1,12 @@
--- The line that a reply would be if its return code were 0: this project's own. Its parameters are those that come with a warning.
+-- The line that a reply would be if its return code were 0, by which the parameters of a reply with a warning are read: this project's own.
 use Rattle.std.specs.Prelude.{ℕ, List, Result, Ok, Err}
 use Rattle.gc_lines.specs.declared.fault.LineFault.{LineFault}
 use Rattle.gc_lines.specs.Readers.{reply_at}
 use Rattle.gc_lines.specs.Replies.{ReplyFields, reply_text}
 
--- the line that a reply with these fields would be if its return code were 0; of a line that wasn't read as a reply, that line
-abbrev pub zeroed : Result ReplyFields LineFault → List ℕ → List ℕ
+-- the line that `line` would be if its return code were 0. The first argument is what `line` reads as: if it is a reply, the
+-- result is the line of the same fields with return code 0; else it is `line` itself
+abbrev pub zeroed : Result ReplyFields LineFault → (line : List ℕ) → List ℕ
 zeroed (Ok r) line = reply_text (record r { rc = 0 })
 zeroed (Err fault) line = line
 

@@ -12,13 +12,13 @@ use crate::ending::Ending;
 pub struct Again {
     /// The return codes of an answered command after which the chain is repeated.
     pub codes: Codes,
-    /// Whether the chain is repeated after a reply whose values don't read.
+    /// Whether the chain is repeated after a reply whose codes are 0, and whose values don't read.
     pub unreadable: bool,
     /// Whether the chain is repeated after a measurement that was made away from its target.
     pub elsewhere: bool,
     /// Whether the chain is repeated after a late reply.
     pub late: bool,
-    /// Whether the chain is repeated after a command without a reply.
+    /// Whether the chain is repeated after a command that was sent and got no reply.
     pub lost: bool,
     /// Whether the chain is repeated after a command that was skipped.
     pub skipped: bool,
@@ -39,7 +39,8 @@ impl Again {
         }
     }
 
-    // Whether a reply's return code is one of `codes`. `None`, which never is: the return code is 0, or the communication code isn't.
+    // Whether `code`, the return code of a reply, is one of `codes`. `None` never is: it stands for a return code of 0, or a
+    // communication code other than 0.
     fn has_code(&self, code: Option<u16>) -> bool
         ensures { result ≡ has_code self.now.codes code }
     {
@@ -49,9 +50,9 @@ impl Again {
         }
     }
 
-    /// Whether a chain with this rule is repeated after this ending of one of its commands. An answered command decides by `code`, the
-    /// return code of its reply (`None`: it is 0, or the communication code isn't); any other ending by its outcome alone, and a missed
-    /// cycle never.
+    /// Whether a chain with this rule is repeated after this ending of one of its commands. After an ending `Answered` only
+    /// `code` decides: the return code of the reply, or `None` if it is 0 or the communication code isn't 0. After any other
+    /// ending its outcome alone decides; after a missed cycle the chain is never repeated.
     pub fn repeats_after(&self, code: Option<u16>, ending: Ending<'_>) -> bool
         ensures { result ≡ repeats_after self.now code (ending_seen ending.entry) }
     {

@@ -17,7 +17,7 @@ pub(crate) struct Planned {
 }
 
 // The task of a command in this attempt of its chain. `again` says after which endings the chain is repeated, and `commands` how many
-// commands this attempt and those after it have together: only the first command of a later attempt records that.
+// commands this attempt and those after it have together: only the first command of an attempt other than the first records that.
 fn in_attempt(attempt: u64, again: Again, commands: usize, planned: &Planned) -> Task
     ensures { result ≡ in_attempt attempt again commands planned.now }
 {
@@ -75,7 +75,7 @@ fn push_attempts(tasks: &mut Vec<Task>, chain: &[Planned], retry: Retry) -> Resu
     push_attempt(tasks, chain, attempt, Again::none(), chain.len())
 }
 
-// The commands of `cycle` from place `from` up to the one before place `to`.
+// The commands of `cycle` at place `from` and after it, but before place `to`.
 fn part(cycle: &[Planned], from: usize, to: usize) -> &[Planned]
     requires up { from ≤ to }
     requires within { to ≤ length cycle.now }
@@ -84,8 +84,9 @@ fn part(cycle: &[Planned], from: usize, to: usize) -> &[Planned]
     &cycle[from..to]
 }
 
-// Appends the tasks of all attempts of the chains that these commands form, chain by chain; each command that isn't chained begins a
-// chain. Fails if memory was refused: then some of the tasks may have been appended.
+// Appends the tasks of all attempts of the chains that these commands form, chain by chain; each command that isn't chained
+// begins a chain, which is repeated as the `retry` of this command says. A first command that is chained, which no text gives,
+// would begin a chain that isn't repeated. Fails if memory was refused: then some of the tasks may have been appended.
 pub(crate) fn lay_out(tasks: &mut Vec<Task>, cycle: &[Planned]) -> Result<(), AllocError>
     requires { length cycle.now < 4294967296 }
     ensures appends { OnOk result (tasks.new.items ≡ tasks.old.items ++ laid_out cycle.now) }

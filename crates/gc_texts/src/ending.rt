@@ -12,7 +12,8 @@ use gc_values::ValueFault;
 #[derive(Clone, Copy, Debug, PartialEq, Eq)]
 pub enum Ending<'a> {
     /// Its reply came in time, with this line, and has this quality. `Some`: its values read as this answer, with both codes 0,
-    /// or with an accepted return code taken for 0.
+    /// or with an accepted return code taken for 0. `None`: the quality is `Refused`, or it is `Warning` and the values don't
+    /// read.
     Answered(Quality, Option<&'a Answer>, &'a Line),
     /// Its reply came in time, with this line, whose codes are 0, and whose values don't read.
     Unreadable(&'a Line, ValueFault),
@@ -23,7 +24,8 @@ pub enum Ending<'a> {
     Late,
     /// No reply came, and one that still comes will be ignored.
     Lost,
-    /// It wasn't sent: the command before it in its chain wasn't answered well.
+    /// It wasn't sent: the command before it in its chain wasn't answered well, or after that command was sent a connection was
+    /// closed or the station resynchronized.
     Skipped,
     /// It wasn't sent: its cycle couldn't begin before the next was due.
     Missed,

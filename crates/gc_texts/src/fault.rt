@@ -1,4 +1,4 @@
-//! Why a run ended before its end: each fault has one number, one printed line, and says what holds afterwards.
+//! Why a run stopped early: each fault has one number and one printed line.
 
 ghost use Rattle.std.specs.Prelude.{◌≡◌, OnOk};
 ghost use Rattle.std.specs.Io.KnownBytes.{Appends};
@@ -14,10 +14,12 @@ pub enum RunFault {
     /// A scene has more than 32 targets, 32 faults, 16 replies or 32 delays.
     #[error("fault {}", self.number())]
     SceneFull,
-    /// A read of the input, or of the link, failed.
+    /// A read of the input, of the link or of a file that the program was told to read failed, or such a file couldn't be opened.
     #[error("fault {}", self.number())]
     Read,
-    /// A write to the link, or of replies to the output, failed, after `replies` whole lines and the first `bytes` bytes of the next.
+    /// A write to the link, or of replies to the output, failed after the first `bytes` bytes of a line. `replies` is the number
+    /// of whole lines before that line. In a station's run it is the number of commands that stand before the cycle's next one in
+    /// the station's list, those of the setup included; 0 before the first cycle.
     #[error("fault {} reply {replies} byte {bytes}", self.number())]
     Write { replies: u64, bytes: usize },
     /// As many reads were made as are allowed, or, by a station, as many acts.
@@ -50,20 +52,22 @@ pub enum RunFault {
     /// The text has more than 65,536 bytes.
     #[error("fault {}", self.number())]
     InputTooLong,
-    /// A bind, connect or accept failed, a name wasn't found, or a device isn't there.
+    /// A bind, connect or accept failed, a connection would have been one to itself, a name wasn't found, or a device isn't there
+    /// or can't be used for a reason that is neither `NoTerminal` nor `Held` nor `Forbidden`.
     #[error("fault {}", self.number())]
     Socket,
-    /// The output failed.
+    /// The output failed, or the file of records can't be used for a reason that is neither `RecordsUnopened` nor `RecordsHeld`
+    /// nor `RecordsForeign`.
     #[error("fault {}", self.number())]
     Output,
-    /// Standard input, output or error is closed.
+    /// Standard input, output or error is closed, or `/dev/null` couldn't be opened in its place.
     #[error("fault {}", self.number())]
     StreamClosed,
-    /// The log can't be opened for reading and appending, is no regular file or no log, is held by another program, or is the file of
-    /// records.
+    /// The log can't be opened for reading and appending, can't be looked at or read, is no regular file or no log, or is held by
+    /// another program or by the records of this one; or an incomplete last line couldn't be cut off.
     #[error("fault {}", self.number())]
     Log,
-    /// The path of the device leads to something that is no terminal.
+    /// The path of the device leads to something that is no terminal, or doesn't answer as one.
     #[error("fault {}", self.number())]
     NoTerminal,
     /// Another program, or another opening of this one, holds the device.
@@ -75,10 +79,11 @@ pub enum RunFault {
     /// The file of records can't be opened for reading and appending, or is no regular file.
     #[error("fault {}", self.number())]
     RecordsUnopened,
-    /// Another program, or another opening of this one, holds the file of records.
+    /// Another program, or another opening of this one, holds the file of records or its copy, or may just have put another file
+    /// in its place.
     #[error("fault {}", self.number())]
     RecordsHeld,
-    /// The file of records doesn't begin as this run's records do.
+    /// The file of records neither begins as this run's records do, nor is a first part of that beginning, as an empty file is.
     #[error("fault {}", self.number())]
     RecordsForeign,
 }

@@ -31,10 +31,11 @@ pub fn chains_keep_targets()
     ensures { ChainsKeepTargets }
 {}
 
-/// The tasks after the setup are the attempts of the text's chains, in order. A chain has one attempt, and as many further ones
-/// as its line `retry` says. Each begins with the chain's first command, and has the chain's commands, in order, with the same
-/// deadlines, places and accepted codes. Each but the last has the rule of the line, and the last has none. The commands of the
-/// chains are those of the text, in order, each once.
+/// The tasks after the setup are the attempts of the chains of the cycle, in order. A chain has one attempt, and as many further
+/// ones as the last line `retry` before it says, or none without such a line. Each attempt begins with the chain's first command,
+/// and has the chain's commands, in order, with the same deadlines, places and accepted codes. Each attempt but the last has the
+/// rule of the line, and the last has none. The commands of these chains are the text's commands of the cycle, in order, each
+/// once.
 pub fn chains_go_out_again()
     ensures { ChainsGoOutAgain }
 {}
@@ -90,8 +91,8 @@ pub fn directions_are_asked_for()
 {}
 
 /// The text of a time reads as that time: its date and its hour, minute, second and millisecond make up the milliseconds since
-/// 1970, each written in digits of its value. The date of day 0 is 1 January 1970, and that of each other day is the day after
-/// the one before.
+/// 1970, each written in digits of its value. The date of day 0 is 1 January 1970, and that of each later day is the day after
+/// the date of the day before.
 pub fn stamps_are_moments()
     ensures { StampsAreMoments }
 {}

@@ -39,8 +39,8 @@ pub(crate) fn without_cr(line: &[u8]) -> &[u8]
     }
 }
 
-/// Line `number` of a text, without a CR at its end. Lines are counted from 1, as in the faults of a text; 0 gives the first line, too.
-/// Where the text has fewer lines, the result is empty.
+/// Line `number` of a text, without one CR at its end, if it has one. Lines are counted from 1, as in the faults of a text; 0
+/// gives the first line, too. Where the text has fewer lines, the result is empty.
 pub fn line_at(text: &[u8], number: u32) -> &[u8]
     ensures { result.now ≡ line_at text.now number }
 {
@@ -82,8 +82,8 @@ pub fn read_items<F: LineForm>(alloc: Global, text: &[u8]) -> Result<Vec<F::Item
 }
 
 // For how many further items a list reserves memory, if it holds `count` items; `left` is the text from the next item's line on.
-// An empty list reserves for an item in each eight bytes, because a line rarely has fewer: so it rarely grows again. Any other list
-// reserves for one more.
+// An empty list reserves for one item in each eight bytes, because a line rarely has fewer, and for one more: so it rarely grows again.
+// Any other list reserves for one item.
 fn room_for(count: usize, left: &[u8]) -> usize
     ensures { 1 ≤ result }
 {

@@ -111,8 +111,8 @@ fn read_byte(text: &[u8]) -> Option<(u8, &[u8])>
     read_digits(digits)
 }
 
-// Reads the two digits after `\x`, and returns their byte with what follows them. `None`: there are no two digits of base
-// 16, or their byte is one that a log writes as it is: printable ASCII other than the backslash.
+// Reads the two digits after `\x`, and returns their byte with what follows them. `None`: the text doesn't begin with two digits of base
+// 16, in lower case, or their byte is one that a log writes as it is: printable ASCII other than the backslash.
 fn read_digits(text: &[u8]) -> Option<(u8, &[u8])>
     ensures { MatchOption result
         ((b : ℕ) (more : List ℕ) → b < 256 → 92 ∷ 120 ∷ text.now ≡ escape b ++ more → ⊥)

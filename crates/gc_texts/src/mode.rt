@@ -166,8 +166,9 @@ fn continues_group(group: Option<u32>, target: u32) -> bool
     }
 }
 
-// The task of a command in its first attempt; `now` says whether the command sets the clock to the moment at which it is sent. The
-// place of its target and the rule of its chain are set at the end of the text, by `place_tasks` and `lay_out`.
+// The task of a command in the first attempt of its chain; `now` says whether the command sets the clock to the moment at which
+// it is sent. It has no place of its target yet (`place_tasks` sets it), and no rule of its chain (`lay_out` sets it in the
+// cycle).
 pub(crate) fn task_at(mode: Mode, command: Wish, now: bool) -> Task
     ensures { result ≡ task_at mode command now }
 {

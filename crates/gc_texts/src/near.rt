@@ -34,12 +34,12 @@ pub struct Expected {
     pub accepted: Codes,
     /// After which endings of the command its chain is repeated.
     pub again: Again,
-    /// Which command of the text it is, and in which attempt of its chain.
+    /// Which command of the text it is, and in which attempt of its chain or, for a command of the setup, of the setup.
     pub turn: Turn,
 }
 
-/// Reads a number in the forms of `Decimal::read`, which rounds it to 24 places. `None`: the text is no number, or the number is more than
-/// 10^13 from zero.
+/// Reads a number in the forms of `Decimal::read`, which rounds it to 24 places. `None`: the text has none of these forms, or the
+/// rounded number is more than 10^13 from zero.
 pub fn read_double(text: &[u8]) -> Option<Decimal>
     ensures { MatchOption result ((d : Decimal) → IsDouble text.now d → ⊥) (λ d. IsDouble text.now d) }
 {

@@ -15,7 +15,7 @@ pub enum Quality {
 }
 
 impl Quality {
-    /// Whether a command with an answer of this quality was answered well, so that its chain goes on.
+    /// Whether a command with an answer of this quality was answered well, so that its chain may go on.
     pub fn is_good(self) -> bool
         ensures { result ≡ is_good self }
     {

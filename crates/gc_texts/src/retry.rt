@@ -35,7 +35,7 @@ impl Retry {
     }
 }
 
-// A word of a line `retry`: a return code, or an outcome.
+// A word after the number of a line `retry`: a return code, or an outcome.
 #[derive(Clone, Copy)]
 enum Reason {
     Code(u16),
@@ -46,7 +46,7 @@ enum Reason {
     Skipped,
 }
 
-// Reads a word of a line `retry`. `None`: it is neither a return code nor one of the outcomes.
+// Reads a word after the number of a line `retry`. `None`: it is neither a return code nor one of the outcomes.
 fn reason_of(word: &[u8]) -> Option<Reason>
     ensures { MatchOption result ((reason : Reason) → IsReason word.now reason → ⊥) (λ reason. IsReason word.now reason) }
 {
@@ -125,8 +125,8 @@ fn again_with(again: Again, count: usize, reason: Reason) -> Again
     }
 }
 
-// Reads the words of a line `retry`, with one space between two. `None`: a word is neither a code nor an outcome, or there are more
-// than 16 codes.
+// Reads the words after the number of a line `retry`, with one space between two. `None`: a word is neither a code nor an outcome, or
+// there are more than 16 codes.
 fn read_again(text: &[u8]) -> Option<Again>
     ensures { MatchOption result ((again : Again) → NamesRule text.now again → ⊥) (λ again. NamesRule text.now again) }
 {

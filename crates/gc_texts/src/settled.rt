@@ -12,8 +12,8 @@ use gc_lines::{Sink, append, write_whole};
 use itoa::Buffer;
 use std::alloc::AllocError;
 
-/// Appends the lines of settlements, numbered from place 0. Fails if memory was refused: then the lines of the first settlements were
-/// appended, and no others, of which the contract says nothing.
+/// Appends the lines of settlements, numbered from place 0. Fails if memory was refused for a line: then the lines before that one were
+/// appended, and nothing else. (The contract doesn't say so.)
 pub fn append_settlements(
     text: &mut Vec<u8>,
     settlements: &[Settlement<Call>],
@@ -27,8 +27,8 @@ pub fn append_settlements(
     Ok(())
 }
 
-// Appends the line of a settlement at a place. `line` is a buffer for it, whose old content is discarded. Fails if memory was
-// refused: then nothing was appended, of which the contract says nothing.
+// Appends the line of a settlement to `text`, with `place` as its number. `line` is a buffer for it, whose old content is
+// discarded. Fails if memory was refused: then nothing was appended. (The contract doesn't say so.)
 fn append_settlement(
     text: &mut Vec<u8>,
     line: &mut ArrayVec<u8, LINE_ROOM>,
@@ -64,7 +64,7 @@ pub fn write_settlements<K: Sink>(
 // The most bytes of a settlement's line: a place and a target, the words, and the reply's line.
 const LINE_ROOM: usize = 20 + 1 + 10 + 10 + 512 + 1;
 
-// Makes the line of a settlement at a place in `line`, whose old content is discarded. Callers reuse one buffer for all settlements.
+// Writes into `line` the line of this settlement, with this place as its number, and discards what `line` held before.
 fn write_line(line: &mut ArrayVec<u8, LINE_ROOM>, place: usize, settlement: &Settlement<Call>)
     ensures { line.new.items ≡ settlement_line place (settlement_seen settlement.now) }
 {

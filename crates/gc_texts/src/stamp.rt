@@ -2,11 +2,11 @@
 
 ghost use Rattle.std.specs.Prelude.{◌≡◌, ℕ, ◌+◌, ◌^◌, ◌<◌, ◌≤◌, ◌++◌, if◌then◌else◌};
 ghost use Rattle.arrayvec.specs.ArrayVec.{array_vec_len};
-ghost use Rattle.gc_texts.specs.Stamps.{is_leap, month_days, year_days, days_after, date_of, two_digits, three_digits, date_text, time_text, stamp_text, date_time};
+ghost use Rattle.gc_texts.specs.Stamps.{month_days, year_days, days_after, date_of, two_digits, three_digits, date_text, time_text, stamp_text, date_time};
 
 use crate::turn::Turn;
 use arrayvec::ArrayVec;
-use gc_catalogue::DateTime;
+use gc_catalogue::{DateTime, is_leap};
 use gc_lines::append;
 use itoa::Buffer;
 
@@ -15,13 +15,13 @@ use itoa::Buffer;
 pub struct Stamp {
     /// The last moment that the clock gave before its request went out. `None`: it was never sent.
     pub sent: Option<u64>,
-    /// The last moment that the clock gave when it ended. Of a command of a missed cycle, the moment at which that cycle was due.
+    /// The last moment that the clock had given when it ended. Of a command of a missed cycle, the moment at which that cycle was due.
     pub utc: u64,
     /// The cycle, counted from 1; 0 for a command of the setup.
     pub cycle: u64,
     /// The place of its task among all tasks, counted from 0: those of the setup are before those of a cycle.
     pub place: usize,
-    /// Which command of the text it was, and in which attempt of its chain.
+    /// Which command of the text it was, and in which attempt of its chain or, for a command of the setup, of the setup.
     pub turn: Turn,
 }
 
@@ -52,13 +52,6 @@ fn year_days(year: u64) -> u64
     ensures { result ≡ year_days year }
 {
     if is_leap(year) { 366 } else { 365 }
-}
-
-// Whether a year of the Gregorian calendar has 366 days.
-fn is_leap(year: u64) -> bool
-    ensures { result ≡ is_leap year }
-{
-    year % 4 == 0 && (year % 100 != 0 || year % 400 == 0)
 }
 
 // The date `days` days after 1 January 1970.
@@ -176,7 +169,7 @@ pub fn date_time(utc: u64) -> DateTime
     }
 }
 
-/// The most bytes of a stamp: a date, `T`, a time and `Z`.
+/// Room for the bytes of a moment as text (`stamp_text`): a date, `T`, a time and `Z`.
 pub const STAMP_ROOM: usize = 26 + 1 + 12 + 1;
 
 /// The moment `utc` milliseconds after the beginning of 1970, as 2026-11-22T23:08:27.123Z.

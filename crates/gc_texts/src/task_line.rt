@@ -106,8 +106,8 @@ fn read_accepting(line: &[u8]) -> Option<Codes>
     }
 }
 
-// Reads `retry N WORD WORD ..`, which says how often chains are repeated, and after what (`read_rule`); or `retry 0`, which says that they
-// aren't repeated. `None`: the line has neither form.
+// Reads `retry N WORD WORD ..`, which says how often chains are repeated, and after what (`read_rule`); or `retry 0`, which says
+// that they aren't repeated. `None`: the line has neither form, or more than 16 codes.
 fn read_retrying(line: &[u8]) -> Option<Retry>
     ensures { MatchOption result ((retry : Retry) → SetsRetry line.now retry → ⊥) (λ retry. SetsRetry line.now retry) }
 {
@@ -120,8 +120,8 @@ fn read_retrying(line: &[u8]) -> Option<Retry>
     }
 }
 
-// Reads `T 5007 now`: a command that sets the clock of target T to the moment at which it is sent. Until then its call has the first
-// moment of 1970. `None`: the line has no such form, or the target's number is above 4294967295.
+// Reads `T 5007 now`: a command that sets the clock of target T to the moment at which it is sent. In place of that moment the
+// call of the wish has the first moment of 1970. `None`: the line has no such form, or the target's number is above 4294967295.
 fn read_clock(line: &[u8]) -> Option<Wish>
     ensures { MatchOption result ((wish : Wish) → SetsClock line.now wish → ⊥) (λ wish. SetsClock line.now wish) }
 {

@@ -116,7 +116,7 @@ fn may_follow(names: &Vec<Name>, nears: &Vec<Near>, said: &TaskLine) -> bool
 }
 
 // Appends what a line gives: a command to `setup` or `cycle`, a name to `names`, a place to `nears`, and nothing for any other line.
-// `mode` is the mode before the line. Fails if memory was refused: then nothing was appended, of which the contract says nothing.
+// `mode` is the mode before the line. Fails if memory was refused: then nothing was appended. (The contract doesn't say so.)
 fn append_given(
     setup: &mut Vec<Task>,
     cycle: &mut Vec<Planned>,

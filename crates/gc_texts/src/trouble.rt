@@ -21,7 +21,7 @@ pub enum Trouble {
     NoProcedure(u16),
     /// The procedure with this number has as many parameters as the second value says, and the line another number of them.
     Wants(u16, u8),
-    /// A parameter hasn't the form or the range of its kind.
+    /// A parameter hasn't the form or the range of its kind, or a double quote has no end.
     Parameters,
     /// The procedure's number is none from 0 to 65535.
     Number,
@@ -38,12 +38,12 @@ pub enum Trouble {
     RawInTable(u16),
     /// The parameters after `raw` and a number are more than 16, or have a double quote without its end, or a CR.
     RawParameters,
-    /// The request after `raw` would have more than 512 bytes.
+    /// The request after `raw` would have more than 512 bytes with an id.
     RawTooLong,
     /// A word after `accept` is no code from 1 to 65535, or there are more than 16.
     Accept,
-    /// A line `retry` has no number from 0 to 9, a word that is neither a code nor an outcome, more than 16 codes, no word after a number
-    /// other than 0, or a word after 0.
+    /// After the word `retry` there is neither 0 alone nor a number from 1 to 9 with words after it; or one of these words is
+    /// neither a code nor an outcome; or more than 16 of them are codes.
     Retry,
     /// The line's first word is `at`, and the line isn't `at start`.
     AtStart,
@@ -51,7 +51,7 @@ pub enum Trouble {
     EachCycle,
     /// More follows `5007 now`.
     Now,
-    /// The line has no form: it is one word that says nothing, or it ends in a space after a procedure's number.
+    /// The line has no form: it is one word, with or without a space after it, or it ends in a space after a procedure's number.
     NoForm,
 }
 
@@ -185,8 +185,9 @@ fn raw_words_trouble(number: &[u8], params: &[u8]) -> Trouble
     }
 }
 
-// Which field is at fault of a line that is taken for a command, or, if its second word is `raw`, for a request of a procedure that
-// isn't in the table. `NoForm`: the line is one word, or each of its fields reads.
+// Which field is at fault of a line that is taken for a command, or, if its second word is `raw`, for a request of a procedure
+// that isn't in the table. `Now`: its first three words are a target's number, `5007` and `now`. `NoForm`: it is one word, with
+// or without a space after it, or each of its fields reads.
 fn asking_trouble(line: &[u8]) -> Trouble
     ensures { IsAskingTrouble line.now result }
 {
@@ -211,8 +212,8 @@ fn asking_trouble(line: &[u8]) -> Trouble
     }
 }
 
-// Whether a line begins with `T 5007 now`, where T is a target's number. The contract says nothing of the first word, nor of any line for
-// which it isn't so.
+// Whether the first three words of a line are a target's number, `5007` and `now`. The contract says this of the second
+// and the third word alone, and only where the result is `true`.
 fn begins_as_5007_now(line: &[u8]) -> bool
     ensures { IsTrue result → (second_word line.now ≡ codes "5007") × (third_word line.now ≡ codes "now") }
 {
@@ -271,11 +272,12 @@ fn setting_trouble(line: &[u8]) -> Option<Trouble>
     None
 }
 
-/// Which field of a line is at fault, if the line is a faulty one of a station's text. A line that begins with `deadline`, `name`,
-/// `near`, `accept`, `retry`, `at` or `each` is at fault in its target or in what it sets. Any other line is taken for a command,
-/// or, if its second word is `raw`, for a request of a procedure that isn't in the table. Of these a line that begins as `T 5007 now`
-/// gives `Now`; one that is one word, or each of whose fields reads, `NoForm`; and any other is at fault in its first field that doesn't
-/// read. Of a line that isn't faulty the result says nothing: a command gives `NoForm`, for example, and a line `retry` gives `Retry`.
+/// Which field of a line is at fault, if the line is a faulty one of a station's text. A line whose first word is `deadline`, `name`,
+/// `near`, `accept`, `retry`, `at` or `each` is at fault in its target or in what it sets. Any other line is taken for a command, or,
+/// if its second word is `raw`, for a request of a procedure that isn't in the table. Of these a line whose first three words are
+/// `T 5007 now`, with a target's number T, gives `Now`; one that is one word, with or without a space after it, or each of whose
+/// fields reads, gives `NoForm`; and any other is at fault in its first field that doesn't read. Of a line that isn't faulty the
+/// result says nothing: a command gives `NoForm`, for example, and a line `retry` gives `Retry`.
 pub fn trouble_of(line: &[u8]) -> Trouble
     ensures { IsTrouble line.now result }
 {

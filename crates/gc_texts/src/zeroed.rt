@@ -9,8 +9,8 @@ ghost use Rattle.gc_texts.specs.Zeroed.{as_zero};
 use gc_catalogue::{Asked, Asking, Reading};
 use gc_lines::{Line, Reply, read_reply};
 
-/// Reads a reply's line as the answer to `asked`, with its return code taken for 0. Returns `Refused(0)` if the line is no reply,
-/// of which the contract says nothing.
+/// Reads a reply's line as the answer to `asked`, with its return code taken for 0. If the line is no reply, returns `Refused(0)`.
+/// (The contract doesn't say so.)
 pub fn reading_as_zero(asked: &Asked, line: &Line) -> Reading
     ensures { (r : ReplyFields) → IsReply line.now.items r → ReadsBy IsAskedReading asked.now (as_zero line.now.items) result }
 {

@@ -10,7 +10,7 @@ use Rattle.gc_values.specs.Byte.{IsByte, byte_text}
 one_digit : (a b x y : ℕ) → a ≡ b → hex_digit_value a ≡ Some x → hex_digit_value b ≡ Some y → x ≡ y
 one_digit a b x y e p q = let f = ap hex_digit_value e in let s : ◌≡◌ {A = Option ℕ} (Some x) (Some y) = sym p ∙ f ∙ q in cc
 
--- a text is at most one byte parameter
+-- a text is the byte parameter of at most one number
 pub one_byte : (text : List ℕ) (m n : ℕ) → IsByte text m → IsByte text n → m ≡ n
 one_byte text m n x y =
     let same = sym x.text_is ∙ y.text_is in
@@ -20,7 +20,7 @@ one_byte text m n x y =
     let low = one_digit x.b y.b x.low y.low second x.low_is y.low_is in
     x.value ∙ ap (λ h. h * 16 + x.low) high ∙ ap (λ l. y.high * 16 + l) low ∙ sym y.value
 
--- a byte's written text reads as the byte
+-- the written text of a byte, a number below 256, reads as the byte
 pub byte_reads : (n : ℕ) → n < 256 → IsByte (byte_text n) n
 byte_reads n small = record {
   a = slice_index lower_digits (n / 16);

@@ -4,7 +4,7 @@ use Rattle.std.proofs.Props.{props}
 use Rattle.gc_values.specs.Fraction.{IsCanonical, IsInRange}
 use Rattle.gc_values.specs.declared.decimal.Decimal.{Decimal}
 
--- there is at most one proof of an order of numbers
+-- there is at most one proof that m is at most n
 le_prop : (m n : ℕ) → IsProp (m ≤ n)
 le_prop m n = hlevel props
 

@@ -51,11 +51,12 @@ ExponentOf text = (e : Option Exponent) × IsExponent e × (text ≡ exponent_te
 
 -- where a mark and the bytes bs are the text of an exponent, and bs is cut into a sign and a rest, the rest is the exponent's
 -- digits
-same_digits : (capital : Bool) (bs : List ℕ) (negative : Bool) (rest : List ℕ) → CutsSign bs negative rest → (e : Exponent) → IsExponentDigits e.digits
+same_digits : (capital : Bool) (bs : List ℕ) (negative : Bool) (rest : List ℕ) → CutsSign bs negative rest → (e : Exponent)
+    → IsExponentDigits e.digits
     → mark capital ∷ bs ≡ exponent_text (Some e) → rest ≡ e.digits
 same_digits capital bs negative rest cut e short is =
     let behind : bs ≡ Rattle.gc_values.specs.Spelling.sign_text e.sign ++ e.digits = cc in
-    let bare : StartsNoSign e.digits = digits_no_sign e.digits short.digits_are short.some in
+    let bare : StartsNoSign e.digits = digits_no_sign e.digits short.digits_are in
     (sign_once cut.sign e.sign rest e.digits cut.first bare (sym cut.text_is ∙ behind)).1
 
 -- a text that begins with a mark is an exponent, or isn't
@@ -71,7 +72,7 @@ exponent_after_mark capital bs =
       none other (None, form, is) = absurd (cc)
       none other (Some e, form, is) = let cut = sign_cut bs in other (subst IsExponentDigits (sym (same_digits capital bs cut.0 cut.1 cut.2 e form is)) form)
 
--- a text that begins with no mark is no exponent
+-- a text whose first byte is no mark (`e` or `E`) is no exponent (`ExponentOf`)
 no_mark : (b : ℕ) (bs : List ℕ) → (b ≡ 101 → ⊥) → (b ≡ 69 → ⊥) → ExponentOf (b ∷ bs) → ⊥
 no_mark b bs small large (None, form, is) = absurd (cc)
 no_mark b bs small large (Some e, form, is) = by_capital e.capital refl where
@@ -115,11 +116,12 @@ cut_from_left text =
     let f = fraction_cut d.1 d.2.longest in
     record { negative = s.0; behind_sign = s.1; whole = d.0; behind_whole = d.1; fraction = f.0; rest = f.1; sign = s.2; digits = d.2; point = f.2 }
 
--- the parts of a numeral are those that were cut off
+-- where a text was cut, as `Cut` has it, and is a numeral's, the parts that were cut off are the numeral's
 cut_same : (text : List ℕ) (c : Cut text) (n : NumeralOf text) → SameParts c.negative c.whole c.fraction c.rest n.0
 cut_same text c n = same_parts text c.negative c.behind_sign c.whole c.behind_whole c.fraction c.rest c.sign c.digits c.point n.0 n.1 n.2
 
--- with a digit, and an exponent or nothing as the rest, the parts that were cut off are a numeral
+-- where a text was cut, as `Cut` has it, into at least one digit in all, and a rest that is an exponent or empty, the text is a
+-- numeral
 numeral_made : (text : List ℕ) (c : Cut text) → 0 < length c.whole + length c.fraction → ExponentOf c.rest → NumeralOf text
 numeral_made text c some x = (
   record { sign = c.sign.sign; whole = c.whole; fraction = c.point.fraction; exponent = x.0 },

@@ -1,5 +1,5 @@
--- Each item is read as a value of a kind, or has a fault; and so is each parameter list read as values, or has a fault. `IsDecided`
--- says of something that it holds, or that it doesn't.
+-- Each item is read as a value of a kind, or has a fault; and so is each parameter list read as values, or has a fault.
+-- `IsDecided` says of something that it holds, or that it doesn't.
 use Rattle.std.proofs.Common.{◌≡◌, ◌≢◌, ℕ, zero, suc, ◌+◌, ◌*◌, ◌%◌, ◌<◌, ◌≤◌, Bool, true, false, List, [], ◌∷◌, ◌++◌, length, replicate, ℤ, pos, negsuc, Option, Some, None, refl, sym, ap, ◌∙◌, subst, ◌⊎◌, inl, inr, arith}
 use Rattle.std.proofs.lemmas.Bool.{cases_lt, cases_eq}
 use Rattle.std.proofs.lemmas.Int.{ints}
@@ -43,7 +43,7 @@ byte_or_not a b = by_high (hex_digit_value a) refl where
   by_high (Some high) h = by_low high h (hex_digit_value b) refl
   by_high None h = inr (λ x. let same : a ≡ x.1.a = let e = x.1.text_is in cc in let is = x.1.high_is in let none = ap hex_digit_value same in absurd (cc))
 
--- four bytes that aren't between single quotes are no byte parameter
+-- four bytes of which the first and the last aren't both single quotes are no byte parameter
 no_quoted_byte : (p a b q : ℕ) → (p ≡ 39 → q ≡ 39 → ⊥) → ByteOf (p ∷ a ∷ b ∷ q ∷ []) → ⊥
 no_quoted_byte p a b q none x = let e = x.1.text_is in none (let first : p ≡ 39 = cc in first) (let last : q ≡ 39 = cc in last)
 
@@ -141,7 +141,7 @@ number_of_boolean (pos (suc zero)) within = (true, refl)
 number_of_boolean (pos (suc (suc n))) within = let high = within.1 in absurd (omega (arith, ints, high))
 number_of_boolean (negsuc n) within = let low = within.0 in absurd (omega (arith, ints, low))
 
--- an item that names 0 or 1 is a Boolean
+-- an item that writes a whole number from 0 to 1 is a Boolean
 boolean_of : (item : List ℕ) → ((z : ℤ) × NamesWhole item z × IsBetween 0 1 z) → (b : Bool) × NamesBoolean item b
 boolean_of item found = let t = number_of_boolean found.0 found.2 in (t.0, subst (NamesWhole item) t.1 found.1)
 
@@ -193,7 +193,7 @@ items_read (k ∷ ks) (item ∷ items) same = elim (each_item k item) [
   ]
 ]
 
--- each split list is read as values of the kinds, or has a fault
+-- parameters that split into items (`IsParams`) are read as values of the kinds, or have a fault
 params_read : (ks : List Kind) (params : List ℕ) (items : List (List ℕ)) → IsParams params items → IsListReadOrFaulty ks params
 params_read ks params items split = elim (cases_lt 16 (length items)) [
   | inl many ↦ inr (fault.TooMany, faulty_items items split (too_many refl many))
@@ -216,7 +216,7 @@ spaces_or_not (b ∷ bs) = elim (cases_eq b 32) [
     | inr none ↦ inr (rest b bs none)
   ]
 ] where
-  -- bytes that don't begin with a space aren't spaces alone
+  -- bytes of which the first is no space aren't spaces alone
   first : (b : ℕ) (bs : List ℕ) → b ≢ 32 → AreSpaces (b ∷ bs) → ⊥
   first b bs other (zero, is) = absurd (cc)
   first b bs other (suc n, is) = other (let same : b ≡ 32 = cc in same)
@@ -226,7 +226,7 @@ spaces_or_not (b ∷ bs) = elim (cases_eq b 32) [
   rest b bs none (zero, is) = absurd (cc)
   rest b bs none (suc n, is) = none (n, let same : bs ≡ replicate n 32 = cc in same)
 
--- each list of parameters is read as values of the kinds, or has a fault
+-- parameters, whatever bytes they are, are read as values of the kinds, or have a fault
 pub each_list : (ks : List Kind) (params : List ℕ) → IsListReadOrFaulty ks params
 each_list ks params = elim (cases_eq (quotes params % 2) 0) [
   | inr odd ↦ inr (fault.OpenQuote, open_quote refl (not_even_is_odd (quotes params) odd))

@@ -81,7 +81,8 @@ between_or_not below above (negsuc n) = elim (cases_lt below (suc n)) [
 ]
 
 -- a text writes a whole number from -below to above, or no whole number, or another one
-pub whole_between : (below above : ℕ) (text : List ℕ) → ((z : ℤ) × NamesWhole text z × IsBetween below above z) ⊎ (NamesNoWhole text ⊎ NamesWholeBeyond below above text)
+pub whole_between : (below above : ℕ) (text : List ℕ)
+    → ((z : ℤ) × NamesWhole text z × IsBetween below above z) ⊎ (NamesNoWhole text ⊎ NamesWholeBeyond below above text)
 whole_between below above text = elim (whole_or_not text) [
   | inr none ↦ inr (inl none)
   | inl found ↦ elim (between_or_not below above found.0) [

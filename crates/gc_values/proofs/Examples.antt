@@ -14,7 +14,7 @@ four_places : rounded (decimal (pos 199975) 5 refl) 4 ≡ decimal (pos 19998) 4 
 unfolding rounded
 four_places = same_decimal _ _ refl refl
 
--- 0.5 at no place is 1.0
+-- 0.5 at 0 places is 1.0
 half : rounded (decimal (pos 5) 1 refl) 0 ≡ decimal (pos 1) 0 refl
 unfolding rounded
 half = same_decimal _ _ refl refl
@@ -29,7 +29,7 @@ below_nothing : rounded (decimal (negsuc 3) 2 refl) 1 ≡ zero
 unfolding rounded
 below_nothing = same_decimal _ _ refl refl
 
--- 9999999999999.9 at no place is the bound
+-- 9999999999999.9 at 0 places is the bound, 10^13
 to_the_bound : rounded (decimal (pos 99999999999999) 1 refl) 0 ≡ decimal (pos 10000000000000) 0 refl
 unfolding rounded
 to_the_bound = same_decimal _ _ refl refl

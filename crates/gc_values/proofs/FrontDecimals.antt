@@ -3,6 +3,7 @@ use Rattle.std.proofs.Common.{◌≡◌, ℕ, ℤ, ◌+◌, ◌-◌, ◌*◌, �
 use Rattle.std.proofs.Math.Nat.{mul-le-mul_left, mul-le-mul_right, pow-suc}
 use Rattle.std.proofs.lemmas.Nat.{pow-add}
 use Rattle.std.proofs.lemmas.List.{drop_more, length-take-le, take-append-drop}
+use Rattle.std.proofs.Permutation.{every_append}
 use Rattle.gc_values.specs.Digits.{AreDigits, IsDigit, number}
 use Rattle.gc_values.specs.Nearest.{MadeOf}
 use Rattle.gc_values.specs.Plainly.{CountsDigits, CutsPlain, CutsDecimal, CutsNumber, IsItemAndRest}
@@ -11,13 +12,14 @@ use Rattle.gc_values.specs.declared.decimal.Decimal.{Decimal}
 use Rattle.gc_values.proofs.Kept.{AreDigits-append, AreDigits-take_more, followed_more, number-append, number-lt}
 use Rattle.gc_values.proofs.Powers.{ten_pow_le}
 use Rattle.gc_values.proofs.ReadLemmas.{reads_value}
-use Rattle.gc_values.proofs.TextShape.{AreBare-append, bare_above, bare_digits, bare_param}
+use Rattle.gc_values.proofs.TextShape.{IsBare, bare_above, bare_digits, bare_param}
 use Rattle.gc_values.proofs.UnitsLemmas.{capped_short}
 
--- A step of counting digits: where i of at most `most` were counted, and the next byte is a digit, i + 1 are counted, and their
--- number is ten times as large plus that digit.
-pub counts_more : (front : ℕ) (text : List ℕ) (most value more i : ℕ) → CountsDigits front text most value i → i < length text → i < most
-    → IsDigit (get_or text i 0) → more ≡ value * 10 + (get_or text i 0 - 48) → CountsDigits front text most more (i + 1)
+-- A step of counting digits, as `CountsDigits` has it: where i digits were counted after the number `front`, fewer than `most`,
+-- and the next byte is a digit, i + 1 are counted, with ten times the number so far, plus that digit, as their number.
+pub counts_more : (front : ℕ) (text : List ℕ) (most value more i : ℕ) → (counted : CountsDigits front text most value i)
+    → (inside : i < length text) → (few : i < most) → (digit : IsDigit (get_or text i 0)) → (more_is : more ≡ value * 10 + (get_or text i 0 - 48))
+    → CountsDigits front text most more (i + 1)
 counts_more front text most value more i c inside few digit e = record {
   within = omega arith;
   few = omega arith;
@@ -25,8 +27,10 @@ counts_more front text most value more i c inside few digit e = record {
   value_is = followed_more front value more text i inside c.value_is e;
 }
 
--- while fewer than `most` digits were counted, their number with one more digit is at most 10^18, so that 64 bits hold it
-pub counts_small : (front : ℕ) (text : List ℕ) (most value i : ℕ) → CountsDigits front text most value i → i < most → (front + 1) * 10 ^ most ≤ 10 ^ 18 → value * 10 + 10 ≤ 10 ^ 18
+-- while fewer than `most` digits were counted, and `front` leaves room within 10^18 for `most` digits, ten times the number that
+-- was counted, plus 10, is at most 10^18, so that 64 bits hold the number with one more digit
+pub counts_small : (front : ℕ) (text : List ℕ) (most value i : ℕ) → CountsDigits front text most value i → i < most
+    → (front + 1) * 10 ^ most ≤ 10 ^ 18 → value * 10 + 10 ≤ 10 ^ 18
 counts_small front text most value i c inside room =
     let small : number (take i text) < 10 ^ length (take i text) = number-lt (take i text) c.digits in
     let size : length (take i text) ≡ i = length-take-le i text c.within in
@@ -34,7 +38,8 @@ counts_small front text most value i c inside room =
     let all : (front + 1) * 10 ^ (i + 1) ≤ (front + 1) * 10 ^ most = mul-le-mul_left {m = 10 ^ (i + 1)} {n = 10 ^ most} (front + 1) (ten_pow_le (i + 1) most (omega arith)) in
     omega (arith, c.value_is, small, ap (λ k. 10 ^ k) size, ap (λ p. (front + 1) * p) power, all, room)
 
--- the number of i digits that were counted leaves room for 18 - i more: with them it is at most 10^18
+-- where i digits, at most 18, were counted with no number in front, their number leaves room within 10^18 for 18 - i more: that
+-- number plus 1, times 10^(18 - i), is at most 10^18
 pub counts_room : (text : List ℕ) (most value i : ℕ) → CountsDigits 0 text most value i → i ≤ 18 → (value + 1) * 10 ^ (18 - i) ≤ 10 ^ 18
 counts_room text most value i c few =
     let small : number (take i text) < 10 ^ length (take i text) = number-lt (take i text) c.digits in
@@ -43,23 +48,27 @@ counts_room text most value i c few =
     let power : 10 ^ i * 10 ^ (18 - i) ≡ 10 ^ 18 = sym (pow-add 10 i (18 - i)) ∙ ap (λ k. 10 ^ k) (let sum : i + (18 - i) ≡ 18 = omega arith in sum) in
     omega (arith, most, power)
 
--- digits, a point and digits, and then the end or a comma, are cut off as an item
-front_cut : (text w f tail : List ℕ) (rest : Option (List ℕ)) → text ≡ w ++ 46 ∷ (f ++ tail) → AreDigits w → AreDigits f → IsItemAndRest tail [] rest → CutsPlain text (w ++ 46 ∷ f) rest
+-- where a text is an item and then a tail, and the tail is empty or begins with a comma, the text is the item and what follows
+-- the item's comma, if there is one, as `IsItemAndRest` has it
+item_before_comma : (text item tail : List ℕ) (rest : Option (List ℕ)) → text ≡ item ++ tail → IsItemAndRest tail [] rest
+    → IsItemAndRest text item rest
+item_before_comma text item tail None e h = e ∙ ap (λ t. item ++ t) h ∙ append-nil item
+item_before_comma text item tail (Some behind) e h = e ∙ ap (λ t. item ++ t) h
+
+-- digits, a point and digits, up to the end or a comma, are cut off as an item
+front_cut : (text w f tail : List ℕ) (rest : Option (List ℕ)) → text ≡ w ++ 46 ∷ (f ++ tail) → AreDigits w → AreDigits f
+    → IsItemAndRest tail [] rest → CutsPlain text (w ++ 46 ∷ f) rest
 front_cut text w f tail rest e is_w is_f stands = record {
-  text_is = item_before_comma rest stands;
-  param = bare_param (w ++ 46 ∷ f) (AreBare-append w (46 ∷ f) (bare_digits w is_w) (bare_above 46 (omega arith), bare_digits f is_f));
+  text_is = item_before_comma text (w ++ 46 ∷ f) tail rest (e ∙ sym (append_assoc w (46 ∷ f) tail)) stands;
+  param = bare_param (w ++ 46 ∷ f) (every_append IsBare w (46 ∷ f) (bare_digits w is_w) (bare_above 46 (omega arith), bare_digits f is_f));
   some = omega (arith, length-append w (46 ∷ f));
 }
-  where
-    -- where the end or a comma follows the number, the text is the number as an item, and what follows its comma
-    item_before_comma : (r : Option (List ℕ)) → IsItemAndRest tail [] r → IsItemAndRest text (w ++ 46 ∷ f) r
-    item_before_comma None h = e ∙ ap (λ t. w ++ 46 ∷ (f ++ t)) h ∙ ap (λ t. w ++ 46 ∷ t) (append-nil f)
-    item_before_comma (Some behind) h = e ∙ ap (λ t. w ++ 46 ∷ (f ++ t)) h ∙ sym (append_assoc w (46 ∷ f) (44 ∷ behind))
 
--- digits w, a point and digits f, at most 13 before the point and 18 in all, spell the decimal made of their number with as many
+-- digits w, 1 to 13 of them, a point and digits f, at most 18 digits in all, spell the decimal made of their number with as many
 -- places as f has digits
-front_spells : (w f : List ℕ) (units : ℕ) (m : ℤ) (s : ℕ) → AreDigits w → AreDigits f → 0 < length w → length w ≤ 13 → length w + length f ≤ 18
-    → units ≡ number (w ++ f) → MadeOf false units (length f) m s → Spells (w ++ 46 ∷ f) m s
+front_spells : (w f : List ℕ) (units : ℕ) (m : ℤ) (s : ℕ) → (is_w : AreDigits w) → (is_f : AreDigits f) → (some : 0 < length w)
+    → (short : length w ≤ 13) → (few : length w + length f ≤ 18) → (units_are : units ≡ number (w ++ f))
+    → (made : MadeOf false units (length f) m s) → Spells (w ++ 46 ∷ f) m s
 front_spells w f units m s is_w is_f some short few e made =
     let digits = AreDigits-append w f is_w is_f in
     let size = length-append w f in
@@ -79,10 +88,13 @@ front_spells w f units m s is_w is_f some short few e made =
     (capped_short (w ++ f) (length f) 0 0 (10 ^ 37 + 1) units digits (omega (arith, size)) (omega (arith, size)) refl refl (lit≤ tt) e)
     (omega (arith, e, below, most, pow-add 10 13 (length f))) made
 
--- where digits, a point and digits were counted, and the end or a comma follows them, a decimal was cut off
-pub front_found : (text behind tail : List ℕ) (at places whole value : ℕ) (rest : Option (List ℕ)) (d : Decimal) → CountsDigits 0 text 13 whole at → 0 < at
-    → at < length text → get_or text at 0 ≡ 46 → behind ≡ drop (at + 1) text
-    → CountsDigits whole behind (18 - at) value places → tail ≡ drop places behind → IsItemAndRest tail [] rest → MadeOf false value places d.digits d.scale → CutsDecimal text d rest
+-- where 1 to 13 digits, a point, and digits after it were counted, at most 18 digits in all, and the end or a comma follows, the
+-- decimal that is made of their number was cut off
+pub front_found : (text behind tail : List ℕ) (at places whole value : ℕ) (rest : Option (List ℕ)) (d : Decimal)
+    → (before_point : CountsDigits 0 text 13 whole at) → (some : 0 < at) → (inside : at < length text) → (point : get_or text at 0 ≡ 46)
+    → (behind_is : behind ≡ drop (at + 1) text) → (after_point : CountsDigits whole behind (18 - at) value places)
+    → (tail_is : tail ≡ drop places behind) → (ends : IsItemAndRest tail [] rest) → (made : MadeOf false value places d.digits d.scale)
+    → CutsDecimal text d rest
 front_found text behind tail at places whole value rest d a some inside point behind_is b tail_is stands made =
     let w : List ℕ = take at text in
     let f : List ℕ = take places behind in
@@ -102,8 +114,10 @@ front_found text behind tail at places whole value rest d a some inside point be
           (omega (arith, long_w, long_f)) number_is (subst (λ k. MadeOf false value k d.digits d.scale) (sym long_f) made);
     }
 
--- the number that was counted before and after the point is in range
-pub front_range : (text behind : List ℕ) (at places whole value : ℕ) → CountsDigits 0 text 13 whole at → CountsDigits whole behind (18 - at) value places → value ≤ 10 ^ 13 * 10 ^ places
+-- the number of the digits that were counted before the point, at most 13, and after it is in range with as many places as come
+-- after it
+pub front_range : (text behind : List ℕ) (at places whole value : ℕ) → CountsDigits 0 text 13 whole at
+    → CountsDigits whole behind (18 - at) value places → value ≤ 10 ^ 13 * 10 ^ places
 front_range text behind at places whole value a b =
     let small_a : number (take at text) < 10 ^ length (take at text) = number-lt (take at text) a.digits in
     let small_b : number (take places behind) < 10 ^ length (take places behind) = number-lt (take places behind) b.digits in
@@ -114,7 +128,7 @@ front_range text behind at places whole value a b =
     let all : (whole + 1) * 10 ^ places ≤ 10 ^ 13 * 10 ^ places = mul-le-mul_right {m = whole + 1} {n = 10 ^ 13} (10 ^ places) (omega (arith, a.value_is, small_a, ap (λ k. 10 ^ k) long_w, most)) in
     omega (arith, b.value_is, small_b, ap (λ k. 10 ^ k) long_f, all)
 
--- where digits were counted, and the end or a comma follows them, a whole number was cut off
+-- where 1 to 18 digits were counted, and the end or a comma follows them, a whole number was cut off
 pub number_found : (text tail : List ℕ) (count n : ℕ) (rest : Option (List ℕ)) → CountsDigits 0 text 18 n count → 0 < count → tail ≡ drop count text
     → IsItemAndRest tail [] rest → CutsNumber text n rest
 number_found text tail count n rest c some tail_is stands =
@@ -124,14 +138,9 @@ number_found text tail count n rest c some tail_is stands =
     record {
       item = ds;
       cut = record {
-        text_is = item_before_comma rest stands parted;
+        text_is = item_before_comma text ds tail rest parted stands;
         param = bare_param ds (bare_digits ds c.digits);
         some = omega (arith, size);
       };
       names = record { sign = Absent; digits = ds; n = n; text_is = refl; number_is = record { digits = c.digits; some = omega (arith, size); value = omega (arith, c.value_is) }; value = refl };
     }
-  where
-    -- where the end or a comma follows the number, the text is the number as an item, and what follows its comma
-    item_before_comma : (r : Option (List ℕ)) → IsItemAndRest tail [] r → text ≡ take count text ++ tail → IsItemAndRest text (take count text) r
-    item_before_comma None h e = e ∙ ap (λ t. take count text ++ t) h ∙ append-nil (take count text)
-    item_before_comma (Some behind) h e = e ∙ ap (λ t. take count text ++ t) h

@@ -15,7 +15,7 @@ unfolding decode_pairs
 decode_sized-pair a b = refl
 
 -- the contract of `hex_byte`: r is the byte that a and b write, or `None` where they aren't two hexadecimal digits
-abbrev pub IsResultOfHexByte : ℕ → ℕ → Option ℕ → Type 0
+abbrev pub IsResultOfHexByte : (a b : ℕ) → (r : Option ℕ) → Type 0
 IsResultOfHexByte a b r = MatchResult (decode_sized (a ∷ b ∷ []) 1) (λ bytes. IsSomeAnd r (λ n. bytes ≡ n ∷ [])) (λ _. r ≡ None)
 
 -- where decoding a and b gave the byte n, both are digits, and n is made of their values h and l
@@ -32,7 +32,7 @@ byte_found text a b n e m =
     let r = decoded_digits a b n (hex_digit_value a) (hex_digit_value b) refl refl (rw decode_sized-pair at m) in
     record { a = a; b = b; high = r.0; low = r.1; text_is = e; high_is = r.2; low_is = r.3; value = r.4 }
 
--- where both bytes have values as hexadecimal digits, decoding them isn't refused
+-- where both bytes have values as hexadecimal digits, `None` isn't what `hex_byte` returns for them
 digits_decode : (a b : ℕ) (x y : Option ℕ) (h l : ℕ) → x ≡ Some h → y ≡ Some l
     → MatchResult (pair_of a b x y) (λ bytes. IsSomeAnd {T = ℕ} None (λ n. bytes ≡ n ∷ [])) (λ _. ◌≡◌ {A = Option ℕ} None None) → ⊥
 digits_decode a b (Some x) (Some y) h l p q m = m

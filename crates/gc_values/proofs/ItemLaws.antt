@@ -24,7 +24,7 @@ use Rattle.gc_values.proofs.WholeLemmas.{one_whole}
 use Rattle.gc_values.proofs.WholeText.{signed_reads, boolean_between, boolean_reads}
 use Rattle.gc_values.proofs.WrittenSpells.{written_spells}
 
--- a value's written text reads as the value
+-- the written text of a value in its kind's range reads as the value
 pub written_is_read : (v : Value) → IsValue v → IsItem (text v) v
 written_is_read (value.Double d) h = written_spells d.digits d.scale d.is_canonical d.has_few_places
 written_is_read (value.Long z) h = (signed_reads z, h)
@@ -33,7 +33,7 @@ written_is_read (value.Byte n) h = byte_reads n h
 written_is_read (value.Bool b) h = boolean_reads b
 written_is_read (value.Text bytes) h = record { string = record { item_is = refl; plain = h.plain }; few = h.few }
 
--- an item that equals a value's written text is read as the value
+-- an item that equals the written text of a value in its kind's range is read as the value
 pub written_reads : (v : Value) (item : List ℕ) → item ≡ text v → IsValue v → IsItem item v
 written_reads v item e h = subst (λ t. IsItem t v) (sym e) (written_is_read v h)
 
@@ -54,15 +54,15 @@ one_value (value.Bool a) (value.Bool b) item e x y = ap (λ z. value.Bool z) (on
 one_value (value.Text t) (value.Text u) item e x y = ap (λ z. value.Text z) (one_string item t u x.string y.string)
 one_value v w item e x y = absurd (cc)
 
--- a whole number that is in range isn't out of it
+-- an item that writes a whole number from -below to above doesn't write one out of that range
 not_beyond : (item : List ℕ) (z : ℤ) (below above : ℕ) → NamesWhole item z → IsBetween below above z → NamesWholeBeyond below above item → ⊥
 not_beyond item z below above w h far = far.2 (subst (λ y. IsBetween below above y) (one_whole item z far.0 w far.1) h)
 
--- a string of at most 64 bytes isn't a longer one
+-- an item that is a string of at most 64 bytes isn't a string of more than 64
 not_long : (item bytes : List ℕ) → IsTextItem item bytes → IsLongString item → ⊥
 not_long item bytes t long = let same = one_string item bytes long.0 t.string long.1 in let few = t.few in let many = long.2 in omega (arith, few, many, ap length same)
 
--- an item of a value has the form of its kind
+-- an item that is read as a value has the form of the value's kind
 pub item_has_form : (v : Value) (item : List ℕ) → IsItem item v → HasNoForm (kind_of v) item → ⊥
 item_has_form (value.Double d) item x f = f x.0 x.1
 item_has_form (value.Long z) item x f = f z x.0
@@ -71,7 +71,7 @@ item_has_form (value.Byte n) item x f = f n x
 item_has_form (value.Bool b) item x f = f (pos (number_of b)) x
 item_has_form (value.Text t) item x f = f t x.string
 
--- an item that is read as a value isn't beyond its kind's range
+-- an item that is read as a value isn't beyond the range of the value's kind
 pub item_is_in_range : (v : Value) (item : List ℕ) → IsItem item v → IsBeyond (kind_of v) item → ⊥
 item_is_in_range (value.Double d) item x f = in_range_only item d.digits d.scale x d.is_in_range f
 item_is_in_range (value.Long z) item x f = not_beyond item z 2147483648 2147483647 x.0 x.1 f
@@ -80,12 +80,12 @@ item_is_in_range (value.Byte n) item x f = f
 item_is_in_range (value.Bool b) item x f = not_beyond item (pos (number_of b)) 0 1 x (boolean_between b) f
 item_is_in_range (value.Text t) item x f = not_long item t x f
 
--- an item of a value has no fault for the value's kind
+-- an item that is read as a value has no fault for the value's kind
 pub item_has_no_fault : (v : Value) (item : List ℕ) (e : ValueFault) → IsItem item v → IsItemFault (kind_of v) item e → ⊥
 item_has_no_fault v item e x (inl f) = item_has_form v item x f.1
 item_has_no_fault v item e x (inr f) = item_is_in_range v item x f.1
 
--- an item that hasn't the form of its kind isn't out of the kind's range
+-- an item that hasn't the form of a kind isn't out of the kind's range
 no_form_not_beyond : (k : Kind) (item : List ℕ) → HasNoForm k item → IsBeyond k item → ⊥
 no_form_not_beyond kind.Double item none far = none far.2.0 far.2.1
 no_form_not_beyond kind.Long item none far = none far.0 far.1

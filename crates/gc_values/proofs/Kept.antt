@@ -42,7 +42,7 @@ kept_past : (ds : List ℕ) (i : ℕ) → length ds ≤ i → kept ds i ≡ numb
 unfolding kept
 kept_past ds i h = rw (take_all i ds h) refl
 
--- one more digit makes the number ten times as large, and adds its own value
+-- `kept` of the first i + 1 digits is ten times that of the first i, plus the digit at place i, which is 0 after the last one
 pub kept_more : (ds : List ℕ) (i : ℕ) → kept ds (i + 1) ≡ kept ds i * 10 + digit_or_zero ds i
 kept_more ds i = elim (cases_lt i (length ds)) [
   | inl inside ↦
@@ -79,11 +79,11 @@ cut_round xs c ys m digits is_low is_high =
     ] in
     rounds_same_value _ (10 * u) _ _ m (omega arith) (one-le-pow (length (xs ++ c ∷ ys)) 10 (lit< tt)) (rw (size, whole) (omega arith)) here
 
--- a digit below 5 adds nothing
+-- `carry` of a digit below 5 is 0
 low_digit : (d : ℕ) → d < 5 → carry d ≡ 0
 low_digit d h = grind (arith, nat_tests)
 
--- a digit from 5 on adds 1
+-- `carry` of a digit from 5 on is 1
 high_digit : (d : ℕ) → 5 ≤ d → carry d ≡ 1
 high_digit d h = grind (arith, nat_tests)
 
@@ -111,13 +111,13 @@ rounds_digits ds k digits = elim (cases_lt k (length ds)) [
       subst (λ a. RoundsHalfUp a (10 ^ length ds) (kept_and_rounded ds k)) whole (rounds_whole (kept_and_rounded ds k) (10 ^ length ds) (one-le-pow (length ds) 10 (lit< tt)))
 ]
 
--- the element of digits at a place is a digit
+-- where i is below the count of the digits ds, the byte at place i is a digit
 pub AreDigits-at : (ds : List ℕ) (i : ℕ) (d : ℕ) → AreDigits ds → i < length ds → IsDigit (get_or ds i d)
 AreDigits-at [] i d h lt = absurd (omega arith)
 AreDigits-at (b ∷ bs) zero d h lt = h.0
 AreDigits-at (b ∷ bs) (suc i) d h lt = AreDigits-at bs i d h.1 (omega arith)
 
--- digits after digits are digits
+-- digits xs and then digits ys are digits together
 pub AreDigits-append : (xs ys : List ℕ) → AreDigits xs → AreDigits ys → AreDigits (xs ++ ys)
 AreDigits-append [] ys h k = k
 AreDigits-append (x ∷ xs) ys h k = (h.0, AreDigits-append xs ys h.1 k)
@@ -130,7 +130,7 @@ at_first xs ys i h = ap (λ b. b - 48) (get_or_default xs i 0 48 h ∙ sym (get_
 pub at_second : (xs ys : List ℕ) (i : ℕ) → length xs ≤ i → i - length xs < length ys → get_or ys (i - length xs) 0 - 48 ≡ digit_or_zero (xs ++ ys) i
 at_second xs ys i h h' = ap (λ b. b - 48) (get_or_default ys (i - length xs) 0 48 h' ∙ sym (get_or-append_right xs ys i 48 h))
 
--- 0 follows both runs
+-- where place i is after both runs in a row, their digit there is 0
 pub at_neither : (xs ys : List ℕ) (i : ℕ) → length xs ≤ i → length ys ≤ i - length xs → 0 ≡ digit_or_zero (xs ++ ys) i
 at_neither xs ys i h h' = ap (λ b. b - 48) (sym (get_or_past ys (i - length xs) 48 h') ∙ sym (get_or-append_right xs ys i 48 h))
 
@@ -138,7 +138,8 @@ at_neither xs ys i h h' = ap (λ b. b - 48) (sym (get_or_past ys (i - length xs)
 pub digit_at_least_48 : (ds : List ℕ) (i : ℕ) → AreDigits ds → i < length ds → 48 ≤ get_or ds i 0
 digit_at_least_48 ds i h lt = (AreDigits-at ds i 0 h lt).0
 
--- past the last digit, `kept_and_rounded` is the number of all digits with zeros after it: nothing is rounded in
+-- where i is the count of the digits or more, `kept_and_rounded` is the number of all digits, with a zero after it for each that
+-- is missing: nothing is rounded in
 pub kept_behind : (ds : List ℕ) (i : ℕ) → length ds ≤ i → kept_and_rounded ds i ≡ kept ds (length ds) * 10 ^ (i - length ds)
 kept_behind ds i h =
     let none : carry (digit_or_zero ds i) ≡ 0 = low_digit (digit_or_zero ds i) (omega (arith, get_or_past ds i 48 h)) in
@@ -146,7 +147,7 @@ kept_behind ds i h =
     let past : kept ds i ≡ number ds * 10 ^ (i - length ds) = kept_past ds i h in
     omega (arith, ap (λ n. n * 10 ^ (i - length ds)) all)
 
--- where n is at least `cap`, a product that is cut off at `cap` stays the same when n itself is cut off first
+-- where n is at least `cap`, and p is above 0, n * p, cut off at `cap`, stays the same when n itself is cut off first
 min_mul_at : (cap n p : ℕ) → 0 < p → cap ≤ n → min cap (min cap n * p) ≡ min cap (n * p)
 min_mul_at cap n p some at =
     let left : cap * 1 ≤ cap * p = mul-le-mul_left {m = 1} {n = p} cap some in
@@ -154,7 +155,7 @@ min_mul_at cap n p some at =
     let factor : min cap n * p ≡ cap * p = ap (λ x. x * p) (let e : min cap n ≡ cap = omega arith in e) in
     omega arith
 
--- a product that is cut off at `cap` stays the same when its factor n is cut off first
+-- where p is above 0, n * p, cut off at `cap`, stays the same when n itself is cut off first
 pub min_mul : (cap n p : ℕ) → 0 < p → min cap (min cap n * p) ≡ min cap (n * p)
 min_mul cap n p some = elim (cases_lt n cap) [
   | inl below ↦ ap (λ x. min cap (x * p)) (let e : min cap n ≡ n = omega arith in e)
@@ -178,17 +179,18 @@ min_pow cap n top z large = elim (cases_lt top z) [
   | inr within ↦ ap (λ e. min cap (n * 10 ^ e)) (let e : min z top ≡ z = omega arith in e)
 ]
 
--- the first i digits and a further digit are digits
+-- where the first i bytes are digits, and so is the next one, the first suc i bytes are digits
 AreDigits-take_suc : (ds : List ℕ) (i : ℕ) → AreDigits (take i ds) → i < length ds → IsDigit (get_or ds i 0) → AreDigits (take (suc i) ds)
 AreDigits-take_suc [] i h lt d = tt
 AreDigits-take_suc (b ∷ bs) zero h lt d = (d, tt)
 AreDigits-take_suc (b ∷ bs) (suc i) h lt d = (h.0, AreDigits-take_suc bs i h.1 (omega arith) d)
 
--- the first i digits and a further digit are digits, where their count is written i + 1
+-- where the first i bytes are digits, and so is the next one, the first i + 1 bytes are digits
 pub AreDigits-take_more : (ds : List ℕ) (i : ℕ) → AreDigits (take i ds) → i < length ds → IsDigit (get_or ds i 0) → AreDigits (take (i + 1) ds)
 AreDigits-take_more ds i h lt d = rw add-one (AreDigits-take_suc ds i h lt d)
 
--- a further digit makes the number ten times as large, and adds its own value
+-- where i is below the length of ds, the number of the first i + 1 digits is ten times that of the first i, plus the digit at
+-- place i
 pub number-take_more : (ds : List ℕ) (i : ℕ) → i < length ds → number (take (i + 1) ds) ≡ number (take i ds) * 10 + (get_or ds i 0 - 48)
 number-take_more ds i inside =
     let pushed : take (i + 1) ds ≡ take i ds ++ (get_or ds i 0 ∷ []) = rw add-one (take-suc ds i 0 inside) in
@@ -200,17 +202,18 @@ AreDigits-take ds zero h = tt
 AreDigits-take [] (suc i) h = tt
 AreDigits-take (d ∷ ds) (suc i) h = (h.0, AreDigits-take ds i h.1)
 
--- a step of reading digits after a number `front`: one more digit makes the number ten times as large, and adds its own
--- value
+-- a step of reading digits after a number `front`: where `value` is the number of `front` and the first i digits, and `more` is
+-- ten times that plus the next digit, `more` is the number of `front` and the first i + 1
 pub followed_more : (front value more : ℕ) (ds : List ℕ) (i : ℕ) → i < length ds → value ≡ front * 10 ^ i + number (take i ds)
     → more ≡ value * 10 + (get_or ds i 0 - 48) → more ≡ front * 10 ^ (i + 1) + number (take (i + 1) ds)
 followed_more front value more ds i inside e f =
     let power : 10 ^ (i + 1) ≡ 10 ^ i * 10 = rw add-one (pow-suc 10 i) in
     omega (arith, e, f, number-take_more ds i inside, ap (λ p. front * p) power)
 
--- the number of `front` and the digits that were read after it is below 10^18, if the front leaves room for all of these
--- digits
-pub followed_small : (front value : ℕ) (ds : List ℕ) (i : ℕ) → AreDigits ds → i < length ds → value ≡ front * 10 ^ i + number (take i ds) → (front + 1) * 10 ^ length ds ≤ 10 ^ 18 → value < 10 ^ 18
+-- where `front` leaves room within 10^18 for all of the digits ds, and the first i of them, but not all, were read after it, the
+-- number of `front` and these is below 10^18
+pub followed_small : (front value : ℕ) (ds : List ℕ) (i : ℕ) → AreDigits ds → i < length ds → value ≡ front * 10 ^ i + number (take i ds)
+    → (front + 1) * 10 ^ length ds ≤ 10 ^ 18 → value < 10 ^ 18
 followed_small front value ds i digits inside e room =
     let small : number (take i ds) < 10 ^ length (take i ds) = number-lt (take i ds) (AreDigits-take ds i digits) in
     let size : length (take i ds) ≡ i = length-take-le i ds (omega arith) in
@@ -218,7 +221,8 @@ followed_small front value ds i digits inside e room =
     let all : (front + 1) * 10 ^ i ≤ (front + 1) * 10 ^ length ds = mul-le-mul_left {m = 10 ^ i} {n = 10 ^ length ds} (front + 1) most in
     omega (arith, e, small, ap (λ k. 10 ^ k) size, all, room)
 
--- where two runs have at most 18 digits together, the number of the first leaves room for the second after it, within 10^18
+-- where the digits ws and fs are at most 18 together, the number of ws leaves room within 10^18 for fs after it: that number plus
+-- 1, times ten for each digit of fs, is at most 10^18
 pub room_behind : (ws fs : List ℕ) → AreDigits ws → length ws + length fs ≤ 18 → (number ws + 1) * 10 ^ length fs ≤ 10 ^ 18
 room_behind ws fs digits few =
     let most : (number ws + 1) * 10 ^ length fs ≤ 10 ^ length ws * 10 ^ length fs =

@@ -9,6 +9,7 @@ pub mod EachWhole
 pub mod Examples
 pub mod FrontDecimals
 pub mod HexPair
+pub mod ItemBytes
 pub mod ItemLaws
 pub mod Kept
 pub mod ListLaws

@@ -31,14 +31,14 @@ no_first_fault (v ∷ vs) [] e x f = f
 no_first_fault (v ∷ vs) (item ∷ items) e x (inl f) = item_has_no_fault v item e x.0 f
 no_first_fault (v ∷ vs) (item ∷ items) e x (inr f) = no_first_fault vs items e x.1 f.3
 
--- items that are read as values are as many as the kinds
+-- items that are read as values are as many as the values' kinds
 pub same_count : (vs : List Value) (items : List (List ℕ)) → AreItems items vs → length items ≡ length (kinds_of vs)
 same_count [] [] x = refl
 same_count [] (item ∷ items) x = absurd x
 same_count (v ∷ vs) [] x = absurd x
 same_count (v ∷ vs) (item ∷ items) x = ap (λ n. suc n) (same_count vs items x.1)
 
--- items have at most one first fault
+-- items have at most one first fault for kinds
 pub one_first_fault : (ks : List Kind) (items : List (List ℕ)) (e f : ValueFault) → FirstFault ks items e → FirstFault ks items f → e ≡ f
 one_first_fault [] items e f x y = absurd x
 one_first_fault (k ∷ ks) [] e f x y = absurd x
@@ -76,22 +76,24 @@ length_kinds [] = refl
 length_kinds (v ∷ vs) = ap (λ n. suc n) (length_kinds vs)
 
 -- items that are read as at most six values have no fault for the kinds of these values
-no_items_fault : (vs : List Value) (items : List (List ℕ)) (e : ValueFault) → length vs ≤ 6 → AreItems items vs → IsItemsFault (kinds_of vs) items e → ⊥
+no_items_fault : (vs : List Value) (items : List (List ℕ)) (e : ValueFault) → length vs ≤ 6 → AreItems items vs
+    → IsItemsFault (kinds_of vs) items e → ⊥
 no_items_fault vs items e few x (too_many b m) = omega (arith, same_count vs items x, length_kinds vs)
 no_items_fault vs items e few x (wrong_count b m d) = d (same_count vs items x)
 no_items_fault vs items e few x (faulty_item m s y) = no_first_fault vs items e x y
 
 -- a list that is read as at most six values has no fault for the kinds of these values
-pub no_list_fault : (vs : List Value) (params : List ℕ) (e : ValueFault) → length vs ≤ 6 → AreParams params vs → IsListFault (kinds_of vs) params e → ⊥
+pub no_list_fault : (vs : List Value) (params : List ℕ) (e : ValueFault) → length vs ≤ 6 → AreParams params vs
+    → IsListFault (kinds_of vs) params e → ⊥
 no_list_fault vs params e few x (open_quote a o) = splitting.even_not_odd (quotes params) (splitting.params_even params x.items x.split) o
 no_list_fault vs params e few x (faulty_items items s y) = no_items_fault vs items e few (subst (λ i. AreItems i vs) (splitting.one_list params x.items items x.split s) x.read) y
 
--- the texts of values are read as the values
+-- the texts of values in their kinds' ranges are read as the values
 texts_read : (vs : List Value) → AreValues vs → AreItems (map text vs) vs
 texts_read [] h = tt
 texts_read (v ∷ vs) h = (written_is_read v h.0, texts_read vs h.1)
 
--- the joined texts of values are read as the values
+-- the texts of values in their kinds' ranges, joined by commas, are read as the values
 pub written_reads : (vs : List Value) → AreValues vs → AreParams (joined (map text vs)) vs
 written_reads vs h = record { items = map text vs; split = joined_splits vs h; read = texts_read vs h }
 
@@ -106,8 +108,10 @@ items_fit (v ∷ vs) (item ∷ items) x = (item_is_value v item x.0, items_fit v
 pub params_fit : (vs : List Value) (params : List ℕ) → AreParams params vs → AreValues vs
 params_fit vs params x = items_fit vs x.items x.read
 
--- a refusal of splitting is a fault of the list
-pub split_fault : {X : Type 0} (r : Result X ValueFault) (ks : List Kind) (params : List ℕ) (e : ValueFault) → r ≡ Err e → IsEither OpenQuote TooMany e
+-- where r is a refusal of splitting a list, `OpenQuote` only for an open quote and `TooMany` only for too many parameters, as the
+-- contract of `split` says, its fault is a fault of the list
+pub split_fault : {X : Type 0} (r : Result X ValueFault) (ks : List Kind) (params : List ℕ) (e : ValueFault) → r ≡ Err e
+    → IsEither OpenQuote TooMany e
     → (r ≡ Err OpenQuote → HasOpenQuote params) → (r ≡ Err TooMany → AreTooMany params) → IsListFault ks params e
 split_fault r ks params e was (inl q) odd many = open_quote q (odd (was ∙ ap (λ f. Err f) q))
 split_fault r ks params e was (inr q) odd many = let found = many (was ∙ ap (λ f. Err f) q) in faulty_items found.0 found.1 (too_many q found.2)

@@ -13,7 +13,7 @@ use Rattle.gc_values.proofs.WithinLemmas.{int_le_is}
 abbrev pub as_i128 : ℤ → ℤ
 as_i128 x = to_z w128 (of_z w128 x)
 
--- 128 bits hold a number of at most 4 * 10^37
+-- 128 bits hold a number of at most 4 * 10^37, either way from 0
 pub as_i128_same : (x : ℤ) → unsigned_abs x ≤ 4 * 10 ^ 37 → as_i128 x ≡ x
 as_i128_same x small = to_z-of_z w128 x (fits_signed_from_abs w128 x (omega arith))
 
@@ -25,15 +25,17 @@ turns_small turns few = omega (arith, unsigned_abs-mul turns turn, few)
 sum_small : (x y : ℤ) → unsigned_abs x ≤ 2 * 10 ^ 37 → unsigned_abs y ≤ 10 ^ 37 → unsigned_abs (x +ℤ y) ≤ 4 * 10 ^ 37
 sum_small x y h k = omega (arith, ints)
 
--- a number plus at most two turns either way, computed in 128 bits, is exact
-turned_held : (turns x : ℤ) → unsigned_abs turns ≤ 2 → unsigned_abs x ≤ 2 * 10 ^ 37 → as_i128 (as_i128 x +ℤ as_i128 (as_i128 turns *ℤ turn)) ≡ x +ℤ turns *ℤ turn
+-- a number of at most 2 * 10^37 either way plus at most two turns either way, computed in 128 bits, is exact
+turned_held : (turns x : ℤ) → unsigned_abs turns ≤ 2 → unsigned_abs x ≤ 2 * 10 ^ 37
+    → as_i128 (as_i128 x +ℤ as_i128 (as_i128 turns *ℤ turn)) ≡ x +ℤ turns *ℤ turn
 turned_held turns x few small =
     ap (λ t. as_i128 (as_i128 x +ℤ as_i128 (t *ℤ turn))) (as_i128_same turns (omega (arith, few)))
     ∙ ap (λ t. as_i128 (as_i128 x +ℤ t)) (as_i128_same (turns *ℤ turn) (omega (arith, turns_small turns few)))
     ∙ ap (λ t. as_i128 (t +ℤ turns *ℤ turn)) (as_i128_same x (omega (arith, small)))
     ∙ as_i128_same (x +ℤ turns *ℤ turn) (sum_small x (turns *ℤ turn) small (turns_small turns few))
 
--- the test that the code makes in 128 bits is `is_close_turned`
+-- the test that the code makes in 128 bits is `is_close_turned`, where 128 bits hold `most`, the turns are at most two either
+-- way, x is at most 2 * 10^37 from 0, and y at most 10^37
 pub close_turned : (most turns x y : ℤ) → FitsSigned w128 most → unsigned_abs turns ≤ 2 → unsigned_abs x ≤ 2 * 10 ^ 37 → unsigned_abs y ≤ 10 ^ 37
     → is_close (as_i128 most) (as_i128 (as_i128 x +ℤ as_i128 (as_i128 turns *ℤ turn))) (as_i128 y) ≡ is_close_turned most turns x y
 close_turned most turns x y fits few small low =
@@ -47,34 +49,39 @@ pub near_is : (d place : Direction) (tolerance : Decimal) (v hz : Bool) → v �
 unfolding is_near
 near_is d place tolerance v hz e f = ap (λ b. b && hz) e ∙ ap (λ b. is_close (units tolerance) (v_in_face_one d) (units place.v) && b) f
 
+-- x, after some number of turns, at most two either way, is close to y
+abbrev IsCloseAfterTurns : (most x y : ℤ) → Type 0
+IsCloseAfterTurns most x y = (k : ℤ) × (unsigned_abs k ≤ 2) × (is_close_turned most k x y ≡ true)
+
 -- numbers that are close on the circle are close after some number of turns, at most two either way
-some_turns : (most x y : ℤ) → is_close_on_circle most x y ≡ true → (k : ℤ) × (unsigned_abs k ≤ 2) × (is_close_turned most k x y ≡ true)
+some_turns : (most x y : ℤ) → is_close_on_circle most x y ≡ true → IsCloseAfterTurns most x y
 some_turns most x y e = first (or_cases _ _ e) where
-  -- where x is close to y after 1 or 2 turns, it is so after k turns, for a k of at most 2 either way
-  last : (is_close_turned most (pos 1) x y ≡ true) ⊎ (is_close_turned most (pos 2) x y ≡ true) → (k : ℤ) × (unsigned_abs k ≤ 2) × (is_close_turned most k x y ≡ true)
+  -- where x is close to y after 1 or 2 turns, `IsCloseAfterTurns` is true of x and y
+  last : (is_close_turned most (pos 1) x y ≡ true) ⊎ (is_close_turned most (pos 2) x y ≡ true) → IsCloseAfterTurns most x y
   last (inl h) = (pos 1, omega arith, h)
   last (inr h) = (pos 2, omega arith, h)
 
-  -- where x is close to y after 0, 1 or 2 turns, it is so after k turns, for a k of at most 2 either way
+  -- where x is close to y after 0, 1 or 2 turns, `IsCloseAfterTurns` is true of x and y
   third : (is_close_turned most (pos 0) x y ≡ true) ⊎ ((is_close_turned most (pos 1) x y || is_close_turned most (pos 2) x y) ≡ true)
-      → (k : ℤ) × (unsigned_abs k ≤ 2) × (is_close_turned most k x y ≡ true)
+      → IsCloseAfterTurns most x y
   third (inl h) = (pos 0, omega arith, h)
   third (inr h) = last (or_cases _ _ h)
 
-  -- where x is close to y after -1, 0, 1 or 2 turns, it is so after k turns, for a k of at most 2 either way
-  second : (is_close_turned most (negsuc 0) x y ≡ true) ⊎ ((is_close_turned most (pos 0) x y || (is_close_turned most (pos 1) x y || is_close_turned most (pos 2) x y)) ≡ true)
-      → (k : ℤ) × (unsigned_abs k ≤ 2) × (is_close_turned most k x y ≡ true)
+  -- where x is close to y after -1, 0, 1 or 2 turns, `IsCloseAfterTurns` is true of x and y
+  second : (is_close_turned most (negsuc 0) x y ≡ true)
+      ⊎ ((is_close_turned most (pos 0) x y || (is_close_turned most (pos 1) x y || is_close_turned most (pos 2) x y)) ≡ true)
+      → IsCloseAfterTurns most x y
   second (inl h) = (negsuc 0, omega arith, h)
   second (inr h) = third (or_cases _ _ h)
 
-  -- where x is close to y after -2, -1, 0, 1 or 2 turns, it is so after k turns, for a k of at most 2 either way
+  -- where x is close to y after -2, -1, 0, 1 or 2 turns, `IsCloseAfterTurns` is true of x and y
   first : (is_close_turned most (negsuc 1) x y ≡ true)
       ⊎ ((is_close_turned most (negsuc 0) x y || (is_close_turned most (pos 0) x y || (is_close_turned most (pos 1) x y || is_close_turned most (pos 2) x y))) ≡ true)
-      → (k : ℤ) × (unsigned_abs k ≤ 2) × (is_close_turned most k x y ≡ true)
+      → IsCloseAfterTurns most x y
   first (inl h) = (negsuc 1, omega arith, h)
   first (inr h) = second (or_cases _ _ h)
 
--- one of five tests holds where any does
+-- where any of five tests holds, so does the test that joins them by `||`
 or_of_five : (a b c d e : Bool) → (a ≡ true) ⊎ ((b ≡ true) ⊎ ((c ≡ true) ⊎ ((d ≡ true) ⊎ (e ≡ true)))) → (a || (b || (c || (d || e)))) ≡ true
 or_of_five a b c d e (inl h) = or_left a (b || (c || (d || e))) h
 or_of_five a b c d e (inr (inl h)) = or_right a (b || (c || (d || e))) (or_left b (c || (d || e)) h)

@@ -5,7 +5,8 @@ use Rattle.std.proofs.Common.{◌≡◌, ◌≢◌, ◌↔◌, ℕ, zero, suc, �
 use Rattle.std.proofs.Math.Nat.{pow-suc, pos_of_ne-zero, div-one, mul-pos}
 use Rattle.std.proofs.lemmas.Bool.{cases_order}
 use Rattle.std.proofs.lemmas.Bool.Decides.{eqb_tells}
-use Rattle.std.proofs.lemmas.Nat.{div-mul-add, mod-mul-add}
+use Rattle.std.proofs.lemmas.List.{same_from_push}
+use Rattle.std.proofs.lemmas.Nat.{div-mul-add, mod-mul-add, same_from_place}
 use Rattle.std.specs.Int.Digits.{digits_of}
 use Rattle.std.proofs.lemmas.Int.Digits.{first_digits_of}
 use Rattle.gc_values.specs.Digits.{IsDigit, AreDigits, number}
@@ -19,17 +20,10 @@ use Rattle.gc_values.proofs.Kept.{number-append, number-lt}
 use Rattle.gc_values.proofs.Powers.{ten_pow_pos, ten_pow_le}
 use Rattle.gc_values.proofs.ReadLemmas.{spells_once}
 use Rattle.gc_values.proofs.Signs.{unsigned_abs-signed}
-use Rattle.gc_values.proofs.Trimming.{last_same}
 use Rattle.gc_values.proofs.WholeLemmas.{one_whole}
 use Rattle.gc_values.proofs.WholeText.{signed_reads}
 use Rattle.gc_values.proofs.WrittenLemmas.{length-last_digits, last_over}
 use Rattle.gc_values.proofs.WrittenSpells.{writes_whole, AreDigits-last_digits, number-last_digits, is_fraction_text, written_spells}
-
--- a number is made of a multiple of p and a rest below p in one way
-quotient_unique : (a b p m n : ℕ) → m < p → n < p → a * p + m ≡ b * p + n → (a ≡ b) × (m ≡ n)
-quotient_unique a b p m n few less e =
-    let same : a ≡ b = sym (div-mul-add a p m few) ∙ ap (λ x. x / p) e ∙ div-mul-add b p n less in
-    (same, omega (arith, e, ap (λ x. x * p) same))
 
 -- two runs of equally many digits that write one number are the same
 pub digits_once : (xs ys : List ℕ) → AreDigits xs → AreDigits ys → length xs ≡ length ys → number xs ≡ number ys → xs ≡ ys
@@ -39,7 +33,7 @@ digits_once (x ∷ xs) [] dx dy long e = absurd (omega (arith, long))
 digits_once (x ∷ xs) (y ∷ ys) dx dy long e =
     let few : length xs ≡ length ys = omega (arith, long) in
     let power : 10 ^ length xs ≡ 10 ^ length ys = ap (λ k. 10 ^ k) few in
-    let both = quotient_unique (x - 48) (y - 48) (10 ^ length ys) (number xs) (number ys) (subst (λ p. number xs < p) power (number-lt xs dx.1)) (number-lt ys dy.1)
+    let both = same_from_place (x - 48) (number xs) (y - 48) (number ys) (10 ^ length ys) (subst (λ p. number xs < p) power (number-lt xs dx.1)) (number-lt ys dy.1)
     (ap (λ p. (x - 48) * p + number xs) (sym power) ∙ e) in
     let first : x ≡ y = let h = both.0 in let a = dx.0 in let b = dy.0 in omega (arith, h, a, b) in
     ap (λ d. d ∷ xs) first ∙ ap (λ ds. y ∷ ds) (digits_once xs ys dx.1 dy.1 few both.1)
@@ -102,7 +96,7 @@ zero_alone : (rest : List ℕ) → 48 ∷ [] ≡ 48 ∷ rest → rest ≡ []
 zero_alone [] e = refl
 zero_alone (r ∷ rest) e = absurd (let l = ap length e in omega (arith, l))
 
--- what is written before the point is a whole part
+-- what is written of a whole number n is a whole part
 pub whole_part : (n : ℕ) → IsWholePart (whole_text n)
 whole_part n =
     let w = writes_whole n in
@@ -119,14 +113,18 @@ whole_part n =
 pub whole_text-number : (ds : List ℕ) → IsWholePart ds → whole_text (number ds) ≡ ds
 whole_text-number ds w = whole_once (whole_text (number ds)) ds (whole_part (number ds)) w (sym (writes_whole (number ds)).value)
 
--- a whole number that is given as a sign and a magnitude is written as the minus, where there is one, and the magnitude
-pub signed_text-signed : (negative : Bool) (n : ℕ) → (negative ≡ true → 0 < n) → signed_text (signed negative n) ≡ minus_where negative ++ whole_text n
+-- a whole number that is given as a sign and a magnitude, with no minus before zero, is written as the minus, where there is one,
+-- and the magnitude
+pub signed_text-signed : (negative : Bool) (n : ℕ) → (negative ≡ true → 0 < n)
+    → signed_text (signed negative n) ≡ minus_where negative ++ whole_text n
 signed_text-signed false n some = refl
 signed_text-signed true zero some = let h = some refl in absurd (omega (arith, h))
 signed_text-signed true (suc n) some = refl
 
--- a decimal whose digits are given as a sign and a magnitude is written as the minus, where there is one, and the two parts
-pub written-signed : (negative : Bool) (a s : ℕ) → (negative ≡ true → 0 < a) → written (signed negative a) s ≡ minus_where negative ++ (whole_text (a / 10 ^ s) ++ (46 ∷ behind_text s (a % 10 ^ s)))
+-- a decimal whose digits are given as a sign and a magnitude, with no minus before zero, is written as the minus, where there is
+-- one, and the two parts
+pub written-signed : (negative : Bool) (a s : ℕ) → (negative ≡ true → 0 < a)
+    → written (signed negative a) s ≡ minus_where negative ++ (whole_text (a / 10 ^ s) ++ (46 ∷ behind_text s (a % 10 ^ s)))
 written-signed false a s some = refl
 written-signed true zero s some = let h = some refl in absurd (omega (arith, h))
 written-signed true (suc a) s some = refl
@@ -142,7 +140,7 @@ whole_form (negsuc n) = record {
   no_minus_on_zero = λ _. let e = (writes_whole (suc n)).value in omega (arith, e);
 }
 
--- a whole number's text is the one text that has the form and names the number
+-- a text is the written one of a whole number exactly where the text has a whole number's form and writes that number
 pub whole_text_once : (z : ℤ) (text : List ℕ) → (text ≡ signed_text z) ↔ (HasWholeForm text × NamesWhole text z)
 whole_text_once z text = (
   λ e. (subst HasWholeForm (sym e) (whole_form z), subst (λ t. NamesWhole t z) (sym e) (signed_reads z)),
@@ -171,7 +169,7 @@ has_last_digit (d ∷ e ∷ ds) some = let r = has_last_digit (e ∷ ds) (omega 
 last_digit : (front : List ℕ) (d : ℕ) → IsDigit d → number (front ++ d ∷ []) % 10 ≡ d - 48
 last_digit front d h = omega (arith, number-append front (d ∷ []), h)
 
--- the second of two runs of digits is digits
+-- where two lists of bytes in a row are digits, the second is
 AreDigits-back : (xs ys : List ℕ) → AreDigits (xs ++ ys) → AreDigits ys
 AreDigits-back [] ys h = h
 AreDigits-back (x ∷ xs) ys h = AreDigits-back xs ys h.1
@@ -184,9 +182,10 @@ record IsTextOf (text : List ℕ) : Type 0 where
   pub places : s ≤ 24
   pub text_is : text ≡ written m s
 
--- `IsTextOf` is true of a text of a decimal's form where a / 10^s has the text's digits before the point and after it
-is_text_of : (text : List ℕ) (f : HasDecimalForm text) (a s : ℕ) → (f.negative ≡ true → 0 < a) → (0 < s → a % 10 ≢ 0) → s ≤ 24 →
-    a / 10 ^ s ≡ number f.whole → behind_text s (a % 10 ^ s) ≡ f.fraction → IsTextOf text
+-- `IsTextOf` is true of a text of a decimal's form where a / 10^s has the text's digits before the point and after it, isn't 0
+-- after a minus, needs all its places, and has at most 24
+is_text_of : (text : List ℕ) (f : HasDecimalForm text) (a s : ℕ) → (some : f.negative ≡ true → 0 < a) → (canonical : 0 < s → a % 10 ≢ 0)
+    → (places : s ≤ 24) → (front : a / 10 ^ s ≡ number f.whole) → (back : behind_text s (a % 10 ^ s) ≡ f.fraction) → IsTextOf text
 is_text_of text f a s some canonical places front back = record {
   m = signed f.negative a;
   s = s;
@@ -204,7 +203,7 @@ is_text_of_whole text f none =
     let all : number (f.whole ++ f.fraction) ≡ number f.whole * 10 = ap (λ ds. number (f.whole ++ ds)) none ∙ omega (arith, number-append f.whole (48 ∷ [])) in
     is_text_of text f (number f.whole) 0 (λ e. let h = f.no_minus_on_zero e in omega (arith, h, all)) (λ h. absurd (omega (arith, h))) (lit≤ tt) (div-one (number f.whole)) (sym none)
 
--- s digits that write n are what is written after the point for n at s places
+-- s digits, at least one, that write n are what is written after the point for n at s places
 behind_again : (s n : ℕ) (ds : List ℕ) → AreDigits ds → length ds ≡ s → number ds ≡ n → 0 < s → behind_text s n ≡ ds
 behind_again s n ds digits long is some = elim (eqb_tells s 0) [
   | inl none ↦ let e = none.1 in absurd (omega (arith, e, some))
@@ -225,7 +224,8 @@ is_text_of_fraction text f other =
     (ap (λ x. x / p) all ∙ div-mul-add (number f.whole) p (number f.fraction) few)
     (behind_again (length f.fraction) (number (f.whole ++ f.fraction) % p) f.fraction f.fraction_is.are_digits refl
     (sym (ap (λ x. x % p) all ∙ mod-mul-add (number f.whole) p (number f.fraction) few)) f.fraction_is.some) where
-      -- the last digit of two runs of digits in a row is that of the second run
+      -- where the second of two runs of digits isn't empty, the number of both in a row has the last digit that the number of the
+      -- second has
       last_of_all : (ws fs : List ℕ) → 0 < length fs → number (ws ++ fs) % 10 ≡ number fs % 10
       last_of_all ws [] some = absurd (omega (arith, some))
       last_of_all ws (d ∷ ds) some = omega (arith, number-append ws (d ∷ ds), pow-suc 10 (length ds), ap (λ x. number ws * x) (pow-suc 10 (length ds)))
@@ -251,7 +251,7 @@ zero_alone_front (x ∷ front) e = absurd (let l = ap length e in omega (arith, 
 zero_behind : IsFractionPart (48 ∷ [])
 zero_behind = record { are_digits = ((lit≤ tt, lit≤ tt), tt); some = lit< tt; few = lit≤ tt; no_zero_at_the_end = zero_alone_front }
 
--- the last s digits of a number that doesn't end in 0 are a fraction part
+-- the last s digits, 1 to 24, of a number that doesn't end in 0 are a fraction part
 last_part : (a s : ℕ) → s ≤ 24 → 0 < s → a % 10 ≢ 0 → IsFractionPart (last_digits s (a % 10 ^ s))
 last_part a zero few some other = absurd (omega (arith, some))
 last_part a (suc s) few some other = record {
@@ -259,11 +259,11 @@ last_part a (suc s) few some other = record {
   some = omega (arith, length-last_digits (suc s) (a % 10 ^ suc s));
   few = omega (arith, length-last_digits (suc s) (a % 10 ^ suc s));
   no_zero_at_the_end = λ front e.
-      let last = last_same (last_digits s (a % 10 ^ suc s / 10)) front (48 + a % 10 ^ suc s % 10) 48 e in
+      let last = (same_from_push (last_digits s (a % 10 ^ suc s / 10)) front (48 + a % 10 ^ suc s % 10) 48 e).1 in
       absurd (other (let o = last_over a s in omega (arith, last, o)));
 }
 
--- what is written after the point is a fraction part
+-- where there are at most 24 places, and all of them are needed, what is written after the point is a fraction part
 fraction_part : (a s : ℕ) → s ≤ 24 → (0 < s → a % 10 ≢ 0) → IsFractionPart (behind_text s (a % 10 ^ s))
 fraction_part a s few canonical = elim (eqb_tells s 0) [
   | inl none ↦ subst IsFractionPart (ap (λ b. cond b (48 ∷ []) (last_digits s (a % 10 ^ s))) (sym none.0)) zero_behind
@@ -277,7 +277,8 @@ factor_positive : (a p x b : ℕ) → 0 < a → 0 < p → a * p ≡ x * b → 0 
 factor_positive a p zero b h k e = let both : 0 < a * p = mul-pos h k in absurd (omega (arith, e, both))
 factor_positive a p (suc x) b h k e = omega arith
 
--- what is written of a sign, digits and places has a decimal's form
+-- what is written of a sign, digits and places has a decimal's form, where there are at most 24 places, all of them needed, and
+-- no minus is before zero
 decimal_form_of : (negative : Bool) (a s : ℕ) → s ≤ 24 → (0 < s → a % 10 ≢ 0) → (negative ≡ true → 0 < a) →
     HasDecimalForm (minus_where negative ++ (whole_text (a / 10 ^ s) ++ (46 ∷ behind_text s (a % 10 ^ s))))
 decimal_form_of negative a s few canonical some = record {
@@ -298,12 +299,12 @@ decimal_form_of negative a s few canonical some = record {
       number-append (whole_text (a / 10 ^ s)) ds ∙ ap (λ n. n * 10 ^ length ds + number ds) (sym (writes_whole (a / 10 ^ s)).value) in
       subst (λ x. 0 < x) (sym all) (factor_positive a (10 ^ length ds) (a / 10 ^ s * 10 ^ length ds + number ds) (10 ^ s) h (ten_pow_pos (length ds)) b.same)
 
--- a written decimal has a decimal's form
+-- what is written of m / 10^s, which needs all its places and has at most 24, has a decimal's form
 decimal_form : (m : ℤ) (s : ℕ) → IsCanonical m s → s ≤ 24 → HasDecimalForm (written m s)
 decimal_form (pos n) s canonical few = decimal_form_of false n s few canonical (λ e. absurd (cc))
 decimal_form (negsuc n) s canonical few = decimal_form_of true (suc n) s few canonical (λ _. omega arith)
 
--- just one text spells a decimal and has the form, and it is the written one
+-- a text is the written one of a decimal exactly where the text has a decimal's form and spells that decimal
 pub decimal_text_once : (d : Decimal) (text : List ℕ) → (text ≡ written d.digits d.scale) ↔ (HasDecimalForm text × Spells text d.digits d.scale)
 decimal_text_once d text = (
   λ e. (

@@ -16,7 +16,7 @@ use Rattle.gc_values.proofs.Signs.{signed-mul}
 use Rattle.gc_values.proofs.WithinLemmas.{whole_place}
 
 -- the number of sign b and magnitude x is below the one of sign c and magnitude y, where `true` is a minus
-abbrev signed_less : Bool → ℕ → Bool → ℕ → Type 0
+abbrev signed_less : (b : Bool) (x : ℕ) (c : Bool) (y : ℕ) → Type 0
 signed_less false x false y = x < y
 signed_less false x true y = ⊥
 signed_less true x false y = 0 < x + y
@@ -58,17 +58,19 @@ less_over false x true y p h = h
 less_over true x false y p h = factor_keeps_order 0 (x + y) p (omega arith)
 less_over true x true y p h = factor_keeps_order y x p h
 
--- Two values m / a and n / d with signs, where a and d are powers of ten: in units of 10^-24 they are m * a' and n * d'. Where
--- these are in order, m * d and n * a are, too. p is 10^24.
-less_at_other_scale : (b : Bool) (m : ℕ) (c : Bool) (n a a' d d' p : ℕ) → 0 < p → a * a' ≡ p → d * d' ≡ p → signed_less b (m * a') c (n * d') → signed_less b (m * d) c (n * a)
+-- Two values m / a and n / d with signs, where a * a' and d * d' are both p, which is above 0: in units of 1 / p they are m * a'
+-- and n * d'. Where these are in order, m * d and n * a are, too.
+less_at_other_scale : (b : Bool) (m : ℕ) (c : Bool) (n a a' d d' p : ℕ) → 0 < p → a * a' ≡ p → d * d' ≡ p
+    → signed_less b (m * a') c (n * d') → signed_less b (m * d) c (n * a)
 less_at_other_scale b m c n a a' d d' p some e f h =
     let left : m * a' * p ≡ m * d * (a' * d') = omega (arith, ap (λ x. m * a' * x) f) in
     let right : n * d' * p ≡ n * a * (a' * d') = omega (arith, ap (λ x. n * d' * x) e) in
     less_over b (m * d) c (n * a) (a' * d') (subst (λ x. signed_less b x c (n * a * (a' * d'))) left (subst (λ y. signed_less b (m * a' * p) c y) right (less_times b (m * a') c (n * d') p some h)))
 
--- the same as `less_at_other_scale`, of integers that are made of a sign and a magnitude: where m * a' is below n * d', m * d is below
--- n * a
-less_at_other_scale_signed : (b : Bool) (m : ℕ) (c : Bool) (n a a' d d' p : ℕ) → 0 < p → a * a' ≡ p → d * d' ≡ p → (signed b m *ℤ pos a') <ℤ (signed c n *ℤ pos d')
+-- the same as `less_at_other_scale`, of integers that are made of a sign and a magnitude: where m * a' is below n * d', m * d is
+-- below n * a
+less_at_other_scale_signed : (b : Bool) (m : ℕ) (c : Bool) (n a a' d d' p : ℕ) → 0 < p → a * a' ≡ p → d * d' ≡ p
+    → (signed b m *ℤ pos a') <ℤ (signed c n *ℤ pos d')
     → (signed b m *ℤ pos d) <ℤ (signed c n *ℤ pos a)
 less_at_other_scale_signed b m c n a a' d d' p some e f h =
     let there = less_from b (m * a') c (n * d') (subst (λ x. x <ℤ signed c (n * d')) (signed-mul b m a') (subst (λ y. (signed b m *ℤ pos a') <ℤ y) (signed-mul c n d') h)) in
@@ -76,7 +78,8 @@ less_at_other_scale_signed b m c n a a' d d' p some e f h =
     (less_to b (m * d) c (n * a) (less_at_other_scale b m c n a a' d d' p some e f there)))
 
 -- the same as `less_at_other_scale`, of integers: where z * a' is below w * d', z * d is below w * a
-less_at_other_scale_whole : (z w : ℤ) (a a' d d' p : ℕ) → 0 < p → a * a' ≡ p → d * d' ≡ p → (z *ℤ pos a') <ℤ (w *ℤ pos d') → (z *ℤ pos d) <ℤ (w *ℤ pos a)
+less_at_other_scale_whole : (z w : ℤ) (a a' d d' p : ℕ) → 0 < p → a * a' ≡ p → d * d' ≡ p → (z *ℤ pos a') <ℤ (w *ℤ pos d')
+    → (z *ℤ pos d) <ℤ (w *ℤ pos a)
 less_at_other_scale_whole z w a a' d d' p some e f =
     let x = has_sign z in
     let y = has_sign w in
@@ -95,7 +98,8 @@ ranked_as Less P Q R P' Q' R' h f g k = f h
 ranked_as Equal P Q R P' Q' R' h f g k = g h
 ranked_as Greater P Q R P' Q' R' h f g k = k h
 
--- a comparison says which of two values is smaller, or that the decimals are equal
+-- the comparison of a with b says by its three cases that the value of a is below that of b, that a and b are equal, or that the
+-- value of b is below that of a
 pub cmp_ranks : (a b : Decimal) → MatchOrdering (decimal_cmp a b) (IsBelow (fraction a) (fraction b)) (a ≡ b) (IsBelow (fraction b) (fraction a))
 cmp_ranks a b =
     ranked_as (int_cmp (units a) (units b)) (units a <ℤ units b) (units a ≡ units b) (units b <ℤ units a) (IsBelow (fraction a) (fraction b)) (a ≡ b) (IsBelow (fraction b) (fraction a))

@@ -6,9 +6,9 @@ use Rattle.std.proofs.lemmas.List.{append-nil}
 use Rattle.std.proofs.lemmas.Bool.{cases_eq}
 use Rattle.std.specs.List.{AllByRecursion}
 use Rattle.gc_values.specs.Params.{quotes, AreSpaces, HasCommasInQuotes, IsParam, IsPadded, ArePieces, joined, AreJoined, IsParams}
-use Rattle.gc_values.specs.Pieces.{CutsPiece, IsTrimmed}
+use Rattle.gc_values.specs.Pieces.{CutsPiece, IsTrimmed, without_front_spaces, without_end_spaces}
 use Rattle.gc_values.proofs.Quotes.{quotes-append, quotes_same, quotes-spaces, HasCommasInQuotes-nil, HasCommasInQuotes-push, not_inside, one_cut}
-use Rattle.gc_values.proofs.Trimming.{front_off, back_off, padded_keeps, quotes-padded, trimmed_is_param, param_is_trimmed, one_trimmed, trimmed_exists}
+use Rattle.gc_values.proofs.Trimming.{padded_keeps, quotes-padded, trimmed_is_param, param_is_trimmed, one_trimmed, trimmed_exists}
 
 -- a piece between commas: its quotes are in pairs, and each comma is inside a pair
 pub record IsPiece (piece : List ℕ) : Type 0 where
@@ -34,7 +34,7 @@ ArePieces-append (p ∷ ps) [] qs js h k = absurd h
 ArePieces-append (p ∷ ps) (i ∷ is) qs js h k = (h.0, h.1, ArePieces-append ps is qs js h.2 k)
 
 -- pieces, each with the comma after it, and then the rest
-abbrev pub each_with_comma : List (List ℕ) → List ℕ → List ℕ
+abbrev pub each_with_comma : (pieces : List (List ℕ)) → (rest : List ℕ) → List ℕ
 each_with_comma [] rest = rest
 each_with_comma (p ∷ ps) rest = p ++ 44 ∷ each_with_comma ps rest
 
@@ -49,7 +49,7 @@ pub each_with_comma-push : (ps : List (List ℕ)) (p rest : List ℕ) → each_w
 each_with_comma-push [] p rest = refl
 each_with_comma-push (q ∷ qs) p rest = ap (λ xs. q ++ 44 ∷ xs) (each_with_comma-push qs p rest)
 
--- a comma adds no quote
+-- a text, a comma and a text have as many double quotes as the two texts have together
 quotes-comma : (xs ys : List ℕ) → quotes (xs ++ 44 ∷ ys) ≡ quotes xs + quotes ys
 quotes-comma xs ys = quotes-append xs (44 ∷ ys) ∙ ap (λ n. quotes xs + n) (quotes_same 44 ys refl)
 
@@ -68,8 +68,9 @@ pub params_even : (bytes : List ℕ) (items : List (List ℕ)) → IsParams byte
 params_even bytes [] h = ap (λ xs. quotes xs % 2) h.1 ∙ ap (λ n. n % 2) (quotes-spaces h.0)
 params_even bytes (i ∷ is) h = ap (λ xs. quotes xs % 2) h.bytes_are ∙ joined_even h.pieces (pieces_of h.pieces (i ∷ is) h.pieces_are)
 
--- a text is joined of its pieces in one way
-same_pieces : (p q : List ℕ) (ps qs : List (List ℕ)) → AllByRecursion IsPiece (p ∷ ps) → AllByRecursion IsPiece (q ∷ qs) → joined (p ∷ ps) ≡ joined (q ∷ qs) → p ∷ ps ≡ q ∷ qs
+-- two lists of pieces, at least one in each, that join to the same text are equal
+same_pieces : (p q : List ℕ) (ps qs : List (List ℕ)) → AllByRecursion IsPiece (p ∷ ps) → AllByRecursion IsPiece (q ∷ qs)
+    → joined (p ∷ ps) ≡ joined (q ∷ qs) → p ∷ ps ≡ q ∷ qs
 same_pieces p q [] [] hp hq e = ap (λ xs. xs ∷ []) (sym (append-nil p) ∙ e ∙ append-nil q)
 same_pieces p q [] (r ∷ rs) hp hq e = absurd (not_inside p q (joined (r ∷ rs)) hp.0.keeps hq.0.even (sym (append-nil p) ∙ e))
 same_pieces p q (r ∷ rs) [] hp hq e = absurd (not_inside q p (joined (r ∷ rs)) hq.0.keeps hp.0.even (sym (append-nil q) ∙ sym e))
@@ -91,7 +92,7 @@ same_items (p ∷ ps) (i ∷ is) (j ∷ js) h k =
     let rest = same_items ps is js h.2 k.2 in
     cc
 
--- two lists of parameters whose pieces join to the same text are equal
+-- two lists of parameters, at least one in each, whose pieces join to the same text are equal
 one_joined : (ps is qs js : List (List ℕ)) (i j : List ℕ) → ArePieces ps (i ∷ is) → ArePieces qs (j ∷ js) → joined ps ≡ joined qs → i ∷ is ≡ j ∷ js
 one_joined [] is qs js i j h k e = absurd h
 one_joined (p ∷ ps) is [] js i j h k e = absurd k
@@ -119,7 +120,14 @@ pub record HasPieces (text : List ℕ) : Type 0 where
 one_piece : (piece : List ℕ) → HasCommasInQuotes piece → quotes piece % 2 ≡ 0 → HasPieces piece
 one_piece piece keeps even =
     let t = trimmed_exists piece in
-    record { first = piece; others = []; item = back_off (front_off piece); items = []; text_is = sym (append-nil piece); are = (t.padded, trimmed_is_param piece _ t keeps even, tt) }
+    record {
+      first = piece;
+      others = [];
+      item = without_end_spaces (without_front_spaces piece);
+      items = [];
+      text_is = sym (append-nil piece);
+      are = (t.padded, trimmed_is_param piece _ t keeps even, tt);
+    }
 
 -- `HasPieces` is true of a piece, a comma and a text of which it is true
 more_pieces : (piece rest : List ℕ) → HasCommasInQuotes piece → quotes piece % 2 ≡ 0 → HasPieces rest → HasPieces (piece ++ 44 ∷ rest)
@@ -128,7 +136,7 @@ more_pieces piece rest keeps even r =
     record {
       first = piece;
       others = r.first ∷ r.others;
-      item = back_off (front_off piece);
+      item = without_end_spaces (without_front_spaces piece);
       items = r.item ∷ r.items;
       text_is =
           ap (λ xs. piece ++ 44 ∷ xs) r.text_is;
@@ -175,7 +183,8 @@ pub record SplitSoFar (text : List ℕ) (items : List (List ℕ)) (rest : List �
   pub are : ArePieces pieces items
   pub even : quotes rest % 2 ≡ 0
 
--- where a text is split so far into items and a rest, one more piece that is cut off the rest, and trimmed, is one item more
+-- where a text is split so far into items and a rest, and one more piece is cut off that rest, and trimmed to `item`, the text is
+-- split so far into the items and then `item`, and what follows the piece's comma, `next`
 pub split_more : (text rest piece next item : List ℕ) (items : List (List ℕ)) → SplitSoFar text items rest → CutsPiece rest piece (Some next)
     → IsTrimmed piece item → SplitSoFar text (items ++ item ∷ []) next
 split_more text rest piece next item items s cut t = record {
@@ -190,8 +199,10 @@ params_from : (bytes : List ℕ) (items : List (List ℕ)) → 0 < length items 
 params_from bytes [] some h = absurd (omega arith)
 params_from bytes (i ∷ is) some h = h
 
--- the last piece, trimmed, completes the list
-pub split_last : (text rest piece item : List ℕ) (items : List (List ℕ)) → SplitSoFar text items rest → CutsPiece rest piece None → IsTrimmed piece item
+-- where a text that isn't spaces alone is split so far into items and a rest, the rest is the last piece, and `item` is that
+-- piece, trimmed, the items and then `item` are the text's list of parameters
+pub split_last : (text rest piece item : List ℕ) (items : List (List ℕ)) → SplitSoFar text items rest → CutsPiece rest piece None
+    → IsTrimmed piece item
     → (AreSpaces text → ⊥) → IsParams text (items ++ item ∷ [])
 split_last text rest piece item items s cut t some =
     let even : quotes piece % 2 ≡ 0 = ap (λ xs. quotes xs % 2) (sym cut.0) ∙ s.even in
@@ -202,8 +213,9 @@ split_last text rest piece item items s cut t some =
       some = some;
     })
 
--- where a rest is left after the items that were cut off, the whole text is a list of more items than these
-pub split_longer : (text rest : List ℕ) (items : List (List ℕ)) → SplitSoFar text items rest → (AreSpaces text → ⊥) → (all : List (List ℕ)) × IsParams text all × (length items < length all)
+-- where a text that isn't spaces alone is split so far into items and a rest, the text is a list of more items than these
+pub split_longer : (text rest : List ℕ) (items : List (List ℕ)) → SplitSoFar text items rest → (AreSpaces text → ⊥)
+    → (all : List (List ℕ)) × IsParams text all × (length items < length all)
 split_longer text rest items s some =
     let r = has_pieces rest s.even in
     let longer : length items < length (items ++ r.item ∷ r.items) = omega (arith, length-append items (r.item ∷ r.items)) in (
@@ -222,17 +234,17 @@ plain_pieces : (ts : List (List ℕ)) → AllByRecursion IsParam ts → ArePiece
 plain_pieces [] h = tt
 plain_pieces (t ∷ ts) h = (record { before = 0; behind = 0; piece_is = sym (append-nil t) }, h.0, plain_pieces ts h.1)
 
--- a text that begins with another byte isn't spaces alone
+-- a text whose first byte is no space isn't n spaces, whatever n
 not_spaces : (b : ℕ) (bs ts : List ℕ) (n : ℕ) → (b ≡ 32 → ⊥) → b ∷ (bs ++ ts) ≡ replicate n 32 → ⊥
 not_spaces b bs ts zero h e = cc
 not_spaces b bs ts (suc n) h e = h (let first : b ≡ 32 = cc in first)
 
--- a text that begins with a parameter of some bytes isn't spaces alone
+-- a text that begins with a parameter of at least one byte isn't spaces alone
 some_first : (t rest : List ℕ) → IsParam t → 0 < length t → AreSpaces (t ++ rest) → ⊥
 some_first [] rest h some s = omega arith
 some_first (b ∷ bs) rest h some s = not_spaces b bs rest s.0 (λ e. h.first bs (ap (λ x. x ∷ bs) e)) s.1
 
--- texts of parameters, joined by commas, split back into these texts
+-- texts that are parameters, each of at least one byte, joined by commas, are a list of just these parameters
 pub joined_params : (ts : List (List ℕ)) → AllByRecursion IsParam ts → AllByRecursion (λ t. 0 < length t) ts → IsParams (joined ts) ts
 joined_params [] h some = (0, refl)
 joined_params (t ∷ ts) h some = record { pieces = t ∷ ts; bytes_are = refl; pieces_are = plain_pieces (t ∷ ts) h; some = some_first t _ h.0 some.0 }

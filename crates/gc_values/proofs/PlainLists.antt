@@ -9,15 +9,16 @@ use Rattle.gc_values.specs.declared.value.Value.{Value}
 use Rattle.gc_values.proofs.ParamLists.{joined_params}
 use Rattle.gc_values.proofs.TextShape.{AreBare, bare_param}
 
--- bare bytes up to a comma are cut off as an item
-pub plain_cut : (text : List ℕ) (i : ℕ) → AreBare (take i text) → 0 < i → i < length text → get_or text i 0 ≡ 44 → CutsPlain text (take i text) (Some (drop (i + 1) text))
+-- bare bytes, at least one, up to a comma are cut off as an item
+pub plain_cut : (text : List ℕ) (i : ℕ) → AreBare (take i text) → 0 < i → i < length text → get_or text i 0 ≡ 44
+    → CutsPlain text (take i text) (Some (drop (i + 1) text))
 plain_cut text i h some within comma = record {
   text_is = sym (take-append-drop i text) ∙ ap (λ xs. take i text ++ xs) (drop_more text i 0 within ∙ ap (λ b. b ∷ drop (i + 1) text) comma);
   param = bare_param (take i text) h;
   some = omega (arith, length-take-le i text (omega arith));
 }
 
--- bare bytes up to the end are cut off as an item
+-- bare bytes, at least one, up to the end are cut off as an item
 pub plain_all : (text : List ℕ) (i : ℕ) → AreBare (take i text) → length text ≤ i → 0 < length text → CutsPlain text text None
 plain_all text i h all some = record {
   text_is = refl;
@@ -25,7 +26,7 @@ plain_all text i h all some = record {
   some = some;
 }
 
--- an item up to the end is a list of one value
+-- where an item up to the end is read as a value, the text is a list in the common spelling of that value alone
 one_plain : (text item : List ℕ) (v : Value) → CutsPlain text item None → IsItem item v → ArePlain text (v ∷ [])
 one_plain text item v cut x = record {
   first = item;
@@ -36,8 +37,10 @@ one_plain text item v cut x = record {
   read = (x, tt);
 }
 
--- an item up to a comma, and a list after it, are a list of one value more
-next_plain : (text item rest : List ℕ) (v : Value) (vs : List Value) → CutsPlain text item (Some rest) → IsItem item v → ArePlain rest vs → ArePlain text (v ∷ vs)
+-- where an item up to a comma is read as a value, and the text after the comma is a list in the common spelling, the whole text
+-- is one of one value more
+next_plain : (text item rest : List ℕ) (v : Value) (vs : List Value) → CutsPlain text item (Some rest) → IsItem item v → ArePlain rest vs
+    → ArePlain text (v ∷ vs)
 next_plain text item rest v vs cut x left = record {
   first = item;
   more = left.first ∷ left.more;
@@ -47,12 +50,14 @@ next_plain text item rest v vs cut x left = record {
   read = (x, left.read);
 }
 
--- an item that was cut off, and what is left after it, are a list of one value more
-pub plain_next : (text item : List ℕ) (rest : Option (List ℕ)) (v : Value) (vs : List Value) → CutsPlain text item rest → IsItem item v → LeftPlain rest vs → ArePlain text (v ∷ vs)
+-- where an item that was cut off is read as a value, and what is left after it, if there is any, is a list in the common
+-- spelling, the whole text is one of one value more
+pub plain_next : (text item : List ℕ) (rest : Option (List ℕ)) (v : Value) (vs : List Value) → CutsPlain text item rest → IsItem item v
+    → LeftPlain rest vs → ArePlain text (v ∷ vs)
 plain_next text item None v vs cut x left = subst (λ ws. ArePlain text (v ∷ ws)) (sym left) (one_plain text item v cut x)
 plain_next text item (Some rest) v vs cut x left = next_plain text item rest v vs cut x left
 
--- a list in the common spelling is a list of parameters
+-- a list in the common spelling is a list of parameters that is read as the same values
 pub plain_params : (text : List ℕ) (vs : List Value) → ArePlain text vs → AreParams text vs
 plain_params text vs x = record {
   items = x.first ∷ x.more;
@@ -60,7 +65,7 @@ plain_params text vs x = record {
   read = x.read;
 }
 
--- an empty text is the list of parameters without values
+-- an empty text is a list of parameters that is read as no values
 pub no_params : (text : List ℕ) (vs : List Value) → length text ≡ 0 → vs ≡ [] → AreParams text vs
 no_params [] vs none e = rw e (record { items = []; split = (0, refl); read = tt })
 no_params (b ∷ bs) vs none e = absurd (omega (arith, none))

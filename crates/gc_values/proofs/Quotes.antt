@@ -34,8 +34,10 @@ no_cut : (fs rest : List ℕ) → [] ≡ fs ++ 44 ∷ rest → ⊥
 no_cut [] rest e = cc
 no_cut (f ∷ fs) rest e = cc
 
--- a list and one byte more, cut at a comma: the comma is that byte, or is before it
-pub push_cut : (xs front rest : List ℕ) (b : ℕ) → xs ++ b ∷ [] ≡ front ++ 44 ∷ rest → ((b ≡ 44) × (front ≡ xs)) ⊎ ((r : List ℕ) × (xs ≡ front ++ 44 ∷ r))
+-- where xs and then b are cut at a comma into `front` and `rest`, b is that comma, and `front` is xs, or xs has a comma after
+-- `front`
+pub push_cut : (xs front rest : List ℕ) (b : ℕ) → xs ++ b ∷ [] ≡ front ++ 44 ∷ rest
+    → ((b ≡ 44) × (front ≡ xs)) ⊎ ((r : List ℕ) × (xs ≡ front ++ 44 ∷ r))
 push_cut [] [] rest b e = let h : b ≡ 44 = cc in inl (h, refl)
 push_cut [] (f ∷ fs) rest b e = let t : [] ≡ fs ++ 44 ∷ rest = cc in absurd (no_cut fs rest t)
 push_cut (x ∷ xs) [] rest b e = let h : x ∷ xs ≡ 44 ∷ xs = cc in inr (xs, h)
@@ -59,7 +61,8 @@ HasCommasInQuotes-push xs b keeps comma front rest e = elim (push_cut xs front r
 ]
 
 -- two cuts of one text at a comma are the same, or the comma of one is before that of the other
-pub cuts_compare : (xs ys us vs : List ℕ) → xs ++ 44 ∷ us ≡ ys ++ 44 ∷ vs → ((xs ≡ ys) × (us ≡ vs)) ⊎ (((r : List ℕ) × (xs ≡ ys ++ 44 ∷ r)) ⊎ ((r : List ℕ) × (ys ≡ xs ++ 44 ∷ r)))
+pub cuts_compare : (xs ys us vs : List ℕ) → xs ++ 44 ∷ us ≡ ys ++ 44 ∷ vs
+    → ((xs ≡ ys) × (us ≡ vs)) ⊎ (((r : List ℕ) × (xs ≡ ys ++ 44 ∷ r)) ⊎ ((r : List ℕ) × (ys ≡ xs ++ 44 ∷ r)))
 cuts_compare [] [] us vs e = let h : us ≡ vs = cc in inl (refl, h)
 cuts_compare [] (y ∷ ys) us vs e = let h : y ∷ ys ≡ 44 ∷ ys = cc in inr (inr (ys, h))
 cuts_compare (x ∷ xs) [] us vs e = let h : x ∷ xs ≡ 44 ∷ xs = cc in inr (inl (xs, h))
@@ -72,13 +75,14 @@ cuts_compare (x ∷ xs) (y ∷ ys) us vs e =
       | inr (inr h) ↦ inr (inr (h.0, let s = h.1 in cc))
     ]
 
--- a piece with its quotes in pairs doesn't end at a comma of another piece
+-- where commas in xs are within quotes, and ys has its quotes in pairs, ys isn't what comes before a comma of xs
 pub not_inside : (xs ys vs : List ℕ) → HasCommasInQuotes xs → quotes ys % 2 ≡ 0 → xs ≡ ys ++ 44 ∷ vs → ⊥
 not_inside xs ys vs keeps even e = let odd = keeps ys vs e in omega (arith, odd, even)
 
 -- two cuts of one text at a comma are the same, where before each of the two commas quotes are in pairs and commas are within
 -- quotes
-pub one_cut : (xs ys us vs : List ℕ) → HasCommasInQuotes xs → quotes xs % 2 ≡ 0 → HasCommasInQuotes ys → quotes ys % 2 ≡ 0 → xs ++ 44 ∷ us ≡ ys ++ 44 ∷ vs → (xs ≡ ys) × (us ≡ vs)
+pub one_cut : (xs ys us vs : List ℕ) → (commas_xs : HasCommasInQuotes xs) → (even_xs : quotes xs % 2 ≡ 0)
+    → (commas_ys : HasCommasInQuotes ys) → (even_ys : quotes ys % 2 ≡ 0) → (same : xs ++ 44 ∷ us ≡ ys ++ 44 ∷ vs) → (xs ≡ ys) × (us ≡ vs)
 one_cut xs ys us vs kx ex ky ey e = elim (cuts_compare xs ys us vs e) [
   | inl h ↦ h
   | inr (inl h) ↦ absurd (not_inside xs ys h.0 kx ey h.1)

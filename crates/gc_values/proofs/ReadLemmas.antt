@@ -16,7 +16,7 @@ use Rattle.gc_values.proofs.Unique.{names_once}
 
 -- the fraction that a number's parts stand for, as `cut_numeral` has them: whether there is a minus, the digits before and
 -- after the point, and how often the exponent multiplies and divides by ten
-abbrev pub fraction_of : Bool → List ℕ → List ℕ → ℕ → ℕ → Fraction
+abbrev pub fraction_of : (negative : Bool) (whole fraction : List ℕ) (up down : ℕ) → Fraction
 fraction_of negative whole fraction up down = record { n = signed negative (number (whole ++ fraction) * 10 ^ up); k = length fraction + down }
 
 -- where a text reads as these parts, what `fraction_of` makes of them is the value of the numeral
@@ -45,10 +45,12 @@ zeros_at_last m p n s places w =
       canonical = w.canonical;
     }
 
--- Where a text reads as these parts, their value is `units` over 10^p and in range, and m / 10^s is made of that, the text spells
--- m / 10^s.
-pub reads_value : (text : List ℕ) (negative : Bool) (whole fraction : List ℕ) (up down units p : ℕ) (m : ℤ) (s : ℕ) → ReadsNumeral text negative whole fraction up down →
-    IsRoundedWithCap (number (whole ++ fraction) * 10 ^ up) (length fraction + down) (10 ^ 37 + 1) units p → units ≤ 10 ^ 13 * 10 ^ p → MadeOf negative units p m s → Spells text m s
+-- Where a text reads as these parts, `units` over 10^p is their value, rounded to 24 places and cut off at the cap 10^37 + 1, and
+-- is in range, and m / 10^s is made of it, the text spells m / 10^s.
+pub reads_value : (text : List ℕ) (negative : Bool) (whole fraction : List ℕ) (up down units p : ℕ) (m : ℤ) (s : ℕ)
+    → ReadsNumeral text negative whole fraction up down →
+    IsRoundedWithCap (number (whole ++ fraction) * 10 ^ up) (length fraction + down) (10 ^ 37 + 1) units p → units ≤ 10 ^ 13 * 10 ^ p
+    → MadeOf negative units p m s → Spells text m s
 reads_value text negative whole fraction up down units p m s r c within made =
     let same : c.m ≡ units = let e = c.capped in omega (arith, bound_fits p c.places) in (
       fraction_of negative whole fraction up down,
@@ -65,10 +67,12 @@ beyond_bound m p n s large w =
     let same = w.same in
     lt_of_mul-lt-mul_left (10 ^ p) (omega (arith, same, mul-lt-mul_of_pos_left {m = 10 ^ 13 * 10 ^ p} {n = m} {k = 10 ^ s} large (ten_pow_pos s)))
 
--- where a text reads as these parts, and their value, `units` over 10^p, is above the bound, the text spells a number out of
--- range
-pub reads_beyond : (text : List ℕ) (negative : Bool) (whole fraction : List ℕ) (up down units p : ℕ) → ReadsNumeral text negative whole fraction up down →
-    IsRoundedWithCap (number (whole ++ fraction) * 10 ^ up) (length fraction + down) (10 ^ 37 + 1) units p → 10 ^ 13 * 10 ^ p < units → SpellsBeyond text
+-- where a text reads as these parts, `units` over 10^p is their value, rounded to 24 places and cut off at the cap 10^37 + 1, and
+-- is above the bound 10^13, the text spells a number out of range
+pub reads_beyond : (text : List ℕ) (negative : Bool) (whole fraction : List ℕ) (up down units p : ℕ)
+    → ReadsNumeral text negative whole fraction up down →
+    IsRoundedWithCap (number (whole ++ fraction) * 10 ^ up) (length fraction + down) (10 ^ 37 + 1) units p → 10 ^ 13 * 10 ^ p < units
+    → SpellsBeyond text
 reads_beyond text negative whole fraction up down units p r c above =
     let large : 10 ^ 13 * 10 ^ p < c.m = let e = c.capped in omega arith in
     let z = zeros_off c.m p in (

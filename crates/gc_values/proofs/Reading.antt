@@ -12,7 +12,8 @@ use Rattle.gc_values.specs.declared.fault.ValueFault.TheVariants.{Spelling, Rang
 use Rattle.gc_values.proofs.DecimalLaws.{spells_unique, spelled_not_beyond}
 use Rattle.gc_values.proofs.ReadLemmas.{reads_value, reads_beyond}
 
--- the contract of `Decimal::read`: r is the decimal that the text spells, or the fault of a text that spells none
+-- the clauses of `Decimal::read` but `again`, which follows from `only`: r is the decimal that the text spells, or the fault of a
+-- text that spells none
 pub record IsDecimalRead (text : List ℕ) (r : Result Decimal ValueFault) : Type 0 where
   pub value : IfOk r (λ d. Spells text d.digits d.scale)
   pub only : GivesSpelled text r
@@ -48,9 +49,10 @@ reads_range text e is beyond = record {
   faults = inl is;
 }
 
--- `IsDecimalRead` is true where the text reads as these parts, their value is `units` over 10^p, and r is the decimal made of that,
--- or `Range` where it is out of range
-pub reads_parts : (text : List ℕ) (negative : Bool) (whole fraction : List ℕ) (up down units p : ℕ) (r : Result Decimal ValueFault) → ReadsNumeral text negative whole fraction up down →
+-- `IsDecimalRead` is true where the text reads as these parts, `units` over 10^p is their value, rounded to 24 places and cut off
+-- at the cap 10^37 + 1, and r is the decimal made of it, or `Range` where it is out of range
+pub reads_parts : (text : List ℕ) (negative : Bool) (whole fraction : List ℕ) (up down units p : ℕ) (r : Result Decimal ValueFault)
+    → ReadsNumeral text negative whole fraction up down →
     IsRoundedWithCap (number (whole ++ fraction) * 10 ^ up) (length fraction + down) (10 ^ 37 + 1) units p →
     IfOk r (λ d. MadeOf negative units p d.digits d.scale) →
     MatchResult r (λ _. units ≤ 10 ^ 13 * 10 ^ p) (λ e. (e ≡ Range) × (10 ^ 13 * 10 ^ p < units)) → IsDecimalRead text r

@@ -1,10 +1,11 @@
--- A fraction has one rounding to p places, and how it is found: by the nearest whole number of 10^-p, without the zeros at its
--- end.
+-- A fraction has one rounding to p places, and how it is found: by the nearest whole number of units of 10^-p, without the zeros
+-- at its end.
 use Rattle.std.proofs.Common.{◌≡◌, ℕ, zero, suc, ◌+◌, ◌-◌, ◌*◌, ◌%◌, ◌^◌, ◌<◌, ◌≤◌, Bool, true, false, ℤ, pos, negsuc, neg_ℤ, ◌*ℤ◌, ◌-ℤ◌, unsigned_abs, refl, sym, ap, ◌∙◌, subst, arith}
 use Rattle.std.proofs.Math.Nat.{mul-le-mul_right, le_of_mul-le-mul_right, lt_of_mul-lt-mul_left, eq_of_mul-eq-mul_left, mul-lt-mul_of_pos_left}
 use Rattle.std.proofs.lemmas.Nat.{pow-add}
 use Rattle.std.proofs.lemmas.Int.{ints}
 use Rattle.gc_values.specs.Fraction.{Fraction, signed, distance, IsCanonical, IsRounded}
+use Rattle.gc_values.specs.Nearest.{MadeOf}
 use Rattle.gc_values.specs.Zeros.{WithoutZeros, stripped}
 pub use Rattle.gc_values.specs.RoundedFacts.{places_in_range, stripped_is}
 pub use Rattle.gc_values.specs.DecimalOrder.{zeros_once}
@@ -12,7 +13,7 @@ use Rattle.gc_values.proofs.Powers.{ten_pow_pos, ten_pow_le}
 use Rattle.gc_values.proofs.Rounding.{gap, gap-mul, RoundsHalfUp, rounds_once, rounds_same_value}
 use Rattle.gc_values.proofs.Signs.{signed-mul, gap_signed, unsigned_abs-signed}
 
--- the zeros at the end can be taken off
+-- m / 10^s has a form without the zeros at its end
 pub zeros_off : (m s : ℕ) → (n : ℕ) × (t : ℕ) × WithoutZeros m s n t
 zeros_off m s = ((stripped m s).digits, (stripped m s).places, stripped_is m s)
 
@@ -35,9 +36,10 @@ gap_at_other_scale a k p m n s same =
     sym (gap-mul (n * 10 ^ k) (a * 10 ^ s) (10 ^ p)) ∙ ap (λ x. gap x (a * 10 ^ s * 10 ^ p)) left ∙ ap (gap (m * 10 ^ k * 10 ^ s)) right
     ∙ gap_comm (m * 10 ^ k * 10 ^ s) (a * 10 ^ p * 10 ^ s) ∙ gap-mul (a * 10 ^ p) (m * 10 ^ k) (10 ^ s)
 
--- where m is the whole number of 10^-p that is nearest to a / 10^k, m / 10^p without the zeros at its end is a / 10^k rounded to
--- p places
-pub rounded_from : (neg : Bool) (a k p m n s : ℕ) → RoundsHalfUp (a * 10 ^ p) (10 ^ k) m → WithoutZeros m p n s → IsRounded (record { n = signed neg a; k = k }) p (signed neg n) s
+-- where m is the whole number of units of 10^-p that is nearest to a / 10^k, m / 10^p without the zeros at its end is a / 10^k
+-- rounded to p places, with either sign
+pub rounded_from : (neg : Bool) (a k p m n s : ℕ) → RoundsHalfUp (a * 10 ^ p) (10 ^ k) m → WithoutZeros m p n s
+    → IsRounded (record { n = signed neg a; k = k }) p (signed neg n) s
 rounded_from neg a k p m n s r w =
     let far = distance_signed neg n s a k in
     let move = gap_at_other_scale a k p m n s w.same in
@@ -53,18 +55,19 @@ rounded_from neg a k p m n s r w =
           omega (arith, less, ap (λ x. x * 10 ^ s) (unsigned_abs-signed neg a), ap (λ x. x * 10 ^ k) (unsigned_abs-signed neg n));
     }
 
--- a number of the other sign is too far away to be the rounding
+-- where s is at most p, the sum of (x + 1) / 10^s and a / 10^k is more than half of 10^-p: a number of the other sign is too far
+-- away to be the rounding
 far_apart : (x k p a s : ℕ) → s ≤ p → 2 * ((suc x) * 10 ^ k + a * 10 ^ s) * 10 ^ p ≤ 10 ^ s * 10 ^ k → ⊥
 far_apart x k p a s places near =
     let wide : 10 ^ s * 10 ^ k ≤ 10 ^ p * 10 ^ k = mul-le-mul_right {m = 10 ^ s} {n = 10 ^ p} (10 ^ k) (ten_pow_le s p places) in
     let pos : 0 < 10 ^ p * 10 ^ k = omega (arith, pow-add 10 p k, ten_pow_pos (p + k)) in
     omega arith
 
--- a positive and a negative number are as far apart as the sum of their magnitudes
+-- a number from 0 up and one from 0 down are as far apart as the sum of their magnitudes
 pub abs_pos_neg : (x y : ℕ) → unsigned_abs (pos x -ℤ neg_ℤ (pos y)) ≡ x + y
 abs_pos_neg x y = omega (arith, ints)
 
--- a negative and a positive number are as far apart as the sum of their magnitudes
+-- a number from 0 down and one from 0 up are as far apart as the sum of their magnitudes
 pub abs_neg_pos : (x y : ℕ) → unsigned_abs (neg_ℤ (pos x) -ℤ pos y) ≡ x + y
 abs_neg_pos x y = omega (arith, ints)
 
@@ -82,7 +85,7 @@ opposite_true x s a k =
     ∙ ap (λ z. unsigned_abs (pos (suc x * 10 ^ k) -ℤ z)) (signed-mul true a (10 ^ s))
     ∙ abs_pos_neg (suc x * 10 ^ k) (a * 10 ^ s)
 
--- a rounding keeps the sign
+-- the digits of a rounding are a magnitude with the sign of the fraction
 pub keeps_sign : (neg : Bool) (a k p : ℕ) (m : ℤ) (s : ℕ) → IsRounded (record { n = signed neg a; k = k }) p m s → (n : ℕ) × (m ≡ signed neg n)
 keeps_sign false a k p (pos n) s r = (n, refl)
 keeps_sign false a k p (negsuc x) s r = absurd (far_apart x k p a s r.places (subst (λ d. 2 * d * 10 ^ p ≤ 10 ^ s * 10 ^ k) (opposite_false x s a k) r.near))
@@ -90,17 +93,16 @@ keeps_sign true a k p (negsuc x) s r = (suc x, refl)
 keeps_sign true a k p (pos zero) s r = (0, refl)
 keeps_sign true a k p (pos (suc x)) s r = absurd (far_apart x k p a s r.places (subst (λ d. 2 * d * 10 ^ p ≤ 10 ^ s * 10 ^ k) (opposite_true x s a k) r.near))
 
--- u is the whole number of 10^-p that is nearest to a / 10^k, and m / 10^s is u / 10^p with the sign, without the zeros at its
--- end
+-- u is the whole number of units of 10^-p that is nearest to a / 10^k, and m / 10^s is made of u / 10^p and the sign, as `MadeOf`
+-- has it
 pub record IsNearestUnits (neg : Bool) (a k p : ℕ) (m : ℤ) (s : ℕ) : Type 0 where
-  pub n : ℕ
   pub u : ℕ
-  pub m_is : m ≡ signed neg n
-  pub zeros : WithoutZeros u p n s
+  pub made : MadeOf neg u p m s
   pub rounds : RoundsHalfUp (a * 10 ^ p) (10 ^ k) u
 
--- each rounding to p places that has the sign of its fraction is the nearest whole number of 10^-p, as `IsNearestUnits` has it
-with_sign_known : (neg : Bool) (a k p n s : ℕ) → IsRounded (record { n = signed neg a; k = k }) p (signed neg n) s → IsNearestUnits neg a k p (signed neg n) s
+-- each rounding to p places that has the sign of its fraction is the nearest whole number of units, as `IsNearestUnits` has it
+with_sign_known : (neg : Bool) (a k p n s : ℕ) → IsRounded (record { n = signed neg a; k = k }) p (signed neg n) s
+    → IsNearestUnits neg a k p (signed neg n) s
 with_sign_known neg a k p n s r =
     let u : ℕ = n * 10 ^ (p - s) in
     let places : s ≤ p = r.places in
@@ -110,10 +112,12 @@ with_sign_known neg a k p n s r =
     let far = distance_signed neg n s a k in
     let move = gap_at_other_scale a k p u n s same in
     record {
-      n = n;
       u = u;
-      m_is = refl;
-      zeros = record { same = same; fewer = places; canonical = λ some h. r.canonical some (ap (λ x. x % 10) (unsigned_abs-signed neg n) ∙ h) };
+      made = record {
+        n = n;
+        m_is = refl;
+        zeros = record { same = same; fewer = places; canonical = λ some h. r.canonical some (ap (λ x. x % 10) (unsigned_abs-signed neg n) ∙ h) };
+      };
       rounds = record {
         near = le_of_mul-le-mul_right {m = 2 * gap (a * 10 ^ p) (u * 10 ^ k)} {n = 10 ^ k} {k = 10 ^ s} (let near = r.near in omega (arith, near, ap (λ x. x * 10 ^ p) far, move)) (ten_pow_pos s);
         tie = λ h.
@@ -124,8 +128,9 @@ with_sign_known neg a k p n s r =
       };
     }
 
--- each rounding to p places is the nearest whole number of 10^-p, with the sign of its fraction, as `IsNearestUnits` has it
-pub rounding_is_nearest_units : (neg : Bool) (a k p : ℕ) (m : ℤ) (s : ℕ) → IsRounded (record { n = signed neg a; k = k }) p m s → IsNearestUnits neg a k p m s
+-- each rounding to p places is the nearest whole number of units, with the sign of its fraction, as `IsNearestUnits` has it
+pub rounding_is_nearest_units : (neg : Bool) (a k p : ℕ) (m : ℤ) (s : ℕ) → IsRounded (record { n = signed neg a; k = k }) p m s
+    → IsNearestUnits neg a k p m s
 rounding_is_nearest_units neg a k p m s r =
     let sign = keeps_sign neg a k p m s r in
     let there : IsRounded (record { n = signed neg a; k = k }) p (signed neg sign.0) s = subst (λ z. IsRounded (record { n = signed neg a; k = k }) p z s) sign.1 r in
@@ -138,8 +143,8 @@ rounded_once neg a k p m s n t r q =
     let x = rounding_is_nearest_units neg a k p m s r in
     let y = rounding_is_nearest_units neg a k p n t q in
     let same : x.u ≡ y.u = rounds_once (a * 10 ^ p) (10 ^ k) x.u y.u (ten_pow_pos k) x.rounds y.rounds in
-    let one = zeros_once x.u p x.n s y.n t x.zeros (subst (λ u. WithoutZeros u p y.n t) (sym same) y.zeros) in
-    (x.m_is ∙ ap (signed neg) one.0 ∙ sym y.m_is, one.1)
+    let one = zeros_once x.u p x.made.n s y.made.n t x.made.zeros (subst (λ u. WithoutZeros u p y.made.n t) (sym same) y.made.zeros) in
+    (x.made.m_is ∙ ap (signed neg) one.0 ∙ sym y.made.m_is, one.1)
 
 -- each whole number is a magnitude with a sign
 pub has_sign : (z : ℤ) → (neg : Bool) × (a : ℕ) × (z ≡ signed neg a)
@@ -174,7 +179,7 @@ exact_rounds q p m s canonical places same =
       tie = λ h. let e : 0 ≡ 10 ^ s * 10 ^ q.k = sym none ∙ h in absurd (omega (arith, e, some));
     }
 
--- a / 10^s in units of 10^-p is a over 10^(s - p), or a * 10^p over 10^s: both round to the same whole number
+-- for p at most s: where a over 10^(s - p) rounds to m, so does a * 10^p over 10^s, which is a / 10^s in units of 10^-p
 pub rounds_places : (a s p m : ℕ) → p ≤ s → RoundsHalfUp a (10 ^ (s - p)) m → RoundsHalfUp (a * 10 ^ p) (10 ^ s) m
 rounds_places a s p m places r =
     let back : s - p + p ≡ s = omega arith in
@@ -182,7 +187,7 @@ rounds_places a s p m places r =
     let same : a * 10 ^ s ≡ a * 10 ^ p * 10 ^ (s - p) = omega (arith, ap (λ x. a * x) power) in
     rounds_same_value a (10 ^ (s - p)) (a * 10 ^ p) (10 ^ s) m (ten_pow_pos (s - p)) (ten_pow_pos s) same r
 
--- a value in range has at most 10^37 units of 10^-24
+-- a value in range with at most 24 places has at most 10^37 units of 10^-24
 pub units_in_range : (a s : ℕ) → s ≤ 24 → a ≤ 10 ^ 13 * 10 ^ s → a * 10 ^ (24 - s) ≤ 10 ^ 37
 units_in_range a s places h =
     let back : s + (24 - s) ≡ 24 = omega arith in

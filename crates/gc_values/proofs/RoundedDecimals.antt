@@ -15,8 +15,9 @@ use Rattle.gc_values.proofs.Signs.{signed-mul}
 half_up-one : (m : ℕ) → half_up m 1 ≡ m
 half_up-one m = omega arith
 
--- at s places or more, what `rounded_to` gives is m / 10^s rounded, which is the number itself
-rounded_at_enough_places : (b : Bool) (m s p : ℕ) → s ≤ p → IsRounded (record { n = signed b m; k = s }) p (signed b (rounded_to m s p).digits) (rounded_to m s p).places
+-- where p is s or more, what `rounded_to` gives, with a sign, is m / 10^s with that sign, rounded to p places
+rounded_at_enough_places : (b : Bool) (m s p : ℕ) → s ≤ p
+    → IsRounded (record { n = signed b m; k = s }) p (signed b (rounded_to m s p).digits) (rounded_to m s p).places
 rounded_at_enough_places b m s p h =
     let r = rounded_to m s p in
     let zeros = rounded_to_zeros m s p in
@@ -27,8 +28,9 @@ rounded_at_enough_places b m s p h =
     exact_rounds (record { n = signed b m; k = s }) p (signed b r.digits) r.places (rounded_canonical b m s p) (let f = zeros.fewer in omega (arith, f))
     (signed-mul b r.digits (10 ^ s) ∙ ap (signed b) same ∙ sym (signed-mul b m (10 ^ r.places)))
 
--- at fewer than s places, what `rounded_to` gives is m / 10^s rounded
-rounded_at_fewer_places : (b : Bool) (m s p : ℕ) → p < s → IsRounded (record { n = signed b m; k = s }) p (signed b (rounded_to m s p).digits) (rounded_to m s p).places
+-- where p is less than s, what `rounded_to` gives, with a sign, is m / 10^s with that sign, rounded to p places
+rounded_at_fewer_places : (b : Bool) (m s p : ℕ) → p < s
+    → IsRounded (record { n = signed b m; k = s }) p (signed b (rounded_to m s p).digits) (rounded_to m s p).places
 rounded_at_fewer_places b m s p h =
     let r = rounded_to m s p in
     let few : min s p ≡ p = omega arith in
@@ -36,8 +38,9 @@ rounded_at_fewer_places b m s p h =
     rounded_from b m s p (half_up m (10 ^ (s - p))) r.digits r.places
     (rounds_places m s p (half_up m (10 ^ (s - p))) (omega arith) (half_up_rounds m (10 ^ (s - p)) (ten_pow_pos (s - p)))) zeros
 
--- `rounded_to` gives the rounding of a number with a sign
-pub rounded_to_rounds : (b : Bool) (m s p : ℕ) → IsRounded (record { n = signed b m; k = s }) p (signed b (rounded_to m s p).digits) (rounded_to m s p).places
+-- what `rounded_to` gives, with a sign, is m / 10^s with that sign, rounded to p places
+pub rounded_to_rounds : (b : Bool) (m s p : ℕ)
+    → IsRounded (record { n = signed b m; k = s }) p (signed b (rounded_to m s p).digits) (rounded_to m s p).places
 rounded_to_rounds b m s p = elim (cases_lt p s) [ inl fewer ↦ rounded_at_fewer_places b m s p fewer | inr own ↦ rounded_at_enough_places b m s p own ]
 
 -- a number is its magnitude with its sign
@@ -45,7 +48,7 @@ pub signed-unsigned_abs : (z : ℤ) → signed (is_negative z) (unsigned_abs z) 
 signed-unsigned_abs (pos n) = refl
 signed-unsigned_abs (negsuc n) = refl
 
--- `rounded` gives the rounding of a decimal
+-- `rounded d p` is the decimal d rounded to p places
 pub rounded_rounds : (d : Decimal) (p : ℕ) → IsRounded (fraction d) p (rounded d p).digits (rounded d p).scale
 unfolding rounded
 rounded_rounds d p =

@@ -5,11 +5,11 @@ pub use Rattle.gc_values.specs.Nearest.{gap, RoundsHalfUp}
 use Rattle.std.proofs.Math.Nat.{mul-le-mul_right, le_of_mul-le-mul_right, lt_of_mul-lt-mul_left, eq_of_mul-eq-mul_left, mul-lt-mul_of_pos_left}
 use Rattle.std.proofs.lemmas.Bool.{cases_lt, cases_order}
 
--- the gap of multiples is the multiple of the gap, where the second is greater
+-- the gap of multiples is the multiple of the gap, where the second is at least the first
 gap-mul_up : (a t c : ℕ) → gap (a * c) ((a + t) * c) ≡ gap a (a + t) * c
 gap-mul_up a t c = let l : gap (a * c) ((a + t) * c) ≡ t * c = omega arith in let r : gap a (a + t) ≡ t = omega arith in l ∙ ap (λ x. x * c) (sym r)
 
--- the gap of multiples is the multiple of the gap, where the first is greater
+-- the gap of multiples is the multiple of the gap, where the first is at least the second
 gap-mul_down : (a t c : ℕ) → gap ((a + t) * c) (a * c) ≡ gap (a + t) a * c
 gap-mul_down a t c = let l : gap ((a + t) * c) (a * c) ≡ t * c = omega arith in let r : gap (a + t) a ≡ t = omega arith in l ∙ ap (λ x. x * c) (sym r)
 
@@ -20,7 +20,7 @@ gap-mul a b c = elim (cases_lt a b) [
   | inr ge ↦ let e : b + (a - b) ≡ a = omega arith in subst (λ x. gap (x * c) (b * c) ≡ gap x b * c) e (gap-mul_down b (a - b) c)
 ]
 
--- what a quotient rounds to depends on its value alone
+-- where a / b and c / d are one value, and b and d are above 0, what a / b rounds to, c / d rounds to
 pub rounds_same_value : (a b c d m : ℕ) → 0 < b → 0 < d → a * d ≡ c * b → RoundsHalfUp a b m → RoundsHalfUp c d m
 rounds_same_value a b c d m b_pos d_pos same r =
     let shuffled : m * d * b ≡ m * b * d = omega arith in
@@ -33,7 +33,7 @@ rounds_same_value a b c d m b_pos d_pos same r =
           lt_of_mul-lt-mul_left b (omega (arith, shuffled, same, mul-lt-mul_of_pos_left {m = a} {n = m * b} {k = d} (r.tie there) d_pos));
     }
 
--- where m is the whole number nearest to a / b, and of two the greater one, no greater number n is
+-- where a / b, for b above 0, rounds to m, as `RoundsHalfUp` has it, it rounds to no greater number n
 no_greater : (a b m n : ℕ) → 0 < b → m < n → RoundsHalfUp a b m → RoundsHalfUp a b n → ⊥
 no_greater a b m n pos lt r s =
     let apart : b + m * b ≤ n * b = omega (arith, mul-le-mul_right {m = m + 1} {n = n} b (omega arith)) in
@@ -42,7 +42,7 @@ no_greater a b m n pos lt r s =
     let near' : 2 * gap a (n * b) ≤ b = s.near in
     omega arith
 
--- at most one number is the nearest one
+-- a / b, for b above 0, rounds to at most one number, as `RoundsHalfUp` has it
 pub rounds_once : (a b m n : ℕ) → 0 < b → RoundsHalfUp a b m → RoundsHalfUp a b n → m ≡ n
 rounds_once a b m n pos r s = elim (cases_order m n) [
   | inl same ↦ same
@@ -52,21 +52,23 @@ rounds_once a b m n pos r s = elim (cases_order m n) [
   ]
 ]
 
--- a whole number rounds to itself
+-- m * b over b, for b above 0, rounds to m
 pub rounds_whole : (m b : ℕ) → 0 < b → RoundsHalfUp (m * b) b m
 rounds_whole m b pos = record { near = omega arith; tie = λ h. absurd (omega arith) }
 
--- less than a half rounds to 0
+-- a / b, for b above 0, rounds to 0 where it is less than a half
 pub rounds_to_zero : (a b : ℕ) → 0 < b → 2 * a < b → RoundsHalfUp a b 0
 rounds_to_zero a b pos small = record { near = omega arith; tie = λ h. absurd (omega arith) }
 
--- a first digit below 5 after the place rounds down, where u is that digit's weight and r what comes after it
+-- m * (10 * u) + (d * u + r) over 10 * u, where d is below 5 and r below u, rounds to m: the first digit after the place, d, is
+-- rounded down
 pub rounds_down : (m d u r : ℕ) → d < 5 → r < u → RoundsHalfUp (m * (10 * u) + (d * u + r)) (10 * u) m
 rounds_down m d u r small rest =
     let part : d * u + u ≤ 5 * u = omega (arith, mul-le-mul_right {m = d + 1} {n = 5} u (omega arith)) in
     record { near = omega arith; tie = λ h. absurd (omega arith) }
 
--- a first digit from 5 on after the place rounds up, where u is that digit's weight and r what comes after it
+-- m * (10 * u) + (d * u + r) over 10 * u, where d is from 5 to 9 and r below u, rounds to m + 1: the first digit after the place,
+-- d, is rounded up
 pub rounds_up : (m d u r : ℕ) → 5 ≤ d → d < 10 → r < u → RoundsHalfUp (m * (10 * u) + (d * u + r)) (10 * u) (m + 1)
 rounds_up m d u r large digit rest =
     let part : 5 * u ≤ d * u = mul-le-mul_right {m = 5} {n = d} u large in

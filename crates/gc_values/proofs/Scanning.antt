@@ -15,12 +15,12 @@ pub record Scanned (text : List ℕ) (i : ℕ) (quoted : Bool) : Type 0 where
 abbrev pub parity_after : (b : ℕ) (quoted : Bool) → Bool
 parity_after b quoted = cond (eqb b 34) (not quoted) quoted
 
--- before the first byte no comma was passed, and no quote is open
+-- `Scanned` is true of the first 0 bytes, which don't end inside quotes
 pub scanned_none : (text : List ℕ) → Scanned text 0 false
 scanned_none text = record { keeps = HasCommasInQuotes-nil; parity = refl }
 
--- where `quoted` says whether the number n of quotes is odd, it is odd after one more byte as `parity_after` has it; `same` says
--- whether that byte is a double quote
+-- where `quoted` says whether the number n of double quotes is odd, and `same` whether the next byte is one, `not quoted`, if it
+-- is, and else `quoted`, says whether the number of double quotes with that byte is odd
 parity_step : (n : ℕ) (quoted same : Bool) → n % 2 ≡ cond quoted 1 0 → (n + cond same 1 0) % 2 ≡ cond (cond same (not quoted) quoted) 1 0
 parity_step n true true h = omega arith
 parity_step n true false h = omega arith
@@ -41,8 +41,10 @@ scanned_more text i quoted now s within comma step =
       parity = ap (λ n. n % 2) (quotes_more text i within) ∙ parity_step (quotes (take i text)) quoted (eqb b 34) s.parity ∙ ap (λ q. cond q 1 0) (sym step);
     }
 
--- a comma outside quotes ends the piece
-pub scanned_cut : (text : List ℕ) (i : ℕ) (quoted : Bool) → Scanned text i quoted → i < length text → get_or text i 0 ≡ 44 → quoted ≡ false → CutsPiece text (take i text) (Some (drop (i + 1) text))
+-- where the first i bytes were scanned and end outside quotes, and the byte at place i is a comma, the first i bytes are a piece
+-- that is cut off the text
+pub scanned_cut : (text : List ℕ) (i : ℕ) (quoted : Bool) → Scanned text i quoted → i < length text → get_or text i 0 ≡ 44
+    → quoted ≡ false → CutsPiece text (take i text) (Some (drop (i + 1) text))
 scanned_cut text i quoted s within comma outside = (
   sym (take-append-drop i text) ∙ ap (λ xs. take i text ++ xs) (drop_more text i 0 within ∙ ap (λ b. b ∷ drop (i + 1) text) comma),
   s.keeps,

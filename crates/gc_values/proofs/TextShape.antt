@@ -2,9 +2,11 @@
 use Rattle.std.proofs.Common.{◌≡◌, ◌≢◌, ℕ, ◌+◌, ◌/◌, ◌%◌, ◌<◌, ◌≤◌, ◌^◌, Bool, true, false, ltb, ℤ, pos, negsuc, unsigned_abs, List, [], ◌∷◌, ◌++◌, length, map, refl, sym, ap, ◌∙◌, inl, inr, arith, lit<, lit≤, length-append}
 use Rattle.std.proofs.lemmas.Bool.{ne_eqb, ltb-true, agree_below_at}
 use Rattle.std.proofs.lemmas.List.Elements.{All-from_recursion}
+use Rattle.std.proofs.lemmas.List.{same_from_push}
 use Rattle.std.proofs.lemmas.Nat.{div_below}
 use Rattle.std.specs.List.{All, AllByRecursion}
 use Rattle.std.specs.Prelude.{slice_index}
+use Rattle.std.proofs.Permutation.{every_append}
 use Rattle.hex.specs.Hex.{lower_digits}
 use Rattle.gc_values.specs.Digits.{AreDigits}
 use Rattle.gc_values.specs.Item.{IsValue, text}
@@ -19,7 +21,6 @@ use Rattle.gc_values.specs.declared.value.Value.{Value}
 use Rattle.gc_values.specs.declared.value.Value.TheVariants as value
 use Rattle.gc_values.proofs.Quotes.{quotes-append, quotes-cons, quotes_same, push_cut}
 use Rattle.gc_values.proofs.Powers.{ten_pow_pos}
-use Rattle.gc_values.proofs.Trimming.{last_same}
 use Rattle.gc_values.proofs.WholeText.{length-whole_text, length-minus_text, length-long, length-short}
 use Rattle.gc_values.proofs.WrittenLemmas.{length-behind_text}
 use Rattle.gc_values.proofs.ParamLists.{joined_params}
@@ -44,11 +45,6 @@ bare_above b h = record { space = λ e. omega (arith, e); quote = λ e. omega (a
 -- a single quote is bare
 bare_quote : IsBare 39
 bare_quote = record { space = λ e. omega (arith, e); quote = λ e. omega (arith, e); comma = λ e. omega (arith, e); cr = λ e. omega (arith, e); lf = λ e. omega (arith, e) }
-
--- bare bytes after bare bytes are bare
-pub AreBare-append : (xs ys : List ℕ) → AreBare xs → AreBare ys → AreBare (xs ++ ys)
-AreBare-append [] ys h k = k
-AreBare-append (x ∷ xs) ys h k = (h.0, AreBare-append xs ys h.1 k)
 
 -- digits are bare
 pub bare_digits : (ds : List ℕ) → AreDigits ds → AreBare ds
@@ -88,7 +84,7 @@ bare_param xs h = record {
   commas = λ front rest e. absurd (bare_comma xs front rest h e);
 }
 
--- a byte is neither CR nor LF
+-- a byte that ends no line: neither CR nor LF
 abbrev pub EndsNoLine : ℕ → Type 0
 EndsNoLine b = (b ≢ 10) × (b ≢ 13)
 
@@ -108,21 +104,21 @@ bare_whole n = bare_digits (whole_text n) (writes_whole n).digits
 
 -- the text of a whole number with a sign is bare
 bare_signed : (z : ℤ) → AreBare (signed_text z)
-bare_signed z = AreBare-append (minus_text z) (whole_text (unsigned_abs z)) (bare_minus z) (bare_whole (unsigned_abs z))
+bare_signed z = every_append IsBare (minus_text z) (whole_text (unsigned_abs z)) (bare_minus z) (bare_whole (unsigned_abs z))
 
 -- a decimal's text is bare
 bare_written : (m : ℤ) (s : ℕ) → AreBare (written m s)
 bare_written m s =
     let n = unsigned_abs m in
-    AreBare-append (minus_text m) (whole_text (n / 10 ^ s) ++ (46 ∷ behind_text s (n % 10 ^ s))) (bare_minus m)
-    (AreBare-append (whole_text (n / 10 ^ s)) (46 ∷ behind_text s (n % 10 ^ s)) (bare_whole (n / 10 ^ s))
+    every_append IsBare (minus_text m) (whole_text (n / 10 ^ s) ++ (46 ∷ behind_text s (n % 10 ^ s))) (bare_minus m)
+    (every_append IsBare (whole_text (n / 10 ^ s)) (46 ∷ behind_text s (n % 10 ^ s)) (bare_whole (n / 10 ^ s))
     (bare_above 46 (lit< tt), bare_digits (behind_text s (n % 10 ^ s)) (is_fraction_text n s).digits))
 
 -- a hexadecimal digit is above 44
 digit_above : (d : ℕ) → d < 16 → 44 < slice_index lower_digits d
 digit_above d h = ltb-true 44 (slice_index lower_digits d) (agree_below_at (λ k. ltb 44 (slice_index lower_digits k)) (λ _. true) 16 d refl h)
 
--- a byte parameter's text is bare
+-- the text of a byte parameter, a number below 256, is bare
 bare_byte : (n : ℕ) → n < 256 → AreBare (byte_text n)
 bare_byte n h = (
   bare_quote,
@@ -160,7 +156,7 @@ quoted_commas bytes (f ∷ fs) rest h e =
 quoted_param : (bytes : List ℕ) → AreStringBytes bytes → IsParam (quoted bytes)
 quoted_param bytes h = record {
   first = λ rest e. let bad : ◌≡◌ {A = ℕ} 34 32 = cc in omega (arith, bad);
-  last = λ front e. let bad = last_same (34 ∷ bytes) front 34 32 e in omega (arith, bad);
+  last = λ front e. let bad = (same_from_push (34 ∷ bytes) front 34 32 e).1 in omega (arith, bad);
   pairs = let one = quotes-cons 34 (bytes ++ 34 ∷ []) in let two = quotes-append bytes (34 ∷ []) in let none = quotes-string bytes h in
       let both : quotes (34 ∷ []) ≡ 1 = refl in omega (arith, one, two, none, both);
   commas = λ front rest e. quoted_commas bytes front rest h e;
@@ -171,7 +167,7 @@ string_plain : (bytes : List ℕ) → AreStringBytes bytes → AllByRecursion En
 string_plain [] h = ((λ e. omega (arith, e), λ e. omega (arith, e)), tt)
 string_plain (b ∷ bs) h = ((h.0.2, h.0.1), string_plain bs h.1)
 
--- the text of a value is a parameter
+-- the text of a value in its kind's range is a parameter
 pub text_is_param : (v : Value) → IsValue v → IsParam (text v)
 text_is_param (value.Double d) h = bare_param _ (bare_written d.digits d.scale)
 text_is_param (value.Long z) h = bare_param _ (bare_signed z)
@@ -198,7 +194,7 @@ text_is_some (value.Bool false) = omega arith
 text_is_some (value.Bool true) = omega arith
 text_is_some (value.Text bytes) = omega arith
 
--- the text of a value ends no line
+-- the text of a value in its kind's range ends no line
 ends_no_line : (v : Value) → IsValue v → AllByRecursion EndsNoLine (text v)
 ends_no_line (value.Double d) h = bare_plain _ (bare_written d.digits d.scale)
 ends_no_line (value.Long z) h = bare_plain _ (bare_signed z)
@@ -207,11 +203,11 @@ ends_no_line (value.Byte n) h = bare_plain (byte_text n) (bare_byte n h)
 ends_no_line (value.Bool b) h = bare_plain _ (bare_boolean b)
 ends_no_line (value.Text bytes) h = ((λ e. omega (arith, e), λ e. omega (arith, e)), string_plain bytes h.plain)
 
--- the text of a value has no CR and no LF
+-- the text of a value in its kind's range has no CR and no LF
 pub text_is_plain : (v : Value) → IsValue v → All EndsNoLine (text v)
 text_is_plain v h = All-from_recursion EndsNoLine (text v) (ends_no_line v h)
 
--- a decimal's text has at most 40 bytes
+-- what is written of m / 10^s, which is in range and has at most 24 places, has at most 40 bytes
 pub length-written : (m : ℤ) (s : ℕ) → IsInRange m s → s ≤ 24 → length (written m s) ≤ 40
 length-written m s small few =
     let n = unsigned_abs m in
@@ -226,7 +222,7 @@ length-written m s small few =
       length-behind_text s (n % 10 ^ s) few,
     )
 
--- the text of a value has at most 66 bytes
+-- the text of a value in its kind's range has at most 66 bytes
 pub text_is_short : (v : Value) → IsValue v → length (text v) ≤ 66
 text_is_short (value.Double d) h = let l = length-written d.digits d.scale d.is_in_range d.has_few_places in omega (arith, l)
 text_is_short (value.Long z) h = let l = length-long z h in omega (arith, l)
@@ -236,7 +232,7 @@ text_is_short (value.Bool false) h = lit≤ tt
 text_is_short (value.Bool true) h = lit≤ tt
 text_is_short (value.Text bytes) h = let few = h.few in omega (arith, few, length-append bytes (34 ∷ []))
 
--- the texts of values are parameters
+-- the texts of values in their kinds' ranges are parameters
 texts_are_params : (vs : List Value) → AllByRecursion IsValue vs → AllByRecursion IsParam (map text vs)
 texts_are_params [] h = tt
 texts_are_params (v ∷ vs) h = (text_is_param v h.0, texts_are_params vs h.1)
@@ -246,6 +242,6 @@ texts_are_some : (vs : List Value) → AllByRecursion (λ t. 0 < length t) (map 
 texts_are_some [] = tt
 texts_are_some (v ∷ vs) = (text_is_some v, texts_are_some vs)
 
--- texts of values, joined by commas, split back into these texts
+-- the texts of values in their kinds' ranges, joined by commas, split back into these texts
 pub joined_splits : (vs : List Value) → AllByRecursion IsValue vs → IsParams (joined (map text vs)) (map text vs)
 joined_splits vs h = joined_params (map text vs) (texts_are_params vs h) (texts_are_some vs)

@@ -6,8 +6,9 @@ use Rattle.gc_values.specs.Digits.{IsDigit, AreDigits, number}
 use Rattle.gc_values.specs.Cut.{StartsNoDigit, StartsNoSign, StartsNoPoint, CutsDigits, CutsSign, CutsFraction}
 use Rattle.gc_values.specs.Spelling.{Sign, Absent, Plus, Minus, sign_text, is_minus, Exponent, IsExponent, exponent_text, mark, ups, downs, fraction_text, fraction_digits, Parts, IsNumeral, spelling, value, Names}
 
--- a text has one longest run of digits in front
-pub run_once : (xs ys us vs : List ℕ) → AreDigits xs → AreDigits ys → StartsNoDigit us → StartsNoDigit vs → xs ++ us ≡ ys ++ vs → (xs ≡ ys) × (us ≡ vs)
+-- a text is cut in at most one way into digits and a rest that doesn't begin with a digit
+pub run_once : (xs ys us vs : List ℕ) → (digits_xs : AreDigits xs) → (digits_ys : AreDigits ys) → (ends_xs : StartsNoDigit us)
+    → (ends_ys : StartsNoDigit vs) → (same : xs ++ us ≡ ys ++ vs) → (xs ≡ ys) × (us ≡ vs)
 run_once [] [] us vs dx dy nu nv e = (refl, e)
 run_once [] (y ∷ ys) us vs dx dy nu nv e = absurd (subst StartsNoDigit e nu dy.0)
 run_once (x ∷ xs) [] us vs dx dy nu nv e = absurd (subst StartsNoDigit (sym e) nv dx.0)
@@ -17,8 +18,10 @@ run_once (x ∷ xs) (y ∷ ys) us vs dx dy nu nv e =
     let r : (xs ≡ ys) × (us ≡ vs) = run_once xs ys us vs dx.1 dy.1 nu nv rest in
     (let h = r.0 in cc, r.1)
 
--- two ways to cut a text into a sign, or none, and a rest agree on whether there is a minus, and on the rest
-pub sign_once : (s t : Sign) (us vs : List ℕ) → (s ≡ Absent → StartsNoSign us) → StartsNoSign vs → sign_text s ++ us ≡ sign_text t ++ vs → (is_minus s ≡ is_minus t) × (us ≡ vs)
+-- two ways to cut a text into a sign, or none, and a rest agree on whether there is a minus, and on the rest, where the second
+-- rest begins with no sign, nor the first where no sign was cut off before it
+pub sign_once : (s t : Sign) (us vs : List ℕ) → (s ≡ Absent → StartsNoSign us) → StartsNoSign vs → sign_text s ++ us ≡ sign_text t ++ vs
+    → (is_minus s ≡ is_minus t) × (us ≡ vs)
 sign_once Absent Absent us vs nu nv e = (refl, e)
 sign_once Absent Plus us vs nu nv e = absurd ((subst StartsNoSign e (nu refl)).0 refl)
 sign_once Absent Minus us vs nu nv e = absurd ((subst StartsNoSign e (nu refl)).1 refl)
@@ -49,21 +52,24 @@ exponent_no_point : (e : Option Exponent) → StartsNoPoint (exponent_text e)
 exponent_no_point None = tt
 exponent_no_point (Some e) = mark_no_point e.capital
 
--- a fraction and an exponent begin with no digit
+-- the texts of a fraction, or none, and then of an exponent, or none, don't begin with a digit
 fraction_no_digit : (f : Option (List ℕ)) (e : Option Exponent) → StartsNoDigit (fraction_text f ++ exponent_text e)
 fraction_no_digit None e = exponent_no_digit e
 fraction_no_digit (Some ds) e = λ h. omega arith
 
--- digits, or a point and digits, begin with no sign
-number_no_sign : (whole : List ℕ) (f : Option (List ℕ)) (rest : List ℕ) → AreDigits whole → 0 < length whole + length (fraction_digits f) → StartsNoSign (whole ++ (fraction_text f ++ rest))
+-- digits and a fraction, or none, with at least one digit in all, don't begin with a sign, whatever follows
+number_no_sign : (whole : List ℕ) (f : Option (List ℕ)) (rest : List ℕ) → AreDigits whole → 0 < length whole + length (fraction_digits f)
+    → StartsNoSign (whole ++ (fraction_text f ++ rest))
 number_no_sign [] None rest digits some = absurd (omega arith)
 number_no_sign [] (Some ds) rest digits some = (λ h. omega (arith, h), λ h. omega (arith, h))
 number_no_sign (b ∷ bs) f rest digits some = (λ h. let d = digits.0 in omega (arith, h, d.0), λ h. let d = digits.0 in omega (arith, h, d.0))
 
--- two ways to cut a text into a fraction, or none, and a rest agree on the digits and on the rest
-pub fraction_once : (f g : Option (List ℕ)) (us vs : List ℕ) → AreDigits (fraction_digits f) → AreDigits (fraction_digits g) → (f ≡ None → StartsNoPoint us)
-    → StartsNoPoint vs → StartsNoDigit us → StartsNoDigit vs →
-    fraction_text f ++ us ≡ fraction_text g ++ vs → (fraction_digits f ≡ fraction_digits g) × (us ≡ vs)
+-- two ways to cut a text into a fraction, or none, and a rest agree on the digits and on the rest, where neither rest begins with
+-- a digit, and the second not with a point, nor the first where no fraction was cut off before it
+pub fraction_once : (f g : Option (List ℕ)) (us vs : List ℕ) → (digits_f : AreDigits (fraction_digits f)) → (digits_g : AreDigits (fraction_digits g))
+    → (no_point_us : f ≡ None → StartsNoPoint us) → (no_point_vs : StartsNoPoint vs)
+    → (no_digit_us : StartsNoDigit us) → (no_digit_vs : StartsNoDigit vs) → (same : fraction_text f ++ us ≡ fraction_text g ++ vs)
+    → (fraction_digits f ≡ fraction_digits g) × (us ≡ vs)
 fraction_once None None us vs df dg pu pv nu nv e = (refl, e)
 fraction_once None (Some ds) us vs df dg pu pv nu nv e = absurd (subst StartsNoPoint e (pu refl) refl)
 fraction_once (Some cs) None us vs df dg pu pv nu nv e = absurd (subst StartsNoPoint (sym e) pv refl)
@@ -77,8 +83,9 @@ pub record SameParts (negative : Bool) (whole fraction rest : List ℕ) (p : Par
   pub rest_is : rest ≡ exponent_text p.exponent
 
 -- the parts that were cut off are those of every numeral with this text
-pub same_parts : (text : List ℕ) (negative : Bool) (r1 whole r2 fraction r3 : List ℕ) → CutsSign text negative r1 → CutsDigits r1 whole r2 → CutsFraction r2 fraction r3 →
-    (p : Parts) → IsNumeral p → text ≡ spelling p → SameParts negative whole fraction r3 p
+pub same_parts : (text : List ℕ) (negative : Bool) (r1 whole r2 fraction r3 : List ℕ) → (sign : CutsSign text negative r1)
+    → (digits : CutsDigits r1 whole r2) → (point : CutsFraction r2 fraction r3) → (p : Parts) → (numeral : IsNumeral p) → (same : text ≡ spelling p)
+    → SameParts negative whole fraction r3 p
 same_parts text negative r1 whole r2 fraction r3 s d f p n e =
     let signs = sign_once s.sign p.sign r1 (p.whole ++ (fraction_text p.fraction ++ exponent_text p.exponent)) s.first
     (number_no_sign p.whole p.fraction (exponent_text p.exponent) n.whole n.some) (sym s.text_is ∙ e) in
@@ -88,19 +95,19 @@ same_parts text negative r1 whole r2 fraction r3 s d f p n e =
     record { sign = s.negative_is ∙ signs.0; whole_is = runs.0; fraction_is = f.run_is ∙ fractions.0; rest_is = fractions.1 }
 
 -- digits begin with no sign
-pub digits_no_sign : (ds : List ℕ) → AreDigits ds → 0 < length ds → StartsNoSign ds
-digits_no_sign [] h some = absurd (omega arith)
-digits_no_sign (b ∷ bs) h some = (λ e. let d = h.0 in omega (arith, e, d.0), λ e. let d = h.0 in omega (arith, e, d.0))
+pub digits_no_sign : (ds : List ℕ) → AreDigits ds → StartsNoSign ds
+digits_no_sign [] h = tt
+digits_no_sign (b ∷ bs) h = (λ e. let d = h.0 in omega (arith, e, d.0), λ e. let d = h.0 in omega (arith, e, d.0))
 
--- a text is at most one exponent: two with the same text multiply and divide by ten equally often
+-- exponents, or none, with the same text multiply and divide by ten equally often
 pub exponent_once : (e f : Option Exponent) → IsExponent e → IsExponent f → exponent_text e ≡ exponent_text f → (ups e ≡ ups f) × (downs e ≡ downs f)
 exponent_once None None he hf same = (refl, refl)
 exponent_once None (Some f) he hf same = absurd (cc)
 exponent_once (Some e) None he hf same = absurd (cc)
 exponent_once (Some e) (Some f) he hf same =
     let behind : sign_text e.sign ++ e.digits ≡ sign_text f.sign ++ f.digits = cc in
-    let no_e : StartsNoSign e.digits = digits_no_sign e.digits he.digits_are he.some in
-    let no_f : StartsNoSign f.digits = digits_no_sign f.digits hf.digits_are hf.some in
+    let no_e : StartsNoSign e.digits = digits_no_sign e.digits he.digits_are in
+    let no_f : StartsNoSign f.digits = digits_no_sign f.digits hf.digits_are in
     let r = sign_once e.sign f.sign e.digits f.digits (λ _. no_e) no_f behind in (
       ap (λ b. cond b 0 (number e.digits)) r.0 ∙ ap (λ ds. cond (is_minus f.sign) 0 (number ds)) r.1,
       ap (λ b. cond b (number e.digits) 0) r.0 ∙ ap (λ ds. cond (is_minus f.sign) (number ds) 0) r.1,
@@ -116,11 +123,13 @@ numeral_sign p n = record {
 }
 
 -- after the sign a numeral's text is cut into its digits and the rest
-numeral_digits : (p : Parts) → IsNumeral p → CutsDigits (p.whole ++ (fraction_text p.fraction ++ exponent_text p.exponent)) p.whole (fraction_text p.fraction ++ exponent_text p.exponent)
+numeral_digits : (p : Parts) → IsNumeral p
+    → CutsDigits (p.whole ++ (fraction_text p.fraction ++ exponent_text p.exponent)) p.whole (fraction_text p.fraction ++ exponent_text p.exponent)
 numeral_digits p n = record { text_is = refl; digits = n.whole; longest = fraction_no_digit p.fraction p.exponent }
 
 -- after the digits a numeral's text is cut into its fraction and its exponent
-numeral_fraction : (p : Parts) → IsNumeral p → CutsFraction (fraction_text p.fraction ++ exponent_text p.exponent) (fraction_digits p.fraction) (exponent_text p.exponent)
+numeral_fraction : (p : Parts) → IsNumeral p
+    → CutsFraction (fraction_text p.fraction ++ exponent_text p.exponent) (fraction_digits p.fraction) (exponent_text p.exponent)
 numeral_fraction p n = record {
   fraction = p.fraction;
   text_is = refl;

@@ -50,7 +50,8 @@ pub record HasPlaces (ds : List ℕ) (w f up down k size : ℕ) : Type 0 where
   pub sum : size ≡ w + f
   pub places : k + down ≡ w + up + 24
 
--- the number of the first k digits, with the next one rounded in and at most the cap, is the number in units of 10^-24
+-- the number of the first k digits, with the next one rounded in, at most the cap, is the number in units of 10^-24, rounded to a
+-- whole number
 pub capped_few : (ds : List ℕ) (w f up down cap k size units : ℕ) → HasPlaces ds w f up down k size → units ≡ min cap (kept_and_rounded ds k) →
     IsRoundedWithCap (number ds * 10 ^ up) (f + down) cap units 24
 capped_few ds w f up down cap k size units has e = record {
@@ -99,13 +100,16 @@ capped_many ds w f up down cap k size more x units has behind all e =
       places = lit≤ tt;
     }
 
--- where the exponent moves all digits more than a place after the last of 24 places, the number is 0 in units of 10^-24
-pub capped_none : (ds : List ℕ) (w f up down cap : ℕ) → AreDigits ds → length ds ≡ w + f → w + up + 24 < down → IsRoundedWithCap (number ds * 10 ^ up) (f + down) cap 0 24
+-- where the exponent moves all digits more than a place after the last of 24 places, the number in units of 10^-24 rounds to 0
+pub capped_none : (ds : List ℕ) (w f up down cap : ℕ) → AreDigits ds → length ds ≡ w + f → w + up + 24 < down
+    → IsRoundedWithCap (number ds * 10 ^ up) (f + down) cap 0 24
 capped_none ds w f up down cap digits size places = record { m = 0; rounds = units_none ds w f up down 24 digits size places; capped = omega arith; places = lit≤ tt }
 
--- at most 18 digits without an exponent, f of them after the point: the number is that of all digits over 10^f
-pub capped_short : (ds : List ℕ) (f up down cap units : ℕ) → AreDigits ds → f ≤ length ds → length ds ≤ 18 → up ≡ 0 → down ≡ 0 → 10 ^ 18 ≤ cap → units ≡ number ds →
-    IsRoundedWithCap (number ds * 10 ^ up) (f + down) cap units f
+-- at most 18 digits without an exponent, f of them after the point: the number is that of all digits over 10^f, and no cap from
+-- 10^18 on changes it
+pub capped_short : (ds : List ℕ) (f up down cap units : ℕ) → (digits : AreDigits ds) → (part : f ≤ length ds) → (few : length ds ≤ 18)
+    → (no_up : up ≡ 0) → (no_down : down ≡ 0) → (room : 10 ^ 18 ≤ cap) → (units_are : units ≡ number ds)
+    → IsRoundedWithCap (number ds * 10 ^ up) (f + down) cap units f
 capped_short ds f up down cap units digits part few no_up no_down room e =
     let power : 10 ^ (24 - f) * 10 ^ f ≡ 10 ^ 24 = sym (pow-add 10 (24 - f) f) ∙ ap (λ k. 10 ^ k) (let back : 24 - f + f ≡ 24 = omega arith in back) in
     let same : number ds * 10 ^ (24 - f) * 10 ^ f ≡ number ds * 10 ^ 0 * 10 ^ 24 = omega (arith, ap (λ p. number ds * p) power) in

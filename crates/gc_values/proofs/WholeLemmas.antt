@@ -1,6 +1,6 @@
 -- Whole numbers that are read digit by digit. The number that is counted is cut off at a cap: it is `min cap` of the number
 -- itself.
-use Rattle.std.proofs.Common.{◌≡◌, ℕ, ◌+◌, ◌-◌, ◌*◌, ◌<◌, ◌≤◌, min, Bool, true, false, cond, ℤ, List, [], ◌∷◌, length, get_or, take, refl, sym, ap, ◌∙◌, subst, inl, inr, arith}
+use Rattle.std.proofs.Common.{◌≡◌, ℕ, ◌+◌, ◌-◌, ◌*◌, ◌<◌, ◌≤◌, min, Bool, true, false, cond, ℤ, List, [], length, get_or, take, refl, sym, ap, ◌∙◌, subst, inl, inr, arith}
 use Rattle.std.proofs.lemmas.Int.{ints}
 use Rattle.gc_values.specs.Cut.{CutsSign}
 use Rattle.gc_values.specs.Digits.{IsDigit, AreDigits, number}
@@ -11,7 +11,7 @@ use Rattle.gc_values.specs.declared.fault.ValueFault.{ValueFault}
 use Rattle.gc_values.proofs.Kept.{AreDigits-at, AreDigits-take_more, number-take_more}
 use Rattle.gc_values.proofs.Unique.{sign_once, digits_no_sign}
 
--- the value is the number that the first i digits write, at most the cap
+-- the first i bytes are digits, and the value is the number that they write, at most the cap
 pub record CountedSoFar (text : List ℕ) (i cap value : ℕ) : Type 0 where
   pub digits : AreDigits (take i text)
   pub value_is : value ≡ min cap (number (take i text))
@@ -28,11 +28,6 @@ counted_more text i cap value more c within here e = record {
   value_is = capped_step (number (take i text)) (get_or text i 0 - 48) cap value more (number (take (i + 1) text)) c.value_is (number-take_more text i within) e;
 }
 
--- the value is the number that a text of digits writes, or the cap, where the number is above the cap
-pub record IsCounted (text : List ℕ) (cap value : ℕ) : Type 0 where
-  pub names : NamesNumber text (number text)
-  pub value_is : value ≡ min cap (number text)
-
 -- a text with a byte that is no digit writes no number
 pub not_number : (text : List ℕ) (i n : ℕ) → i < length text → (IsDigit (get_or text i 0) → ⊥) → NamesNumber text n → ⊥
 not_number text i n within other names = other (AreDigits-at text i 0 names.digits within)
@@ -42,7 +37,8 @@ pub one_number : (text : List ℕ) (m n : ℕ) → NamesNumber text m → NamesN
 one_number text m n x y = x.value ∙ sym y.value
 
 -- where a text is cut into a sign and a rest, and the rest writes the number n, the text writes n with that sign
-pub cut_names : (text rest : List ℕ) (negative : Bool) (n : ℕ) → CutsSign text negative rest → NamesNumber rest n → NamesWhole text (signed negative n)
+pub cut_names : (text rest : List ℕ) (negative : Bool) (n : ℕ) → CutsSign text negative rest → NamesNumber rest n
+    → NamesWhole text (signed negative n)
 cut_names text rest negative n cut names = record {
   sign = cut.sign;
   digits = rest;
@@ -52,15 +48,16 @@ cut_names text rest negative n cut names = record {
   value = ap (λ b. signed b n) cut.negative_is;
 }
 
--- where a text writes the whole number z and is cut into a sign and a rest, the rest writes the magnitude of z
-pub names_cut : (text rest : List ℕ) (negative : Bool) (z : ℤ) → CutsSign text negative rest → NamesWhole text z → (n : ℕ) × NamesNumber rest n × (z ≡ signed negative n)
+-- where a text writes the whole number z and is cut into a sign and a rest, the rest writes a number n, and z is n with that sign
+pub names_cut : (text rest : List ℕ) (negative : Bool) (z : ℤ) → CutsSign text negative rest → NamesWhole text z
+    → (n : ℕ) × NamesNumber rest n × (z ≡ signed negative n)
 names_cut text rest negative z cut w =
-    let same = sign_once cut.sign w.sign rest w.digits cut.first (digits_no_sign w.digits w.number_is.digits w.number_is.some) (sym cut.text_is ∙ w.text_is) in
+    let same = sign_once cut.sign w.sign rest w.digits cut.first (digits_no_sign w.digits w.number_is.digits) (sym cut.text_is ∙ w.text_is) in
     (w.n, subst (λ ds. NamesNumber ds w.n) (sym same.1) w.number_is, w.value ∙ ap (λ b. signed b w.n) (sym (cut.negative_is ∙ same.0)))
 
 -- a whole number's text is cut into its sign and its digits
 cut_of : (text : List ℕ) (z : ℤ) (w : NamesWhole text z) → CutsSign text (is_minus w.sign) w.digits
-cut_of text z w = record { sign = w.sign; text_is = w.text_is; negative_is = refl; first = λ _. digits_no_sign w.digits w.number_is.digits w.number_is.some }
+cut_of text z w = record { sign = w.sign; text_is = w.text_is; negative_is = refl; first = λ _. digits_no_sign w.digits w.number_is.digits }
 
 -- a text writes at most one whole number
 pub one_whole : (text : List ℕ) (y z : ℤ) → NamesWhole text y → NamesWhole text z → y ≡ z
@@ -68,16 +65,17 @@ one_whole text y z v w =
     let r = names_cut text v.digits (is_minus v.sign) z (cut_of text y v) w in
     v.value ∙ ap (signed (is_minus v.sign)) (one_number v.digits v.n r.0 v.number_is r.1) ∙ sym r.2
 
--- a number in range has a magnitude that its sign allows
+-- where n with a sign is from -below to above, n is at most `below` with a minus, and else at most `above`
 pub size_from : (negative : Bool) (n below above : ℕ) → IsBetween below above (signed negative n) → n ≤ cond negative below above
 size_from false n below above h = let u = h.1 in omega (arith, ints, u)
 size_from true n below above h = let l = h.0 in omega (arith, ints, l)
 
--- a magnitude above what its sign allows is out of range
+-- a number n with a sign is out of range where n is above `most`, which is `below` with a minus, and else `above`
 beyond_size : (negative : Bool) (n most below above : ℕ) → most ≡ cond negative below above → most < n → IsBetween below above (signed negative n) → ⊥
 beyond_size negative n most below above e far between = let few = size_from negative n below above between in omega (arith, e, few)
 
--- the fault of the digits after a sign, as a number of at most what the sign allows, is the fault of the whole number
+-- where a text is cut into a sign and a rest, and `most` is `below` with a minus, and else `above`, the rest's fault as a number
+-- of at most `most` is the text's fault as a whole number
 pub whole_fault : (text rest : List ℕ) (negative : Bool) (most below above : ℕ) (e : ValueFault) → CutsSign text negative rest
     → most ≡ cond negative below above → IsNumberFault most rest e → IsWholeFault below above text e
 whole_fault text rest negative most below above e cut size (inl none) = inl (none.0, λ z w. let r = names_cut text rest negative z cut w in none.1 r.0 r.1)

@@ -9,7 +9,7 @@ use Rattle.gc_values.specs.Written.{digits_text, whole_text, minus_text}
 use Rattle.gc_values.proofs.WrittenLemmas.{length-digits_text}
 use Rattle.gc_values.proofs.WrittenSpells.{writes_whole}
 
--- a number below 10^k is written with at most k digits
+-- a number below 10^k, for k above 0, is written with at most k digits
 pub length-whole_text : (n k : ℕ) → 0 < k → n < 10 ^ k → length (whole_text n) ≤ k
 length-whole_text n k some small = cond_both (eqb n 0) (48 ∷ []) (digits_text n) (λ ds. length ds ≤ k) (λ _. some) (λ _. length-digits_text n k small)
 
@@ -18,7 +18,7 @@ pub length-minus_text : (z : ℤ) → length (minus_text z) ≤ 1
 length-minus_text (pos n) = omega arith
 length-minus_text (negsuc n) = omega arith
 
--- a number of magnitude below 10^k is written with at most k + 1 bytes
+-- a number of magnitude below 10^k, for k above 0, is written with at most k + 1 bytes
 pub length-signed_text : (z : ℤ) (k : ℕ) → 0 < k → unsigned_abs z < 10 ^ k → length (signed_text z) ≤ k + 1
 length-signed_text z k some small = omega (arith, length-append (minus_text z) (whole_text (unsigned_abs z)), length-minus_text z, length-whole_text (unsigned_abs z) k some small)
 

@@ -15,8 +15,8 @@ use Rattle.gc_values.proofs.Rounded.{has_sign, abs_pos_neg, abs_neg_pos}
 use Rattle.gc_values.proofs.Rounding.{gap, gap-mul}
 use Rattle.gc_values.proofs.Signs.{signed-mul, gap_signed}
 
--- how far two numbers are apart, each given by its sign, where `true` is a minus, and its magnitude
-abbrev signed_distance : Bool → ℕ → Bool → ℕ → ℕ
+-- how far the number of sign b and magnitude m is from the one of sign c and magnitude n, where `true` is a minus
+abbrev signed_distance : (b : Bool) (m : ℕ) (c : Bool) (n : ℕ) → ℕ
 signed_distance false m false n = gap m n
 signed_distance false m true n = m + n
 signed_distance true m false n = m + n
@@ -37,11 +37,12 @@ abs_is_signed_distance true m false n = abs_neg_pos m n
 abs_is_signed_distance true m true n = gap_signed true m n
 
 -- how far z * k and w * l are apart
-abbrev scaled_distance : ℤ → ℕ → ℤ → ℕ → ℕ
+abbrev scaled_distance : (z : ℤ) (k : ℕ) (w : ℤ) (l : ℕ) → ℕ
 scaled_distance z k w l = unsigned_abs (z *ℤ pos k -ℤ w *ℤ pos l)
 
 -- multiples of numbers with signs are as far apart as the `signed_distance` of the products
-scaled_distance_signed : (b : Bool) (m k : ℕ) (c : Bool) (n l : ℕ) → scaled_distance (signed b m) k (signed c n) l ≡ signed_distance b (m * k) c (n * l)
+scaled_distance_signed : (b : Bool) (m k : ℕ) (c : Bool) (n l : ℕ)
+    → scaled_distance (signed b m) k (signed c n) l ≡ signed_distance b (m * k) c (n * l)
 scaled_distance_signed b m k c n l =
     ap (λ x. unsigned_abs (x -ℤ signed c n *ℤ pos l)) (signed-mul b m k)
     ∙ ap (λ x. unsigned_abs (signed b (m * k) -ℤ x)) (signed-mul c n l)
@@ -49,7 +50,8 @@ scaled_distance_signed b m k c n l =
 
 -- where k and l are both multiplied by p, the two products are p times as far apart; the numbers are given as signs and
 -- magnitudes
-scaled_distance-mul_signed : (b : Bool) (m k : ℕ) (c : Bool) (n l p : ℕ) → scaled_distance (signed b m) k (signed c n) l * p ≡ scaled_distance (signed b m) (k * p) (signed c n) (l * p)
+scaled_distance-mul_signed : (b : Bool) (m k : ℕ) (c : Bool) (n l p : ℕ)
+    → scaled_distance (signed b m) k (signed c n) l * p ≡ scaled_distance (signed b m) (k * p) (signed c n) (l * p)
 scaled_distance-mul_signed b m k c n l p =
     let left : m * k * p ≡ m * (k * p) = omega arith in
     let right : n * l * p ≡ n * (l * p) = omega arith in
@@ -64,7 +66,8 @@ scaled_distance-mul z k w l p =
     subst (λ z. scaled_distance z k w l * p ≡ scaled_distance z (k * p) w (l * p)) (sym x.2)
     (subst (λ w. scaled_distance (signed x.0 x.1) k w l * p ≡ scaled_distance (signed x.0 x.1) (k * p) w (l * p)) (sym y.2) (scaled_distance-mul_signed x.0 x.1 k y.0 y.1 l p))
 
--- the distance of z / a and w / b in units of 1 / p, which are z * a' and w * b', is the distance that is multiplied out
+-- the distance of z / a and w / b in units of 1 / p, in which they are z * a' and w * b', times a * b is the distance that is
+-- multiplied out, times p
 in_units : (z : ℤ) (a a' : ℕ) (w : ℤ) (b b' p : ℕ) → a * a' ≡ p → b * b' ≡ p → scaled_distance z a' w b' * (a * b) ≡ scaled_distance z b w a * p
 in_units z a a' w b b' p e f =
     let left : a' * (a * b) ≡ b * p = omega (arith, ap (λ x. x * b) e) in
@@ -97,8 +100,10 @@ pos_le x y h = omega (arith, ints)
 le_pos : (x y : ℕ) → pos x ≤ℤ pos y → x ≤ y
 le_pos x y h = omega (arith, ints, h)
 
--- a distance is at most an area in units exactly where it is multiplied out, also for an area below zero
-within_scaled : (x y ab : ℕ) (z : ℤ) (c c' p : ℕ) → 0 < p → 0 < c' → 0 < ab * c → 0 < ab → x * ab ≡ y * p → c * c' ≡ p → (pos x ≤ℤ (z *ℤ pos c')) ↔ (pos (y * c) ≤ℤ (z *ℤ pos ab))
+-- where a distance of x units is y over ab, and the area, which may be below zero, is z over c and so z * c' units, the distance
+-- is at most the area in units exactly where it is multiplied out
+within_scaled : (x y ab : ℕ) (z : ℤ) (c c' p : ℕ) → (p_pos : 0 < p) → (c'_pos : 0 < c') → (abc_pos : 0 < ab * c) → (ab_pos : 0 < ab)
+    → (distance_is : x * ab ≡ y * p) → (units_are : c * c' ≡ p) → (pos x ≤ℤ (z *ℤ pos c')) ↔ (pos (y * c) ≤ℤ (z *ℤ pos ab))
 within_scaled x y ab (pos n) c c' p p_pos c'_pos abc_pos ab_pos e f = (
   λ h. subst (λ w. pos (y * c) ≤ℤ w) (sym (pos-*ℤ-pos n ab)) (pos_le (y * c) (n * ab) (within_to x y ab n c c' p p_pos e f (le_pos x (n * c') (subst (λ w. pos x ≤ℤ w) (pos-*ℤ-pos n c') h)))),
   λ h. subst (λ w. pos x ≤ℤ w) (sym (pos-*ℤ-pos n c')) (pos_le x (n * c') (within_from x y ab n c c' p abc_pos e f (le_pos (y * c) (n * ab) (subst (λ w. pos (y * c) ≤ℤ w) (pos-*ℤ-pos n ab) h)))),
@@ -146,7 +151,8 @@ unfolding is_within
 is_within_is a b area = int_le_is (pos (distance a.digits a.scale b.digits b.scale * 10 ^ area.scale)) (area.digits *ℤ pos (10 ^ a.scale * 10 ^ b.scale))
 
 -- the comparison that the code makes holds exactly where the values are at most the area apart
-pub comparison_is_within : (a b area : Decimal) (x y : ℤ) → x ≡ pos (unsigned_abs (units a -ℤ units b)) → y ≡ units area → IsTrue (int_le x y) ↔ IsWithin (fraction a) (fraction b) (fraction area)
+pub comparison_is_within : (a b area : Decimal) (x y : ℤ) → x ≡ pos (unsigned_abs (units a -ℤ units b)) → y ≡ units area
+    → IsTrue (int_le x y) ↔ IsWithin (fraction a) (fraction b) (fraction area)
 comparison_is_within a b area x y e f =
     let w = within_units a b area in
     let t = int_le_is x y in (
@@ -161,6 +167,6 @@ compared_exact a b area x y e f =
     let t = is_within_is a b area in
     both_ways (int_le x y) (is_within a b area) (λ h. t.1 (c.0 h)) (λ h. c.1 (t.0 h))
 
--- two numbers of at most 10^37 are at most twice that apart
+-- two numbers of at most 10^37, either way from 0, are at most 2 * 10^37 apart
 pub apart_fits : (x y : ℤ) → unsigned_abs x ≤ 10 ^ 37 → unsigned_abs y ≤ 10 ^ 37 → unsigned_abs (x -ℤ y) ≤ 2 * 10 ^ 37
 apart_fits x y h k = omega (arith, ints)

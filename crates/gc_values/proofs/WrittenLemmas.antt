@@ -1,4 +1,4 @@
--- How the digits of a number are written, from the first on or from the last on.
+-- How the digits of a number are written, from the last on, and how many there are.
 use Rattle.std.proofs.Common.{◌≡◌, ℕ, zero, suc, ◌+◌, ◌-◌, ◌*◌, ◌/◌, ◌%◌, ◌^◌, ◌<◌, ◌≤◌, List, [], ◌∷◌, ◌++◌, length, map, refl, sym, ap, ◌∙◌, arith, lit<, lit≤, cond, eqb, length-append, append_assoc}
 use Rattle.std.proofs.Math.Nat.{pow-suc, div-div-eq-div-mul, div-one, mul_comm, mod-eq-sub-div-mul}
 use Rattle.std.proofs.Math.Arith.{mod-mul}
@@ -9,13 +9,7 @@ use Rattle.std.proofs.lemmas.Bool.{ne_eqb, cond_both}
 use Rattle.gc_values.specs.Written.{digits_text, last_digits, behind_text}
 use Rattle.gc_values.proofs.Powers.{ten_pow_pos}
 
--- taking p - 1 digits off a number, and then one more, is taking off p
-pub next_place : (n p : ℕ) → 0 < p → n / 10 ^ (p - 1) / 10 ≡ n / 10 ^ p
-next_place n p some =
-    let back : suc (p - 1) ≡ p = omega arith in
-    div-div-eq-div-mul n (10 ^ (p - 1)) 10 ∙ ap (λ x. n / x) (sym (pow-suc 10 (p - 1)) ∙ ap (λ e. 10 ^ e) back)
-
--- a number's digits are those of the number without its last digit, and then its last digit
+-- the digits of a number above 0 are those of the number without its last digit, and then its last digit
 pub digits_text_step : (x : ℕ) → 0 < x → digits_text x ≡ digits_text (x / 10) ++ (48 + x % 10) ∷ []
 digits_text_step x some = ap (map (λ d. 48 + d)) (digits_of_step 10 x (lit≤ tt) some) ∙ map-append (λ d. 48 + d) (digits_of 10 (x / 10)) (x % 10 ∷ [])
 
@@ -27,23 +21,6 @@ length-digits_text x k h = omega (arith, length-map (digits_of 10 x) (λ d. 48 +
 pub length-last_digits : (k n : ℕ) → length (last_digits k n) ≡ k
 length-last_digits zero n = refl
 length-last_digits (suc k) n = omega (arith, length-append (last_digits k (n / 10)) ((48 + n % 10) ∷ []), length-last_digits k (n / 10))
-
--- A step of writing the number n from its first digit on: where all digits but the last p follow `old`, the next one joins
--- them.
-pub digits_more : (old out new : List ℕ) (n p : ℕ) → 0 < p → 0 < n / 10 ^ (p - 1) → out ≡ old ++ digits_text (n / 10 ^ p)
-    → new ≡ out ++ (48 + n / 10 ^ (p - 1) % 10) ∷ [] → new ≡ old ++ digits_text (n / 10 ^ (p - 1))
-digits_more old out new n p some rest e f =
-    f ∙ ap (λ xs. xs ++ (48 + n / 10 ^ (p - 1) % 10) ∷ []) e ∙ append_assoc old (digits_text (n / 10 ^ p)) ((48 + n / 10 ^ (p - 1) % 10) ∷ []) ∙ ap (λ xs. old ++ xs)
-    (ap (λ x. digits_text x ++ (48 + n / 10 ^ (p - 1) % 10) ∷ []) (sym (next_place n p some)) ∙ sym (digits_text_step (n / 10 ^ (p - 1)) rest))
-
--- A step of writing the last k digits of n from the first of them on: where all but the last p follow `old`, the next one
--- joins them.
-pub last_more : (old out new : List ℕ) (n k p : ℕ) → 0 < p → p ≤ k → out ≡ old ++ last_digits (k - p) (n / 10 ^ p)
-    → new ≡ out ++ (48 + n / 10 ^ (p - 1) % 10) ∷ [] → new ≡ old ++ last_digits (k - (p - 1)) (n / 10 ^ (p - 1))
-last_more old out new n k p some within e f =
-    let more : k - (p - 1) ≡ suc (k - p) = omega arith in
-    f ∙ ap (λ xs. xs ++ (48 + n / 10 ^ (p - 1) % 10) ∷ []) e ∙ append_assoc old (last_digits (k - p) (n / 10 ^ p)) ((48 + n / 10 ^ (p - 1) % 10) ∷ []) ∙ ap (λ xs. old ++ xs)
-    (ap (λ x. last_digits (k - p) x ++ (48 + n / 10 ^ (p - 1) % 10) ∷ []) (sym (next_place n p some)) ∙ ap (λ j. last_digits j (n / 10 ^ (p - 1))) (sym more))
 
 -- the last k + 1 digits of a number are its last one, and before it the last k of the others
 mod_over : (n k : ℕ) → n % 10 ^ suc k ≡ n / 10 % 10 ^ k * 10 + n % 10
@@ -61,7 +38,7 @@ others_over n k = omega (arith, mod_over n k)
 div_over : (n k : ℕ) → n / 10 / 10 ^ k ≡ n / 10 ^ suc k
 div_over n k = div-div-eq-div-mul n 10 (10 ^ k) ∙ ap (λ p. n / p) (mul_comm 10 (10 ^ k) ∙ sym (pow-suc 10 k))
 
--- the last j + k digits are j digits, and then the last k
+-- the last j + k digits of n are the last j of n / 10^k, and then the last k of n % 10^k
 pub last_digits-split : (j k n : ℕ) → last_digits (j + k) n ≡ last_digits j (n / 10 ^ k) ++ last_digits k (n % 10 ^ k)
 last_digits-split j zero n =
     let none : j + 0 ≡ j = omega arith in
@@ -76,7 +53,8 @@ last_digits-split j (suc k) n =
     ∙ append_assoc (last_digits j (n / 10 ^ suc k)) (last_digits k (n % 10 ^ suc k / 10)) ((48 + n % 10) ∷ [])
     ∙ ap (λ d. last_digits j (n / 10 ^ suc k) ++ (last_digits k (n % 10 ^ suc k / 10) ++ (48 + d) ∷ [])) (sym (last_over n k))
 
--- the last k digits put in front, and then the others before them, are the last `count` digits
+-- where k is at most `count`, the last k digits of n put in front of `old`, and then the `count - k` digits before them put in
+-- front of these, make the last `count` digits of n in front of `old`
 pub two_runs : (old back out : List ℕ) (n count k : ℕ) → k ≤ count → back ≡ last_digits k (n - n / 10 ^ k * 10 ^ k) ++ old
     → out ≡ last_digits (count - k) (n / 10 ^ k) ++ back → out ≡ last_digits count n ++ old
 two_runs old back out n count k within e f =
@@ -103,18 +81,23 @@ div_more n k =
     let power : 10 ^ (k + 1) ≡ 10 ^ k * 10 = ap (λ e. 10 ^ e) (let e : k + 1 ≡ suc k = omega arith in e) ∙ pow-suc 10 k in
     div-div-eq-div-mul n (10 ^ k) 10 ∙ ap (λ x. n / x) (sym power)
 
--- a step of putting the last digits of n before `old`: where the last k are there, the one before them is put in front
-pub put_more : (old self new : List ℕ) (n k rest : ℕ) → self ≡ last_digits k n ++ old → rest ≡ n / 10 ^ k → new ≡ (48 + rest % 10) ∷ self → new ≡ last_digits (k + 1) n ++ old
+-- a step of putting the last digits of n before `old`: where `self` is the last k digits and then `old`, and the digit before
+-- these k is put in front of `self`, `new` is the last k + 1 digits and then `old`
+pub put_more : (old self new : List ℕ) (n k rest : ℕ) → self ≡ last_digits k n ++ old → rest ≡ n / 10 ^ k → new ≡ (48 + rest % 10) ∷ self
+    → new ≡ last_digits (k + 1) n ++ old
 put_more old self new n k rest e r f =
     f ∙ ap (λ x. (48 + x % 10) ∷ self) r ∙ ap (λ xs. (48 + n / 10 ^ k % 10) ∷ xs) e ∙ ap (λ ds. ds ++ old) (sym (last_digits-front k n))
 
--- a step of putting a number's digits in front, from the last on: the digits that are left, and then what was put, are `all`
-pub whole_more : (all self new : List ℕ) (rest : ℕ) → 0 < rest → digits_text rest ++ self ≡ all → new ≡ (48 + rest % 10) ∷ self → digits_text (rest / 10) ++ new ≡ all
+-- a step of putting digits in front, from the last on, where those of `rest`, which is above 0, are left to be put: if these and
+-- then `self` are `all`, and the last of them is put in front of `self`, those of rest / 10 and then `new` are `all`
+pub whole_more : (all self new : List ℕ) (rest : ℕ) → 0 < rest → digits_text rest ++ self ≡ all → new ≡ (48 + rest % 10) ∷ self
+    → digits_text (rest / 10) ++ new ≡ all
 whole_more all self new rest some e f =
     ap (λ xs. digits_text (rest / 10) ++ xs) f ∙ sym (append_assoc (digits_text (rest / 10)) ((48 + rest % 10) ∷ []) self) ∙ ap (λ ds. ds ++ self) (sym (digits_text_step rest some)) ∙ e
 
--- while digits of a number below 10^14 are left, there is room for one more
-pub whole_room : (old self : List ℕ) (n rest : ℕ) → digits_text rest ++ self ≡ digits_text n ++ old → n < 10 ^ 14 → 0 < rest → length old + 14 ≤ 40 → length self < 40
+-- while digits of a number below 10^14 are left, there is room for one more in 40 bytes, of which 14 were free before the number
+pub whole_room : (old self : List ℕ) (n rest : ℕ) → digits_text rest ++ self ≡ digits_text n ++ old → n < 10 ^ 14 → 0 < rest
+    → length old + 14 ≤ 40 → length self < 40
 whole_room old self n rest e small some room =
     omega (
       arith,
@@ -133,7 +116,7 @@ behind_short s m n xs some e f =
     f ∙ append-nil (last_digits s n) ∙ ap (last_digits s) e ∙ sym (last_digits-below s m)
     ∙ ap (λ b. cond b (48 ∷ []) (last_digits s (m % 10 ^ s))) (sym (ne_eqb s 0 (λ h. omega (arith, h, some))))
 
--- at most 24 digits follow the point
+-- where there are at most 24 places, at most 24 digits follow the point
 pub length-behind_text : (s n : ℕ) → s ≤ 24 → length (behind_text s n) ≤ 24
 length-behind_text s n few = cond_both (eqb s 0) (48 ∷ []) (last_digits s n) (λ ds. length ds ≤ 24) (λ _. lit≤ tt) (λ _. omega (arith, length-last_digits s n))
 

@@ -17,7 +17,7 @@ use Rattle.gc_values.proofs.Rounded.{exact_rounds}
 use Rattle.gc_values.proofs.Signs.{signed-mul}
 use Rattle.gc_values.proofs.WrittenLemmas.{digits_text_step, length-last_digits}
 
--- '0' and a number below ten are a digit
+-- 48, the byte '0', plus a number below ten is a digit
 a_digit : (d : ℕ) → d < 10 → IsDigit (48 + d)
 a_digit d h = (omega arith, omega arith)
 
@@ -73,7 +73,7 @@ writes_whole n = elim (eqb_tells n 0) [
   })
 ]
 
--- the last s digits of a number below 10^s write it
+-- for s above 0, the last s digits of a number below 10^s write it
 writes_behind : (s n : ℕ) → n < 10 ^ s → 0 < s → NamesNumber (last_digits s n) n
 writes_behind s n h some = record { digits = AreDigits-last_digits s n; some = omega (arith, length-last_digits s n); value = sym (number-last_digits s n h) }
 
@@ -106,7 +106,8 @@ is_fraction_text a s = elim (eqb_tells s 0) [
   | inr some ↦ subst (λ xs. IsFractionText a s xs) (ap (λ b. cond b (48 ∷ []) (last_digits s (a % 10 ^ s))) (sym some.0)) (fraction_text_some a s (pos_of_ne-zero some.1))
 ]
 
--- a sign, the digits before the point, a point and the digits after it spell the decimal
+-- where m, a number with the sign `sign` and the magnitude a, needs all its places s, at most 24, its sign, the digits before the
+-- point, a point and the digits after it spell m / 10^s
 parts_spell : (sign : Sign) (m : ℤ) (s : ℕ) (a : ℕ) → m ≡ signed (is_minus sign) a → IsCanonical m s → s ≤ 24 →
     Spells (sign_text sign ++ (whole_text (a / 10 ^ s) ++ (46 ∷ behind_text s (a % 10 ^ s)))) m s
 parts_spell sign m s a m_is canonical places =

@@ -6,8 +6,8 @@ use Rattle.gc_values.specs.declared.fault.ValueFault.TheVariants.{Count}
 use Rattle.gc_values.specs.declared.value.Kind.{Kind}
 use Rattle.gc_values.specs.declared.value.Value.{Value}
 
--- no parameter asked for so far had a fault (`fault` is that of the first that had one), and the items from `place` on read as these
--- values
+-- each parameter asked for so far was there and had no fault (`fault` is that of the first that had one), and the items from
+-- `place` on read as these values
 pub record AreItemsReadFrom (items : List (List ℕ)) (place : ℕ) (fault : Option ValueFault) (vs : List Value) : Type 0 where
   pub well : fault ≡ None
   pub within : place ≤ length items
@@ -18,19 +18,21 @@ abbrev pub IsFoundOrFirstFault : (found : Option ValueFault) (ks : List Kind) (i
 IsFoundOrFirstFault (Some kept) ks items e = e ≡ kept
 IsFoundOrFirstFault None ks items e = FirstFault ks items e
 
--- why the items from this place on aren't of these kinds: there are more or fewer, or else the first fault
+-- the fault of a list that was read up to `place`, if it is asked for items of these kinds from there on: that there are more or fewer
+-- items than kinds; or else the first fault, which is that of an item before the place, where one had a fault (`fault`), or is found
+-- in the items from there on (`IsFoundOrFirstFault`)
 pub data IsFaultFrom (items : List (List ℕ)) (place : ℕ) (fault : Option ValueFault) (ks : List Kind) (e : ValueFault) : Type 0 where
   wrong_count : e ≡ Count → length ks + place ≢ length items → IsFaultFrom items place fault ks e
   first_fault : length ks + place ≡ length items → IsFoundOrFirstFault fault ks (drop place items) e → IsFaultFrom items place fault ks e
 
 -- where the list was split into items, those from this place on read as the values, as `AreItemsReadFrom` has it; a list that was refused
 -- as a whole isn't read as any values
-abbrev pub ReadsFrom : Result (List (List ℕ)) ValueFault → ℕ → Option ValueFault → List Value → Type 0
+abbrev pub ReadsFrom : (split : Result (List (List ℕ)) ValueFault) → (place : ℕ) → (fault : Option ValueFault) → (vs : List Value) → Type 0
 ReadsFrom (Ok items) place fault vs = AreItemsReadFrom items place fault vs
 ReadsFrom (Err refusal) place fault vs = ⊥
 
 -- where the list was split into items, the fault of those from this place on, as `IsFaultFrom` has it; of a list that was refused
 -- as a whole, that refusal
-abbrev pub FailsFrom : Result (List (List ℕ)) ValueFault → ℕ → Option ValueFault → List Kind → ValueFault → Type 0
+abbrev pub FailsFrom : (split : Result (List (List ℕ)) ValueFault) → (place : ℕ) → (fault : Option ValueFault) → List Kind → ValueFault → Type 0
 FailsFrom (Ok items) place fault ks e = IsFaultFrom items place fault ks e
 FailsFrom (Err refusal) place fault ks e = e ≡ refusal

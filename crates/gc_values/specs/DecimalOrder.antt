@@ -35,7 +35,7 @@ zeros_once m p n s k t v w = elim (cases_order s t) [
   ]
 ]
 
--- where m / 10^s has at most 24 places and needs them all, m is its number of units of 10^-24 without the zeros at the end
+-- where m / 10^s has at most 24 places and needs them all, it is m * 10^(24 - s) over 10^24 without the zeros at its end
 units_without_zeros : (m s : ℕ) → s ≤ 24 → (0 < s → m % 10 ≡ 0 → ⊥) → WithoutZeros (m * 10 ^ (24 - s)) 24 m s
 units_without_zeros m s places canonical =
     let back : 24 - s + s ≡ 24 = omega arith in
@@ -53,7 +53,7 @@ cancel (negsuc a) (pos b) p some size e =
     let there : neg_ℤ (pos (suc a * p)) ≡ pos (b * p) = sym (negsuc-*ℤ-pos a p) ∙ e ∙ pos-*ℤ-pos b p in
     absurd (omega (arith, ints, there))
 
--- equal values have equal digits and scales
+-- decimals of equal values have equal digits and scales
 pub units_once : (a b : Decimal) → units a ≡ units b → (a.digits ≡ b.digits) × (a.scale ≡ b.scale)
 units_once a b e =
     let size : unsigned_abs a.digits * 10 ^ (24 - a.scale) ≡ unsigned_abs b.digits * 10 ^ (24 - b.scale) =

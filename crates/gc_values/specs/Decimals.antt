@@ -13,16 +13,22 @@ use Rattle.gc_values.specs.RoundedFacts.{decimal_few, decimal_in_range, decimal_
 abbrev pub fraction : Decimal → Fraction
 fraction d = record { n = d.digits; k = d.scale }
 
--- the decimal with these digits and this scale
+-- the decimal with these digits and this scale, which pass the test `is_decimal`
 abbrev pub decimal : (m : ℤ) (s : ℕ) → IsTrue (is_decimal m s) → Decimal
-decimal m s h = record { digits = m; scale = s; has_few_places = decimal_few m s h; is_in_range = decimal_in_range m s h; is_canonical = decimal_canonical m s h }
+decimal m s h = record {
+  digits = m;
+  scale = s;
+  has_few_places = decimal_few m s h;
+  is_in_range = decimal_in_range m s h;
+  is_canonical = decimal_canonical m s h;
+}
 
 -- the decimal 0.0
 abbrev pub zero : Decimal
 zero = record { digits = pos 0; scale = 0; has_few_places = zero_few; is_in_range = zero_in_range; is_canonical = zero_canonical }
 
 -- the decimal rounded to at most p places, half away from zero, as the law `rounded_is_the_rounding` says
-unfoldable pub rounded : Decimal → ℕ → Decimal
+unfoldable pub rounded : (d : Decimal) → (p : ℕ) → Decimal
 rounded d p = record {
   digits = signed (is_negative d.digits) (rounded_to (unsigned_abs d.digits) d.scale p).digits;
   scale = (rounded_to (unsigned_abs d.digits) d.scale p).places;
@@ -36,7 +42,7 @@ abbrev pub units : Decimal → ℤ
 units d = units_of d.digits d.scale
 
 -- what `==` returns: whether digits and scale are the same
-abbrev pub decimal_eq : Decimal → Decimal → Bool
+abbrev pub decimal_eq : (a b : Decimal) → Bool
 decimal_eq a b = int_eq a.digits b.digits && (a.scale == b.scale)
 
 -- how two decimals compare: as their values do
@@ -44,8 +50,9 @@ abbrev pub decimal_cmp : Decimal → Decimal → Ordering
 decimal_cmp = on units int_cmp
 
 -- whether a and b are at most the distance `area` apart; never, where `area` is below zero
-unfoldable pub is_within : Decimal → Decimal → Decimal → Bool
-is_within a b area = int_le (pos (distance a.digits a.scale b.digits b.scale * 10 ^ area.scale)) (area.digits *ℤ pos (10 ^ a.scale * 10 ^ b.scale))
+unfoldable pub is_within : (a b area : Decimal) → Bool
+is_within a b area =
+    int_le (pos (distance a.digits a.scale b.digits b.scale * 10 ^ area.scale)) (area.digits *ℤ pos (10 ^ a.scale * 10 ^ b.scale))
 
 -- where the text spells a decimal, the result is this decimal
 abbrev pub GivesSpelled : {E : Type 0} → (text : List ℕ) → Result Decimal E → Type 0

@@ -30,14 +30,14 @@ is_close most x y = int_le (pos (unsigned_abs (x -ℤ y))) most
 abbrev pub is_close_turned : (most turns x y : ℤ) → Bool
 is_close_turned most turns x y = is_close most (x +ℤ turns *ℤ turn) y
 
--- whether x and y are at most `most` apart on the circle: for some number of turns from -2 to 2
+-- whether x and y are at most `most` apart on the circle: `is_close_turned` is true for some number of turns from -2 to 2
 abbrev pub is_close_on_circle : (most x y : ℤ) → Bool
 is_close_on_circle most x y =
     is_close_turned most (negsuc 1) x y || (is_close_turned most (negsuc 0) x y || (is_close_turned most (pos 0) x y
     || (is_close_turned most (pos 1) x y || is_close_turned most (pos 2) x y)))
 
 -- whether a direction is near a place: both of its angles, as face I has them, are at most the tolerance away
-unfoldable pub is_near : Direction → Direction → Decimal → Bool
+unfoldable pub is_near : (d place : Direction) → (tolerance : Decimal) → Bool
 is_near d place tolerance =
     is_close (units tolerance) (v_in_face_one d) (units place.v) && is_close_on_circle (units tolerance) (hz_in_face_one d) (units place.hz)
 

@@ -21,8 +21,8 @@ signed true m = neg_ℤ (pos m)
 abbrev pub SameValue : (m : ℤ) (s : ℕ) (n : ℤ) (k : ℕ) → Type 0
 SameValue m s n k = m *ℤ pos (10 ^ k) ≡ n *ℤ pos (10 ^ s)
 
--- the value of the first fraction is below that of the second
-abbrev pub IsBelow : Fraction → Fraction → Type 0
+-- the value of a is below that of b
+abbrev pub IsBelow : (a b : Fraction) → Type 0
 IsBelow a b = (a.n *ℤ pos (10 ^ b.k)) <ℤ (b.n *ℤ pos (10 ^ a.k))
 
 -- m / 10^s has no place more than it needs
@@ -41,8 +41,8 @@ is_decimal m s = nat_le s 24 && (nat_le (unsigned_abs m) (10 ^ 13 * 10 ^ s) && (
 abbrev pub distance : (m : ℤ) (s : ℕ) (n : ℤ) (k : ℕ) → ℕ
 distance m s n k = unsigned_abs (m *ℤ pos (10 ^ k) -ℤ n *ℤ pos (10 ^ s))
 
--- m / 10^s is q rounded to p places: it has no place more than it needs, and at most p; no whole number of 10^-p is nearer to q, and
--- of two that are equally near m / 10^s is the one further from 0
+-- m / 10^s is q rounded to p places: m / 10^s has no place more than it needs, and at most p; no other number of at most p places
+-- is nearer to q; and where another one is equally near to q, m / 10^s is further from 0 than the other
 pub record IsRounded (q : Fraction) (p : ℕ) (m : ℤ) (s : ℕ) : Type 0 where
   pub canonical : IsCanonical m s
   pub places : s ≤ p

@@ -50,7 +50,7 @@ HasNoForm kind.Byte item = IsNoByte item
 HasNoForm kind.Bool item = NamesNoWhole item
 HasNoForm kind.Text item = IsNoString item
 
--- the item has the form of the kind, and its value isn't in the kind's range
+-- the item has the form of the kind, and its value isn't in the kind's range; of a byte that is never so
 abbrev pub IsBeyond : Kind → List ℕ → Type 0
 IsBeyond kind.Double item = SpellsBeyond item
 IsBeyond kind.Long item = NamesWholeBeyond 2147483648 2147483647 item

@@ -2,12 +2,12 @@
 use Rattle.std.specs.Prelude.{ℕ, ◌+◌, ◌-◌, ◌*◌, ◌^◌, List, length, take, nat_le, slice_index_or, if◌then◌else◌}
 use Rattle.gc_values.specs.Digits.{number}
 
--- the digit at place i, and 0 after the last one
+-- the digit at place i, counted from 0, and 0 after the last one
 abbrev pub digit_or_zero : (ds : List ℕ) (i : ℕ) → ℕ
 digit_or_zero ds i = slice_index_or ds i 48 - 48
 
 -- the number that the first i digits write, with a zero for each digit that is missing
-unfoldable pub kept : List ℕ → ℕ → ℕ
+unfoldable pub kept : (ds : List ℕ) (i : ℕ) → ℕ
 kept ds i = number (take i ds) * 10 ^ (i - length ds)
 
 -- what a digit adds to the place before it by rounding: 1 from 5 on, else 0

@@ -30,7 +30,8 @@ pub record AreParams (params : List ℕ) (values : List Value) : Type 0 where
 abbrev pub FirstFault : List Kind → List (List ℕ) → ValueFault → Type 0
 FirstFault [] items e = ⊥
 FirstFault (k ∷ ks) [] e = ⊥
-FirstFault (k ∷ ks) (item ∷ items) e = IsItemFault k item e ⊎ ((v : Value) × (kind_of v ≡ k) × IsItem item v × FirstFault ks items e)
+FirstFault (k ∷ ks) (item ∷ items) e =
+    IsItemFault k item e ⊎ ((v : Value) × (kind_of v ≡ k) × IsItem item v × FirstFault ks items e)
 
 -- why the items aren't values of the kinds, one for one: there are more than 16, else not as many as kinds, else the first item with a
 -- fault has this one
@@ -44,10 +45,11 @@ pub data IsListFault (kinds : List Kind) (params : List ℕ) (e : ValueFault) : 
   open_quote : e ≡ OpenQuote → HasOpenQuote params → IsListFault kinds params e
   faulty_items : (items : List (List ℕ)) → IsParams params items → IsItemsFault kinds items e → IsListFault kinds params e
 
--- each value lies in its kind's range
+-- each value is one that its kind allows, as `IsValue` has it
 abbrev pub AreValues : List Value → Type 0
 AreValues values = AllByRecursion IsValue values
 
 -- the parameters are read as values of the kinds, or have a fault
 abbrev pub IsListReadOrFaulty : List Kind → List ℕ → Type 0
-IsListReadOrFaulty kinds params = ((vs : List Value) × (kinds_of vs ≡ kinds) × AreParams params vs) ⊎ ((e : ValueFault) × IsListFault kinds params e)
+IsListReadOrFaulty kinds params =
+    ((vs : List Value) × (kinds_of vs ≡ kinds) × AreParams params vs) ⊎ ((e : ValueFault) × IsListFault kinds params e)

@@ -1,20 +1,15 @@
--- No part of a promise: how the rounding of `Fraction` is computed.
-use Rattle.std.specs.Prelude.{◌≡◌, ℕ, ◌+◌, ◌-◌, ◌*◌, ◌/◌, ◌^◌, ◌<◌, ◌≤◌, min, ℤ, Bool}
+-- No part of a promise: how the rounding of `Fraction` is computed. `gap a b` is how far a and b are apart. `half_up a b` is the whole
+-- number nearest to a / b, for b above 0, and of two that are equally near the greater one, as `RoundsHalfUp` has it.
+use Rattle.std.specs.Prelude.{◌≡◌, ℕ, ◌-◌, ◌*◌, ◌^◌, ◌<◌, ◌≤◌, min, ℤ, Bool}
+pub use Rattle.std.specs.Float.{ratio_round_half_up as half_up}
+pub use Rattle.std.specs.Int.{abs_diff as gap}
 use Rattle.gc_values.specs.Fraction.{signed}
 use Rattle.gc_values.specs.Zeros.{WithoutZeros, Placed, stripped}
-
--- how far a and b are apart
-abbrev pub gap : (a b : ℕ) → ℕ
-gap a b = (a - b) + (b - a)
 
 -- m is the whole number nearest to a / b, and of two that are equally near the greater one
 pub record RoundsHalfUp (a b m : ℕ) : Type 0 where
   pub near : 2 * gap a (m * b) ≤ b
   pub tie : 2 * gap a (m * b) ≡ b → a < m * b
-
--- the whole number nearest to a / b, for b above 0, and of two that are equally near the greater one, as `RoundsHalfUp` has it
-abbrev pub half_up : (a b : ℕ) → ℕ
-half_up a b = (2 * a + b) / (2 * b)
 
 -- a / 10^k, rounded to 24 places, is m / 10^p for some m, and `units` is m, or the cap where m is above it
 pub record IsRoundedWithCap (a k cap units p : ℕ) : Type 0 where

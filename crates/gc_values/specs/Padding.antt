@@ -14,7 +14,8 @@ pub record IsZeroPadded (t : Inside) : Type 0 where
 
 -- the used bytes, with zeros after them up to 64 bytes, are the text again
 pub padded_back : (t : Inside) → IsZeroPadded t
-    → (let back : Inside = record { bytes = take t.len t.bytes ++ replicate (64 - length (take t.len t.bytes)) 0; len = length (take t.len t.bytes) } in back ≡ t)
+    → (let back : Inside = record { bytes = take t.len t.bytes ++ replicate (64 - length (take t.len t.bytes)) 0; len = length (take t.len t.bytes) } in
+    back ≡ t)
 padded_back t kept =
     let few = kept.few in
     let long = kept.long in

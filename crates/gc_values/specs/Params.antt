@@ -1,6 +1,6 @@
 -- Parameter lists: parameters between commas, and strings in double quotes, as in the GeoCOM manual's chapter on the ASCII
 -- protocol. That spaces round a parameter don't count is this project's own.
-use Rattle.std.specs.Prelude.{◌≡◌, ℕ, ◌%◌, ◌<◌, ◌≤◌, ◌==◌, List, [], ◌∷◌, ◌++◌, length, replicate, count_by, Result, Ok}
+use Rattle.std.specs.Prelude.{◌≡◌, ℕ, ◌+◌, ◌%◌, ◌<◌, ◌≤◌, ◌==◌, List, [], ◌∷◌, ◌++◌, length, replicate, count_by, Result, Ok}
 use Rattle.std.specs.List.{flat_map}
 
 -- how many double quotes are in the bytes
@@ -40,8 +40,8 @@ pub record IsPadded (piece item : List ℕ) : Type 0 where
   pub behind : ℕ
   pub piece_is : piece ≡ replicate before 32 ++ (item ++ replicate behind 32)
 
--- the pieces are the parameters, one for one, with any spaces round each
-abbrev pub ArePieces : List (List ℕ) → List (List ℕ) → Type 0
+-- the pieces are the items, which are parameters, one for one, with any spaces round each
+abbrev pub ArePieces : (pieces items : List (List ℕ)) → Type 0
 ArePieces [] [] = Unit {0}
 ArePieces [] (item ∷ items) = ⊥
 ArePieces (piece ∷ pieces) [] = ⊥
@@ -51,6 +51,11 @@ ArePieces (piece ∷ pieces) (item ∷ items) = IsPadded piece item × IsParam i
 abbrev pub joined : List (List ℕ) → List ℕ
 joined [] = []
 joined (t ∷ ts) = t ++ flat_map (λ u. 44 ∷ u) ts
+
+-- how many bytes texts have together
+abbrev pub bytes_in : (texts : List (List ℕ)) → ℕ
+bytes_in [] = 0
+bytes_in (text ∷ texts) = length text + bytes_in texts
 
 -- the bytes are the parameters joined by commas, with any spaces round each, and have a byte that is no space
 pub record AreJoined (bytes : List ℕ) (items : List (List ℕ)) : Type 0 where

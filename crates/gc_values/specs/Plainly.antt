@@ -10,7 +10,7 @@ use Rattle.gc_values.specs.declared.decimal.Decimal.{Decimal}
 use Rattle.gc_values.specs.declared.value.Value.{Value}
 
 -- the text is an item with nothing round it, and what follows its comma, if there is one
-abbrev pub IsItemAndRest : List ℕ → List ℕ → Option (List ℕ) → Type 0
+abbrev pub IsItemAndRest : (text item : List ℕ) → (rest : Option (List ℕ)) → Type 0
 IsItemAndRest text item None = text ≡ item
 IsItemAndRest text item (Some rest) = text ≡ item ++ 44 ∷ rest
 
@@ -49,12 +49,13 @@ pub record ArePlain (text : List ℕ) (vs : List Value) : Type 0 where
   pub some : AllByRecursion (λ item. 0 < length item) (first ∷ more)
   pub read : AreItems (first ∷ more) vs
 
--- the text that is left of a list is read as the values; where none is left, there are no values
+-- the text that is left of a list is read as the values. `None`: the list's end was reached, and there are no values. An empty
+-- text, which a comma at the end leaves, isn't read as any values
 abbrev pub LeftPlain : Option (List ℕ) → List Value → Type 0
 LeftPlain None vs = vs ≡ []
 LeftPlain (Some text) vs = ArePlain text vs
 
--- all that was asked for so far was read, and the text that is left is read as these values
+-- all that was asked for so far was read (`good`), and the text that is left, `rest`, is read as these values (`LeftPlain`)
 pub record ReadsPlainly (good : Bool) (rest : Option (List ℕ)) (vs : List Value) : Type 0 where
   pub well : good ≡ true
   pub left : LeftPlain rest vs

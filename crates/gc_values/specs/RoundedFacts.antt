@@ -21,7 +21,7 @@ one_more : (m s n t : ℕ) → m % 10 ≡ 0 → WithoutZeros (m / 10) s n t → 
 one_more m s n t whole w = record { same = zero_back m s n t whole w.same; fewer = let f = w.fewer in omega (arith, f); canonical = w.canonical }
 
 -- r is m / 10^s without the zeros at its end
-abbrev Stripped : ℕ → ℕ → Placed → Type 0
+abbrev Stripped : (m s : ℕ) → (r : Placed) → Type 0
 Stripped m s r = WithoutZeros m s r.digits r.places
 
 -- `stripped` takes off the zeros at the end, and changes no value
@@ -40,11 +40,11 @@ stripped_is m (suc s) = elim (eqb_tells (m % 10) 0) [
 near_from : (a b m r : ℕ) → 0 < b → m * (2 * b) + r ≡ 2 * a + b → r < 2 * b → RoundsHalfUp a b m
 near_from a b m r some whole rest = record { near = omega arith; tie = λ h. omega arith }
 
--- `half_up` gives the nearest whole number
+-- `half_up a b` is the whole number nearest to a / b, for b above 0, as `RoundsHalfUp` has it
 pub half_up_rounds : (a b : ℕ) → 0 < b → RoundsHalfUp a b (half_up a b)
 half_up_rounds a b some = near_from a b (half_up a b) ((2 * a + b) % (2 * b)) some (div-add-mod' (2 * a + b) (2 * b)) (mod-lt (2 * a + b) (omega arith))
 
--- if a is at most n times b, a / b rounds to at most n
+-- for b above 0: where a is at most n times b, a / b rounds to at most n
 pub rounds_bound : (a b m n : ℕ) → 0 < b → RoundsHalfUp a b m → a ≤ n * b → m ≤ n
 rounds_bound a b m n some r h =
     let near : 2 * gap a (m * b) ≤ b = r.near in
@@ -60,18 +60,18 @@ rounds_bound a b m n some r h =
 pub ten_pow_pos : (k : ℕ) → 0 < 10 ^ k
 ten_pow_pos k = one-le-pow k 10 (lit< tt)
 
--- a number with a sign has its magnitude
+-- the number that `signed` makes of a magnitude has this magnitude
 pub unsigned_abs-signed : (b : Bool) (m : ℕ) → unsigned_abs (signed b m) ≡ m
 unsigned_abs-signed false m = refl
 unsigned_abs-signed true zero = refl
 unsigned_abs-signed true (suc m) = refl
 
--- zeros at the end don't change the range
+-- a number in range stays so without the zeros at its end
 pub zeros_in_range : (m s n t : ℕ) → WithoutZeros m s n t → m ≤ 10 ^ 13 * 10 ^ s → n ≤ 10 ^ 13 * 10 ^ t
 zeros_in_range m s n t w h =
     le_of_mul-le-mul_right {m = n} {n = 10 ^ 13 * 10 ^ t} {k = 10 ^ s} (omega (arith, w.same, mul-le-mul_right {m = m} {n = 10 ^ 13 * 10 ^ s} (10 ^ t) h)) (ten_pow_pos s)
 
--- where a / 10^s is in range, a is at most 10^13 * 10^p * 10^(s - p): the bound, with 10^s cut in two at p
+-- where a / 10^s is in range and p is at most s, a is at most 10^13 * 10^p * 10^(s - p): the bound, with 10^s cut in two at p
 pub places_in_range : (a s p : ℕ) → p ≤ s → a ≤ 10 ^ 13 * 10 ^ s → a ≤ 10 ^ 13 * 10 ^ p * 10 ^ (s - p)
 places_in_range a s p places h =
     let back : p + (s - p) ≡ s = omega arith in
@@ -86,7 +86,7 @@ rounded_to_zeros m s p = stripped_is (half_up m (10 ^ (s - p))) (min s p)
 pub rounded_few : (m s p : ℕ) → s ≤ 24 → (rounded_to m s p).places ≤ 24
 rounded_few m s p h = let w = (rounded_to_zeros m s p).fewer in omega (arith, w)
 
--- what is left of s without the lesser of s and p is what is left of it without p: 0 where p is the greater
+-- s less the lesser of s and p is s less p, which is 0 where p is the greater
 min_off : (s p : ℕ) → s - min s p ≡ s - p
 min_off s p = omega arith
 
@@ -124,25 +124,28 @@ pub decimal_few : (m : ℤ) (s : ℕ) → is_decimal m s ≡ true → s ≤ 24
 decimal_few m s h = leb-true s 24 (first_so (nat_le s 24) (nat_le (unsigned_abs m) (10 ^ 13 * 10 ^ s) && (s == 0 || not (unsigned_abs m % 10 == 0))) h)
 
 -- where the test `is_decimal` holds, what it tests after the number of places holds
-rest_of_test : (m : ℤ) (s : ℕ) → is_decimal m s ≡ true → (nat_le (unsigned_abs m) (10 ^ 13 * 10 ^ s) && (s == 0 || not (unsigned_abs m % 10 == 0))) ≡ true
+rest_of_test : (m : ℤ) (s : ℕ) → is_decimal m s ≡ true
+    → (nat_le (unsigned_abs m) (10 ^ 13 * 10 ^ s) && (s == 0 || not (unsigned_abs m % 10 == 0))) ≡ true
 rest_of_test m s h = second_so (nat_le s 24) (nat_le (unsigned_abs m) (10 ^ 13 * 10 ^ s) && (s == 0 || not (unsigned_abs m % 10 == 0))) h
 
 -- where the test `is_decimal` holds, the value is in range
 pub decimal_in_range : (m : ℤ) (s : ℕ) → is_decimal m s ≡ true → IsInRange m s
-decimal_in_range m s h = leb-true (unsigned_abs m) (10 ^ 13 * 10 ^ s) (first_so (nat_le (unsigned_abs m) (10 ^ 13 * 10 ^ s)) (s == 0 || not (unsigned_abs m % 10 == 0)) (rest_of_test m s h))
+decimal_in_range m s h =
+    leb-true (unsigned_abs m) (10 ^ 13 * 10 ^ s)
+    (first_so (nat_le (unsigned_abs m) (10 ^ 13 * 10 ^ s)) (s == 0 || not (unsigned_abs m % 10 == 0)) (rest_of_test m s h))
 
 -- a number of places above 0 fails the test for 0
 some_places : (s : ℕ) → 0 < s → (s == 0) ≡ false
 some_places s some = elim (eqb_tells s 0) [ inl none ↦ absurd (let e = none.1 in omega (arith, e)) | inr more ↦ more.0 ]
 
--- where a or not b holds, b can't hold without a
-no_zero : (a b : Bool) → (a || not b) ≡ true → a ≡ false → b ≡ true → ⊥
-no_zero true b h e f = absurd (cc)
-no_zero false true h e f = absurd (cc)
-no_zero false false h e f = absurd (cc)
+-- where the test `a || not b` holds and a doesn't, b doesn't either
+or_not_excludes : (a b : Bool) → (a || not b) ≡ true → a ≡ false → b ≡ true → ⊥
+or_not_excludes true b h e f = absurd (cc)
+or_not_excludes false true h e f = absurd (cc)
+or_not_excludes false false h e f = absurd (cc)
 
 -- where the test `is_decimal` holds, there is no place more than the value needs
 pub decimal_canonical : (m : ℤ) (s : ℕ) → is_decimal m s ≡ true → IsCanonical m s
 decimal_canonical m s h some divides =
     let last = second_so (nat_le (unsigned_abs m) (10 ^ 13 * 10 ^ s)) (s == 0 || not (unsigned_abs m % 10 == 0)) (rest_of_test m s h) in
-    no_zero (s == 0) (unsigned_abs m % 10 == 0) last (some_places s some) (eq-eqb (unsigned_abs m % 10) 0 divides)
+    or_not_excludes (s == 0) (unsigned_abs m % 10 == 0) last (some_places s some) (eq-eqb (unsigned_abs m % 10) 0 divides)

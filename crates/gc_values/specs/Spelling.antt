@@ -48,7 +48,7 @@ fraction_digits None = []
 fraction_digits (Some ds) = ds
 
 -- `E` where it is a capital (true), else `e`
-abbrev pub mark : Bool → ℕ
+abbrev pub mark : (capital : Bool) → ℕ
 mark capital = if capital then 69 else 101
 
 -- an exponent as it is written, where there is one
@@ -77,8 +77,8 @@ abbrev pub IsExponent : Option Exponent → Type 0
 IsExponent None = Unit {0}
 IsExponent (Some e) = IsExponentDigits e.digits
 
--- the parts are those of a number's text: digits, at least one of them before or after the point, and a short exponent, if
--- any
+-- the parts are those of a number's text: digits, at least one of them before or after the point, and an exponent of one to
+-- three digits, if any
 pub record IsNumeral (p : Parts) : Type 0 where
   pub whole : AreDigits p.whole
   pub fraction : AreDigits (fraction_digits p.fraction)
@@ -102,7 +102,7 @@ abbrev pub Names : List ℕ → Fraction → Type 0
 Names text q = (p : Parts) × IsNumeral p × (text ≡ spelling p) × (q ≡ value p)
 
 -- the text spells m / 10^s: the fraction that it names, rounded to 24 places
-abbrev pub Spells : List ℕ → ℤ → ℕ → Type 0
+abbrev pub Spells : (text : List ℕ) → (m : ℤ) → (s : ℕ) → Type 0
 Spells text m s = (q : Fraction) × Names text q × IsRounded q 24 m s
 
 -- the text is a number, and its value, rounded to 24 places, is further from 0 than 10^13

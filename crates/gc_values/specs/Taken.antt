@@ -11,8 +11,8 @@ use Rattle.gc_values.specs.declared.quick.Quick.{Quick}
 use Rattle.gc_values.specs.declared.value.Kind.{Kind}
 use Rattle.gc_values.specs.declared.value.Value.{Value}
 
--- the slow reader took a value of the kind: where what is left reads as values, what was there reads as this value and then those. Where it
--- took none, what is left doesn't read as values
+-- the slow reader took a value of the kind: where what is left reads as values, what was there reads as this value and then
+-- those. Where the reader took no value, what is left doesn't read as any values
 abbrev pub TakesValue : Kind → (old new : Listed) → Option Value → Type 0
 TakesValue kind old new result =
     (vs : List Value) → ReadsFrom new.items new.place new.fault vs

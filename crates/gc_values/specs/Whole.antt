@@ -16,7 +16,8 @@ pub record NamesNumber (text : List ℕ) (n : ℕ) : Type 0 where
 
 -- why the text is no number up to `max`: it isn't one or more digits (`Spelling`), or its number is greater (`Range`)
 abbrev pub IsNumberFault : (max : ℕ) (text : List ℕ) → ValueFault → Type 0
-IsNumberFault max text e = ((e ≡ Spelling) × ((n : ℕ) → NamesNumber text n → ⊥)) ⊎ ((e ≡ Range) × ((n : ℕ) × NamesNumber text n × (max < n)))
+IsNumberFault max text e =
+    ((e ≡ Spelling) × ((n : ℕ) → NamesNumber text n → ⊥)) ⊎ ((e ≡ Range) × ((n : ℕ) × NamesNumber text n × (max < n)))
 
 -- the text is a sign or none, and one or more digits, which write z
 pub record NamesWhole (text : List ℕ) (z : ℤ) : Type 0 where

@@ -1,24 +1,21 @@
 -- The form of a written number. Of the texts that the GeoCOM manual's chapter on the ASCII protocol allows for a value
--- one is written, and which one is this project's own.
-use Rattle.std.specs.Prelude.{◌≡◌, ℕ, ◌<◌, ◌≤◌, Bool, true, List, [], ◌∷◌, ◌++◌, length, if◌then◌else◌}
+-- one is written, and which one is this project's own. `minus_where negative` is a minus where `negative` is true, else nothing.
+use Rattle.std.specs.Prelude.{◌≡◌, ℕ, ◌<◌, ◌≤◌, Bool, true, List, [], ◌∷◌, ◌++◌, length}
+pub use Rattle.std.specs.Fmt.{sign_text as minus_where}
 use Rattle.gc_values.specs.Digits.{AreDigits, number}
 
--- these are one or more digits, and no 0 comes before others
+-- these are one or more digits, and the first is no 0, unless it is the only one
 pub record IsWholePart (digits : List ℕ) : Type 0 where
   pub are_digits : AreDigits digits
   pub some : 0 < length digits
   pub no_zero_in_front : (rest : List ℕ) → digits ≡ 48 ∷ rest → rest ≡ []
 
--- these are 1 to 24 digits, and no 0 follows others
+-- these are 1 to 24 digits, and the last is no 0, unless it is the only one
 pub record IsFractionPart (digits : List ℕ) : Type 0 where
   pub are_digits : AreDigits digits
   pub some : 0 < length digits
   pub few : length digits ≤ 24
   pub no_zero_at_the_end : (front : List ℕ) → digits ≡ front ++ 48 ∷ [] → front ≡ []
-
--- a minus where the number is negative (true), else nothing
-abbrev pub minus_where : Bool → List ℕ
-minus_where negative = if negative then 45 ∷ [] else []
 
 -- the text has a whole number's form: a minus or nothing, and digits; no minus is before zero
 pub record HasWholeForm (text : List ℕ) : Type 0 where

@@ -10,7 +10,7 @@ use crate::fault::ValueFault;
 use arrayvec::ArrayVec;
 use hex::{decode_to_slice, encode_to_slice};
 
-/// The byte that two hexadecimal digits, of either case, write. `None`: the bytes aren't two such digits.
+/// The byte that two hexadecimal digits, of either case, write. `None`: the bytes aren't two hexadecimal digits.
 fn hex_byte(digits: &[u8]) -> Option<u8>
     ensures { MatchResult (decode_sized digits.now 1)
         (λ bytes. IsSomeAnd result (λ b. bytes ≡ b ∷ []))
@@ -50,7 +50,7 @@ pub fn read_byte(item: &[u8]) -> Result<u8, ValueFault>
     }
 }
 
-/// Appends a byte as two hexadecimal digits in lower case between single quotes.
+/// Appends a byte as two hexadecimal digits in lower case between single quotes: 4 bytes.
 pub fn push_byte<const N: usize>(out: &mut ArrayVec<u8, N>, v: u8)
     requires room { array_vec_len out.old + 4 ≤ N }
     ensures items { out.new.items ≡ out.old.items ++ byte_text v }

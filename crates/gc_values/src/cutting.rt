@@ -17,7 +17,7 @@ pub fn cut_digits(text: &[u8]) -> (&[u8], &[u8])
     (text, &[])
 }
 
-/// Cuts off a sign, if one comes first. It returns whether that is a minus, and the rest.
+/// Cuts off a sign, if one comes first. It returns whether a minus was cut off, and the rest.
 pub fn cut_sign(text: &[u8]) -> (bool, &[u8])
     ensures { CutsSign text.now result.0 result.1.now }
 {

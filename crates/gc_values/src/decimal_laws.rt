@@ -89,8 +89,8 @@ pub fn equality_is_that_of_decimals()
     ensures { (a b : Decimal) → IsTrue (decimal_eq a b) ↔ (a ≡ b) }
 {}
 
-/// `is_near` says exactly whether a direction is near a place: its vertical angle, as face I has it, is at most the tolerance
-/// away from the place's, and so is its horizontal direction after at most two whole turns either way.
+/// `is_near` says exactly whether a direction is near a place: both of its angles, as face I has them, are at most the tolerance
+/// away from the place's, the horizontal one after at most two whole turns either way.
 pub fn near_is_within_the_tolerance()
     ensures { NearIsWithinTheTolerance }
 {}

@@ -13,7 +13,8 @@ use std::fmt;
 pub enum ValueFault {
     /// The bytes haven't the form of their kind.
     Spelling,
-    /// The form is there, and the value or its length is out of the kind's range.
+    /// The form is there, and the value or its length is out of the kind's range; or [`Decimal::new`](crate::Decimal::new) was
+    /// given a scale above 24.
     Range,
     /// The number of double quotes in a list of parameters is odd.
     OpenQuote,

@@ -1,4 +1,4 @@
-//! Reads a number at the front of a list of parameters, and its comma, in one pass. Only the common spelling is read: at most 18
+//! Reads a number at the front of a list of parameters, and its comma, in one pass. Only the shortest form is read: at most 18
 //! digits without a sign, and for a decimal a point among or after them. Every other spelling is left to other readers.
 
 ghost use Rattle.std.specs.Prelude.{◌≡◌, ◌+◌, ◌*◌, ◌^◌, ◌≤◌, [], IfSome};

@@ -54,7 +54,8 @@ fn has_open_quote(text: &[u8]) -> bool
     text.iter().filter(|byte| **byte == b'"').count() % 2 == 1
 }
 
-/// The bytes before the first comma outside quotes, and those after that comma. Without such a comma: all bytes, and `None`.
+/// The bytes before the first comma outside quotes, and those after this comma. Without a comma outside quotes: all bytes, and
+/// `None`.
 fn cut_piece(text: &[u8]) -> (&[u8], Option<&[u8]>)
     ensures { CutsPiece text.now result.0.now (option_copied result.1) }
 {

@@ -66,9 +66,9 @@ pub trait Parameters {
 pub struct Listed<'a> {
     // The items, or why the list was refused as a whole.
     items: Result<Items<'a>, ValueFault>,
-    // How many items were asked for; at most one more than there are, and 0 where the list was refused.
+    // How many items were asked for; one more than there are where more were asked for, and 0 where the list was refused.
     place: usize,
-    // The fault of the first item that couldn't be read.
+    // The fault of the first item that couldn't be read. `None`: each item that was taken so far was read.
     fault: Option<ValueFault>,
 }
 
@@ -108,8 +108,9 @@ impl<'a> Listed<'a> {
         }
     }
 
-    /// Takes the next item as a value of the kind. `None`: the list was refused, or there is no next item, or it can't be read. An item
-    /// that can't be read is taken all the same, and its fault is kept if it is the list's first.
+    /// Takes the next item as a value of the kind. `None`: the list was refused, or there is no next item, or it can't be read.
+    /// An item that can't be read is taken all the same, and its fault is kept if it is the list's first. Where there is no next
+    /// item, `place` keeps that more were asked for than there are.
     fn take(&mut self, kind: Kind) -> Option<Value>
         ensures reads { TakesValue kind self.old self.new result }
         ensures fails { TakesKind kind self.old self.new }
@@ -135,7 +136,8 @@ impl<'a> Listed<'a> {
     }
 }
 
-// Each call takes the next item as a value of its kind, or gives a zero where there is none or it can't be read.
+// Each call takes the next item as a value of its kind (`take`), and gives a zero of that kind (false, or an empty string) where
+// `take` returns `None`.
 impl<'a> Parameters for Listed<'a> {
     ghost reads = { λ c vs. ReadsFrom c.items c.place c.fault vs };
 

@@ -1,6 +1,6 @@
 //! Parameters in the common spelling, read in one pass and without a list of items. An item in the common spelling isn't empty and has
 //! no byte below `-` but single quotes: no spaces, no double quotes, no plus. Anything else is left to `Listed`. A list is called good
-//! while each parameter that was asked for was there in the common spelling.
+//! while each parameter that was asked for was there in the common spelling, and was read.
 
 ghost use Rattle.std.specs.Prelude.{◌≡◌, ◌∷◌, [], ℕ, pos, List, IfSome, IfNone, IsTrue, true};
 ghost use Rattle.std.specs.Option.{option_copied};
@@ -23,7 +23,8 @@ use crate::whole::{read_bool, read_long, read_short};
 /// [`Listed`](crate::Listed) reads it again.
 #[derive(Drop)]
 pub struct Quick<'a> {
-    // The text that is left to read, after a comma. `None`: the end of the list was reached.
+    // The text that is left to read: the whole list at first, later what follows a comma. `None`: the end of the list was
+    // reached, or the list is empty.
     rest: Option<&'a [u8]>,
     // Whether all that was asked for so far was there and was read.
     good: bool,
@@ -47,8 +48,8 @@ impl<'a> Quick<'a> {
         }
     }
 
-    /// Whether just the parameters that were asked for are there, and each was read. Where it returns false, nothing is known of the
-    /// list.
+    /// Whether just the parameters that were asked for are there, each in the common spelling, and each was read. Where it
+    /// returns false, nothing is known of the list.
     #[inline]
     pub fn is_done(&self) -> bool
         ensures { IsTrue result → ⟦<Quick<'a> as Parameters>⟧.reads self.now [] }
@@ -72,7 +73,8 @@ impl<'a> Quick<'a> {
         &[]
     }
 
-    // Takes the next parameter, if it is a whole number of 1 to 18 digits without a sign. `None`: it isn't, and nothing was taken.
+    // Takes the next parameter, if it is a whole number of 1 to 18 digits without a sign. `None`: something else follows, or the
+    // end of the list was reached; then nothing was taken.
     #[inline]
     fn number(&mut self) -> Option<u64>
         ensures reads { IfSome result (λ n. (v : Value) (vs : List Value) → ((item : List ℕ) → NamesWhole item (pos n) → IsItem item v)
@@ -88,8 +90,8 @@ impl<'a> Quick<'a> {
         None
     }
 
-    // Takes the next item as a decimal, also one with a minus, an exponent or many digits. Where it is none: zero, and the list isn't
-    // good any more.
+    // Takes the next item as a decimal, also one with a minus, an exponent or many digits. Where no item in the common spelling
+    // follows, or it can't be read as a decimal: zero, and the list isn't good any more.
     #[inline(never)]
     fn take_as_double(&mut self) -> Decimal
         ensures { TakesPlainly (Value.Double result) self.old self.new }
@@ -103,8 +105,8 @@ impl<'a> Quick<'a> {
         }
     }
 
-    // Takes the next item as a whole number of 32 bits, also one with a minus or many digits. Where it is none: 0, and the list isn't
-    // good any more.
+    // Takes the next item as a whole number of 32 bits, also one with a minus or many digits. Where no item in the common
+    // spelling follows, or it can't be read as a whole number of 32 bits: 0, and the list isn't good any more.
     #[inline(never)]
     fn take_as_long(&mut self) -> i32
         ensures { TakesPlainly (Value.Long result) self.old self.new }
@@ -118,8 +120,8 @@ impl<'a> Quick<'a> {
         }
     }
 
-    // Takes the next item as a whole number of 16 bits, also one with a minus or many digits. Where it is none: 0, and the list isn't
-    // good any more.
+    // Takes the next item as a whole number of 16 bits, also one with a minus or many digits. Where no item in the common
+    // spelling follows, or it can't be read as a whole number of 16 bits: 0, and the list isn't good any more.
     #[inline(never)]
     fn take_as_short(&mut self) -> i16
         ensures { TakesPlainly (Value.Short result) self.old self.new }
@@ -133,7 +135,8 @@ impl<'a> Quick<'a> {
         }
     }
 
-    // Takes the next item as a Boolean, also one with a minus or many digits. Where it is none: false, and the list isn't good any more.
+    // Takes the next item as a Boolean, also one with a minus or many digits. Where no item in the common spelling follows, or it
+    // can't be read as a Boolean: false, and the list isn't good any more.
     #[inline(never)]
     fn take_as_boolean(&mut self) -> bool
         ensures { TakesPlainly (Value.Bool result) self.old self.new }
@@ -148,8 +151,9 @@ impl<'a> Quick<'a> {
     }
 }
 
-// A call for a decimal, a whole number or a Boolean first tries the shortest form: few digits without a sign. Where the next parameter
-// isn't what was asked for, the call gives a zero (false, or an empty string), and the list isn't good any more.
+// A call for a decimal, a whole number or a Boolean first tries the shortest form: few digits without a sign. Where no parameter
+// in the common spelling follows, or it isn't what was asked for, the call gives a zero (false, or an empty string), and the list
+// isn't good any more.
 impl<'a> Parameters for Quick<'a> {
     ghost reads = { λ c vs. ReadsPlainly c.good (option_copied c.rest) vs };
 
@@ -242,7 +246,7 @@ fn cut_plain(text: &[u8]) -> Option<(&[u8], Option<&[u8]>)>
             let (item, rest) = text.split_at(i);
             return Some((item, Some(&rest[1..])));
         }
-        // Spaces, double quotes and pluses are below `-`. So are the single quotes of a byte parameter, which is allowed
+        // Spaces, double quotes and pluses are below `-`. So are the single quotes of a byte parameter, but these are allowed
         // here.
         if *byte < b'-' && *byte != b'\'' {
             return None;

@@ -134,7 +134,7 @@ pub fn read_text(item: &[u8]) -> Result<Text, ValueFault>
     }
 }
 
-/// Appends a string between double quotes, which has at most 66 bytes.
+/// Appends a string between double quotes: at most 66 bytes with these.
 pub fn push_text<const N: usize>(out: &mut ArrayVec<u8, N>, v: &Text)
     requires room { array_vec_len out.old + 66 ≤ N }
     ensures items { out.new.items ≡ out.old.items ++ quoted v.now }

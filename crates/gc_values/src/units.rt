@@ -29,8 +29,8 @@ fn digit_at(whole: &[u8], fraction: &[u8], place: usize) -> u8
     }
 }
 
-/// The number that the first `count` digits of both runs in a row write, with a zero for each digit that is missing; at most the
-/// cap.
+/// The number that the first `count` digits of both runs in a row write, with a zero for each digit that is missing; the cap where
+/// that is more.
 fn kept_digits(whole: &[u8], fraction: &[u8], count: usize) -> u128
     requires whole { AreDigits whole.now }
     requires fraction { AreDigits fraction.now }
@@ -45,7 +45,7 @@ fn kept_digits(whole: &[u8], fraction: &[u8], count: usize) -> u128
 }
 
 /// The number of the first `count` digits of both runs in a row, as `kept_digits` returns it, and 1 more where the digit after them
-/// is 5 or above; at most the cap.
+/// is 5 or above; the cap where that is more.
 fn kept_and_rounded(whole: &[u8], fraction: &[u8], count: usize) -> u128
     requires whole { AreDigits whole.now }
     requires fraction { AreDigits fraction.now }
@@ -59,7 +59,7 @@ fn kept_and_rounded(whole: &[u8], fraction: &[u8], count: usize) -> u128
     }
 }
 
-/// The number `kept` with `zeros` zeros after it, at most the cap.
+/// The number `kept` times 10^`zeros`; the cap where that is more.
 fn with_zeros(kept: u128, zeros: usize) -> u128
     ensures { result ≡ min CAP (kept * 10 ^ zeros) }
 {
@@ -91,8 +91,8 @@ fn short_number(whole: &[u8], fraction: &[u8]) -> u64
     followed_by(followed_by(0, whole), fraction)
 }
 
-/// The value of a number's text, rounded to 24 places: `(n, p)` stands for `n / 10^p`. In place of an `n` above the cap the cap is
-/// returned. The value is that of the digits with a point between both runs, times 10^`up`, divided by 10^`down`.
+/// The value of a number's text, rounded to 24 places, half up: `(n, p)` stands for `n / 10^p`. In place of an `n` above the cap
+/// the cap is returned. The value is that of the digits with a point between both runs, times 10^`up`, divided by 10^`down`.
 ///
 /// No zero is appended that the value doesn't need, so this takes at most as many steps as there are digits, whatever the exponent is.
 pub fn rounded_units(whole: &[u8], fraction: &[u8], up: u16, down: u16) -> (u128, u8)
@@ -102,14 +102,14 @@ pub fn rounded_units(whole: &[u8], fraction: &[u8], up: u16, down: u16) -> (u128
         (length fraction.now + down) CAP result.0 result.1 }
 {
     let length = whole.len() + fraction.len();
-    // Few digits, and no exponent: their number is read as it is, in 64 bits.
+    // Few digits, and no exponent, or one of 0: their number is read as it is, in 64 bits.
     if up == 0 && down == 0 && length <= SHORT {
         return (
             u128::from(short_number(whole, fraction)),
             fraction.len() as u8,
         );
     }
-    // How many digits there are up to the last of 24 places, with zeros for those that are missing.
+    // How many digits there would be up to the last of 24 places if `down` were 0, with zeros for those that are missing.
     let last = whole.len() + usize::from(up) + usize::from(PLACES);
     // The exponent moves every digit at least two places past the last of the 24, so the value rounds to 0.
     let Some(count) = last.checked_sub(usize::from(down)) else {

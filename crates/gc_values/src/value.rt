@@ -71,8 +71,8 @@ impl Value {
         }
     }
 
-    /// Reads an item as a decimal. It is refused as `Spelling` where it isn't a number's text, and as `Range` where its value is
-    /// out of a decimal's range.
+    /// Reads an item as a decimal. It is refused as `Spelling` where it isn't a number's text, and as `Range` where its value,
+    /// rounded to 24 places, is out of a decimal's range.
     fn read_double(item: &[u8]) -> Result<Decimal, ValueFault>
         ensures value { IfOk result (λ d. Spells item.now d.digits d.scale) }
         ensures only { GivesSpelled item.now result }
@@ -82,7 +82,8 @@ impl Value {
     }
 
     /// Reads an item, without spaces round it, as a value of the kind. It is refused as `Spelling` where it hasn't the form of the kind,
-    /// and else as `Range` where its value is out of the kind's range, or it is a string of more than 64 bytes.
+    /// and else as `Range` where its value is out of the kind's range (a decimal's is rounded to 24 places first), or it is a
+    /// string of more than 64 bytes.
     pub fn read(kind: Kind, item: &[u8]) -> Result<Value, ValueFault>
         ensures value { IfOk result (λ v. (kind_of v ≡ kind) × IsItem item.now v) }
         ensures only { (v : Value) → kind_of v ≡ kind → IsItem item.now v → result ≡ Ok v }

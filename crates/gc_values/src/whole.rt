@@ -91,7 +91,7 @@ fn put_signed(tail: &mut Tail, v: i32)
     }
 }
 
-/// Appends a Long, as [`write_long`] writes it, which has at most 11 bytes.
+/// Appends a Long, as [`write_long`] writes it: at most 11 bytes.
 pub fn push_long<const N: usize>(out: &mut ArrayVec<u8, N>, v: i32)
     requires room { array_vec_len out.old + 11 ≤ N }
     ensures items { out.new.items ≡ out.old.items ++ signed_text v }
@@ -103,7 +103,7 @@ pub fn push_long<const N: usize>(out: &mut ArrayVec<u8, N>, v: i32)
     let _ = out.try_extend_from_slice(tail.as_bytes());
 }
 
-/// Appends a Short, as [`write_short`] writes it, which has at most 6 bytes.
+/// Appends a Short, as [`write_short`] writes it: at most 6 bytes.
 pub fn push_short<const N: usize>(out: &mut ArrayVec<u8, N>, v: i16)
     requires room { array_vec_len out.old + 6 ≤ N }
     ensures items { out.new.items ≡ out.old.items ++ signed_text v }

@@ -4,14 +4,15 @@ use Rattle.gc_rows.specs.declared.record.Form.{Form}
 use Rattle.gc_rows.specs.declared.record.Form.TheVariants.{Lines, Csv, Columns, Json}
 use Rattle.gc_words.specs.declared.settings.Settings.{Settings}
 
--- the form of rows that go into a file: the one that was asked for, or comma-separated values
+-- the form of rows that go into a file: the one that was asked for, but comma-separated values in place of `Lines`
 abbrev pub form_of_rows : Form → Form
 form_of_rows Lines = Csv
 form_of_rows Csv = Csv
 form_of_rows Columns = Columns
 form_of_rows Json = Json
 
--- the settings of a station whose records are rows of a file: in `form_of_rows`, and without a header, which the file has already
+-- the settings of a station whose records are rows of a file: in `form_of_rows`, and without a header; where the form has one,
+-- the file has it already
 abbrev pub appended : Settings → Settings
 appended station = record station { layout = record station.layout { form = form_of_rows station.layout.form; headed = true } }
 

@@ -65,7 +65,7 @@ pub const SCENE: Argument<'static> = Argument {
 };
 
 /// A subcommand for clap with this name, the line that says what it does (`about`), what its help ends with, and the arguments of this
-/// table. It fails if memory is refused.
+/// table. `Err`: memory ran out.
 // The arguments are made first: the proof of a `Command` that is alive across a `?` costs much.
 pub fn command_of<'a>(
     alloc: Global,
@@ -81,7 +81,7 @@ pub fn command_of<'a>(
         .args(args)
 }
 
-// clap's arguments for the rows of a table, in their order.
+// clap's arguments for the rows of a table, in their order. `Err`: memory ran out.
 fn args_of<'a>(alloc: Global, table: &[Argument<'a>]) -> Result<Vec<Arg<'a>>, AllocError> {
     let mut args = Vec::new(alloc);
     for row in table {
@@ -91,7 +91,7 @@ fn args_of<'a>(alloc: Global, table: &[Argument<'a>]) -> Result<Vec<Arg<'a>>, Al
 }
 
 // clap's argument for a row: a positional one, or an option. Of the row of a positional one clap gets the name, the value's name and the
-// help alone.
+// help alone. `Err`: memory ran out.
 fn arg_of<'a>(alloc: Global, row: &Argument<'a>) -> Result<Arg<'a>, AllocError> {
     match row.takes {
         Takes::Positional => Ok(positional_of(alloc, row)),
@@ -108,7 +108,7 @@ fn positional_of<'a>(alloc: Global, row: &Argument<'a>) -> Arg<'a> {
 }
 
 // An argument with two hyphens before it. There is no branch, because a branch on a live builder makes the proof costly: an
-// empty list adds nothing.
+// empty list adds nothing. `Err`: memory ran out.
 fn option_of<'a>(alloc: Global, row: &Argument<'a>) -> Result<Arg<'a>, AllocError> {
     Arg::new(alloc, row.name)
         .long(row.name)

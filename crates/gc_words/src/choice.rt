@@ -132,7 +132,7 @@ pub(crate) const STATION_ARGUMENTS: &[Argument<'static>] = &[
     LOG_BYTES,
 ];
 
-/// The subcommand `station` for clap: its help and its arguments. It fails if memory is refused.
+/// The subcommand `station` for clap, with this name: its help and its arguments. `Err`: memory ran out.
 pub fn station_command<'a>(alloc: Global, name: &'a str) -> Result<Command<'a>, AllocError> {
     command_of(
         alloc,
@@ -165,10 +165,11 @@ pub struct Choice {
     pub chained: bool,
     /// How far apart the cycles are due. 0: each begins when the one before it is done.
     pub every: u64,
-    /// How many cycles are measured. The greatest `u64`: without end.
+    /// How many cycles are measured or missed. The greatest `u64`: without end.
     pub cycles: u64,
-    /// How long the station pauses before it reconnects within a run, and for how long nothing may come over the new connection before
-    /// anything is sent on it.
+    /// How long the station pauses before it reconnects within a run, twice as long at each further failure, up to a minute, but
+    /// never below this time; and for how long nothing may come over a new connection before a command is sent on it. A
+    /// synchronization doesn't wait for that.
     pub quiet: u64,
     /// How many times in a row it reconnects at most. The greatest `u32`: without end.
     pub retries: u32,
@@ -181,15 +182,16 @@ pub struct Choice {
 }
 
 impl Choice {
-    /// Whether the run would end for want of an answer before its second cycle is due: `stale` isn't 0, and is below `every`.
+    /// Whether the run would end for want of an answer before a second cycle is due: `stale` isn't 0, and is below `every`. How
+    /// many cycles the run has doesn't count.
     pub fn is_stale_too_soon(self) -> bool {
         self.stale > 0 && self.stale < self.every
     }
 }
 
-/// The settings of a station that the options ask for, without the paths of files, and for a run that hasn't begun. A flag or a text
-/// that the subcommand doesn't have counts as not given. `None`: a number is missing, though it has a default; clap fills it in, but no
-/// clause of clap's says so.
+/// The settings of a station that the options ask for, without the paths of files, and for a run that hasn't begun. A flag or a
+/// text that the subcommand doesn't have counts as not given. `None`: a number is missing, though it has a default, or is none of
+/// its type; clap fills the first in and refuses the second, but no clause of clap's says so.
 pub fn station_of(matches: &ArgMatches) -> Option<Settings> {
     Some(Settings {
         layout: Layout {
@@ -237,7 +239,7 @@ fn retries_of(chosen: u32) -> u32 {
     }
 }
 
-// How many cycles are measured: the chosen number, or the greatest `u64` for 0, which stands for no end.
+// How many cycles are measured or missed: the chosen number, or the greatest `u64` for 0, which stands for no end.
 fn cycles_of(chosen: u64) -> u64 {
     match chosen {
         0 => u64::MAX,

@@ -9,6 +9,6 @@ pub struct Layout {
     pub form: Form,
     /// Whether no header is to be written, as in a file that has one already.
     pub headed: bool,
-    /// When the run began, in milliseconds since 1970-01-01, UTC.
+    /// When the run began, in milliseconds since 1970-01-01, UTC; 0 before it begins.
     pub run: u64,
 }

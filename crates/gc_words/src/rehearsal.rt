@@ -68,7 +68,7 @@ const SHARED: &[&str] = &[
     "unchained",
 ];
 
-/// The subcommand `rehearse` for clap: its help and its arguments. It fails if memory is refused.
+/// The subcommand `rehearse` for clap, with this name: its help and its arguments. `Err`: memory ran out.
 pub fn rehearse_command<'a>(alloc: Global, name: &'a str) -> Result<Command<'a>, AllocError> {
     let table = table_of(alloc)?;
     command_of(
@@ -80,7 +80,7 @@ pub fn rehearse_command<'a>(alloc: Global, name: &'a str) -> Result<Command<'a>,
     )
 }
 
-// The arguments of `rehearse`: its own, and then those of `station` that it shares. It fails if memory is refused.
+// The arguments of `rehearse`: its own, and then those of `station` that it shares. `Err`: memory ran out.
 fn table_of(alloc: Global) -> Result<Vec<Argument<'static>>, AllocError> {
     let mut table = Vec::new(alloc);
     for row in OWN {
@@ -111,7 +111,8 @@ pub struct Rehearsal<'a> {
 }
 
 impl<'a> Rehearsal<'a> {
-    /// How many cycles a night has: as many as were asked for, or else as many as `every` goes into a day, cut off; 0 if `every` is 0.
+    /// How many cycles a night has: as many as the words ask for. If they ask for 0, it has a day divided by `every`, rounded
+    /// down, or none if `every` is 0.
     pub fn cycles(&self) -> u64 {
         let choice = self.station.choice;
         // `station_of` gives the greatest `u64` for 0, which asks for a day's cycles.
@@ -126,7 +127,7 @@ impl<'a> Rehearsal<'a> {
     }
 }
 
-/// What the words of `rehearse` say. `None`: a number is missing that has a default, as for `station_of`.
+/// What the words of `rehearse` say. `None`: a number is missing that has a default, or is none of its type, as for `station_of`.
 pub fn rehearsal_of<'a>(words: &ArgMatches<'a>) -> Option<Rehearsal<'a>> {
     Some(Rehearsal {
         scene: words.get_str("scene"),

@@ -16,8 +16,8 @@ pub struct Settings {
 }
 
 impl Settings {
-    /// These settings, with a status line below the signs of life if the messages go to a terminal (`at_terminal`), unless the choice
-    /// has no signs of life.
+    /// These settings, with a status line below the signs of life if somebody reads the messages at a terminal (`at_terminal`),
+    /// unless the choice has no signs of life.
     pub fn with_status_line(self, at_terminal: bool) -> Settings {
         let mut station = self;
         if at_terminal && self.choice.watch == Watch::Lines {
@@ -26,7 +26,7 @@ impl Settings {
         station
     }
 
-    /// The form of the rows that go into a file: the one that was asked for, or comma-separated values.
+    /// The form of the rows that go into a file: the one that was asked for, but comma-separated values in place of lines.
     pub fn form_of_rows(self) -> Form
         ensures { result ≡ form_of_rows self.layout.form }
     {
@@ -37,7 +37,8 @@ impl Settings {
         }
     }
 
-    /// These settings with the records as rows of a file, in `form_of_rows`, and without a header, which the file has already.
+    /// These settings with the records as rows of a file, in `form_of_rows`, and without a header: where the form has one, the
+    /// file has it already.
     pub fn appended(self) -> Settings
         ensures { result ≡ appended self }
     {

@@ -1,5 +1,6 @@
--- Delivering bytes in one event leaves the same streams as delivering them in two, in either direction. The cut of lines at n
--- bytes (`cut`) says how many lines these bytes complete, and how many bytes of the next line they reach.
+-- Delivering bytes in one event leaves the same streams as delivering them in two, in either direction, where a line is in flight
+-- between the two. The cut of lines at n bytes (`cut`) says how many lines these bytes complete, and how many bytes of the next
+-- line they reach.
 use Rattle.std.proofs.Common.{◌≡◌, ℕ, zero, suc, ◌+◌, ◌-◌, ◌<◌, ◌≤◌, Bool, true, false, cond, List, [], ◌∷◌, length, map, drop, refl, sym, ◌∙◌, ap, subst, arith, ltb}
 use mathlib.Core.Path.{ap₂}
 use Rattle.std.specs.Prelude.{replicate}
@@ -7,10 +8,10 @@ use Rattle.std.proofs.lemmas.Bool.{ltb-false}
 use Rattle.std.proofs.lemmas.List.{drop-drop, drop-map, replicate-append-replicate}
 use Rattle.gc_lines.specs.Lines.{with_end}
 use Rattle.gc_world.specs.declared.direction.Direction.{Direction}
-use Rattle.gc_world.specs.Directions.{deliver, bytes, texts, lines, gone, reaches}
+use Rattle.gc_world.specs.Directions.{deliver, bytes, texts, lines, gone, with_front_gone, after_cut}
 use Rattle.gc_world.specs.Streams.{Streams, Cut, one_more, cut, flows}
 use Rattle.gc_world.specs.World.{Ends, Rule, World, idle, happens, run}
-use Rattle.gc_world.proofs.Directions.{gone_reached, reaches_again, passing, bytes_pass, after_cut, one_less, idle_leaves}
+use Rattle.gc_world.proofs.Directions.{gone_reached, reaches_again, passing, bytes_pass, one_less, idle_leaves}
 use Rattle.gc_world.proofs.Flow.{run_append}
 use Rattle.gc_world.proofs.Handed.{cut_long}
 
@@ -45,7 +46,7 @@ cut_add (line ∷ lines) m n = by_size (ltb m (length line)) refl (cut_add lines
         cut_long line lines (m + n) (omega (arith, le)) ∙ ap (λ k. one_more (cut lines k)) rest ∙ ap one_more more
         ∙ with_one_more_line c.lines (cut (drop c.lines lines) (c.gone + n))
 
--- where all lines are completed, nothing of a next one has gone
+-- where n bytes complete all of the lines, the cut at n bytes says that nothing of a next line has gone
 cut_all : (lines : List (List ℕ)) (n : ℕ) → drop (cut lines n).lines lines ≡ [] → (cut lines n).gone ≡ 0
 cut_all [] n e = refl
 cut_all (line ∷ lines) n e = by_size (ltb n (length line)) (cut_all lines (n - length line)) e
@@ -68,43 +69,49 @@ drop_one : {A : Type 0} (k : ℕ) (xs : List A) → drop k (drop 1 xs) ≡ drop 
 drop_one k xs = let e : 1 + k ≡ suc k = omega arith in drop-drop k 1 xs ∙ ap (λ n. drop n xs) e
 
 module _ {Client State : Type 0} (ends : Ends State) (rule : Rule Client) (d : Direction) where
-  -- delivering k lines of a direction leaves the texts after them
+  -- after k deliveries in a direction, the texts in flight in it are those behind the first k: none, if there were k or fewer
   texts_left : (k : ℕ) (w : World Client State) → texts d (run ends rule (replicate k (deliver d)) w).wire ≡ drop k (texts d w.wire)
   texts_left zero w = refl
   texts_left (suc k) w = texts_left k (happens ends rule w (deliver d)) ∙ ap (drop k) (one_less ends rule d w) ∙ drop_one k (texts d w.wire)
 
-  -- delivering k lines of a direction leaves the lines after them
+  -- after k deliveries in a direction, the lines in flight in it are those behind the first k: none, if there were k or fewer
   lines_left : (k : ℕ) (w : World Client State) → lines d (run ends rule (replicate k (deliver d)) w).wire ≡ drop k (lines d w.wire)
   lines_left k w = ap (map with_end) (texts_left k w) ∙ sym (drop-map with_end k (texts d w.wire))
 
-  -- where a line is in flight, n + 1 bytes lead to the cut of the lines at these bytes
-  some_pass : (v : Streams Client State) (n : ℕ) (q : List (List ℕ)) → 0 < length q → passing ends rule d v q (n + 1) ≡ after_cut ends rule d v (cut q (gone d v + (n + 1)))
+  -- where q isn't empty, n + 1 bytes that go over with q as the lines in flight lead to the cut of q at the bytes gone before and
+  -- these n + 1 together
+  some_pass : (v : Streams Client State) (n : ℕ) (q : List (List ℕ)) → 0 < length q
+      → passing ends rule d v q (n + 1) ≡ after_cut ends rule d v (cut q (gone d v + (n + 1)))
   some_pass v n [] some = absurd (omega (arith, some))
   some_pass v n (line ∷ q) some =
       let next : n + 1 ≡ suc n = omega arith in
       ap (passing ends rule d v (line ∷ q)) next ∙ ap (λ k. after_cut ends rule d v (cut (line ∷ q) (gone d v + k))) (sym next)
 
-  -- where a line is in flight, an event of n + 1 bytes leads to the cut of the lines at these bytes
-  some_bytes : (v : Streams Client State) (n : ℕ) → 0 < length (lines d v.world.wire) → flows ends rule v (bytes d (n + 1)) ≡ after_cut ends rule d v (cut (lines d v.world.wire) (gone d v + (n + 1)))
+  -- where a line is in flight in the direction, an event of n + 1 bytes leads to the cut of the lines in flight at the bytes gone
+  -- before and these n + 1 together
+  some_bytes : (v : Streams Client State) (n : ℕ) → 0 < length (lines d v.world.wire)
+      → flows ends rule v (bytes d (n + 1)) ≡ after_cut ends rule d v (cut (lines d v.world.wire) (gone d v + (n + 1)))
   some_bytes v n some = bytes_pass ends rule d v (n + 1) ∙ some_pass v n (lines d v.world.wire) some
 
   -- going to the cut b, and then on to the cut c, is going to one cut: the one with the lines of both, and with as many bytes of
   -- the next line as c
-  to_behind : (v : Streams Client State) (b : Cut) (c : Cut) → after_cut ends rule d v (with_more_lines b.lines c) ≡ after_cut ends rule d (after_cut ends rule d v b) c
+  to_behind : (v : Streams Client State) (b : Cut) (c : Cut)
+      → after_cut ends rule d v (with_more_lines b.lines c) ≡ after_cut ends rule d (after_cut ends rule d v b) c
   to_behind v b c =
       let w = run ends rule (replicate b.lines (deliver d)) v.world in
-      ap (λ x. reaches d v x c.gone) (ap (λ s. run ends rule s v.world) (sym (replicate-append-replicate b.lines c.lines (deliver d)))
+      ap (λ x. with_front_gone d v x c.gone) (ap (λ s. run ends rule s v.world) (sym (replicate-append-replicate b.lines c.lines (deliver d)))
       ∙ run_append ends rule (replicate b.lines (deliver d)) (replicate c.lines (deliver d)) v.world)
       ∙ sym (reaches_again d v w b.gone (run ends rule (replicate c.lines (deliver d)) w) c.gone)
 
-  -- where bytes leave lines in flight, there were lines in flight
-  some_before : (v : Streams Client State) (n : ℕ) (q : List (List ℕ)) → lines d v.world.wire ≡ q → 0 < length (lines d (passing ends rule d v q n).world.wire) → 0 < length q
+  -- where q is the lines in flight in the direction, and n bytes leave a line in flight there, q isn't empty
+  some_before : (v : Streams Client State) (n : ℕ) (q : List (List ℕ)) → lines d v.world.wire ≡ q
+      → 0 < length (lines d (passing ends rule d v q n).world.wire) → 0 < length q
   some_before v n [] e some =
       let same : lines d (idle v.world.wire) ≡ [] = ap (map with_end) (idle_leaves d v.world.wire) ∙ e in
       absurd (omega (arith, some, ap length same))
   some_before v n (line ∷ q) e some = omega arith
 
-  -- bytes in one event leave what they leave in two, where a line is in flight between the two
+  -- where m + 1 bytes leave a line in flight in the direction, these and n + 1 more leave the same streams in one event as in two
   pub bytes_add : (v : Streams Client State) (m n : ℕ) → 0 < length (lines d (flows ends rule v (bytes d (m + 1))).world.wire)
       → flows ends rule v (bytes d (m + 1 + (n + 1))) ≡ flows ends rule (flows ends rule v (bytes d (m + 1))) (bytes d (n + 1))
   bytes_add v m n some =
@@ -125,7 +132,8 @@ module _ {Client State : Type 0} (ends : Ends State) (rule : Rule Client) (d : D
       ∙ sym (some_bytes u n under_u)
       ∙ ap (λ x. flows ends rule x (bytes d (n + 1))) (sym first)
 
-  -- where the first m + 1 bytes of an event complete all lines `q` that are in flight, n further bytes change nothing
+  -- where q is the lines in flight in the direction, and m + 1 bytes leave none in flight there, n further bytes in the same
+  -- event change nothing
   bytes_stop : (v : Streams Client State) (m n : ℕ) (q : List (List ℕ)) → lines d v.world.wire ≡ q → lines d (flows ends rule v (bytes d (m + 1))).world.wire ≡ []
       → flows ends rule v (bytes d (m + 1 + n)) ≡ flows ends rule v (bytes d (m + 1))
   bytes_stop v m n [] e none =
@@ -142,6 +150,7 @@ module _ {Client State : Type 0} (ends : Ends State) (rule : Rule Client) (d : D
       ap (λ k. flows ends rule v (bytes d k)) sum ∙ some_bytes v (m + n) under ∙ ap (λ k. after_cut ends rule d v (cut all k)) total
       ∙ ap (after_cut ends rule d v) (cut_end all (gone d v + (m + 1)) n done) ∙ sym first
 
-  -- where bytes leave no line in flight, further bytes in the same event change nothing
-  pub bytes_end : (v : Streams Client State) (m n : ℕ) → lines d (flows ends rule v (bytes d (m + 1))).world.wire ≡ [] → flows ends rule v (bytes d (m + 1 + n)) ≡ flows ends rule v (bytes d (m + 1))
+  -- where m + 1 bytes leave no line in flight in the direction, n further bytes in the same event change nothing
+  pub bytes_end : (v : Streams Client State) (m n : ℕ) → lines d (flows ends rule v (bytes d (m + 1))).world.wire ≡ []
+      → flows ends rule v (bytes d (m + 1 + n)) ≡ flows ends rule v (bytes d (m + 1))
   bytes_end v m n none = bytes_stop v m n (lines d v.world.wire) refl none

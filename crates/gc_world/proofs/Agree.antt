@@ -42,8 +42,10 @@ pub record SameSettled {Q : Type 0} (a : Settled Q (ById Q)) (b : Settled Q (ByN
 waiting_count : {Q : Type 0} (a : ById Q) (b : ByNumber Q) → AreAlike a b → length a.waiting ≡ length b.requests - b.count
 waiting_count a b h = ap length h.window ∙ length-drop b.count b.requests
 
--- clients that are alike both refuse a send, or both send it with the same id and are alike afterwards
-same_send : {Q : Type 0} (a : ById Q) (b : ByNumber Q) (target : ℕ) (call : Q) (deadline : ℕ) (full : Bool) → b.since ≤ b.count → b.count ≤ length b.requests → AreAlike a b
+-- clients that are alike both refuse a send, or both send it with the same id and are alike afterwards, where the oracle client's
+-- counts are in order: no more were sent at its last start than are settled, and no more are settled than were sent
+same_send : {Q : Type 0} (a : ById Q) (b : ByNumber Q) (target : ℕ) (call : Q) (deadline : ℕ) (full : Bool) → b.since ≤ b.count
+    → b.count ≤ length b.requests → AreAlike a b
     → SameSend (id_send a target call deadline full) (number_send b target call deadline full)
 same_send {Q} a b target call deadline true h1 h2 h = tt
 same_send {Q} a b target call deadline false h1 h2 h =
@@ -69,7 +71,8 @@ module _ {Q State : Type 0} (width : ℕ) (narrow : width ≤ 7) (ends : Ends Q 
     pub wire : a.wire ≡ b.wire
     pub client : AreAlike a.client b.client
 
-  -- a reply in flight settles the same for both clients, whether its request is settled already (`old`) or not
+  -- where the clients are alike, and the oracle client's counts and the reply x in flight are as in a sound world, x settles the
+  -- same for both and leaves them alike, whether its request is settled already (`old` true) or not
   same_reply : (a : ById Q) (b : ByNumber Q) (x : Numbered (List ℕ)) (old : Bool) (is_old : ltb x.number b.count ≡ old) (begun : b.since ≤ b.count)
       (within : b.count ≤ length b.requests) (few : length b.requests ≤ b.count + width) (rising : b.count ≤ x.number + 1)
       (coming : IsComing width ends Good b.since (length b.requests) x) (alike : AreAlike a b)
@@ -102,7 +105,8 @@ module _ {Q State : Type 0} (width : ℕ) (narrow : width ≤ 7) (ends : Ends Q 
         };
       }))
 
-  -- worlds that agree still agree after both clients refused a send, or sent it with the same id
+  -- worlds that agree still agree after a send that both clients refused, or that both sent with the same id and that left them
+  -- alike
   same_requested : (written : ℕ → Q → List ℕ) (a : World Q (ById Q) State) (b : World Q (ByNumber Q) State) (target : ℕ) (call : Q) (o : Option (Sending (ById Q))) (o' : Option (Sending (ByNumber Q)))
       → SameSend o o' → Agree a b → Agree (requested written a target call o) (requested written b target call o')
   same_requested written a b target call None None s h = record { wire = ap (λ (w : Wire Q State). record w { refused = w.refused + 1 }) h.wire; client = h.client }
@@ -123,7 +127,8 @@ module _ {Q State : Type 0} (width : ℕ) (narrow : width ≤ 7) (ends : Ends Q 
   same_booked v w x y e s =
       record { wire = ap₂ (λ (u : Wire Q State) (l : List _). record u { settled = u.settled ++ l }) e s.settlements; client = s.client }
 
-  -- delivering the reply in front keeps worlds in agreement
+  -- a delivery to the client, also while no reply is in flight, keeps worlds in agreement where
+  -- that of the oracle client is sound
   agree_down : (a : World Q (ById Q) State) (b : World Q (ByNumber Q) State) (q : List (Numbered (List ℕ))) → b.wire.down ≡ q → Sound width ends Good b → Agree a b
       → Agree (down_delivered (by_ids width ends) a q) (down_delivered (by_numbers width) b q)
   agree_down a b [] e s h = record { wire = ap idle h.wire; client = h.client }
@@ -143,7 +148,7 @@ module _ {Q State : Type 0} (width : ℕ) (narrow : width ≤ 7) (ends : Ends Q 
         next = h.next ∙ ap (λ n. (n - b.since) % 8) (sym (length_expired now b.count b.requests));
       }
 
-  -- a restart settles the same for both clients
+  -- where the clients are alike, a restart of the client settles the same for both and leaves them alike
   agree_lost : (a : ById Q) (b : ByNumber Q) → AreAlike a b → SameSettled ((by_ids width ends).restart a) ((by_numbers width).restart b)
   agree_lost a b h =
       record {
@@ -152,17 +157,19 @@ module _ {Q State : Type 0} (width : ℕ) (narrow : width ≤ 7) (ends : Ends Q 
       }
 
   -- a restart of the client keeps worlds in agreement
-  agree_restart_client : (a : World Q (ById Q) State) (b : World Q (ByNumber Q) State) (up : List (Numbered (Request Q))) (down : List (Numbered (List ℕ))) → Agree a b
+  agree_restart_client : (a : World Q (ById Q) State) (b : World Q (ByNumber Q) State) (up : List (Numbered (Request Q))) (down : List (Numbered (List ℕ)))
+      → Agree a b
       → Agree (client_restarted ends (by_ids width ends) a up down) (client_restarted ends (by_numbers width) b up down)
   agree_restart_client a b [] [] h = same_booked _ _ _ _ (ap (λ w. started ends w ends.joint) h.wire) (agree_lost a.client b.client h.client)
   agree_restart_client a b [] (y ∷ down) h = record { wire = ap idle h.wire; client = h.client }
   agree_restart_client a b (x ∷ up) down h = record { wire = ap idle h.wire; client = h.client }
 
-  -- a step that leaves the client alone keeps worlds in agreement
-  agree_wire : (f : Wire Q State → Wire Q State) (a : World Q (ById Q) State) (b : World Q (ByNumber Q) State) → Agree a b → Agree (on_wire a (f a.wire)) (on_wire b (f b.wire))
+  -- worlds that agree still agree once the same function f was applied to the wire of each, and neither client changed
+  agree_wire : (f : Wire Q State → Wire Q State) (a : World Q (ById Q) State) (b : World Q (ByNumber Q) State) → Agree a b
+      → Agree (on_wire a (f a.wire)) (on_wire b (f b.wire))
   agree_wire f a b h = record { wire = ap f h.wire; client = h.client }
 
-  -- each step keeps worlds in agreement
+  -- each step keeps worlds in agreement where that of the oracle client is sound
   pub agrees : (written : ℕ → Q → List ℕ) (a : World Q (ById Q) State) (b : World Q (ByNumber Q) State) (e : Step Q) → Sound width ends Good b → Agree a b
       → Agree (happens written ends (by_ids width ends) a e) (happens written ends (by_numbers width) b e)
   agrees written a b (Send target call deadline) s h =
@@ -185,8 +192,9 @@ module _ {Q State : Type 0} (width : ℕ) (narrow : width ≤ 7) (ends : Ends Q 
   agrees written a b Restart_instrument s h = agree_wire (λ w. instrument_restarted ends w w.up w.down) a b h
   agrees written a b Nothing s h = agree_wire idle a b h
 
-  -- a run keeps worlds in agreement
-  pub agrees_all : (written : ℕ → Q → List ℕ) → IsExchange ends Good → (es : List (Step Q)) (a : World Q (ById Q) State) (b : World Q (ByNumber Q) State) → Sound width ends Good b → Agree a b
+  -- a run keeps worlds in agreement where that of the oracle client is sound before it
+  pub agrees_all : (written : ℕ → Q → List ℕ) → IsExchange ends Good
+      → (es : List (Step Q)) (a : World Q (ById Q) State) (b : World Q (ByNumber Q) State) → Sound width ends Good b → Agree a b
       → Agree (run written ends (by_ids width ends) es a) (run written ends (by_numbers width) es b)
   agrees_all written ex [] a b s h = h
   agrees_all written ex (e ∷ es) a b s h = agrees_all written ex es _ _ (sound_step width ends Good written ex b e s) (agrees written a b e s h)
@@ -195,7 +203,7 @@ module _ {Q State : Type 0} (width : ℕ) (narrow : width ≤ 7) (ends : Ends Q 
   agree_open : (state : State) → Agree (ids_open state) (numbers_open state)
   agree_open state = record { wire = refl; client = record { window = refl; next = omega arith } }
 
-  -- the line of a sound world keeps its order
+  -- the wire of a sound world keeps the order of the line, as `IsOrderly` has it
   orderly : (w : World Q (ByNumber Q) State) → Sound width ends Good w → IsOrderly width w.wire
   orderly w s =
       record {
@@ -206,19 +214,21 @@ module _ {Q State : Type 0} (width : ℕ) (narrow : width ≤ 7) (ends : Ends Q 
       }
 
 module _ {State : Type 0} (width : ℕ) (narrow : width ≤ 7) (ends : calls.Ends State) (Good : State → Type 0) where
-  -- the two runs end in worlds that agree
-  pub agree_at : IsExchange ends Good → (es : List calls.Step) (state : State) → Good state → Agree width narrow ends Good (run_by_ids width ends es state) (run_by_numbers width ends es state)
+  -- from a good state, the run by ids and the run by numbers of the same steps end in worlds that agree
+  pub agree_at : IsExchange ends Good → (es : List calls.Step) (state : State) → Good state
+      → Agree width narrow ends Good (run_by_ids width ends es state) (run_by_numbers width ends es state)
   agree_at ex es state g =
       agrees_all width narrow ends Good call_line ex es (ids_open state) (numbers_open state) (sound_open width ends Good state g) (agree_open width narrow ends Good state)
 
-  -- the run by numbers ends in a sound world
+  -- the run by numbers from a good state ends in a sound world
   pub sound_at : IsExchange ends Good → (es : List calls.Step) (state : State) → Good state → Sound width ends Good (run_by_numbers width ends es state)
   sound_at ex es state g = sound_all width ends Good call_line ex es (numbers_open state) (sound_open width ends Good state g)
 
-  -- the two runs end with the same wire
-  pub same_wire : IsExchange ends Good → (es : List calls.Step) (state : State) → Good state → (run_by_ids width ends es state).wire ≡ (run_by_numbers width ends es state).wire
+  -- from a good state, the run by ids and the run by numbers of the same steps end with the same wire
+  pub same_wire : IsExchange ends Good → (es : List calls.Step) (state : State) → Good state
+      → (run_by_ids width ends es state).wire ≡ (run_by_numbers width ends es state).wire
   same_wire ex es state g = (agree_at ex es state g).wire
 
-  -- the run by ids ends with a line that kept its order
+  -- the run by ids from a good state ends with a wire that keeps the order of the line, as `IsOrderly` has it
   pub orderly_at : IsExchange ends Good → (es : List calls.Step) (state : State) → Good state → IsOrderly width (run_by_ids width ends es state).wire
   orderly_at ex es state g = subst (λ w. IsOrderly width w) (sym (same_wire ex es state g)) (orderly width narrow ends Good _ (sound_at ex es state g))

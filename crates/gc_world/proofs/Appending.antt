@@ -5,12 +5,14 @@ use Rattle.std.proofs.lemmas.List.{get_or_push}
 use Rattle.std.proofs.Math.Seq.{set-append_seam}
 use Rattle.arrayvec.specs.ArrayVec.{ArrayVec}
 
--- where a blank was appended at place n, the element at place n is the blank
+-- where `items` is xs with `blank` appended at place n, and `now` is the element at place n of `items`, `now` is `blank`
 pub at_last : {A : Type 0} (xs items : List A) (n : ℕ) (blank now : A) → items ≡ xs ++ blank ∷ [] → n ≡ length xs → now ≡ get_or items n now → now ≡ blank
 at_last xs items n blank now are at is = is ∙ ap (λ l. get_or l n now) are ∙ get_or_push xs blank now n (sym at)
 
--- where a blank was appended to xs at place n, and place n was then overwritten by `new`, the list is xs with that entry appended
-pub set_last : {A : Type 0} (xs items : List A) (n : ℕ) (blank new entry : A) → items ≡ xs ++ blank ∷ [] → n ≡ length xs → new ≡ entry → slice_set items n new ≡ xs ++ entry ∷ []
+-- where `items` is xs with a blank appended at place n, and place n is overwritten by `new`, which is `entry`, the list is xs
+-- with `entry` appended
+pub set_last : {A : Type 0} (xs items : List A) (n : ℕ) (blank new entry : A) → items ≡ xs ++ blank ∷ [] → n ≡ length xs → new ≡ entry
+    → slice_set items n new ≡ xs ++ entry ∷ []
 set_last xs items n blank new entry are at is =
     ap (λ l. slice_set l n new) are ∙ ap (λ k. slice_set (xs ++ blank ∷ []) k new) at ∙ set-append_seam xs blank [] new ∙ ap (λ e. xs ++ e ∷ []) is
 

@@ -1,5 +1,5 @@
--- An answer that is booked is a line that was made for that very request. Replies and answers are *backed* where each is
--- among the replies made, with the number of its request.
+-- An answer that is booked is a line that was made for the very request that it settles. Replies and answers are *backed* where
+-- each is among the replies made, with the number of its request.
 use Rattle.std.proofs.Common.{◌≡◌, ℕ, zero, suc, ◌+◌, ◌-◌, ◌≤◌, inl, inr, Bool, true, false, List, [], ◌∷◌, ◌++◌, length, map, drop, Some, refl, sym, ap, subst, arith, ltb, ◌⊎◌}
 use Rattle.std.specs.Prelude.{slice_get}
 use Rattle.std.proofs.lemmas.Bool.{ltb-false}
@@ -32,7 +32,7 @@ pub has_push : {A : Type 0} (a : A) (xs : List A) → Has a (xs ++ a ∷ [])
 has_push a [] = inl refl
 has_push a (x ∷ xs) = inr (has_push a xs)
 
--- an element that a list has is at some place
+-- an element that a list has is at some place of the list
 pub has_at : {A : Type 0} (a : A) (xs : List A) → Has a xs → (j : ℕ) × (slice_get xs j ≡ Some a)
 has_at a [] h = absurd h
 has_at a (x ∷ xs) (inl e) = (0, ap Some e)
@@ -51,7 +51,8 @@ AllMade made n (s ∷ ss) = IsMade made n s.outcome × AllMade made (n + 1) ss
 
 -- where each answer of settlements, of which the first is number n, was made for its request, the one at place m among them was
 -- made for request n + m
-pub made_at : {Q : Type 0} (made : List (Numbered (List ℕ))) (n : ℕ) (settled : List (Settlement Q)) (m : ℕ) (s : Settlement Q) → AllMade made n settled → slice_get settled m ≡ Some s
+pub made_at : {Q : Type 0} (made : List (Numbered (List ℕ))) (n : ℕ) (settled : List (Settlement Q)) (m : ℕ) (s : Settlement Q)
+    → AllMade made n settled → slice_get settled m ≡ Some s
     → IsMade made (n + m) s.outcome
 made_at {Q} made n [] m s h e = absurd (none-some s e)
 made_at {Q} made n (x ∷ xs) zero s h e =
@@ -61,7 +62,8 @@ made_at {Q} made n (x ∷ xs) (suc m) s h e =
     let same : n + 1 + m ≡ n + suc m = omega arith in
     subst (λ k. IsMade made k s.outcome) same (made_at made (n + 1) xs m s h.1 e)
 
--- where settlement m is an answer, its line was made for request m
+-- where each answer of the settlements was made for its request, and settlement m is an answer with this line, the line was made
+-- for request m
 pub answer_made : {Q : Type 0} (made : List (Numbered (List ℕ))) (settled : List (Settlement Q)) (m : ℕ) (s : Settlement Q) (line : List ℕ) → AllMade made 0 settled
     → slice_get settled m ≡ Some s → s.outcome ≡ Answered line → Has (record { number = m; line = line }) made
 answer_made made settled m s line h found answered =
@@ -79,8 +81,10 @@ all_made_more : {Q : Type 0} (made more : List (Numbered (List ℕ))) (n : ℕ) 
 all_made_more made more n [] h = tt
 all_made_more made more n (s ∷ ss) h = (made_more made more n s.outcome h.0, all_made_more made more (n + 1) ss h.1)
 
--- where the answers of two lists of settlements were made for their requests, those of both lists in a row were
-all_made_append : {Q : Type 0} (made : List (Numbered (List ℕ))) (n m : ℕ) (ss ts : List (Settlement Q)) → n + length ss ≡ m → AllMade made n ss → AllMade made m ts → AllMade made n (ss ++ ts)
+-- where the answers of the settlements ss, of which the first is number n, and those of ts, of which the first is number m, the
+-- one after the last of ss, were made for their requests, those of ss followed by ts were
+all_made_append : {Q : Type 0} (made : List (Numbered (List ℕ))) (n m : ℕ) (ss ts : List (Settlement Q)) → n + length ss ≡ m → AllMade made n ss
+    → AllMade made m ts → AllMade made n (ss ++ ts)
 all_made_append made n m [] ts e h g = let e' : m ≡ n = omega arith in subst (λ k. AllMade made k ts) e' g
 all_made_append made n m (s ∷ ss) ts e h g = (h.0, all_made_append made (n + 1) m ss ts (omega arith) h.1 g)
 
@@ -89,15 +93,17 @@ all_made_lost : {Q : Type 0} (made : List (Numbered (List ℕ))) (n : ℕ) (ps :
 all_made_lost made n [] = tt
 all_made_lost made n (p ∷ ps) = (tt, all_made_lost made (n + 1) ps)
 
--- a reply that was made for request n settles that request with an answer that was made for it, or as late
+-- where a reply with this line was made for request n, settling a request p by the line (`settled_by_line`) has the outcome late,
+-- or an answer that was made for request n (`IsMade`)
 made_met : {Q : Type 0} (made : List (Numbered (List ℕ))) (n : ℕ) (line : List ℕ) (p : Pending Q) (given_up : Bool) → p.given_up ≡ given_up
     → Has (record { number = n; line = line }) made → IsMade made n (settled_by_line p line).outcome
 made_met made n line p true e h = subst (λ b. IsMade made n (settled_by_line (record p { given_up = b }) line).outcome) (sym e) tt
 made_met made n line p false e h = subst (λ b. IsMade made n (settled_by_line (record p { given_up = b }) line).outcome) (sym e) h
 
--- where a reply made for request m settles the requests from n through m, each answer among these settlements was made for its
--- request
-all_made_settle : {Q : Type 0} (made : List (Numbered (List ℕ))) (n m k : ℕ) (line : List ℕ) (ps : List (Pending Q)) → n + k ≡ m → Has (record { number = m; line = line }) made
+-- where a reply with this line was made for request m, and n + k is m, each answer among the settlements `settle k line ps`, of
+-- which the first is number n, was made for its request
+all_made_settle : {Q : Type 0} (made : List (Numbered (List ℕ))) (n m k : ℕ) (line : List ℕ) (ps : List (Pending Q)) → n + k ≡ m
+    → Has (record { number = m; line = line }) made
     → AllMade made n (settle k line ps)
 all_made_settle made n m k line [] e h = tt
 all_made_settle made n m zero line (p ∷ ps) e h =
@@ -111,7 +117,7 @@ pub record IsBacked {Q : Type 0} (made down : List (Numbered (List ℕ))) (settl
   pub booked : AllMade made 0 settled
 
 module _ {Q State : Type 0} (width : ℕ) (ends : Ends Q State) (Good : State → Type 0) where
-  -- the line keeps its order, and each reply in flight and each answer was made for its request
+  -- the world is sound (`Sound`), and each reply in flight and each answer was made for its request (`IsBacked`)
   pub record Backed (w : World Q (ByNumber Q) State) : Type 0 where
     pub sound : Sound width ends Good w
     pub backed : IsBacked w.wire.made w.wire.down w.wire.settled
@@ -129,7 +135,8 @@ module _ {Q State : Type 0} (width : ℕ) (ends : Ends Q State) (Good : State �
         booked = all_made_more w.made _ 0 w.settled h.booked;
       }
 
-  -- delivering a reply, whether its request is settled already (`old`) or not, keeps the replies and answers backed
+  -- where the client counts as many settled requests as there are settlements, delivering the front reply x, whether its request
+  -- is settled already (`old` true) or not, keeps the replies and answers backed
   backed_reply : (w : World Q (ByNumber Q) State) (x : Numbered (List ℕ)) (rest : List (Numbered (List ℕ))) (old : Bool) → ltb x.number w.client.count ≡ old
       → w.wire.down ≡ x ∷ rest → length w.wire.settled ≡ w.client.count → IsBacked w.wire.made w.wire.down w.wire.settled
       → IsBacked w.wire.made rest (w.wire.settled ++ (number_reply w.client x old).settlements)
@@ -146,7 +153,8 @@ module _ {Q State : Type 0} (width : ℕ) (ends : Ends Q State) (Good : State �
             (all_made_settle w.wire.made w.client.count x.number (x.number - w.client.count) x.line (drop w.client.count w.client.requests) (omega (arith, ge)) g.0);
       }
 
-  -- settling all that wait as lost keeps the replies and answers backed
+  -- where the client counts as many settled requests as there are settlements, settling all that wait as lost keeps the replies
+  -- and answers backed
   backed_lost : (w : World Q (ByNumber Q) State) → length w.wire.settled ≡ w.client.count → IsBacked w.wire.made w.wire.down w.wire.settled
       → IsBacked w.wire.made w.wire.down (w.wire.settled ++ map lost (drop w.client.count w.client.requests))
   backed_lost w s h =
@@ -156,13 +164,14 @@ module _ {Q State : Type 0} (width : ℕ) (ends : Ends Q State) (Good : State �
             (all_made_lost w.wire.made w.client.count (drop w.client.count w.client.requests));
       }
 
-  -- a restart of the client keeps the replies and answers backed
+  -- where the client counts as many settled requests as there are settlements, a restart of the client, with one of the
+  -- instrument (b true) or without, keeps the replies and answers backed
   backed_restart : (w : World Q (ByNumber Q) State) (b : Bool) → length w.wire.settled ≡ w.client.count → IsBacked w.wire.made w.wire.down w.wire.settled
       → (let v = (with_settled (started ends w.wire b) ((by_numbers width).restart w.client)).wire in IsBacked v.made v.down v.settled)
   backed_restart w false s h = backed_lost w s h
   backed_restart w true s h = backed_lost w s h
 
-  -- each step keeps a world backed
+  -- each elementary change keeps a world backed
   keeps_backed : (written : ℕ → Q → List ℕ) → IsExchange ends Good → IsStable written ends (by_numbers width) Backed
   keeps_backed written ex =
       let k = keeps width ends Good written ex in
@@ -181,7 +190,8 @@ module _ {Q State : Type 0} (width : ℕ) (ends : Ends Q State) (Good : State �
         starts = λ w u d h. record { sound = k.starts w u d h.sound; backed = h.backed };
       }
 
-  -- the run by numbers ends in a backed world
-  pub backed_at : (written : ℕ → Q → List ℕ) → IsExchange ends Good → (es : List (Step Q)) (state : State) → Good state → Backed (run written ends (by_numbers width) es (numbers_open state))
+  -- the run by numbers from a good state ends in a backed world
+  pub backed_at : (written : ℕ → Q → List ℕ) → IsExchange ends Good → (es : List (Step Q)) (state : State) → Good state
+      → Backed (run written ends (by_numbers width) es (numbers_open state))
   backed_at written ex es state g = stable_all written ends (by_numbers width) Backed (keeps_backed written ex) es (numbers_open state)
       (record { sound = sound_open width ends Good state g; backed = record { in_flight = tt; booked = tt } })

@@ -1,4 +1,5 @@
--- A bound n on the lists and the counts of a run: after each event they are within n + 1.
+-- A bound n on the lists and the counts of a run (`IsWithin`): after each event they are within n + 1. Where a comment says that
+-- something raises the bound by at most one, what was within n is within n + 1 after it.
 use Rattle.std.proofs.Common.{ℕ, zero, suc, ◌+◌, ◌-◌, ◌<◌, ◌≤◌, Bool, true, false, List, [], ◌∷◌, ◌++◌, Option, Some, None, length, map, arith, subst, ltb, cond, refl, ap, ◌≡◌, ◌∙◌}
 use Rattle.std.specs.Prelude.{replicate}
 use Rattle.std.proofs.lemmas.List.{length-drop, length-map, length_push}
@@ -46,14 +47,21 @@ cut_few (line ∷ lines) n = by_size (ltb n (length line)) (cut_few lines (n - l
     by_size true few = omega arith
     by_size false few = omega (arith, few)
 
--- the bound n doesn't depend on the settlements and on the replies in flight
+-- once one of `more` + 1 requests in flight was answered, and counted as an execution (b) or not, executions and requests in
+-- flight together haven't grown
+pub one_answered : (executed : List ℕ) (k more : ℕ) (b : Bool) → length (cond b (executed ++ k ∷ []) executed) + more ≤ length executed + suc more
+one_answered executed k more true = omega (arith, length_push executed k)
+one_answered executed k more false = omega arith
+
+-- what is within n is within n also with other settlements and other replies in flight
 else_within : {State : Type 0} (n : ℕ) (w : Wire State) (settled : List (Settlement Call)) (down : List (Numbered (List ℕ))) → IsWithin n w
     → IsWithin n (record w { settled = settled; down = down })
 else_within n w settled down h = record { sent = h.sent; executed = h.executed; made = h.made; starts = h.starts; refused = h.refused; idle = h.idle }
 
 module _ {Client State : Type 0} (ends : Ends State) (rule : Rule Client) (n : ℕ) where
   -- what is within n is within n + 1, also with counts of refused sends and of idle events that are greater by at most one
-  counted_within : (w : Wire State) (refused idle : ℕ) → refused ≤ w.refused + 1 → idle ≤ w.idle + 1 → IsWithin n w → IsWithin (n + 1) (record w { refused = refused; idle = idle })
+  counted_within : (w : Wire State) (refused idle : ℕ) → refused ≤ w.refused + 1 → idle ≤ w.idle + 1 → IsWithin n w
+      → IsWithin (n + 1) (record w { refused = refused; idle = idle })
   counted_within w refused idle few_refused few_idle h = record {
     sent = omega (arith, h.sent);
     executed = omega (arith, h.executed);
@@ -90,11 +98,12 @@ module _ {Client State : Type 0} (ends : Ends State) (rule : Rule Client) (n : �
   -- a request that is answered moves from those in flight (1 + `more`) to the executions, if it was executed (b): executions
   -- and requests in flight together are still at most n
   executes : (executed : List ℕ) (k more : ℕ) (b : Bool) → length executed + suc more ≤ n → length (cond b (executed ++ k ∷ []) executed) + more ≤ n
-  executes executed k more true h = omega (arith, h, length_push executed k)
-  executes executed k more false h = omega (arith, h)
+  executes executed k more b h = omega (arith, h, one_answered executed k more b)
 
-  -- a request that is answered moves from those in flight to the executions and replies, so the bound stays
-  answers : (w : Wire State) (x : Numbered Request) (rest : List (Numbered Request)) (hd : Handed State) → w.up ≡ x ∷ rest → IsWithin n w → IsWithin n (replied w x.number rest hd)
+  -- what is within n is still within n once the front request x was answered: it moves from those in flight to the replies, and
+  -- to the executions if it was executed
+  answers : (w : Wire State) (x : Numbered Request) (rest : List (Numbered Request)) (hd : Handed State) → w.up ≡ x ∷ rest → IsWithin n w
+      → IsWithin n (replied w x.number rest hd)
   answers w x rest hd e h =
       let m : Numbered (List ℕ) = record { number = x.number; line = hd.reply } in
       let up : length w.up ≡ suc (length rest) = ap length e in
@@ -113,7 +122,8 @@ module _ {Client State : Type 0} (ends : Ends State) (rule : Rule Client) (n : �
   delivers w [] e h = idles w h
   delivers w (x ∷ rest) e h = one_more_within (replied w x.number rest (ends.handed w.state x.line.id x.line.call)) (answers w x rest (ends.handed w.state x.line.id x.line.call) e h)
 
-  -- an upward queue that is longer by at most one raises the bound by at most one
+  -- putting in place an upward queue that is longer by at most one (b true), or counting an idle event instead (b false), raises
+  -- the bound by at most one
   changes_up : (w : Wire State) (up : List (Numbered Request)) (b : Bool) → length up ≤ length w.up + 1 → IsWithin n w → IsWithin (n + 1) (with_up w up b)
   changes_up w up false le h = idles w h
   changes_up w up true le h = record {
@@ -126,7 +136,8 @@ module _ {Client State : Type 0} (ends : Ends State) (rule : Rule Client) (n : �
     idle = omega (arith, h.idle);
   }
 
-  -- another downward queue raises the bound by at most one
+  -- putting in place another downward queue (b true), or counting an idle event instead (b false), raises the bound by at most
+  -- one
   changes_down : (w : Wire State) (down : List (Numbered (List ℕ))) (b : Bool) → IsWithin n w → IsWithin (n + 1) (with_down w down b)
   changes_down w down false h = idles w h
   changes_down w down true h = one_more_within (record w { down = down }) (else_within n w w.settled down h)
@@ -136,7 +147,7 @@ module _ {Client State : Type 0} (ends : Ends State) (rule : Rule Client) (n : �
   hears w [] h = idles w.wire h
   hears w (x ∷ rest) h = one_more_within (down_delivered rule w (x ∷ rest)).wire (else_within n w.wire (w.wire.settled ++ (rule.reply w.client x).settlements) rest h)
 
-  -- a start of the instrument raises the bound by at most one
+  -- with a start of the instrument (b true) or without one, the bound rises by at most one
   starts : (w : Wire State) (b : Bool) → IsWithin n w → IsWithin (n + 1) (started ends w b)
   starts w false h = one_more_within w h
   starts w true h = record {
@@ -150,13 +161,15 @@ module _ {Client State : Type 0} (ends : Ends State) (rule : Rule Client) (n : �
   }
 
   -- a restart of the instrument raises the bound by at most one
-  restarts_instrument : (w : Wire State) (up : List (Numbered Request)) (down : List (Numbered (List ℕ))) → IsWithin n w → IsWithin (n + 1) (instrument_restarted ends w up down)
+  restarts_instrument : (w : Wire State) (up : List (Numbered Request)) (down : List (Numbered (List ℕ))) → IsWithin n w
+      → IsWithin (n + 1) (instrument_restarted ends w up down)
   restarts_instrument w [] [] h = starts w true h
   restarts_instrument w [] (y ∷ down) h = idles w h
   restarts_instrument w (x ∷ up) down h = idles w h
 
   -- a restart of the client raises the bound by at most one
-  restarts_client : (w : World Client State) (up : List (Numbered Request)) (down : List (Numbered (List ℕ))) → IsWithin n w.wire → IsWithin (n + 1) (client_restarted ends rule w up down).wire
+  restarts_client : (w : World Client State) (up : List (Numbered Request)) (down : List (Numbered (List ℕ))) → IsWithin n w.wire
+      → IsWithin (n + 1) (client_restarted ends rule w up down).wire
   restarts_client w [] [] h =
       let v = started ends w.wire ends.joint in
       else_within (n + 1) v (v.settled ++ (rule.restart w.client).settlements) v.down (starts w.wire ends.joint h)
@@ -178,12 +191,14 @@ module _ {Client State : Type 0} (ends : Ends State) (rule : Rule Client) (n : �
   one_step w Nothing h = idles w.wire h
 
   -- a delivery of a request that is in flight doesn't raise the bound
-  up_once : (w : Wire State) (q : List (Numbered Request)) → w.up ≡ q → 0 < length (map (λ x. request_line (Some x.line.id) x.line.call) q) → IsWithin n w → IsWithin n (up_delivered ends w q)
+  up_once : (w : Wire State) (q : List (Numbered Request)) → w.up ≡ q → 0 < length (map (λ x. request_line (Some x.line.id) x.line.call) q)
+      → IsWithin n w → IsWithin n (up_delivered ends w q)
   up_once w [] e some h = absurd (omega (arith, some))
   up_once w (x ∷ rest) e some h = answers w x rest (ends.handed w.state x.line.id x.line.call) e h
 
   -- a delivery of a reply that is in flight doesn't raise the bound
-  down_once : (w : World Client State) (q : List (Numbered (List ℕ))) → 0 < length (map (λ x. x.line) q) → IsWithin n w.wire → IsWithin n (down_delivered rule w q).wire
+  down_once : (w : World Client State) (q : List (Numbered (List ℕ))) → 0 < length (map (λ x. x.line) q) → IsWithin n w.wire
+      → IsWithin n (down_delivered rule w q).wire
   down_once w [] some h = absurd (omega (arith, some))
   down_once w (x ∷ rest) some h = else_within n w.wire (w.wire.settled ++ (rule.reply w.client x).settlements) rest h
 
@@ -193,13 +208,14 @@ module _ {Client State : Type 0} (ends : Ends State) (rule : Rule Client) (n : �
   one_delivery Down w some h = down_once w w.wire.down some h
 
   -- deliveries of lines that are in flight don't raise the bound, however many they are
-  all_deliveries : (d : Direction) (k : ℕ) (w : World Client State) → k ≤ length (texts d w.wire) → IsWithin n w.wire → IsWithin n (run ends rule (replicate k (deliver d)) w).wire
+  all_deliveries : (d : Direction) (k : ℕ) (w : World Client State) → k ≤ length (texts d w.wire) → IsWithin n w.wire
+      → IsWithin n (run ends rule (replicate k (deliver d)) w).wire
   all_deliveries d zero w le h = h
   all_deliveries d (suc k) w le h =
       let less : length (texts d (happens ends rule w (deliver d)).wire) ≡ length (texts d w.wire) - 1 = ap length (one_less ends rule d w) ∙ length-drop 1 (texts d w.wire) in
       all_deliveries d k (happens ends rule w (deliver d)) (omega (arith, le, less)) (one_delivery d w (omega (arith, le)) h)
 
-  -- the bytes of an event raise the bound by at most one
+  -- k bytes of a direction raise the bound by at most one, where `lines` are as many as are in flight in the direction
   passes : (d : Direction) (lines : List (List ℕ)) (gone k : ℕ) (w : World Client State) → length lines ≡ length (texts d w.wire) → IsWithin n w.wire
       → IsWithin (n + 1) (run ends rule (passed (deliver d) lines gone k) w).wire
   passes d [] gone k w e h = idles w.wire h
@@ -224,7 +240,7 @@ module _ {Client State : Type 0} (ends : Ends State) (rule : Rule Client) (n : �
   one_event v event.RestartInstrument h = one_step v.world Restart_instrument h
 
 module _ {Client State : Type 0} (ends : Ends State) (rule : Rule Client) where
-  -- n events raise the bound by at most n
+  -- events raise the bound n by at most as many as they are
   pub within_all : (es : List Event) (v : Streams Client State) (n : ℕ) → IsWithin n v.world.wire → IsWithin (n + length es) (flow ends rule es v).world.wire
   within_all [] v n h = let z : n ≡ n + 0 = omega arith in subst (λ m. IsWithin m v.world.wire) z h
   within_all (e ∷ es) v n h = let z : n + 1 + length es ≡ n + length (e ∷ es) = omega arith in

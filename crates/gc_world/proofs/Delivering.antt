@@ -8,14 +8,15 @@ use Rattle.gc_instrument.specs.State.{State}
 use Rattle.gc_world.specs.declared.direction.Direction.TheVariants.{Down}
 use Rattle.gc_world.specs.declared.event.Event.{Event}
 use Rattle.gc_world.specs.declared.event.Event.TheVariants.{DownDeliver, DownBytes}
+use Rattle.gc_world.specs.Directions.{after_cut}
 use Rattle.gc_world.specs.FirstReply.{IsDelivery}
 use Rattle.gc_world.specs.Streams.{Streams, Cut, one_more, cut, down_texts, down_lines, remaining, flows}
 use Rattle.gc_world.specs.World.{Ends, Rule}
-use Rattle.gc_world.proofs.Directions.{passing, after_cut}
+use Rattle.gc_world.proofs.Directions.{passing}
 use Rattle.gc_world.proofs.Handed.{cut_long, in_front}
 use Rattle.gc_world.proofs.Pieces.{end_length}
 
--- 0 bytes complete no line
+-- the cut at 0 bytes (`cut`) has no completed line, and nothing of the next line has gone
 cut_zero : (texts : List (List ℕ)) → cut (map with_end texts) 0 ≡ record { lines = 0; gone = 0 }
 cut_zero [] = refl
 cut_zero (text ∷ texts) =
@@ -35,7 +36,8 @@ module _ (ends : Ends State) (rule : Rule (ById Call)) (v : Streams (ById Call) 
       cut_long (with_end f.0) (map with_end f.1) (g + suc n) (omega (arith, size)) ∙ ap (λ k. one_more (cut (map with_end f.1) k)) none ∙ ap one_more (cut_zero f.1) in
       ap (λ q. passing ends rule Down v (map with_end q) (n + 1)) f.2 ∙ ap (passing ends rule Down v (map with_end (f.0 ∷ f.1))) next ∙ ap (after_cut ends rule Down v) one
 
-  -- an event that hands over the last byte of the reply in front does what `DownDeliver` does
+  -- where `IsDelivery` holds of an event, so that it hands over the last byte of the reply in front, if there is one, and no byte
+  -- after that, the event does what `DownDeliver` does
   pub delivery_is : (e : Event) → IsDelivery v e → flows ends rule v e ≡ flows ends rule v DownDeliver
   delivery_is e (inl is) = ap (flows ends rule v) is
   delivery_is e (inr (n, is, last)) = ap (flows ends rule v) is ∙ exact_bytes n last

@@ -1,9 +1,8 @@
 -- The executions of a run are as `IsExecution` has them, and each booked answer was made for its request. Both are drawn from a
 -- replay (`Replays`): the executions of requests ns, one after the other, with replies ms, from the state s to the state t; j
--- executions had been before.
+-- executions came before.
 use Rattle.std.proofs.Common.{◌≡◌, ℕ, zero, suc, ◌+◌, ◌-◌, ◌<◌, Bool, true, false, inl, inr, List, [], ◌∷◌, length, Option, Some, refl, sym, ◌∙◌, ap, subst, arith, eqb}
 use Rattle.std.specs.Prelude.{slice_get}
-use Rattle.gc_catalogue.specs.Texts.{request_line}
 use Rattle.gc_client.specs.Rule.{Settlement}
 use Rattle.gc_client.specs.Rule.{Sending}
 use Rattle.gc_world.specs.World.{Sent, Numbered, Ends, Wire}
@@ -12,11 +11,11 @@ use Rattle.gc_world.specs.Clients.{ByNumber, number_send, by_numbers}
 use Rattle.gc_world.specs.Exchange.{IsExchange}
 use Rattle.gc_world.specs.Order.{Each}
 use Rattle.gc_world.specs.Faithful.{has_number, begun}
-use Rattle.gc_world.specs.Record.{Increasing, IsOneForOne, IsReplyTo, IsBooked, IsExecuted, IsReplyAt, IsExecution}
+use Rattle.gc_world.specs.Record.{Increasing, IsOneForOne, IsReplyTo, IsBooked, IsExecutedIn, IsExecuted, IsReplyAt, IsExecution}
 use Rattle.gc_world.proofs.Booked.{Has, has_at, AllMade, answer_made}
 use Rattle.gc_world.proofs.Replay.{Executes, Replays}
 use Rattle.std.proofs.lemmas.Option.{same_Some, none-some, slice_get_within}
-use Rattle.gc_world.proofs.Places.{each_get, in_range}
+use Rattle.gc_world.proofs.Places.{all_at, in_range}
 
 -- a property that each element of a list has holds of any element that is in the list
 pub each_has : {A : Type 0} (P : A → Type 0) (xs : List A) (x : A) → Each P xs → Has x xs → P x
@@ -25,7 +24,8 @@ each_has P (y ∷ xs) x h (inl e) = subst P e h.0
 each_has P (y ∷ xs) x h (inr e) = each_has P xs x h.1 e
 
 -- the oracle client sends each request with an id below 8
-pub digits : {Q : Type 0} (width : ℕ) (c : ByNumber Q) (target : ℕ) (call : Q) (deadline : ℕ) (x : Sending (ByNumber Q)) → (by_numbers width).send c target call deadline ≡ Some x → x.id < 8
+pub digits : {Q : Type 0} (width : ℕ) (c : ByNumber Q) (target : ℕ) (call : Q) (deadline : ℕ) (x : Sending (ByNumber Q))
+    → (by_numbers width).send c target call deadline ≡ Some x → x.id < 8
 digits {Q} width c target call deadline x e = digit (eqb (length c.requests - c.count) width) e
   where
     digit : (full : Bool) → number_send c target call deadline full ≡ Some x → x.id < 8
@@ -33,15 +33,16 @@ digits {Q} width c target call deadline x e = digit (eqb (length c.requests - c.
     digit false e = subst (λ (y : Sending (ByNumber Q)). y.id < 8) (same_Some _ x e) (omega arith)
 
 module _ {State : Type 0} (ends : Ends State) where
-  -- the state before execution k of a replay, counted from 0
-  pub before_in : (sent : List Sent) (starts : List ℕ) (j : ℕ) (s : State) (ns : List ℕ) (ms : List (Numbered (List ℕ))) (t : State) → Replays ends sent starts j s ns ms t → ℕ → State
+  -- the state before execution k of a replay, counted from 0; where there is no execution k, the state that the replay ends with
+  pub before_in : (sent : List Sent) (starts : List ℕ) (j : ℕ) (s : State) (ns : List ℕ) (ms : List (Numbered (List ℕ))) (t : State)
+      → Replays ends sent starts j s ns ms t → ℕ → State
   before_in sent starts j s [] [] t h k = s
   before_in sent starts j s (n ∷ ns) (m ∷ ms) t h zero = s
   before_in sent starts j s (n ∷ ns) (m ∷ ms) t h (suc k) = before_in sent starts (j + 1) (begun ends.restarted (has_number (j + 1) starts) h.0) ns ms t h.2 k
   before_in sent starts j s [] (m ∷ ms) t h k = absurd h
   before_in sent starts j s (n ∷ ns) [] t h k = absurd h
 
-  -- the state before the first execution is the one that the replay begins with
+  -- `before_in` at place 0 is the state that the replay begins with, also where there is no execution
   before_first : (sent : List Sent) (starts : List ℕ) (j : ℕ) (s : State) (ns : List ℕ) (ms : List (Numbered (List ℕ))) (t : State)
       (h : Replays ends sent starts j s ns ms t) → before_in sent starts j s ns ms t h 0 ≡ s
   unfolding before_in
@@ -50,7 +51,7 @@ module _ {State : Type 0} (ends : Ends State) where
   before_first sent starts j s [] (m ∷ ms) t h = absurd h
   before_first sent starts j s (n ∷ ns) [] t h = absurd h
 
-  -- the state after the last execution is the one that the replay ends with
+  -- `before_in` at place length ns, behind the last execution, is the state that the replay ends with
   before_last : (sent : List Sent) (starts : List ℕ) (j : ℕ) (s : State) (ns : List ℕ) (ms : List (Numbered (List ℕ))) (t : State)
       (h : Replays ends sent starts j s ns ms t) → t ≡ before_in sent starts j s ns ms t h (length ns)
   unfolding before_in
@@ -60,25 +61,22 @@ module _ {State : Type 0} (ends : Ends State) where
   before_last sent starts j s (n ∷ ns) [] t h = absurd h
 
   -- a replay has as many replies as executions
-  replays_entries : (sent : List Sent) (starts : List ℕ) (j : ℕ) (s : State) (ns : List ℕ) (ms : List (Numbered (List ℕ))) (t : State) → Replays ends sent starts j s ns ms t → length ms ≡ length ns
+  replays_entries : (sent : List Sent) (starts : List ℕ) (j : ℕ) (s : State) (ns : List ℕ) (ms : List (Numbered (List ℕ))) (t : State)
+      → Replays ends sent starts j s ns ms t → length ms ≡ length ns
   replays_entries sent starts j s [] [] t h = refl
   replays_entries sent starts j s (n ∷ ns) (m ∷ ms) t h = ap suc (replays_entries sent starts (j + 1) _ ns ms t h.2)
   replays_entries sent starts j s [] (m ∷ ms) t h = absurd h
   replays_entries sent starts j s (n ∷ ns) [] t h = absurd h
 
-  -- an execution of request n, which is the i-th execution, counted from 1: it leads from `state` to `next`, and `entry` is its
-  -- reply
+  -- an execution of request n, which is the i-th execution, counted from 1: it leads from `state` to `next`, restarted where
+  -- `starts` has the number i, and `entry` is its reply
   record IsStep (sent : List Sent) (starts : List ℕ) (i : ℕ) (state next : State) (entry : Option (Numbered (List ℕ))) (n : ℕ) : Type 0 where
-    request : Sent
-    found : slice_get sent n ≡ Some request
-    id : ℕ
-    small : id < 8
-    text : request.line ≡ request_line (Some id) request.call
-    executed : (ends.handed state id request.call).executed ≡ true
-    made : entry ≡ Some (record { number = n; line = (ends.handed state id request.call).reply })
-    next_is : next ≡ begun ends.restarted (has_number i starts) (ends.handed state id request.call).state
+    is_executed : IsExecutedIn ends sent n state
+    made : entry ≡ Some (record { number = n; line = (ends.handed state is_executed.id is_executed.request.call).reply })
+    next_is : next ≡ begun ends.restarted (has_number i starts) (ends.handed state is_executed.id is_executed.request.call).state
 
-  -- execution k of a replay is that of the request whose number is at place k, and its reply is the one at place k
+  -- execution k of a replay is that of request n, the number at place k of ns, and its reply is at place k of ms. It leads from
+  -- `before_in` at place k to `before_in` at place k + 1, as `IsStep` has it, and is the (j + k + 1)-th execution
   step_at : (sent : List Sent) (starts : List ℕ) (j : ℕ) (s : State) (ns : List ℕ) (ms : List (Numbered (List ℕ))) (t : State)
       (h : Replays ends sent starts j s ns ms t) (k n : ℕ) → slice_get ns k ≡ Some n
       → IsStep sent starts (j + k + 1) (before_in sent starts j s ns ms t h k) (before_in sent starts j s ns ms t h (suc k)) (slice_get ms k) n
@@ -86,20 +84,23 @@ module _ {State : Type 0} (ends : Ends State) where
   step_at sent starts j s [] [] t h k n e = absurd (none-some n e)
   step_at sent starts j s (n' ∷ ns) (m ∷ ms) t h zero n e =
       let r = h.1 in
+      let d = r.is_executed in
       let same : n' ≡ n = same_Some n' n e in
       let i : j + 1 ≡ j + 0 + 1 = omega arith in
       record {
-        request = r.request;
-        found = subst (λ x. slice_get sent x ≡ Some r.request) same r.found;
-        id = r.id;
-        small = r.small;
-        text = r.text;
-        executed = r.executed;
-        made = ap Some (entry_is m n r.number same (ends.handed s r.id r.request.call).reply r.line);
+        is_executed = record {
+          request = d.request;
+          found = subst (λ x. slice_get sent x ≡ Some d.request) same d.found;
+          id = d.id;
+          small = d.small;
+          line = d.line;
+          executed = d.executed;
+        };
+        made = ap Some (entry_is m n r.number same (ends.handed s d.id d.request.call).reply r.line);
         next_is =
             before_first sent starts (j + 1) (begun ends.restarted (has_number (j + 1) starts) h.0) ns ms t h.2
             ∙ ap (λ (x : State). begun ends.restarted (has_number (j + 1) starts) x) (sym r.leads)
-            ∙ ap (λ x. begun ends.restarted (has_number x starts) (ends.handed s r.id r.request.call).state) i;
+            ∙ ap (λ x. begun ends.restarted (has_number x starts) (ends.handed s d.id d.request.call).state) i;
       }
     where
       entry_is : (x : Numbered (List ℕ)) (n : ℕ) → x.number ≡ n' → n' ≡ n → (line : List ℕ) → x.line ≡ line → x ≡ record { number = n; line = line }
@@ -128,18 +129,14 @@ module _ {State : Type 0} (ends : Ends State) where
         let s = step_at w.sent w.starts 0 (ends.restarted opening) w.executed replies w.state h j n e in
         let i : j + 1 ≡ suc j = omega arith in
         let i' : 0 + j + 1 ≡ j + 1 = omega arith in
-        let m : Numbered (List ℕ) = record { number = n; line = (ends.handed (state_before j) s.id s.request.call).reply } in
-        let at = has_at m w.made (each_get (λ x. Has x w.made) replies j m each s.made) in
+        let d = s.is_executed in
+        let m : Numbered (List ℕ) = record { number = n; line = (ends.handed (state_before j) d.id d.request.call).reply } in
+        let at = has_at m w.made (all_at (λ x. Has x w.made) replies j m each s.made) in
         record {
-          request = s.request;
-          found = s.found;
-          id = s.id;
-          small = s.small;
-          line = s.text;
-          executed = s.executed;
+          is_executed = d;
           next =
               ap state_before i ∙ s.next_is
-              ∙ ap (λ x. begun ends.restarted (has_number x w.starts) (ends.handed (state_before j) s.id s.request.call).state) i';
+              ∙ ap (λ x. begun ends.restarted (has_number x w.starts) (ends.handed (state_before j) d.id d.request.call).state) i';
           place = at.0;
           made = at.1;
         }
@@ -152,7 +149,8 @@ module _ {State : Type 0} (ends : Ends State) where
         let size = replays_entries w.sent w.starts 0 (ends.restarted opening) w.executed replies w.state h in
         let n = in_range w.executed at.0 (omega (arith, size, slice_get_within replies at.0 entry at.1)) in
         let s = step_at w.sent w.starts 0 (ends.restarted opening) w.executed replies w.state h at.0 n.0 n.1 in
-        let entry_is : entry ≡ record { number = n.0; line = (ends.handed (state_before at.0) s.id s.request.call).reply } = same_Some _ _ (sym at.1 ∙ s.made) in
+        let d = s.is_executed in
+        let entry_is : entry ≡ record { number = n.0; line = (ends.handed (state_before at.0) d.id d.request.call).reply } = same_Some _ _ (sym at.1 ∙ s.made) in
         let number : n.0 ≡ entry.number = sym (ap (λ (m : Numbered (List ℕ)). m.number) entry_is) in
         let found : slice_get w.executed at.0 ≡ Some entry.number = n.1 ∙ ap Some number in
         subst (λ (m : Numbered (List ℕ)). IsReplyAt ends w state_before m) (sym entry_is) (record { j = at.0; executed = n.1; execution = executed_at at.0 n.0 n.1; line = refl })
@@ -166,20 +164,20 @@ module _ {State : Type 0} (ends : Ends State) where
           before = state_before;
           first = before_first w.sent w.starts 0 state w.executed replies w.state h;
           each = executed_at;
-          replies = λ k entry e. reply_at entry (each_get (λ m. Has m replies) w.made k entry among e);
+          replies = λ k entry e. reply_at entry (all_at (λ m. Has m replies) w.made k entry among e);
           last = before_last w.sent w.starts 0 state w.executed replies w.state h;
           climbs = climbs;
         }
 
 module _ {Q State : Type 0} (ends : Worlds.Ends Q State) (Good : State → Type 0) where
-  -- the entry is a reply to what the request whose number it has asks for
+  -- the entry is a reply to the call of the request with its number
   pub record IsAnswerAt (sent : List (Worlds.Sent Q)) (m : Numbered (List ℕ)) : Type 0 where
     pub request : Worlds.Sent Q
     pub found : slice_get sent m.number ≡ Some request
     pub reply : IsReplyTo ends Good request.call m.line
 
-  -- where settlements correspond one for one, each answer was made for its request, and each reply made is one to its
-  -- request's call, an answer at place m is booked for request m
+  -- where `IsOneForOne` holds of requests and settlements, each answer was made for its request, and each reply made is one to
+  -- its request's call, settlement m, if it is an answer, is booked for request m (`IsBooked`)
   pub booked : (sent : List (Worlds.Sent Q)) (made : List (Numbered (List ℕ))) (settled : List (Settlement Q)) → IsOneForOne sent settled → AllMade made 0 settled
       → Each (IsAnswerAt sent) made → (m : ℕ) (s : Settlement Q) → slice_get settled m ≡ Some s → IsBooked ends Good made m s
   booked sent made settled one all at m s e bytes answered =
@@ -189,21 +187,24 @@ module _ {Q State : Type 0} (ends : Worlds.Ends Q State) (Good : State → Type 
       (has_at _ made has, subst (λ c. IsReplyTo ends Good c bytes) (sym same) a.reply)
 
 module _ {State : Type 0} (ends : Ends State) (Good : State → Type 0) (ex : IsExchange ends Good) where
-  -- the reply of an execution is a reply to the call of the request whose number it has
+  -- where an execution of request n begins in a good state, its reply is a reply to the call of request n, as `IsAnswerAt` has it
   answer_at : (sent : List Sent) (s : State) (n : ℕ) (m : Numbered (List ℕ)) (t : State) → Good s → Executes ends sent s n m t → IsAnswerAt ends Good sent m
   answer_at sent s n m t good h =
+      let d = h.is_executed in
       record {
-        request = h.request;
-        found = ap (λ k. slice_get sent k) h.number ∙ h.found;
-        reply = record { state = s; good = good; id = h.id; small = h.small; executed = h.executed; reply = h.line };
+        request = d.request;
+        found = ap (λ k. slice_get sent k) h.number ∙ d.found;
+        reply = record { state = s; good = good; id = d.id; small = d.small; executed = d.executed; reply = h.line };
       }
 
-  -- an execution, with a restart after it or without, leads to a good state
-  good_next : (sent : List Sent) (s : State) (n : ℕ) (m : Numbered (List ℕ)) (t : State) (b : Bool) → Good s → Executes ends sent s n m t → Good (begun ends.restarted b t)
-  good_next sent s n m t false good h = subst Good h.leads (ex.stays_good s h.id h.request.call good h.small)
-  good_next sent s n m t true good h = ex.restart_good t (subst Good h.leads (ex.stays_good s h.id h.request.call good h.small))
+  -- an execution in a good state, with a restart after it (b true) or without, leads to a good state
+  good_next : (sent : List Sent) (s : State) (n : ℕ) (m : Numbered (List ℕ)) (t : State) (b : Bool) → Good s → Executes ends sent s n m t
+      → Good (begun ends.restarted b t)
+  good_next sent s n m t false good h = subst Good h.leads (ex.stays_good s h.is_executed.id h.is_executed.request.call good h.is_executed.small)
+  good_next sent s n m t true good h =
+      ex.restart_good t (subst Good h.leads (ex.stays_good s h.is_executed.id h.is_executed.request.call good h.is_executed.small))
 
-  -- each reply of a replay is a reply to the call of the request whose number it has
+  -- each reply of a replay from a good state on is a reply to the call of the request whose number it has
   pub answers_at : (sent : List Sent) (starts : List ℕ) (j : ℕ) (s : State) (ns : List ℕ) (ms : List (Numbered (List ℕ))) (t : State) → Good s
       → Replays ends sent starts j s ns ms t → Each (IsAnswerAt ends Good sent) ms
   answers_at sent starts j s [] [] t good h = tt

@@ -22,8 +22,9 @@ module _ (width : ℕ) (narrow : width ≤ 7) (opening : State) (events : List E
   level : AreLevel width narrow ends KeptFits reads (restarted opening) tt (streams_by_ids width ends events (restarted opening)) (streams_by_numbers width ends events (restarted opening))
   level = level_at width narrow ends KeptFits reads (restarted opening) tt events
 
-  -- a report of the run by ids is faithful
-  pub faithful : (r : Report) (up down : List ℕ) (client : Windowed Call) → IsFittingState (restarted opening) → AreOfWorld width r up down client (played width opening events)
+  -- a report of the run by ids is faithful, if the restarted opening state is fitting
+  pub faithful : (r : Report) (up down : List ℕ) (client : Windowed Call) → IsFittingState (restarted opening)
+      → AreOfWorld width r up down client (played width opening events)
       → Faithful width opening events r
   faithful r up down client good shows =
       let es = level.steps in
@@ -40,8 +41,9 @@ module _ (width : ℕ) (narrow : width ≤ 7) (opening : State) (events : List E
             (streams_by_numbers width ends events (restarted opening)) level);
       }
 
-  -- by a report of the run by ids each request acted once
-  pub once : (r : Report) (up down : List ℕ) (client : Windowed Call) → IsFittingState (restarted opening) → AreOfWorld width r up down client (played width opening events) → ActsOnce opening r
+  -- by a report of the run by ids each request acted at most once (`ActsOnce`), if the restarted opening state is fitting
+  pub once : (r : Report) (up down : List ℕ) (client : Windowed Call) → IsFittingState (restarted opening)
+      → AreOfWorld width r up down client (played width opening events) → ActsOnce opening r
   once r up down client good shows =
       let es = level.steps in
       let w = (run_by_ids width ends es (restarted opening)).wire in
@@ -49,7 +51,8 @@ module _ (width : ℕ) (narrow : width ≤ 7) (opening : State) (events : List E
       acts_once r w h opening (execution_at width narrow ends IsFittingState exchange kept_of keeper refl es opening good)
 
   -- no list of a report of the run by ids is longer than the list of events
-  pub no_longer_than : (r : Report) (up down : List ℕ) (client : Windowed Call) → AreOfWorld width r up down client (played width opening events) → IsNoLongerThan (length events) r
+  pub no_longer_than : (r : Report) (up down : List ℕ) (client : Windowed Call) → AreOfWorld width r up down client (played width opening events)
+      → IsNoLongerThan (length events) r
   no_longer_than r up down client shows =
       let es = level.steps in
       let w = (run_by_ids width ends es (restarted opening)).wire in

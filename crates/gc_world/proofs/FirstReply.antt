@@ -34,7 +34,7 @@ use Rattle.gc_world.proofs.Sound.{Sound, sound_step}
 
 -- Lists.
 
--- element n - k of the list after the first k is element n of the whole list
+-- where k is at most n, element n - k of the list after the first k is element n of the whole list
 slice_drop : {A : Type 0} (k : ℕ) (xs : List A) (n : ℕ) → k ≤ n → slice_get (drop k xs) (n - k) ≡ slice_get xs n
 slice_drop zero xs n le = let e : n - 0 ≡ n = omega arith in ap (slice_get xs) e
 slice_drop (suc k) [] n le = refl
@@ -43,11 +43,13 @@ slice_drop (suc k) (x ∷ xs) (suc n) le = let e : suc n - suc k ≡ n - k = ome
 
 -- where f over xs and g over ys give the same list, the element x at place n of xs has a partner y at place n of ys: g gives of
 -- y what f gives of x
-partner_at : {A B C : Type 0} (f : A → C) (g : B → C) (xs : List A) (ys : List B) (n : ℕ) (x : A) → map f xs ≡ map g ys → slice_get xs n ≡ Some x → (y : B) × (slice_get ys n ≡ Some y) × (g y ≡ f x)
+partner_at : {A B C : Type 0} (f : A → C) (g : B → C) (xs : List A) (ys : List B) (n : ℕ) (x : A) → map f xs ≡ map g ys → slice_get xs n ≡ Some x
+    → (y : B) × (slice_get ys n ≡ Some y) × (g y ≡ f x)
 partner_at f g xs ys n x e h = get_seen g ys n (f x) (ap (λ l. slice_get l n) (sym e) ∙ get_map f xs n x h)
 
--- settling through place k settles the first k requests as lost, and the one at place k by the line
-settle_at : (k : ℕ) (line : List ℕ) (ps : List (Pending Call)) (p : Pending Call) → slice_get ps k ≡ Some p → settle k line ps ≡ map lost (take k ps) ++ settled_by_line p line ∷ []
+-- where p is at place k of those that wait, `settle` through place k settles the k before it as lost, and p by the line
+settle_at : (k : ℕ) (line : List ℕ) (ps : List (Pending Call)) (p : Pending Call) → slice_get ps k ≡ Some p
+    → settle k line ps ≡ map lost (take k ps) ++ settled_by_line p line ∷ []
 settle_at k line [] p h = absurd (none-some p h)
 settle_at zero line (q ∷ ps) p h = ap (λ r. settled_by_line r line ∷ []) (same_Some q p h)
 settle_at (suc k) line (q ∷ ps) p h = ap (λ l. lost q ∷ l) (settle_at k line ps p h)
@@ -68,7 +70,8 @@ lost_alike (p ∷ ps) (r ∷ rs) e =
 
 -- where the settled requests, followed by those that wait, are the requests that were sent, those that wait are the ones sent
 -- after the settled ones
-waiting_alike : (settled : List (Settlement Call)) (waiting : List (Pending Call)) (sent : List Sent) → map of_settled settled ++ map of_pending waiting ≡ map of_sent sent
+waiting_alike : (settled : List (Settlement Call)) (waiting : List (Pending Call)) (sent : List Sent)
+    → map of_settled settled ++ map of_pending waiting ≡ map of_sent sent
     → map of_pending waiting ≡ map of_sent (drop (length settled) sent)
 waiting_alike settled waiting sent e =
     sym (drop-append_seam (map of_settled settled) (map of_pending waiting)) ∙ ap (drop (length (map of_settled settled))) e ∙ ap (λ k. drop k (map of_sent sent)) (length-map settled of_settled)
@@ -78,14 +81,15 @@ waiting_alike settled waiting sent e =
 abbrev outcome_of : Pending Call → List ℕ → Outcome
 outcome_of p line = cond p.given_up Late (Answered line)
 
--- a reply with this line to request n, which the client has as p, settles the requests before n as lost and then n itself, which
--- is one that was sent
+-- a reply with this line to request n, which the client has as p, settles the unsettled requests before n as lost and then n
+-- itself, which is one that was sent
 pub record IsGained (settled : List (Settlement Call)) (waiting : List (Pending Call)) (sent : List Sent) (n : ℕ) (line : List ℕ) (p : Pending Call) : Type 0 where
   pub request : Sent
   pub found : slice_get sent n ≡ Some request
   pub gained : settle (n - length settled) line waiting ≡ map (ended Lost) (between (length settled) n sent) ++ ended (outcome_of p line) request ∷ []
 
--- `IsGained` holds where the settlements and those that wait are the requests that were sent, and p waits as request n
+-- `IsGained` holds where the settlements, and after them those that wait, are the requests that were sent, n isn't below the
+-- count of settlements, and p waits as request n
 gained : (settled : List (Settlement Call)) (waiting : List (Pending Call)) (sent : List Sent) (n : ℕ) (line : List ℕ) (p : Pending Call)
     → map of_settled settled ++ map of_pending waiting ≡ map of_sent sent → length settled ≤ n → slice_get waiting (n - length settled) ≡ Some p
     → IsGained settled waiting sent n line p
@@ -106,7 +110,8 @@ gained settled waiting sent n line p whole le h =
 -- The run by numbers.
 
 module _ (width : ℕ) where
-  -- delivering a reply to a request that isn't settled settles it and those before it
+  -- delivering the front reply x, while the client counts x's request as unsettled, adds the settlements that `settle` makes by
+  -- x's line: it goes through the unsettled requests up to that of x
   delivered : (w : World (ByNumber Call) State) (x : Numbered (List ℕ)) (rest : List (Numbered (List ℕ))) → w.wire.down ≡ x ∷ rest → w.client.count ≤ x.number
       → (happens ends (by_numbers width) w Down_deliver).wire.settled ≡ w.wire.settled ++ settle (x.number - w.client.count) x.line
       (drop w.client.count w.client.requests)
@@ -114,14 +119,15 @@ module _ (width : ℕ) where
       ap (λ q. (down_delivered (by_numbers width) w q).wire.settled) e
       ∙ ap (λ old. w.wire.settled ++ (number_reply w.client x old).settlements) (le-ltb x.number w.client.count le)
 
-  -- delivering a reply to a request that is settled settles nothing
+  -- delivering the front reply x, while the client counts x's request as settled, settles nothing
   delivered_again : (w : World (ByNumber Call) State) (x : Numbered (List ℕ)) (rest : List (Numbered (List ℕ))) → w.wire.down ≡ x ∷ rest → x.number < w.client.count
       → (happens ends (by_numbers width) w Down_deliver).wire.settled ≡ w.wire.settled
   delivered_again w x rest e lt =
       ap (λ q. (down_delivered (by_numbers width) w q).wire.settled) e
       ∙ ap (λ old. w.wire.settled ++ (number_reply w.client x old).settlements) (lt-ltb x.number w.client.count lt) ∙ append-nil w.wire.settled
 
-  -- a send that isn't refused puts its request at the end of the client's list: its place is how many requests were sent before
+  -- where the client has as many requests as were sent, a send that isn't refused puts its request at the end of the client's
+  -- list: its place is how many requests were sent before
   sent_entry : (w : World (ByNumber Call) State) (target : ℕ) (call : Call) (deadline : ℕ) (full : Bool) → length w.client.requests ≡ length w.wire.sent
       → length (requested w target call (number_send w.client target call deadline full)).wire.sent ≡ length w.wire.sent + 1
       → slice_get (requested w target call (number_send w.client target call deadline full)).client.requests (length w.wire.sent) ≡ Some
@@ -163,7 +169,7 @@ module _ (width : ℕ) (narrow : width ≤ WINDOW) (opening : State) where
   abbrev mark_of : (earlier : List Event) (target : ℕ) (call : Call) (deadline : ℕ) (later : List Event) → Pending Call
   mark_of earlier target call deadline later = marked_all ends (by_numbers width) later (after_send earlier target call deadline) (pending_of target call deadline)
 
-  -- while request n isn't settled, the oracle client has it at place n as `mark_of` says
+  -- where the events have the send of request n, and n isn't settled, the oracle client has it at place n as `mark_of` says
   entry : (events : List Event) (n deadline : ℕ) (later : List Event) (s : IsSentBefore width opening events n deadline later)
       → length (left_by_ids width opening events).settled ≤ n → slice_get (numbers_after events).world.client.requests n ≡ Some
       (mark_of s.earlier s.target s.call deadline later)
@@ -189,12 +195,11 @@ module _ (width : ℕ) (narrow : width ≤ WINDOW) (opening : State) where
       (entry_all width ends KeptFits reads steps w n (pending_of s.target s.call deadline)
       (sound_step width ends KeptFits call_line reads v (Send s.target s.call deadline) (sound_in s.earlier)) at (subst (λ (u : World (ByNumber Call) State). u.client.count ≤ n) whole unsettled))
 
-  -- an event that delivers the front reply leaves in the run by ids the settlements that the step `Down_deliver` leaves in the
-  -- run by numbers
-  delivered_by : (events : List Event) (delivery : Event) → IsDelivery (ids_after events) delivery → (x : Numbered (List ℕ)) (rest : List (Numbered (List ℕ)))
-      → (left_by_ids width opening events).down ≡ x ∷ rest → (left_by_ids width opening (events ++ delivery ∷ [])).settled ≡
-      (happens ends (by_numbers width) (numbers_after events).world Down_deliver).wire.settled
-  delivered_by events delivery is x rest front =
+  -- an event that delivers the front reply, if there is one, leaves in the run by ids the settlements that the step
+  -- `Down_deliver` leaves in the run by numbers
+  delivered_by : (events : List Event) (delivery : Event) → IsDelivery (ids_after events) delivery
+      → (left_by_ids width opening (events ++ delivery ∷ [])).settled ≡ (happens ends (by_numbers width) (numbers_after events).world Down_deliver).wire.settled
+  delivered_by events delivery is =
       let one : left_by_ids width opening (events ++ delivery ∷ []) ≡ left_by_ids width opening (events ++ DownDeliver ∷ []) =
       ap (λ (v : Streams (ById Call) State). v.world.wire)
       (flow_append ends (by_ids width ends) events (delivery ∷ []) (untouched (ids_open (restarted opening)))
@@ -202,8 +207,8 @@ module _ (width : ℕ) (narrow : width ≤ WINDOW) (opening : State) where
       ∙ sym (flow_append ends (by_ids width ends) events (DownDeliver ∷ []) (untouched (ids_open (restarted opening))))) in
       ap (λ (u : Wire State). u.settled) (one ∙ wire_in (events ++ DownDeliver ∷ [])) ∙ ap (λ (u : Streams (ByNumber Call) State). u.world.wire.settled) (numbers_more events DownDeliver)
 
-  -- where the oracle client has p as request n, the delivery of the reply settles the request: as late where p had timed
-  -- out, else as answered
+  -- where the oracle client has p as request n, the delivery of a reply to request n, while this isn't settled, settles it: as
+  -- late where p had timed out, else as answered
   settled_at : (events : List Event) (n : ℕ) (line : List ℕ) (p : Pending Call) → slice_get (numbers_after events).world.client.requests n ≡ Some p
       → DeliverySettles width opening events n line (outcome_of p line)
   settled_at events n line p h delivery is next =
@@ -223,7 +228,7 @@ module _ (width : ℕ) (narrow : width ≤ WINDOW) (opening : State) where
       let x : Numbered (List ℕ) = record { number = n; line = line } in
       let down : b.wire.down ≡ x ∷ next.behind = ap (λ (u : Wire State). u.down) (sym agree.wire) ∙ front in
       let after : (left_by_ids width opening (events ++ delivery ∷ [])).settled ≡ b.wire.settled ++ settle (n - b.client.count) line (drop b.client.count b.client.requests) =
-      delivered_by events delivery is x next.behind next.front
+      delivered_by events delivery is
       ∙ delivered width b x next.behind down (omega (arith, count, unsettled)) in
       subst (λ (u : World (ById Call) State). IsSettledAs u.wire (left_by_ids width opening (events ++ delivery ∷ [])) n (outcome_of p line)) (sym same)
       (record {
@@ -235,7 +240,8 @@ module _ (width : ℕ) (narrow : width ≤ WINDOW) (opening : State) where
             ∙ sym (append_assoc a.wire.settled (map (ended Lost) (between (length a.wire.settled) n a.wire.sent)) (ended (outcome_of p line) gain.request ∷ []));
       })
 
-  -- a first reply in time is booked
+  -- where request n is in time after these events, the delivery of a first reply to it settles it as answered with the reply's
+  -- line, and the unsettled requests before it as lost (`DeliverySettles`)
   pub books : (events : List Event) (n : ℕ) (line : List ℕ) → IsInTime width opening events n → DeliverySettles width opening events n line (Answered line)
   books events n line t delivery is next =
       let s = t.sent in
@@ -244,7 +250,8 @@ module _ (width : ℕ) (narrow : width ≤ WINDOW) (opening : State) where
       (in_time ends (by_numbers width) t.later (after_send s.earlier s.target s.call t.deadline) (pending_of s.target s.call t.deadline) refl t.early)
       (settled_at events n line p (entry events n t.deadline t.later s next.unsettled) delivery is next)
 
-  -- a first reply that comes too late settles its request as late
+  -- where request n is too late after these events, the delivery of a first reply to it settles it as late, and the unsettled
+  -- requests before it as lost (`DeliverySettles`)
   pub is_late : (events : List Event) (n : ℕ) (line : List ℕ) → IsTooLate width opening events n → DeliverySettles width opening events n line Late
   is_late events n line t delivery is next =
       let s = t.sent in
@@ -253,7 +260,7 @@ module _ (width : ℕ) (narrow : width ≤ WINDOW) (opening : State) where
       (too_late ends (by_numbers width) t.later (after_send s.earlier s.target s.call t.deadline) (pending_of s.target s.call t.deadline) t.now t.given t.reached)
       (settled_at events n line p (entry events n t.deadline t.later s next.unsettled) delivery is next)
 
-  -- a further reply settles nothing
+  -- the delivery of the front reply settles nothing where it belongs to a request n that is settled already
   pub no_second : (events : List Event) (n : ℕ) (line : List ℕ) (rest : List (Numbered (List ℕ))) (delivery : Event) → IsDelivery (ids_after events) delivery
       → (left_by_ids width opening events).down ≡ record { number = n; line = line } ∷ rest → n < length (left_by_ids width opening events).settled
       → (left_by_ids width opening (events ++ delivery ∷ [])).settled ≡ (left_by_ids width opening events).settled
@@ -262,5 +269,5 @@ module _ (width : ℕ) (narrow : width ≤ WINDOW) (opening : State) where
       let same = sym (wire_in events) in
       let x : Numbered (List ℕ) = record { number = n; line = line } in
       let old : n < b.client.count = omega (arith, (sound_in events).booked, ap (λ (u : Wire State). length u.settled) same, lt) in
-      delivered_by events delivery is x rest front
+      delivered_by events delivery is
       ∙ delivered_again width b x rest (ap (λ (u : Wire State). u.down) same ∙ front) old ∙ ap (λ (u : Wire State). u.settled) same

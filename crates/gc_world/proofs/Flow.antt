@@ -1,5 +1,6 @@
 -- What holds of the steps of a run holds of its events: each event is some steps.
-use Rattle.std.proofs.Common.{◌≡◌, ℕ, ◌≤◌, List, [], ◌∷◌, ◌++◌, refl, sym, ◌∙◌, ap, subst}
+use Rattle.std.proofs.Common.{◌≡◌, ℕ, ◌+◌, ◌<◌, ◌≤◌, List, [], ◌∷◌, ◌++◌, length, take, get_or, refl, sym, ◌∙◌, ap, subst}
+use Rattle.std.proofs.lemmas.List.{take_more}
 use mathlib.Core.Path.{ap₂}
 use Rattle.gc_catalogue.specs.declared.call.Call.{Call}
 use Rattle.gc_client.specs.Rule.{ById}
@@ -31,10 +32,17 @@ module _ {Client State : Type 0} (ends : Ends State) (rule : Rule Client) where
   flow_append [] ys v = refl
   flow_append (x ∷ xs) ys v = flow_append xs ys (flows ends rule v x)
 
+  -- running the first i + 1 events is running the first i, and then event i
+  pub flow_more : (events : List Event) (i : ℕ) (e : Event) (v : Streams Client State) → i < length events → e ≡ get_or events i e
+      → flow ends rule (take (i + 1) events) v ≡ flows ends rule (flow ends rule (take i events) v) e
+  flow_more events i e v lt is =
+      ap (λ (es : List Event). flow ends rule es v) (take_more events i e lt ∙ ap (λ x. take i events ++ x ∷ []) (sym is))
+      ∙ flow_append (take i events) (e ∷ []) v
+
 -- Both runs take the same steps.
 
 module _ {State : Type 0} (width : ℕ) (narrow : width ≤ 7) (ends : Ends State) (Good : State → Type 0) (ex : IsExchange ends Good) (state : State) (good : Good state) where
-  -- the two streams come of the same steps, by ids and by numbers, and as much has gone of each front line
+  -- the two streams come of the same steps from `state` on, by ids and by numbers, and as much has gone of each front line
   pub record AreLevel (a : Streams (ById Call) State) (b : Streams (ByNumber Call) State) : Type 0 where
     pub steps : List Step
     pub ids : a.world ≡ run_by_ids width ends steps state
@@ -48,14 +56,16 @@ module _ {State : Type 0} (width : ℕ) (narrow : width ≤ 7) (ends : Ends Stat
       ap (λ (w : World (ById Call) State). w.wire) h.ids ∙ same_wire width narrow ends Good ex h.steps state good
       ∙ sym (ap (λ (w : World (ByNumber Call) State). w.wire) h.numbers)
 
-  -- on level streams an event makes the same steps, and as many bytes have gone of each front line afterwards
+  -- on level streams an event has the same course: it makes the same steps on both, and leaves as many bytes of each front line
+  -- gone in one as in the other
   same_course : (a : Streams (ById Call) State) (b : Streams (ByNumber Call) State) (e : Event) → AreLevel a b → course_on a e ≡ course_on b e
   same_course a b e h =
       ap (λ (w : Wire State). course (up_lines w) (down_lines w) a.up_gone a.down_gone e) (level_wire a b h)
       ∙ ap₂ (λ n m. course (up_lines b.world.wire) (down_lines b.world.wire) n m e) h.up_gone h.down_gone
 
   -- each event keeps streams level
-  level : (a : Streams (ById Call) State) (b : Streams (ByNumber Call) State) (e : Event) → AreLevel a b → AreLevel (flows ends (by_ids width ends) a e) (flows ends (by_numbers width) b e)
+  level : (a : Streams (ById Call) State) (b : Streams (ByNumber Call) State) (e : Event) → AreLevel a b
+      → AreLevel (flows ends (by_ids width ends) a e) (flows ends (by_numbers width) b e)
   level a b e h =
       let c = course_on b e in
       subst (λ (d : Course). AreLevel (record { world = run ends (by_ids width ends) d.steps a.world; up_gone = d.up_gone; down_gone = d.down_gone })
@@ -69,7 +79,8 @@ module _ {State : Type 0} (width : ℕ) (narrow : width ≤ 7) (ends : Ends Stat
       })
 
   -- events keep streams level
-  all_level : (es : List Event) (a : Streams (ById Call) State) (b : Streams (ByNumber Call) State) → AreLevel a b → AreLevel (flow ends (by_ids width ends) es a) (flow ends (by_numbers width) es b)
+  all_level : (es : List Event) (a : Streams (ById Call) State) (b : Streams (ByNumber Call) State) → AreLevel a b
+      → AreLevel (flow ends (by_ids width ends) es a) (flow ends (by_numbers width) es b)
   all_level [] a b h = h
   all_level (e ∷ es) a b h = all_level es (flows ends (by_ids width ends) a e) (flows ends (by_numbers width) b e) (level a b e h)
 

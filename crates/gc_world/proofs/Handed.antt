@@ -1,6 +1,6 @@
 -- For the loop that hands over n bytes of a direction, one completed line after the other: at each turn, handing over the bytes
--- that are left leads to the same streams as handing over all n bytes at the start. An event *takes no memory* where `TakesNoMemory`
--- holds of it: no list grows, as where bytes complete no line.
+-- that are left leads to the same streams as handing over all n bytes at the start. An event *takes no memory* where
+-- `TakesNoMemory` holds of it: no list grows, as where bytes complete no line.
 use Rattle.std.proofs.Common.{◌≡◌, ℕ, zero, suc, ◌+◌, ◌-◌, ◌<◌, ◌≤◌, Bool, false, cond, List, [], ◌∷◌, length, map, drop, Option, Some, None, refl, sym, ◌∙◌, ap, subst, arith}
 use mathlib.Core.Path.{ap₂}
 use Rattle.std.specs.Prelude.{replicate, IsTrue, ◌↔◌}
@@ -12,13 +12,13 @@ use Rattle.gc_instrument.specs.State.{State}
 use Rattle.gc_world.specs.declared.direction.Direction.{Direction}
 use Rattle.gc_world.specs.declared.direction.Direction.TheVariants.{Up, Down}
 use Rattle.gc_world.specs.Clients.{by_ids, ends}
-use Rattle.gc_world.specs.Directions.{deliver, delivery, bytes, texts, lines, gone, reaches}
+use Rattle.gc_world.specs.Directions.{deliver, delivery, bytes, texts, lines, gone, with_front_gone, after_cut, handed_over}
 use Rattle.gc_world.specs.Memory.{IsStray, AreStrays, TakesNoMemory}
 use Rattle.gc_world.specs.Sides.{IsPart}
 use Rattle.gc_world.specs.Stages.{Seen, after_step, after_event, AreStreamsOf, after_bytes}
 use Rattle.gc_world.specs.Streams.{Streams, Cut, one_more, cut, down_lines, remaining, flows}
 use Rattle.gc_world.specs.World.{Numbered, Ends, Rule, Down_deliver, down_delivered, happens, run}
-use Rattle.gc_world.proofs.Directions.{gone_reached, reaches_again, unmoved, delivered, passing, bytes_pass, after_cut, handed_over, one_less, not_idle}
+use Rattle.gc_world.proofs.Directions.{gone_reached, reaches_again, unmoved, delivered, passing, bytes_pass, one_less, not_idle}
 use Rattle.gc_world.proofs.Queues.{not_below}
 use Rattle.gc_world.proofs.Shown.{part}
 
@@ -27,12 +27,13 @@ use Rattle.gc_world.proofs.Shown.{part}
 pub cut_long : (line : List ℕ) (lines : List (List ℕ)) (n : ℕ) → length line ≤ n → cut (line ∷ lines) n ≡ one_more (cut lines (n - length line))
 cut_long line lines n le = ap (λ b. cond {A = Cut} b (record { lines = 0; gone = n }) (one_more (cut lines (n - length line)))) (le-ltb n (length line) le)
 
--- a line is in flight where bytes remain of it
+-- where bytes of the front line are still to go, a line is in flight
 pub in_front : (gone : ℕ) (texts : List (List ℕ)) → 0 < remaining gone (map with_end texts) → (t : List ℕ) × (ts : List (List ℕ)) × (texts ≡ t ∷ ts)
 in_front gone [] some = absurd (omega (arith, some))
 in_front gone (t ∷ ts) some = (t, ts, refl)
 
--- where no byte of the front line remains, no line is in flight
+-- where no byte of the front line is still to go, no line is in flight, and no byte has gone: by `IsPart` of a line in
+-- flight not all bytes have gone
 none_in_flight : (gone : ℕ) (lines : List (List ℕ)) → IsPart gone lines → remaining gone lines ≡ 0 → (lines ≡ []) × (gone ≡ 0)
 none_in_flight gone [] part e = (refl, part)
 none_in_flight gone (line ∷ lines) part e = absurd (omega (arith, part, e))
@@ -44,8 +45,8 @@ stray_same c line (Some id) e = ap (λ b. (id_settled c line (place_in c id) b).
 
 -- One turn of that loop: n bytes of the direction d are to go over on the streams v, and `used` of them complete the front line.
 module _ {Client State : Type 0} (ends : Ends State) (rule : Rule Client) (d : Direction) (v : Streams Client State) where
-  -- the front line takes `used` of the n bytes: the cut at all n bytes is the cut of the lines after that line at the n -
-  -- used others, and one line more
+  -- the front line takes `used` of the n bytes: the cut at the bytes gone before and the n bytes together is the cut of the lines
+  -- after that line at the n - used others, with one more completed line
   pub record IsNext (n used : ℕ) : Type 0 where
     pub text : List ℕ
     pub behind : List (List ℕ)
@@ -70,7 +71,7 @@ module _ {Client State : Type 0} (ends : Ends State) (rule : Rule Client) (d : D
 
   -- the streams after the delivery of the front line
   abbrev after : Streams Client State
-  after = reaches d v (happens ends rule v.world (deliver d)) 0
+  after = with_front_gone d v (happens ends rule v.world (deliver d)) 0
 
   -- handing over n bytes is delivering the front line, and then handing over the n - used others
   pub next_same : (n used : ℕ) → IsNext n used → handed_over ends rule d v n ≡ handed_over ends rule d (flows ends rule v (delivery d)) (n - used)
@@ -89,14 +90,15 @@ module _ {Client State : Type 0} (ends : Ends State) (rule : Rule Client) (d : D
       let some : length (texts d v.world.wire) ≡ suc (length h.behind) = ap length h.front in
       ap (λ (x : Streams Client State). x.world.wire.idle) (delivered ends rule d v) ∙ not_idle ends rule d v.world (omega (arith, some))
 
-  -- where no byte is in flight, handing over bytes changes nothing
+  -- where no byte of the front line remains, handing over n bytes changes nothing: by `IsPart` no line is in flight then
   pub ended : (n : ℕ) → IsPart (gone d v) (lines d v.world.wire) → remaining (gone d v) (lines d v.world.wire) ≡ 0 → handed_over ends rule d v n ≡ v
   ended n part e =
       let none = none_in_flight (gone d v) (lines d v.world.wire) part e in
-      ap (λ q. after_cut ends rule d v (cut q (gone d v + n))) none.0 ∙ ap (reaches d v v.world) (sym none.1) ∙ unmoved d v v.world
+      ap (λ q. after_cut ends rule d v (cut q (gone d v + n))) none.0 ∙ ap (with_front_gone d v v.world) (sym none.1) ∙ unmoved d v v.world
 
   -- an event of n bytes leads to the streams that `handed_over` gives, where n isn't 0 and bytes are in flight
-  pub bytes_handed : (n r : ℕ) → r ≡ remaining (gone d v) (lines d v.world.wire) → (n ≡ 0 → ⊥) → (r ≡ 0 → ⊥) → flows ends rule v (bytes d n) ≡ handed_over ends rule d v n
+  pub bytes_handed : (n r : ℕ) → r ≡ remaining (gone d v) (lines d v.world.wire) → (n ≡ 0 → ⊥) → (r ≡ 0 → ⊥)
+      → flows ends rule v (bytes d n) ≡ handed_over ends rule d v n
   bytes_handed n r e not none = bytes_pass ends rule d v n ∙ by_cases n (lines d v.world.wire) not (λ z. none (e ∙ z))
     where
       by_cases : (k : ℕ) (q : List (List ℕ)) → (k ≡ 0 → ⊥) → (remaining (gone d v) q ≡ 0 → ⊥) → passing ends rule d v q k ≡ after_cut ends rule d v (cut q (gone d v + k))
@@ -106,14 +108,16 @@ module _ {Client State : Type 0} (ends : Ends State) (rule : Rule Client) (d : D
 
 -- A delivery that takes no memory: upward there is none, and downward it is one of a stray.
 module _ (width : ℕ) (v : Streams (ById Call) State) where
-  -- bytes upward that take no memory complete no line
+  -- bytes upward that complete the front line (`IsNext`) take memory
   next_takes : (n used : ℕ) → IsNext ends (by_ids width ends) Up v n used → TakesNoMemory width v (bytes Up n) → ⊥
   next_takes n used h z =
       let s : suc (cut (map with_end h.behind) (n - used)).lines ≡ 0 = sym (ap (λ (c : Cut). c.lines) h.cut_is) ∙ z in
       absurd (omega (arith, s))
 
-  -- where bytes downward take no memory, neither the delivery of the front line nor the other bytes do
-  next_strays : (n used : ℕ) → IsNext ends (by_ids width ends) Down v n used → (q : List (Numbered (List ℕ))) → v.world.wire.down ≡ q → TakesNoMemory width v (bytes Down n)
+  -- where bytes downward that complete the front line take no memory, the delivery of this line takes none, and the other bytes
+  -- take none after it
+  next_strays : (n used : ℕ) → IsNext ends (by_ids width ends) Down v n used → (q : List (Numbered (List ℕ))) → v.world.wire.down ≡ q
+      → TakesNoMemory width v (bytes Down n)
       → TakesNoMemory width v (delivery Down) × TakesNoMemory width (after_event width v (delivery Down)) (bytes Down (n - used))
   next_strays n used h [] e t = let wrong : [] ≡ h.text ∷ h.behind = sym (ap (map (λ x. x.line)) e) ∙ h.front in cc
   next_strays n used h (x ∷ xs) e t =
@@ -129,14 +133,16 @@ module _ (width : ℕ) (v : Streams (ById Call) State) where
             (subst (λ j. AreStrays v.world.client j w.wire.down) count (subst (λ q. AreStrays v.world.client k q) tail all.1)),
       )
 
--- where the bytes of an event take no memory, neither does the delivery of the front line nor do the other bytes, in either
--- direction
+-- in either direction: where the bytes of an event complete the front line and take no memory, the delivery of this line takes
+-- none, and the other bytes take none after it
 spared : (width : ℕ) (d : Direction) (v : Streams (ById Call) State) (n used : ℕ) → IsNext ends (by_ids width ends) d v n used → TakesNoMemory width v (bytes d n)
     → TakesNoMemory width v (delivery d) × TakesNoMemory width (after_event width v (delivery d)) (bytes d (n - used))
 spared width Up v n used h t = absurd (next_takes width v n used h t)
 spared width Down v n used h t = next_strays width v n used h v.world.wire.down refl t
 
--- the streams once some of n bytes were handed over: handing over those left leads where handing over all n leads
+-- n bytes are to be handed over on the streams v, and `left` of them are left: the stage shows streams `now` from which handing
+-- over those left leads where all n lead from v. Since v no event was counted as not possible; and those left take no memory if
+-- all n take none (`spare`)
 pub record IsReached (width : ℕ) (d : Direction) (s : Seen) (v : Streams (ById Call) State) (n left : ℕ) : Type 0 where
   pub now : Streams (ById Call) State
   pub shows : AreStreamsOf width s now
@@ -144,12 +150,13 @@ pub record IsReached (width : ℕ) (d : Direction) (s : Seen) (v : Streams (ById
   pub spare : TakesNoMemory width v (bytes d n) → TakesNoMemory width now (bytes d left)
   pub idle : now.world.wire.idle ≡ v.world.wire.idle
 
--- `IsReached` holds before any byte was handed over
+-- where a stage shows the streams v, `IsReached` holds before any byte was handed over, with all n bytes left
 pub reached : (width : ℕ) (d : Direction) (s : Seen) (v : Streams (ById Call) State) (n : ℕ) → AreStreamsOf width s v → IsReached width d s v n n
 reached width d s v n h = record { now = v; shows = h; same = refl; spare = λ t. t; idle = refl }
 
 module _ (width : ℕ) (d : Direction) (s : Seen) (v : Streams (ById Call) State) (n left : ℕ) (h : IsReached width d s v n left) where
-  -- `IsReached` holds also once one more line was delivered
+  -- `IsReached` holds also once one more line was delivered, which took `used` of the bytes that were left: `left - used` are
+  -- left then
   pub reaches_next : (t : Seen) (used : ℕ) → used ≡ remaining (gone d h.now) (lines d h.now.world.wire) → 0 < used → used ≤ left
       → AreStreamsOf width t (after_event width h.now (delivery d)) → IsReached width d t v n (left - used)
   reaches_next t used e some le shows =
@@ -162,19 +169,21 @@ module _ (width : ℕ) (d : Direction) (s : Seen) (v : Streams (ById Call) State
         idle = next_idle ends (by_ids width ends) d h.now left used one ∙ h.idle;
       }
 
-  -- where the n bytes of the event take no memory, the delivery of the front line takes none
-  pub next_spares : (used : ℕ) → used ≡ remaining (gone d h.now) (lines d h.now.world.wire) → 0 < used → used ≤ left → TakesNoMemory width v (bytes d n) → TakesNoMemory width h.now (delivery d)
+  -- where the bytes that are left complete the front line, of which `used` remain, and the n bytes of the event take no memory,
+  -- the delivery of this line takes none
+  pub next_spares : (used : ℕ) → used ≡ remaining (gone d h.now) (lines d h.now.world.wire) → 0 < used → used ≤ left
+      → TakesNoMemory width v (bytes d n) → TakesNoMemory width h.now (delivery d)
   next_spares used e some le t = (spared width d h.now left used (next ends (by_ids width ends) d h.now left used e some le) (h.spare t)).0
 
-  -- where the bytes that are left complete no line, handing them over leads where all n lead
+  -- where a stage shows the streams that handing over the bytes that are left leads to, it shows those that all n bytes lead to
   pub reaches_end : (t : Seen) → AreStreamsOf width t (after_bytes width d h.now left) → AreStreamsOf width t (after_bytes width d v n)
   reaches_end t shows = subst (λ x. AreStreamsOf width t x) h.same shows
 
-  -- where no byte is in flight any more, the streams are those that all n bytes lead to
+  -- where no byte is in flight any more, the stage shows the streams that all n bytes lead to
   pub runs_dry : remaining (gone d h.now) (lines d h.now.world.wire) ≡ 0 → AreStreamsOf width s (after_bytes width d v n)
   runs_dry e = subst (λ x. AreStreamsOf width s x) (sym (ended ends (by_ids width ends) d h.now left (part width s h.now h.shows d) e) ∙ h.same) h.shows
 
--- where l bytes don't complete a line of which r bytes remain (b is the test for that), and aren't fewer than r either, r is 0
+-- b tests whether a line has r bytes left, at least one, and l bytes complete it: where b is false, and l isn't below r, r is 0
 pub runs_out : (b : Bool) (r l : ℕ) → IsTrue b ↔ ((0 < r) × (r ≤ l)) → b ≡ false → (l < r → ⊥) → r ≡ 0
 runs_out b zero l iff e le = refl
 runs_out b (suc r) l iff e le = absurd (both_ways b e (iff.1 (omega arith, not_below l (suc r) le)))

@@ -3,8 +3,8 @@ use Rattle.std.proofs.Common.{◌≡◌, ℕ, ◌<◌, Bool, true, false, cond, 
 use Rattle.std.specs.Option.{option_map}
 use Rattle.std.proofs.lemmas.Bool.{eqb-true, eq-eqb}
 use Rattle.gc_lines.specs.Readers.{reply_at}
-use Rattle.gc_lines.specs.Replies.{IsReply}
-use Rattle.gc_lines.proofs.Replies.{reply_one, reply_again, reply_found}
+use Rattle.gc_lines.specs.Replies.{IsReply, reply_text}
+use Rattle.gc_lines.proofs.Replies.{one_reply, reply_again, reply_found}
 use Rattle.gc_lines.proofs.Written.{reply_back}
 use Rattle.gc_catalogue.specs.declared.answer.Reading.{Reading}
 use Rattle.gc_catalogue.specs.declared.answer.Reading.TheVariants.{Value, Refused}
@@ -18,11 +18,12 @@ use Rattle.gc_client.specs.Rule.{id_in, heard}
 use Rattle.gc_client.specs.Settlements.{ReadsAs}
 use Rattle.gc_instrument.specs.State.{State, KeptReply, IsFittingState, IsFittingKept, IsFittingReply, restarted}
 use Rattle.gc_instrument.specs.Execution.{Executed, exec}
-use Rattle.gc_instrument.specs.Replying.{Handed, handed, kept_line, with_kept, executed_line, reading_of}
-use Rattle.gc_instrument.proofs.Answering.{handed_answered, handed_again, handed_new, kept_or_not}
+use Rattle.gc_instrument.specs.Replying.{Handed, handed, kept_line, kept_after, without_kept, executed_line, reading_of}
+pub use Rattle.gc_instrument.specs.Replying.{kept_of}
+use Rattle.gc_instrument.proofs.Answering.{handed_answered, handed_again, handed_new, some_line_or_none}
 use Rattle.gc_instrument.proofs.Keeping.{executes_apart, fits_kept}
 use Rattle.gc_instrument.proofs.Executions.{exec_outcome, restarted_fits}
-use Rattle.gc_world.specs.Exchange.{IsExchange, IsKeeper}
+use Rattle.gc_world.specs.Exchange.{IsExchange, IsKeeper, ReadsWithItsId}
 use Rattle.gc_world.specs.Faithful.{IsValueOrRefusal, begun}
 use Rattle.gc_world.specs.Record.{IsReplyTo}
 use Rattle.gc_world.specs.Clients.{ends}
@@ -32,18 +33,20 @@ use Rattle.std.proofs.lemmas.Option.{cond_some, none-some, same_Some}
 abbrev pub KeptFits : State → Type 0
 KeptFits s = IsFittingKept s.kept
 
--- a kept line that is given for an id is heard with that id
+-- where the kept reply, if any, reads as one with the id that it is kept with, a line that is kept for an id is heard with that
+-- id
 kept_heard : (k : Option KeptReply) (id : ℕ) (line : List ℕ) → kept_line k (Some id) ≡ Some line → IsFittingKept k → heard line ≡ Some id
 kept_heard None id line e h = let never : ⊥ = cc in absurd never
 kept_heard (Some k) id line e h =
     let c = cond_some (eqb k.id id) k.line line e in
     ap heard (sym c.1) ∙ ap id_in (reply_again k.line h.fields h.is_reply) ∙ h.same_id ∙ ap Some (eqb-true k.id id c.0)
 
--- the reply line to a call that was carried out reads back as the reply with this id
+-- for an id below 8, the reply line to a call that was carried out reads back as the reply with this id, and with the code, the
+-- answer and the precision that the execution left
 new_read : (s : State) (id : ℕ) (call : Call) → id < 8 → (let x = exec s call in reply_at (executed_line id x) ≡ Ok (reply_of id x.rc x.answer x.state.precision))
 new_read s id call digit = let x = exec s call in reply_back (reply_of id x.rc x.answer x.state.precision) (record { rc_com = lit< tt; id = digit; rc = (exec_outcome s call).code })
 
--- the reply line to a call that was carried out may be kept with this id
+-- for an id below 8, the reply line to a call that was carried out is a reply with this id, and so may be kept with it
 new_kept : (s : State) (id : ℕ) (call : Call) → id < 8 → IsFittingReply (record { id = id; line = executed_line id (exec s call) })
 new_kept s id call digit =
     let x = exec s call in
@@ -54,37 +57,34 @@ new_kept s id call digit =
       same_id = refl;
     }
 
--- where the kept reply, if any, reads as one with the id that it is kept with, the reply to each request reads as one with the
--- request's id, and the reply that is kept afterwards reads so, too
+-- `IsExchange` holds with those states as the good ones whose kept reply, if any, reads as one with the id
+-- that it is kept with (`KeptFits`)
 pub reads : IsExchange ends KeptFits
 reads =
     record {
-      reads = λ s id call good digit. elim (kept_or_not (kept_line s.kept (Some id))) [
+      reads = λ s id call good digit. elim (some_line_or_none (kept_line s.kept (Some id))) [
         | inl h ↦ ap (λ (x : Handed State). heard x.reply) (handed_again s id call h.0 h.1) ∙ kept_heard s.kept id h.0 h.1 good
         | inr e ↦ ap (λ (x : Handed State). heard x.reply) (handed_new s id call e) ∙ ap id_in (new_read s id call digit)
       ];
-      stays_good = λ s id call good digit. elim (kept_or_not (kept_line s.kept (Some id))) [
+      stays_good = λ s id call good digit. elim (some_line_or_none (kept_line s.kept (Some id))) [
         | inl h ↦ subst (λ (x : Handed State). KeptFits x.state) (sym (handed_again s id call h.0 h.1)) good
         | inr e ↦ subst (λ (x : Handed State). KeptFits x.state) (sym (handed_new s id call e)) (new_kept s id call digit)
       ];
       restart_good = λ s good. tt;
     }
 
--- the client reads in each reply the id of its request, and the instrument's state stays fitting: its numbers keep their ranges
+-- `IsExchange` holds with the fitting states as the good ones: the client reads in each reply the id of its request, and the
+-- instrument's state stays fitting, also over a restart
 pub exchange : IsExchange ends IsFittingState
 exchange =
     record {
       reads = λ s id call good digit. reads.reads s id call good.kept digit;
-      stays_good = λ s id call good digit. elim (kept_or_not (kept_line s.kept (Some id))) [
+      stays_good = λ s id call good digit. elim (some_line_or_none (kept_line s.kept (Some id))) [
         | inl h ↦ subst (λ (x : Handed State). IsFittingState x.state) (sym (handed_again s id call h.0 h.1)) good
         | inr e ↦ subst (λ (x : Handed State). IsFittingState x.state) (sym (handed_new s id call e)) (fits_kept (exec s call).state _ ((exec_outcome s call).fits good) (new_kept s id call digit))
       ];
       restart_good = restarted_fits;
     }
-
--- the reply that the instrument keeps
-abbrev pub kept_of : State → Option KeptReply
-kept_of s = s.kept
 
 -- the instrument keeps its last reply as `IsKeeper` asks: a request with the kept id gets the kept line, and any other is
 -- executed
@@ -100,14 +100,10 @@ keeper =
 
 -- a request that was executed didn't have the kept id
 new_id : (s : State) (id : ℕ) (call : Call) → (handed s id call).executed ≡ true → kept_line s.kept (Some id) ≡ None
-new_id s id call e = elim (kept_or_not (kept_line s.kept (Some id))) [
+new_id s id call e = elim (some_line_or_none (kept_line s.kept (Some id))) [
   | inl h ↦ let wrong : false ≡ true = sym (ap (λ (x : Handed State). x.executed) (handed_again s id call h.0 h.1)) ∙ e in let never : ⊥ = cc in absurd never
   | inr none ↦ none
 ]
-
--- the state with nothing kept
-abbrev pub without_kept : State → State
-without_kept s = with_kept None s
 
 -- apart from the kept reply, the state after a request was executed is the one after carrying out its call
 pub bare_after : (s : State) (id : ℕ) (call : Call) → (handed s id call).executed ≡ true → without_kept (handed s id call).state ≡ (exec (without_kept s) call).state
@@ -137,19 +133,32 @@ kept_own (Some k) id line e =
     let c = cond_some (eqb k.id id) k.line line e in
     ap (λ i. Some (record { id = i; line = k.line })) (eqb-true k.id id c.0) ∙ ap (λ l. Some (record { id = id; line = l })) c.1
 
--- where a line is sent again for an id, if the instrument sends kept lines again (true), this line is kept, with that id
-pub again_kept : (b : Bool) (k : Option KeptReply) (id : ℕ) (line : List ℕ) → cond b (kept_line k (Some id)) None ≡ Some line → k ≡ Some (record { id = id; line = line })
+-- the line that an instrument sends again for an id, if it sends lines again at all (b), is kept with that id
+pub again_kept : (b : Bool) (k : Option KeptReply) (id : ℕ) (line : List ℕ) → cond b (kept_line k (Some id)) None ≡ Some line
+    → k ≡ Some (record { id = id; line = line })
 again_kept true k id line e = kept_own k id line e
 again_kept false k id line e = absurd (none-some line e)
 
--- where the kept id changed, the request was executed
+-- the line of a reply with codes of 16 bits and an id below 8 reads as a reply with that id
+pub reply_heard : (rc_com id rc : ℕ) (params : List ℕ) → rc_com < 65536 → id < 8 → rc < 65536
+    → heard (reply_text (record { rc_com = rc_com; id = Some id; rc = rc; params = params })) ≡ Some id
+reply_heard rc_com id rc params sent digit code =
+    ap id_in (reply_back (record { rc_com = rc_com; id = Some id; rc = rc; params = params }) (record { rc_com = sent; id = digit; rc = code }))
+
+-- where `line` reads as a reply with this id, so does what is kept once a request with the id was answered with `line`: that
+-- line, where the instrument sends kept lines again (b true), and else nothing, of which nothing is asked
+pub kept_reads : (b : Bool) (id : ℕ) (line : List ℕ) (k : Option KeptReply) → heard line ≡ Some id → ReadsWithItsId (cond b (kept_after k (Some id) line) None)
+kept_reads true id line k h = h
+kept_reads false id line k h = tt
+
+-- where a request changed the kept id, it was executed
 pub executed_by_id : (s : State) (id : ℕ) (call : Call) → (kept_id s.kept ≡ kept_id (handed s id call).state.kept → ⊥) → (handed s id call).executed ≡ true
-executed_by_id s id call other = elim (kept_or_not (kept_line s.kept (Some id))) [
+executed_by_id s id call other = elim (some_line_or_none (kept_line s.kept (Some id))) [
   | inl h ↦ absurd (other (sym (ap (λ (x : Handed State). kept_id x.state.kept) (handed_again s id call h.0 h.1))))
   | inr e ↦ ap (λ (x : Handed State). x.executed) (handed_new s id call e)
 ]
 
--- where no line is kept for an id, the kept id is another
+-- where no line is kept for an id (`kept_line`), no reply is kept with that id
 pub other_id : (k : Option KeptReply) (id : ℕ) → kept_line k (Some id) ≡ None → kept_id k ≡ Some id → ⊥
 other_id None id e is = cc
 other_id (Some k) id e is =
@@ -157,9 +166,9 @@ other_id (Some k) id e is =
     let yes : eqb k.id id ≡ true = eq-eqb k.id id same in
     none-some k.line (sym e ∙ ap (λ b. cond b (Some k.line) None) yes)
 
--- where the kept id is as before, the request was a repeat
+-- where a request left the kept id as it was before, it wasn't executed
 pub repeated_by_id : (s : State) (id : ℕ) (call : Call) → kept_id s.kept ≡ kept_id (handed s id call).state.kept → (handed s id call).executed ≡ false
-repeated_by_id s id call same = elim (kept_or_not (kept_line s.kept (Some id))) [
+repeated_by_id s id call same = elim (some_line_or_none (kept_line s.kept (Some id))) [
   | inl h ↦ ap (λ (x : Handed State). x.executed) (handed_again s id call h.0 h.1)
   | inr e ↦ absurd (other_id s.kept id e (same ∙ ap (λ (x : Handed State). kept_id x.state.kept) (handed_new s id call e)))
 ]
@@ -173,10 +182,11 @@ fine_if false value refusal v r = r
 fine_reading : (x : Executed) → IsValueOrRefusal (reading_of x)
 fine_reading x = fine_if (eqb x.rc 0) (Value (rounded_answer x.state.precision x.answer)) (Refused x.rc) tt tt
 
--- a reply in a fitting state to a call that fits reads as a value or a refusal
-pub fine : (call : Call) (bytes : List ℕ) (reading : Reading) → IsReplyTo ends IsFittingState call bytes → IsFitting call → ReadsAs call bytes reading → IsValueOrRefusal reading
+-- a reply that was made on executing a call that fits, in a fitting state, reads as a value or a refusal
+pub fine : (call : Call) (bytes : List ℕ) (reading : Reading) → IsReplyTo ends IsFittingState call bytes → IsFitting call
+    → ReadsAs call bytes reading → IsValueOrRefusal reading
 fine call bytes reading made fits read =
     let a = handed_answered made.state made.id call made.good made.small fits (new_id made.state made.id call made.executed) in
-    let same : a.fields ≡ read.reply = reply_one bytes a.fields read.reply (subst (λ (l : List ℕ). IsReply l a.fields) (sym made.reply) a.is_reply) read.is_reply in
+    let same : a.fields ≡ read.reply = one_reply bytes a.fields read.reply (subst (λ (l : List ℕ). IsReply l a.fields) (sym made.reply) a.is_reply) read.is_reply in
     let one : reading_of (exec made.state call) ≡ reading = one_reading call read.reply _ reading (subst (λ f. IsReading call f (reading_of (exec made.state call))) same a.reading) read.is_reading in
     subst IsValueOrRefusal one (fine_reading (exec made.state call))

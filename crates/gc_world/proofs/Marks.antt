@@ -32,8 +32,10 @@ pub record IsOnward (e : Step) (c d : ByNumber Call) : Type 0 where
 untouched_onward : (e : Step) (c : ByNumber Call) → ((p : Pending Call) → touched e p ≡ p) → IsOnward e c c
 untouched_onward e c t = record { count = omega arith; entries = λ n p h le. h ∙ ap Some (sym (t p)) }
 
--- where a moment is applied to the requests from place k on, request n among them is expired by it
-expired_at : (now k : ℕ) (ps : List (Pending Call)) (n : ℕ) (p : Pending Call) → k ≤ n → slice_get ps n ≡ Some p → slice_get (take k ps ++ map (expired now) (drop k ps)) n ≡ Some (expired now p)
+-- where a moment is applied to the requests from place k on, and n is at least k, place n has `expired now p` afterwards if it
+-- had p before
+expired_at : (now k : ℕ) (ps : List (Pending Call)) (n : ℕ) (p : Pending Call) → k ≤ n → slice_get ps n ≡ Some p
+    → slice_get (take k ps ++ map (expired now) (drop k ps)) n ≡ Some (expired now p)
 expired_at now zero ps n p le h = get_map (expired now) ps n p h
 expired_at now (suc k) [] n p le h = absurd (none-some p h)
 expired_at now (suc k) (q ∷ ps) zero p le h = absurd (omega (arith, le))
@@ -57,7 +59,7 @@ module _ {State : Type 0} (width : ℕ) (ends : Ends State) where
   onward_down w [] = untouched_onward Down_deliver w.client (λ p. refl)
   onward_down w (x ∷ rest) = onward_reply w.client x (ltb x.number w.client.count) refl
 
-  -- `IsOnward` holds of a restart of the client
+  -- `IsOnward` holds of a restart of the client, which has settled no more requests than were sent
   onward_restart : (w : World (ByNumber Call) State) (up : List (Numbered Request)) (down : List (Numbered (List ℕ))) → w.client.count ≤ length w.client.requests
       → IsOnward Restart_client w.client (client_restarted ends (by_numbers width) w up down).client
   onward_restart w [] [] within =
@@ -65,8 +67,9 @@ module _ {State : Type 0} (width : ℕ) (ends : Ends State) where
   onward_restart w [] (y ∷ down) within = untouched_onward Restart_client w.client (λ p. refl)
   onward_restart w (x ∷ up) down within = untouched_onward Restart_client w.client (λ p. refl)
 
-  -- `IsOnward` holds of each step
-  onward : (w : World (ByNumber Call) State) (e : Step) → w.client.count ≤ length w.client.requests → IsOnward e w.client (happens ends (by_numbers width) w e).client
+  -- `IsOnward` holds of each step, where the client has settled no more requests than were sent
+  onward : (w : World (ByNumber Call) State) (e : Step) → w.client.count ≤ length w.client.requests
+      → IsOnward e w.client (happens ends (by_numbers width) w e).client
   onward w (Send target call deadline) within = onward_send w target call deadline (eqb (length w.client.requests - w.client.count) width)
   onward w Up_deliver within = untouched_onward Up_deliver w.client (λ p. refl)
   onward w (Up_lose k) within = untouched_onward (Up_lose k) w.client (λ p. refl)
@@ -80,13 +83,14 @@ module _ {State : Type 0} (width : ℕ) (ends : Ends State) where
   onward w Nothing within = untouched_onward Nothing w.client (λ p. refl)
 
   module _ (Good : State → Type 0) (ex : IsExchange ends Good) where
-    -- in a run the count of settled requests never falls
+    -- a run from a sound world leaves no fewer requests settled than before it
     count_grows : (es : List Step) (w : World (ByNumber Call) State) → Sound width ends Good w → w.client.count ≤ (run ends (by_numbers width) es w).client.count
     count_grows [] w s = omega arith
     count_grows (e ∷ es) w s =
         omega (arith, (onward w e s.within).count, count_grows es (happens ends (by_numbers width) w e) (sound_step width ends Good call_line ex w e s))
 
-    -- a request n that isn't settled at the end of a run is then what the run's steps, in order, make of it
+    -- where the world before a run is sound, its client has p as request n, and request n isn't settled at the end of the run,
+    -- the client has as request n at that end what the run's steps, in order, make of p
     pub entry_all : (es : List Step) (w : World (ByNumber Call) State) (n : ℕ) (p : Pending Call) → Sound width ends Good w → slice_get w.client.requests n ≡ Some p
         → (run ends (by_numbers width) es w).client.count ≤ n → slice_get (run ends (by_numbers width) es w).client.requests n ≡ Some (touched_all es p)
     entry_all [] w n p s h le = h

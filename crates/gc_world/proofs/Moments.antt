@@ -1,4 +1,4 @@
--- A request that waits has timed out exactly by a moment at or past its deadline.
+-- A request that waits has timed out exactly if there was a moment at or past its deadline.
 use Rattle.std.proofs.Common.{◌≡◌, ℕ, zero, suc, ◌+◌, ◌<◌, ◌≤◌, ◌||◌, Bool, true, false, cond, List, [], ◌∷◌, ◌++◌, ◌⊎◌, inl, inr, Contains, refl, sym, ◌∙◌, ap, subst, arith, leb}
 use Rattle.std.specs.Prelude.{replicate}
 use Rattle.std.proofs.lemmas.Bool.{le-leb, lt-leb, leb-true, leb-false, or_right}
@@ -20,7 +20,7 @@ pub record IsTouched (e : Event) (p q : Pending Call) : Type 0 where
   pub early : p.given_up ≡ false → ((now : ℕ) → e ≡ Expire now → now < p.deadline) → q.given_up ≡ false
   pub reached : (now : ℕ) → e ≡ Expire now → p.deadline ≤ now → q.given_up ≡ true
 
--- an event that is no moment leaves a request as it is
+-- where an event is no moment, `IsTouched` holds of it and a request that stays as it is
 untouched_by : (e : Event) (p : Pending Call) → ((now : ℕ) → e ≡ Expire now → ⊥) → IsTouched e p p
 untouched_by e p none = record { deadline = refl; stays = λ g. g; early = λ g h. g; reached = λ now is le. absurd (none now is) }
 
@@ -47,7 +47,7 @@ quiet_all : (step : Step) (k : ℕ) (p : Pending Call) → IsQuiet step → touc
 quiet_all step zero p q = refl
 quiet_all step (suc k) p q = ap (touched_all (replicate k step)) (q p) ∙ quiet_all step k p q
 
--- the bytes of an event whose step is quiet leave requests as they are
+-- the steps that k bytes make of a quiet step (`passed`) leave requests as they are
 quiet_passed : (step : Step) (lines : List (List ℕ)) (gone k : ℕ) (p : Pending Call) → IsQuiet step → touched_all (passed step lines gone k) p ≡ p
 quiet_passed step [] gone k p q = refl
 quiet_passed step (line ∷ lines) gone zero p q = refl
@@ -112,16 +112,19 @@ module _ {Client State : Type 0} (ends : Ends State) (rule : Rule Client) where
   marked_all es v p = touched_all (taken ends rule es v) p
 
   -- what one event and then others leave of a request is what the others leave of what the first one left
-  marked_more : (e : Event) (es : List Event) (v : Streams Client State) (p : Pending Call) → marked_all (e ∷ es) v p ≡ marked_all es (flows ends rule v e) (marked ends rule v e p)
+  marked_more : (e : Event) (es : List Event) (v : Streams Client State) (p : Pending Call)
+      → marked_all (e ∷ es) v p ≡ marked_all es (flows ends rule v e) (marked ends rule v e p)
   marked_more e es v p = touched_append (course_on v e).steps (taken ends rule es (flows ends rule v e)) p
 
-  -- a request that had timed out stays so
+  -- a request that had timed out before some events has timed out after them, too
   stays_marked : (es : List Event) (v : Streams Client State) (p : Pending Call) → p.given_up ≡ true → (marked_all es v p).given_up ≡ true
   stays_marked [] v p g = g
   stays_marked (e ∷ es) v p g = ap (λ (q : Pending Call). q.given_up) (marked_more e es v p) ∙ stays_marked es (flows ends rule v e) (marked ends rule v e p) ((touch ends rule v e p).stays g)
 
-  -- where no moment among the events reached its deadline, a request hasn't timed out
-  pub in_time : (es : List Event) (v : Streams Client State) (p : Pending Call) → p.given_up ≡ false → ((now : ℕ) → Contains es (Expire now) → now < p.deadline) → (marked_all es v p).given_up ≡ false
+  -- a request that hadn't timed out before some events still hasn't after them, where each moment
+  -- among them lies before its deadline
+  pub in_time : (es : List Event) (v : Streams Client State) (p : Pending Call) → p.given_up ≡ false
+      → ((now : ℕ) → Contains es (Expire now) → now < p.deadline) → (marked_all es v p).given_up ≡ false
   in_time [] v p g h = g
   in_time (e ∷ es) v p g h =
       let t = touch ends rule v e p in
@@ -137,8 +140,9 @@ module _ {Client State : Type 0} (ends : Ends State) (rule : Rule Client) where
   late_by e es v p now le rest (inl is) = stays_marked es (flows ends rule v e) (marked ends rule v e p) ((touch ends rule v e p).reached now is le)
   late_by e es v p now le rest (inr has) = rest has
 
-  -- where a moment among the events reached its deadline, a request has timed out
-  pub too_late : (es : List Event) (v : Streams Client State) (p : Pending Call) (now : ℕ) → Contains es (Expire now) → p.deadline ≤ now → (marked_all es v p).given_up ≡ true
+  -- a request has timed out after some events where a moment among them is at or past its deadline
+  pub too_late : (es : List Event) (v : Streams Client State) (p : Pending Call) (now : ℕ) → Contains es (Expire now) → p.deadline ≤ now
+      → (marked_all es v p).given_up ≡ true
   too_late [] v p now has le = absurd (none_in (Expire now) has)
   too_late (e ∷ es) v p now has le =
       ap (λ (q : Pending Call). q.given_up) (marked_more e es v p)
@@ -183,7 +187,8 @@ abbrev pub OneReaches : ℕ → List Event → Type 0
 OneReaches deadline es = (now : ℕ) × Contains es (Expire now) × (deadline ≤ now)
 
 -- where the event e and all the events es are early, a moment that is e or among es lies before the deadline
-earlier_or : (deadline now : ℕ) (e : Event) (es : List Event) → IsEarly deadline e → AllEarly deadline es → (e ≡ Expire now) ⊎ Contains es (Expire now) → now < deadline
+earlier_or : (deadline now : ℕ) (e : Event) (es : List Event) → IsEarly deadline e → AllEarly deadline es
+    → (e ≡ Expire now) ⊎ Contains es (Expire now) → now < deadline
 earlier_or deadline now e es h hs (inl is) = h now is
 earlier_or deadline now e es h hs (inr has) = hs now has
 

@@ -1,6 +1,6 @@
 -- The instrument that keeps its last reply executes each request at most once, in order. In this file `since`, `count` and
 -- `total` are how many requests had been sent at the client's last start, are settled, and were sent; `top` is one above the
--- number executed last.
+-- number executed last, or 0 if none was.
 use Rattle.std.proofs.Common.{◌≡◌, ℕ, ◌+◌, ◌-◌, ◌%◌, ◌<◌, ◌≤◌, inl, inr, Bool, true, false, List, [], ◌∷◌, ◌++◌, length, Option, Some, None, cond, refl, sym, ◌∙◌, ap, subst, arith, ltb, eqb}
 use Rattle.std.proofs.lemmas.List.{length_push}
 use Rattle.std.proofs.lemmas.Bool.{eqb-true, eqb-false, cases_eq}
@@ -22,25 +22,25 @@ use Rattle.gc_world.proofs.Rows.{each_append, each_more, each_number, each_witho
 use Rattle.gc_world.proofs.Sound.{IsGoing, Sound, keeps, sound_open, length_expired}
 use Rattle.gc_world.proofs.Stable.{IsStable, stable_all}
 
--- increasing numbers with one above them all appended increase
+-- numbers that increase, none below `low`, still do once a number is appended that is above them all, and at least `low`
 increasing_push : (low n : ℕ) (xs : List ℕ) → low ≤ n → Each (λ x. x < n) xs → Increasing low xs → Increasing low (xs ++ n ∷ [])
 increasing_push low n [] le b h = (le, tt)
 increasing_push low n (x ∷ xs) le b h = (h.0, increasing_push (x + 1) n xs (omega (arith, b.0)) b.1 h.1)
 
--- where numbers never fall from `low` on, each number in the queue is at least low - 1
+-- where `Rising low` holds of the numbers of a queue, each of them is at least low - 1
 pub rising_each : {Line : Type 0} (low : ℕ) (xs : List (Numbered Line)) → Rising low (numbers xs) → Each (λ x. low ≤ x.number + 1) xs
 rising_each low [] h = tt
 rising_each low (x ∷ xs) h = (h.0, each_more (λ y. x.number + 1 ≤ y.number + 1) (λ y. low ≤ y.number + 1) (λ y k. omega (arith, k, h.0)) xs (rising_each (x.number + 1) xs h.1))
 
--- where numbers never fall from `low` on, n among them is at least low - 1, and those after n never fall below n
+-- where `Rising low` holds of numbers, n among them is at least low - 1, and `Rising (n + 1)` holds of those after it
 pub rising_tail : (low n : ℕ) (xs ys : List ℕ) → Rising low (xs ++ n ∷ ys) → (low ≤ n + 1) × Rising (n + 1) ys
 rising_tail low n [] ys h = h
 rising_tail low n (x ∷ xs) ys h = let r = rising_tail (x + 1) n xs ys h.1 in (omega (arith, h.0, r.0), r.1)
 
--- how the requests in flight upward relate to those executed. Where nothing is kept, none of them was executed. Where a reply is kept,
--- request top - 1 was sent since the client's last start, the reply has its id, no request from `top` on is settled, and each request
--- in flight is request top - 1 or a later one
-abbrev IsAboveExecuted : Option KeptReply → ℕ → ℕ → ℕ → List (Numbered Request) → Type 0
+-- how the requests in flight upward relate to those executed. Where nothing is kept, each has number `top` or a higher one. Where
+-- a reply is kept, request top - 1 was sent since the client's last start, the reply has its id, no request from `top` on is
+-- settled, and each request in flight is request top - 1 or a later one
+abbrev IsAboveExecuted : Option KeptReply → (since count top : ℕ) → List (Numbered Request) → Type 0
 IsAboveExecuted None since count top up = Each (λ x. top ≤ x.number) up
 IsAboveExecuted (Some k) since count top up = (since < top) × (k.id ≡ (top - 1 - since) % 8) × (count ≤ top) × Each (λ x. top ≤ x.number + 1) up
 
@@ -54,13 +54,15 @@ above_push : (kept : Option KeptReply) (since count top : ℕ) (up : List (Numbe
 above_push None since count top up x le h = each_append _ up (x ∷ []) h (le, tt)
 above_push (Some k) since count top up x le h = (h.0, h.1, h.2, each_append _ up (x ∷ []) h.3 (omega arith, tt))
 
--- `IsAboveExecuted` holds also once a request is lost
-above_without : (kept : Option KeptReply) (since count top k : ℕ) (up : List (Numbered Request)) → IsAboveExecuted kept since count top up → IsAboveExecuted kept since count top (without k up)
+-- `IsAboveExecuted` holds also once line k of the upward queue, if there is one, is lost
+above_without : (kept : Option KeptReply) (since count top k : ℕ) (up : List (Numbered Request)) → IsAboveExecuted kept since count top up
+    → IsAboveExecuted kept since count top (without k up)
 above_without None since count top k up h = each_without _ k up h
 above_without (Some q) since count top k up h = (h.0, h.1, h.2, each_without _ k up h.3)
 
--- `IsAboveExecuted` holds also once a request is repeated
-above_doubled : (kept : Option KeptReply) (since count top k : ℕ) (up : List (Numbered Request)) → IsAboveExecuted kept since count top up → IsAboveExecuted kept since count top (doubled k up)
+-- `IsAboveExecuted` holds also once line k of the upward queue, if there is one, is repeated
+above_doubled : (kept : Option KeptReply) (since count top k : ℕ) (up : List (Numbered Request)) → IsAboveExecuted kept since count top up
+    → IsAboveExecuted kept since count top (doubled k up)
 above_doubled None since count top k up h = each_doubled _ k up h
 above_doubled (Some q) since count top k up h = (h.0, h.1, h.2, each_doubled _ k up h.3)
 
@@ -71,7 +73,8 @@ above_tail None since count top x up h = h.1
 above_tail (Some q) since count top x up h = (h.0, h.1, h.2, h.3.1)
 
 -- `IsAboveExecuted` holds also with another count that is at most the top
-above_count : (kept : Option KeptReply) (since count count' top : ℕ) (up : List (Numbered Request)) → count' ≤ top → IsAboveExecuted kept since count top up → IsAboveExecuted kept since count' top up
+above_count : (kept : Option KeptReply) (since count count' top : ℕ) (up : List (Numbered Request)) → count' ≤ top
+    → IsAboveExecuted kept since count top up → IsAboveExecuted kept since count' top up
 above_count None since count count' top up le h = h
 above_count (Some q) since count count' top up le h = (h.0, h.1, le, h.3)
 
@@ -80,7 +83,7 @@ not_chosen : (b : Bool) (l : List ℕ) → (cond b (Some l) None ≡ None) → b
 not_chosen true l e = cc
 not_chosen false l e = refl
 
--- a request with another id than the kept one has a number above all that were executed
+-- where `IsAboveExecuted` holds, and no line is kept for the id of the front request, its number is `top` or a higher one
 is_new : (kept : Option KeptReply) (since count top : ℕ) (x : Numbered Request) (up : List (Numbered Request))
     → kept_line kept (Some ((x.number - since) % 8)) ≡ None → IsAboveExecuted kept since count top (x ∷ up) → top ≤ x.number
 is_new None since count top x up e h = h.0
@@ -91,7 +94,8 @@ is_new (Some k) since count top x up e h =
       | inr other ↦ omega (arith, h.3.0, other)
     ]
 
--- a request with the kept id is the last that was executed
+-- where `IsAboveExecuted` holds, at most seven requests aren't settled, and a line is kept for the id of the front request, which
+-- was sent since the client's last start, this request is number top - 1
 is_last : (width : ℕ) (kept : Option KeptReply) (since count top total : ℕ) (x : Numbered Request) (up : List (Numbered Request)) (line : List ℕ) (narrow : width ≤ 7)
     (is : kept_line kept (Some ((x.number - since) % 8)) ≡ Some line) (recent : since ≤ x.number) (sent : x.number < total) (few : total ≤ count + width)
     (above : IsAboveExecuted kept since count top (x ∷ up)) → x.number + 1 ≡ top
@@ -102,7 +106,7 @@ is_last width (Some k) since count top total x up line narrow e h1 h2 h3 h =
     omega (arith, same, h.0, h.1, h.2, h.3.0)
 
 -- if a reply is kept, it is among these replies, as the one to the last request that was executed, number top - 1
-abbrev IsKeptAmong : Option KeptReply → ℕ → List (Numbered (List ℕ)) → Type 0
+abbrev IsKeptAmong : Option KeptReply → (top : ℕ) → List (Numbered (List ℕ)) → Type 0
 IsKeptAmong None top replies = Unit {0}
 IsKeptAmong (Some k) top replies = Has (record { number = top - 1; line = k.line }) replies
 
@@ -110,7 +114,7 @@ IsKeptAmong (Some k) top replies = Has (record { number = top - 1; line = k.line
 held_none : (top : ℕ) (replies : List (Numbered (List ℕ))) (kept : Option KeptReply) → kept ≡ None → IsKeptAmong kept top replies
 held_none top replies kept none = subst (λ k. IsKeptAmong k top replies) (sym none) tt
 
--- where n is the number executed last, the kept line is among the replies as the one to request n
+-- where `IsKeptAmong` holds, and n is top - 1, the line that is kept for this id is among the replies as the one to request n
 held_line : (kept : Option KeptReply) (id n top : ℕ) (line : List ℕ) (replies : List (Numbered (List ℕ))) → kept_line kept (Some id) ≡ Some line → n + 1 ≡ top
     → IsKeptAmong kept top replies → Has (record { number = n; line = line }) replies
 held_line None id n top line replies e t h = cc
@@ -120,7 +124,7 @@ held_line (Some k) id n top line replies e t h =
     subst (λ i. Has (record { number = i; line = line }) replies) m (subst (λ (q : List ℕ). Has (record { number = top - 1; line = q }) replies) c.1 h)
 
 -- while a reply is kept, the request executed last is number top - 1
-abbrev IsLast : Option KeptReply → ℕ → List ℕ → Type 0
+abbrev IsLast : Option KeptReply → (top : ℕ) → List ℕ → Type 0
 IsLast None top executed = Unit {0}
 IsLast (Some k) top executed = (earlier : List ℕ) × (executed ≡ earlier ++ (top - 1) ∷ [])
 
@@ -128,7 +132,7 @@ IsLast (Some k) top executed = (earlier : List ℕ) × (executed ≡ earlier ++ 
 last_none : (top : ℕ) (executed : List ℕ) (kept : Option KeptReply) → kept ≡ None → IsLast kept top executed
 last_none top executed kept none = subst (λ k. IsLast k top executed) (sym none) tt
 
--- while a reply is kept, requests in flight have the number executed last or one of the `width` above it
+-- `IsRecent` holds where the reply k is kept: `recent_of` with the parts of `IsAboveExecuted` and `IsLast` that this case needs
 recent_row : (width since count top total : ℕ) (k : KeptReply) (executed earlier : List ℕ) (up : List (Numbered Request)) (is : executed ≡ earlier ++ (top - 1) ∷ [])
     (some : since < top) (counted : count ≤ top) (few : total ≤ count + width) (above : Each (λ x. top ≤ x.number + 1) up) (going : Each (IsGoing since total) up)
     → IsRecent width (Some k) executed (numbers up)
@@ -139,7 +143,8 @@ recent_row width since count top total k executed earlier up is some counted few
     both [] a g = tt
     both (x ∷ xs) a g = ((omega (arith, a.0), omega (arith, g.0.sent, some, counted, few)), both xs a.1 g.1)
 
--- `IsRecent` holds where `IsAboveExecuted` and `IsLast` do, whether a reply is kept or not
+-- `IsRecent` holds where `IsAboveExecuted` and `IsLast` do, at most `width` requests aren't settled, and those in flight upward
+-- are as `IsGoing` says, whether a reply is kept or not
 recent_of : (width since count top total : ℕ) (kept : Option KeptReply) (executed : List ℕ) (up : List (Numbered Request)) → IsAboveExecuted kept since count top up
     → IsLast kept top executed → total ≤ count + width → Each (IsGoing since total) up → IsRecent width kept executed (numbers up)
 recent_of width since count top total None executed up above last few going = tt
@@ -159,8 +164,8 @@ module _ {State : Type 0} (width : ℕ) (narrow : width ≤ 7) (ends : Ends Stat
     pub held : IsKeptAmong (kept w.state) top replies
     pub lines : Each (IsOf call_line w.sent) w.up
 
-  -- each request was executed once: the executed numbers increase, they and those of the replies in flight are below `top`,
-  -- and `IsAboveExecuted`, `IsLast` and `IsReplayed` hold of the wire with this `top`
+  -- each request was executed at most once: the executed numbers increase, they and those of the replies in flight are below
+  -- `top`, which is at most the count of requests, and `IsAboveExecuted`, `IsLast` and `IsReplayed` hold of the wire with it
   pub record IsOnce (c : ByNumber Call) (w : Wire State) : Type 0 where
     pub top : ℕ
     pub climbs : Increasing 0 w.executed
@@ -171,12 +176,12 @@ module _ {State : Type 0} (width : ℕ) (narrow : width ≤ 7) (ends : Ends Stat
     pub last : IsLast (kept w.state) top w.executed
     pub replayed : IsReplayed w top
 
-  -- the line keeps its order, and each request is executed once
+  -- the world is sound (`Sound`), and each request is executed at most once, as `IsOnce` has it
   pub record Once (w : World (ByNumber Call) State) : Type 0 where
     pub sound : Sound width ends Good w
     pub once : IsOnce w.client w.wire
 
-  -- `IsReplayed` holds also once the front request, whose id isn't the kept one, was executed
+  -- `IsReplayed` holds also once the front request, whose id isn't the kept one, was executed: its number + 1 is then the top
   replayed_new : (w : Wire State) (x : Numbered Request) (rest : List (Numbered Request)) (top : ℕ) (front : w.up ≡ x ∷ rest) (hd : Handed State)
       (handed_is : ends.handed w.state x.line.id x.line.call ≡ hd) (none : kept_line (kept w.state) (Some x.line.id) ≡ None) (replayed : IsReplayed w top)
       (executed_is : hd.executed ≡ true) → IsReplayed (replied w x.number rest (record hd { executed = true })) (x.number + 1)
@@ -193,12 +198,14 @@ module _ {State : Type 0} (width : ℕ) (narrow : width ≤ 7) (ends : Ends Stat
             replays_push ends w.sent w.starts 0 (length w.executed + 1) (ends.restarted opening) w.executed h.replies w.state x.number y hd.state (omega arith)
             (no_number (length w.executed + 1) w.starts h.begins)
             (record {
-              request = of.0.request;
-              found = of.0.found;
-              id = x.line.id;
-              small = of.0.small;
-              text = of.0.text ∙ ap (λ c. request_line (Some x.line.id) c) (sym same_call);
-              executed = ap (λ c. (ends.handed w.state x.line.id c).executed) same_call ∙ ap (λ (k : Handed State). k.executed) is ∙ exe;
+              is_executed = record {
+                request = of.0.request;
+                found = of.0.found;
+                id = x.line.id;
+                small = of.0.small;
+                line = of.0.text ∙ ap (λ c. request_line (Some x.line.id) c) (sym same_call);
+                executed = ap (λ c. (ends.handed w.state x.line.id c).executed) same_call ∙ ap (λ (k : Handed State). k.executed) is ∙ exe;
+              };
               number = refl;
               line = sym (ap (λ (k : Handed State). k.reply) is) ∙ ap (λ c. (ends.handed w.state x.line.id c).reply) (sym same_call);
               leads = ap (λ c. (ends.handed w.state x.line.id c).state) same_call ∙ ap (λ (k : Handed State). k.state) is;
@@ -269,21 +276,21 @@ module _ {State : Type 0} (width : ℕ) (narrow : width ≤ 7) (ends : Ends Stat
       }
 
   -- `IsOnce` holds also once the front request was handed to the instrument
-  once_handed : (w : World (ByNumber Call) State) (x : Numbered Request) (rest : List (Numbered Request)) (hd : Handed State) (b : Bool) (o : Option (List ℕ))
-      (executed_is : hd.executed ≡ b) (front : w.wire.up ≡ x ∷ rest) (handed_is : ends.handed w.wire.state x.line.id x.line.call ≡ hd)
+  once_handed : (w : World (ByNumber Call) State) (x : Numbered Request) (rest : List (Numbered Request)) (hd : Handed State) (o : Option (List ℕ))
+      (front : w.wire.up ≡ x ∷ rest) (handed_is : ends.handed w.wire.state x.line.id x.line.call ≡ hd)
       (kept_is : kept_line (kept w.wire.state) (Some x.line.id) ≡ o) (sound : Sound width ends Good w) (once : IsOnce w.client w.wire)
       → IsOnce w.client (replied w.wire x.number rest hd)
-  once_handed w x rest hd b (Some line) e q is o s h =
+  once_handed w x rest hd (Some line) q is o s h =
       subst (λ (k : Handed State). IsOnce w.client (replied w.wire x.number rest k)) (sym (keeper.again w.wire.state x.line.id x.line.call line o) ∙ is) (once_again w x rest line q o s h)
-  once_handed w x rest hd b None e q is o s h =
+  once_handed w x rest hd None q is o s h =
       let exe : hd.executed ≡ true = sym (ap (λ (k : Handed State). k.executed) is) ∙ keeper.executes w.wire.state x.line.id x.line.call o in
       subst (λ v. IsOnce w.client (replied w.wire x.number rest (record hd { executed = v }))) (sym exe) (once_new w x rest hd q is o exe s h)
 
   -- `IsOnce` holds also once a client sent one more request, and its counts `since` and `count` are as before
-  once_sent : (w : World (ByNumber Call) State) (target : ℕ) (call : Call) (deadline : ℕ) (x : Sending (ByNumber Call)) (digit : x.id < 8)
+  once_sent : (w : World (ByNumber Call) State) (target : ℕ) (call : Call) (x : Sending (ByNumber Call)) (digit : x.id < 8)
       (grows : length x.client.requests ≡ length w.client.requests + 1) (since_is : x.client.since ≡ w.client.since) (count_is : x.client.count ≡ w.client.count)
       (sound : Sound width ends Good w) (once : IsOnce w.client w.wire) → IsOnce x.client (requested w target call (Some x)).wire
-  once_sent w target call deadline x digit grows since count s h =
+  once_sent w target call x digit grows since count s h =
       let r : Sent = record { target = target; call = call; line = request_line (Some x.id) call } in
       let t = h.replayed in
       record {
@@ -319,11 +326,10 @@ module _ {State : Type 0} (width : ℕ) (narrow : width ≤ 7) (ends : Ends Stat
       let c = w.client in
       let y : Sending (ByNumber Call) = record {
         id = (length c.requests - c.since) % 8;
-        client =
-            record { count = c.count; requests = c.requests ++ pending_of target call deadline ∷ []; since = c.since };
+        client = record { count = c.count; requests = c.requests ++ pending_of target call deadline ∷ []; since = c.since };
       } in
       subst (λ z. IsOnce z.client (requested w target call (Some z)).wire) (same_Some y x e)
-      (once_sent w target call deadline y (omega arith) (length_push c.requests (pending_of target call deadline)) refl refl s h)
+      (once_sent w target call y (omega arith) (length_push c.requests (pending_of target call deadline)) refl refl s h)
 
   -- `IsReplayed` holds also with other queues, where each upward request is the one that was sent with its number
   replayed_up : (w : Wire State) (top : ℕ) (up : List (Numbered Request)) (down : List (Numbered (List ℕ))) → Each (IsOf call_line w.sent) up → IsReplayed w top
@@ -332,16 +338,18 @@ module _ {State : Type 0} (width : ℕ) (narrow : width ≤ 7) (ends : Ends Stat
 
   -- `IsOnce` holds also with other queues, of which its clauses hold
   once_queues : (c : ByNumber Call) (w : Wire State) (up : List (Numbered Request)) (down : List (Numbered (List ℕ))) (h : IsOnce c w)
-      → Each (λ x. x.number < h.top) down → IsAboveExecuted (kept w.state) c.since c.count h.top up → Each (IsOf call_line w.sent) up → IsOnce c (record w { up = up; down = down })
+      → Each (λ x. x.number < h.top) down → IsAboveExecuted (kept w.state) c.since c.count h.top up → Each (IsOf call_line w.sent) up
+      → IsOnce c (record w { up = up; down = down })
   once_queues c w up down h d u l = record { top = h.top; last = h.last; climbs = h.climbs; below = h.below; sent = h.sent; made = d; above = u; replayed = replayed_up w h.top up down l h.replayed }
 
-  -- `IsReplayed` holds also with other settlements, replies in flight and counts
+  -- `IsReplayed` holds also with other settlements, replies in flight, and counts of refused sends and of idle events
   replayed_else : (w : Wire State) (top : ℕ) (settled : _) (down : _) (refused idle : ℕ) → IsReplayed w top
       → IsReplayed (record w { settled = settled; down = down; refused = refused; idle = idle }) top
   replayed_else w top settled down refused idle t = record { replies = t.replies; replays = t.replays; among = t.among; each = t.each; begins = t.begins; held = t.held; lines = t.lines }
 
-  -- `IsOnce` holds also with other settlements and counts
-  once_else : (c : ByNumber Call) (w : Wire State) (settled : _) (refused idle : ℕ) → IsOnce c w → IsOnce c (record w { settled = settled; refused = refused; idle = idle })
+  -- `IsOnce` holds also with other settlements, and other counts of refused sends and of idle events
+  once_else : (c : ByNumber Call) (w : Wire State) (settled : _) (refused idle : ℕ) → IsOnce c w
+      → IsOnce c (record w { settled = settled; refused = refused; idle = idle })
   once_else c w settled refused idle h = record {
     top = h.top;
     last = h.last;
@@ -349,13 +357,11 @@ module _ {State : Type 0} (width : ℕ) (narrow : width ≤ 7) (ends : Ends Stat
     below = h.below;
     sent = h.sent;
     made = h.made;
-    above =
-        h.above;
+    above = h.above;
     replayed = replayed_else w h.top settled w.down refused idle h.replayed;
   }
 
-  -- `IsOnce` holds also once the front reply was delivered, with other settlements and another count of settled requests, for which
-  -- `IsAboveExecuted` holds
+  -- `IsOnce` holds also once the front reply was delivered, with any settlements, and a count for which `IsAboveExecuted` holds
   once_settled : (w : World (ByNumber Call) State) (x : Numbered (List ℕ)) (rest : List (Numbered (List ℕ))) (count : ℕ) (settled : _) → w.wire.down ≡ x ∷ rest
       → (h : IsOnce w.client w.wire) → IsAboveExecuted (kept w.wire.state) w.client.since count h.top w.wire.up
       → IsOnce (record w.client { count = count }) (record w.wire { down = rest; settled = settled })
@@ -380,8 +386,9 @@ module _ {State : Type 0} (width : ℕ) (narrow : width ≤ 7) (ends : Ends Stat
       once_settled w x rest (x.number + 1) (w.wire.settled ++ (number_reply w.client x false).settlements) e h
       (above_count (kept w.wire.state) w.client.since w.client.count (x.number + 1) h.top w.wire.up (omega (arith, m.0)) h.above)
 
-  -- `IsOnce` holds also once the instrument restarted while no request was in flight, which makes it forget what it kept
-  once_forgotten : (c : ByNumber Call) (w : Wire State) (count since : ℕ) → w.up ≡ [] → IsOnce c w → IsOnce (record c { count = count; since = since }) (started ends w true)
+  -- `IsOnce` holds also once the instrument restarted with no request in flight upward, for any `count` and `since` of the client
+  once_forgotten : (c : ByNumber Call) (w : Wire State) (count since : ℕ) → w.up ≡ [] → IsOnce c w
+      → IsOnce (record c { count = count; since = since }) (started ends w true)
   once_forgotten c w count since e h =
       let t = h.replayed in
       record {
@@ -410,14 +417,13 @@ module _ {State : Type 0} (width : ℕ) (narrow : width ≤ 7) (ends : Ends Stat
     last = h.last;
     climbs = h.climbs;
     below = h.below;
-    sent =
-        omega (arith, h.sent, length_expired now w.client.count w.client.requests);
+    sent = omega (arith, h.sent, length_expired now w.client.count w.client.requests);
     made = h.made;
     above = h.above;
     replayed = h.replayed;
   }
 
-  -- `IsOnce` holds also once the client was restarted, and the instrument with it, while no request was in flight
+  -- `IsOnce` holds also once the client was restarted, and the instrument with it, while no request was in flight upward
   once_restarted : (w : World (ByNumber Call) State) → ends.joint ≡ true → w.wire.up ≡ [] → IsOnce w.client w.wire
       → IsOnce ((by_numbers width).restart w.client).client (with_settled (started ends w.wire ends.joint) ((by_numbers width).restart w.client)).wire
   once_restarted w joint e h =
@@ -426,7 +432,7 @@ module _ {State : Type 0} (width : ℕ) (narrow : width ≤ 7) (ends : Ends Stat
       subst (λ b. IsOnce ((by_numbers width).restart w.client).client (with_settled (started ends w.wire b) ((by_numbers width).restart w.client)).wire) (sym joint)
       (once_else (record w.client { count = total; since = total }) v _ v.refused v.idle (once_forgotten w.client w.wire total total e h))
 
-  -- each elementary change keeps `Once`
+  -- each elementary change keeps `Once`, if a restart of the client restarts the instrument too (`joint`)
   keeps_once : ends.joint ≡ true → IsStable call_line ends (by_numbers width) Once
   keeps_once joint =
       let k = keeps width ends Good call_line ex in
@@ -440,8 +446,8 @@ module _ {State : Type 0} (width : ℕ) (narrow : width ≤ 7) (ends : Ends Stat
         };
         answers = λ w x rest q h. record {
           sound = k.answers w x rest q h.sound;
-          once = once_handed w x rest (ends.handed w.wire.state x.line.id x.line.call) (ends.handed w.wire.state x.line.id x.line.call).executed
-              (kept_line (kept w.wire.state) (Some x.line.id)) refl q refl refl h.sound h.once;
+          once = once_handed w x rest (ends.handed w.wire.state x.line.id x.line.call) (kept_line (kept w.wire.state) (Some x.line.id)) q refl refl
+              h.sound h.once;
         };
         loses_up = λ w n h. record {
           sound = k.loses_up w n h.sound;
@@ -471,7 +477,8 @@ module _ {State : Type 0} (width : ℕ) (narrow : width ≤ 7) (ends : Ends Stat
         starts = λ w u d h. record { sound = k.starts w u d h.sound; once = once_forgotten w.client w.wire w.client.count w.client.since u h.once };
       }
 
-  -- the run by numbers ends in a world of which `Once` holds
+  -- the run by numbers ends in a world of which `Once` holds, if a restart of the client restarts the instrument too (`joint`),
+  -- and the restarted opening state is good
   pub once_at : ends.joint ≡ true → Good (ends.restarted opening) → (es : List Step) → Once (run ends (by_numbers width) es (numbers_open (ends.restarted opening)))
   once_at joint good es =
       stable_all call_line ends (by_numbers width) Once (keeps_once joint) es (numbers_open (ends.restarted opening)) (record {
@@ -488,6 +495,6 @@ module _ {State : Type 0} (width : ℕ) (narrow : width ≤ 7) (ends : Ends Stat
         };
       })
 
-  -- while a reply is kept, each request in flight upward has the number executed last or one of the `width` above it
+  -- where `Once` holds, each upward number is, while a reply is kept, the one executed last or one of the `width` above it
   pub recent : (w : World (ByNumber Call) State) → Once w → IsRecent width (kept w.wire.state) w.wire.executed (numbers w.wire.up)
   recent w h = recent_of width w.client.since w.client.count h.once.top (length w.client.requests) (kept w.wire.state) w.wire.executed w.wire.up h.once.above h.once.last h.sound.few h.sound.going

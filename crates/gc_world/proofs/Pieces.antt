@@ -33,7 +33,7 @@ no_feed bs h =
 
 -- Pieces of a list.
 
--- the first g elements, and those from there to place m, are the first m
+-- where g is at most m, the first g elements, and after them those from place g on but before place m, are the first m
 pub take_pieces : {A : Type 0} (g m : ℕ) (xs : List A) → g ≤ m → take g xs ++ take (m - g) (drop g xs) ≡ take m xs
 take_pieces zero m xs le = let e : m - 0 ≡ m = omega arith in ap (λ k. take k xs) e
 take_pieces (suc g) zero xs le = absurd (omega (arith, le))
@@ -51,7 +51,7 @@ with_return : (line : List ℕ) (m : ℕ) → m ≡ length line + 1 → take m (
 with_return line m e =
     ap (take m) (sym (append_assoc line (13 ∷ []) (10 ∷ []))) ∙ take_at (line ++ 13 ∷ []) (10 ∷ []) m (length-append line (13 ∷ []) ∙ sym e)
 
--- where at most 512 bytes and a CR came before a line feed, the frame that it ends is the line of these bytes
+-- where a line of at most 512 bytes and a CR came before a line feed, the frame that the line feed ends is that line
 pub fed_end : (line : List ℕ) → length line ≤ 512 → frame_of (line ++ 13 ∷ []) ≡ Line (record { items = line })
 fed_end line fits =
     let long : length (line ++ 13 ∷ []) ≡ length line + 1 = length-append line (13 ∷ []) in
@@ -61,8 +61,8 @@ fed_end line fits =
     sym (line_frame (line ++ 13 ∷ []) (record { items = line }) (omega (arith, long)) last (omega (arith, long)) items)
 
 -- What an assembler stands for once it was fed a piece of a line: the bytes of a line that it has taken so far. `old` is the
--- assembler before, and `new` after. The premise about `position` is the contract of the call that fed the piece: there is no
--- line feed in it.
+-- assembler before, and `new` after. The premise `next` is what the contract of the call that fed the piece says of a piece
+-- without a line feed.
 
 module _ {P Q : Type 0} (old new : Kept) (line : List ℕ) (plain : IsPlain line) where
   -- where an assembler stood (`old`) for the first g bytes of the line, and was fed those from there to place m, within the line,
@@ -82,13 +82,14 @@ module _ {P Q : Type 0} (old new : Kept) (line : List ℕ) (plain : IsPlain line
       → StandsFor old (take g (with_end line)) → StandsFor new line
   fed_line g le next stands = subst (StandsFor new) (take_at line (13 ∷ 10 ∷ []) (length line) refl) (fed_within g (length line) le (omega arith) next stands)
 
--- where an assembler stood for a line, and was fed a CR, it stands for the line and the CR
+-- where an assembler stood (`old`) for a line, and was fed a CR, it then stands (`new`) for the line and the CR
 pub fed_return : {P Q : Type 0} (old new : Kept) (line : List ℕ) (m : ℕ) → m ≡ length line + 1
     → (position is_line_feed (13 ∷ []) ≡ None → P × Q × ((rest : List ℕ) → StandsFor old rest → StandsFor new (rest ++ 13 ∷ [])))
     → StandsFor old line → StandsFor new (take m (with_end line))
 fed_return old new line m e next stands = subst (StandsFor new) (sym (with_return line m e)) ((next refl).2 line stands)
 
--- where an assembler stands for all bytes of a line but its line feed, the frame that a line feed ends is that line
+-- where an assembler stands for all bytes of a line of at most 512 bytes and its CR LF but the line feed, the frame that a line
+-- feed ends is that line
 pub fed_feed : (line : List ℕ) (g : ℕ) → g ≡ length line + 1 → length line ≤ 512 → frame_of (take g (with_end line) ++ []) ≡ Line (record { items = line })
 fed_feed line g e fits = ap frame_of (append-nil (take g (with_end line)) ∙ with_return line g e) ∙ fed_end line fits
 

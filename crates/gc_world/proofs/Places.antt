@@ -1,9 +1,8 @@
 -- The element at a place of a list, also of a list that was mapped or appended to.
-use Rattle.std.proofs.Common.{◌≡◌, ℕ, zero, suc, ◌<◌, List, [], ◌∷◌, length, map, get_or, Some, refl, ap, subst, arith}
+use Rattle.std.proofs.Common.{◌≡◌, ℕ, zero, suc, ◌<◌, List, [], ◌∷◌, length, map, Some, refl, ap, arith}
 use Rattle.std.specs.Prelude.{slice_get}
-use Rattle.gc_world.specs.Order.{Each}
-use Rattle.std.proofs.lemmas.Option.{same_Some, none-some, slice_get_read}
-pub use Rattle.gc_lines.proofs.Lists.{get_more, get_push}
+use Rattle.std.proofs.lemmas.Option.{same_Some, none-some}
+pub use Rattle.gc_lines.proofs.Lists.{all_at, get_more, get_push}
 
 -- where xs has x at place n, map f xs has f x there
 pub get_map : {A B : Type 0} (f : A → B) (xs : List A) (n : ℕ) (x : A) → slice_get xs n ≡ Some x → slice_get (map f xs) n ≡ Some (f x)
@@ -22,13 +21,3 @@ pub in_range : {A : Type 0} (xs : List A) (k : ℕ) → k < length xs → (x : A
 in_range [] k lt = absurd (omega arith)
 in_range (x ∷ xs) zero lt = (x, refl)
 in_range (x ∷ xs) (suc k) lt = in_range xs k (omega arith)
-
--- a property that each element of a list has holds of the element at place n
-pub each_get : {A : Type 0} (P : A → Type 0) (xs : List A) (n : ℕ) (x : A) → Each P xs → slice_get xs n ≡ Some x → P x
-each_get P [] n x h e = absurd (none-some x e)
-each_get P (y ∷ xs) zero x h e = subst P (same_Some y x e) h.0
-each_get P (y ∷ xs) (suc n) x h e = each_get P xs n x h.1 e
-
--- an element that was read at a place below the length is there
-pub get_at : {A : Type 0} (xs : List A) (i : ℕ) (x : A) → i < length xs → x ≡ get_or xs i x → slice_get xs i ≡ Some x
-get_at xs i x lt e = slice_get_read xs (length xs) i x refl lt e

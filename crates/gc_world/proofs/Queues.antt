@@ -6,13 +6,13 @@ use Rattle.std.specs.List.{remove, insert}
 use Rattle.std.proofs.lemmas.Bool.{cases_lt}
 use Rattle.gc_world.specs.World.{without, doubled}
 
--- removing element k is the list without it
+-- where a list has an element k, std's `remove` of it leaves the list without it (`without`)
 pub without_is : {A : Type 0} (xs : List A) (k : ℕ) → k < length xs → remove xs k ≡ without k xs
 without_is [] k h = absurd (omega arith)
 without_is (x ∷ xs) zero h = refl
 without_is (x ∷ xs) (suc k) h = ap (λ l. x ∷ l) (without_is xs k (omega arith))
 
--- inserting element k at its own place is the list with it twice
+-- where a list has an element k, std's `insert` of this element at place k leaves the list with it twice (`doubled`)
 pub doubled_is : {A : Type 0} (xs : List A) (k : ℕ) (x : A) → k < length xs → x ≡ get_or xs k x → insert xs k x ≡ doubled k xs
 doubled_is [] k y h e = absurd (omega arith)
 doubled_is (x ∷ xs) zero y h e = ap (λ z. z ∷ x ∷ xs) e
@@ -56,8 +56,9 @@ not_below k n h = by_cases (cases_lt k n)
     by_cases (inl lt) = absurd (h lt)
     by_cases (inr ge) = ge
 
--- where std's `remove` of element k makes `new` of `old`, with the result o, which is `Some` exactly if there was an element k,
--- `new` is `old` without element k
-pub lose_left : {A : Type 0} (o : Option A) (k : ℕ) (old new : List A) → (IsSome o ↔ (k < length old)) → OnSome o (new ≡ remove old k) → IfNone o (new ≡ old) → new ≡ without k old
+-- where o is `Some` exactly if `old` has an element k, and `new` is what std's `remove` of element k leaves of `old` if o is
+-- `Some`, and is `old` if o is `None`, `new` is `old` without element k (`without`)
+pub lose_left : {A : Type 0} (o : Option A) (k : ℕ) (old new : List A) → (IsSome o ↔ (k < length old)) → OnSome o (new ≡ remove old k)
+    → IfNone o (new ≡ old) → new ≡ without k old
 lose_left (Some x) k old new v some none = some ∙ without_is old k (v.0 refl)
 lose_left None k old new v some none = none ∙ sym (without_past k old (not_below k (length old) (λ lt. let h : false ≡ true = v.1 lt in cc)))

@@ -2,11 +2,11 @@
 use Rattle.std.proofs.Common.{◌≡◌, ℕ, ◌+◌, ◌<◌, ◌||◌, Bool, true, false, List, [], ◌∷◌, ◌++◌, length, Some, refl, sym, ◌∙◌, ap, subst, arith, eqb}
 use Rattle.std.specs.Prelude.{slice_get}
 use Rattle.std.proofs.lemmas.Bool.{ne_eqb, eq-eqb, or_right}
-use Rattle.gc_catalogue.specs.Texts.{request_line}
 use Rattle.gc_world.specs.World.{Sent, Numbered, Ends}
 use Rattle.gc_world.specs.Worlds
 use Rattle.gc_world.specs.Order.{Each}
 use Rattle.gc_world.specs.Faithful.{has_number, begun}
+use Rattle.gc_world.specs.Record.{IsExecutedIn}
 use Rattle.gc_world.proofs.Places.{get_more}
 
 -- a number above all of these isn't among them
@@ -14,12 +14,12 @@ pub no_number : (n : ℕ) (xs : List ℕ) → Each (λ x. x < n) xs → has_numb
 no_number n [] h = refl
 no_number n (x ∷ xs) h = ap (λ b. b || has_number n xs) (ne_eqb x n (λ e. omega (arith, h.0, e))) ∙ no_number n xs h.1
 
--- appending another number doesn't change whether a number is among them
+-- appending a number m to a list doesn't change whether another number, n, is in it
 has_number_push : (n m : ℕ) (xs : List ℕ) → (m ≡ n → ⊥) → has_number n (xs ++ m ∷ []) ≡ has_number n xs
 has_number_push n m [] ne = ap (λ b. b || false) (ne_eqb m n ne)
 has_number_push n m (x ∷ xs) ne = ap (λ b. eqb x n || b) (has_number_push n m xs ne)
 
--- a number that was appended is among them
+-- a number that was appended to a list is in it
 has_number_pushed : (n : ℕ) (xs : List ℕ) → has_number n (xs ++ n ∷ []) ≡ true
 has_number_pushed n [] = ap (λ b. b || false) (eq-eqb n n refl)
 has_number_pushed n (x ∷ xs) = ap (λ b. eqb x n || b) (has_number_pushed n xs) ∙ or_right (eqb x n) true refl
@@ -27,19 +27,14 @@ has_number_pushed n (x ∷ xs) = ap (λ b. eqb x n || b) (has_number_pushed n xs
 module _ {State : Type 0} (ends : Ends State) where
   -- the instrument executes request n in this state, makes this entry and goes on to the next state
   pub record Executes (sent : List Sent) (state : State) (n : ℕ) (entry : Numbered (List ℕ)) (after : State) : Type 0 where
-    pub request : Sent
-    pub found : slice_get sent n ≡ Some request
-    pub id : ℕ
-    pub small : id < 8
-    pub text : request.line ≡ request_line (Some id) request.call
-    pub executed : (ends.handed state id request.call).executed ≡ true
+    pub is_executed : IsExecutedIn ends sent n state
     pub number : entry.number ≡ n
-    pub line : entry.line ≡ (ends.handed state id request.call).reply
-    pub leads : (ends.handed state id request.call).state ≡ after
+    pub line : entry.line ≡ (ends.handed state is_executed.id is_executed.request.call).reply
+    pub leads : (ends.handed state is_executed.id is_executed.request.call).state ≡ after
 
-  -- a replay: requests ns are executed one after the other, from state s to state t, with replies ms. j executions had been
-  -- before; and after each execution the instrument is restarted where `starts` has the count of executions until then
-  abbrev pub Replays : List Sent → List ℕ → ℕ → State → List ℕ → List (Numbered (List ℕ)) → State → Type 0
+  -- a replay: requests ns are executed one after the other, from state s to state t, with replies ms. j executions came before;
+  -- and after each execution the instrument is restarted where `starts` has the count of executions until then
+  abbrev pub Replays : (sent : List Sent) (starts : List ℕ) (j : ℕ) (s : State) (ns : List ℕ) (ms : List (Numbered (List ℕ))) (t : State) → Type 0
   Replays sent starts j s [] [] t = s ≡ t
   Replays sent starts j s (n ∷ ns) (m ∷ ms) t = (mid : _) × Executes sent s n m mid × Replays sent starts (j + 1) (begun ends.restarted (has_number (j + 1) starts) mid) ns ms t
   Replays sent starts j s [] (m ∷ ms) t = ⊥
@@ -47,18 +42,21 @@ module _ {State : Type 0} (ends : Ends State) where
 
   -- an execution stays one when more requests are sent
   executes_more : (sent more : List Sent) (s : State) (n : ℕ) (m : Numbered (List ℕ)) (t : State) → Executes sent s n m t → Executes (sent ++ more) s n m t
-  executes_more sent more s n m t h = record {
-    request = h.request;
-    found = get_more sent more n h.request h.found;
-    id = h.id;
-    small = h.small;
-    text =
-        h.text;
-    executed = h.executed;
-    number = h.number;
-    line = h.line;
-    leads = h.leads;
-  }
+  executes_more sent more s n m t h =
+      let d = h.is_executed in
+      record {
+        is_executed = record {
+          request = d.request;
+          found = get_more sent more n d.request d.found;
+          id = d.id;
+          small = d.small;
+          line = d.line;
+          executed = d.executed;
+        };
+        number = h.number;
+        line = h.line;
+        leads = h.leads;
+      }
 
   -- a replay stays one when more requests are sent
   pub replays_more : (sent more : List Sent) (starts : List ℕ) (j : ℕ) (s : State) (ns : List ℕ) (ms : List (Numbered (List ℕ))) (t : State)
@@ -68,7 +66,8 @@ module _ {State : Type 0} (ends : Ends State) where
   replays_more sent more starts j s [] (m ∷ ms) t h = h
   replays_more sent more starts j s (n ∷ ns) [] t h = h
 
-  -- a replay and one more execution, after which there is no start yet, are a replay
+  -- where a replay ends in the state t, an execution leads from t to u, and `starts` doesn't have the number l of executions
+  -- then, the replay followed by that execution is a replay that ends in u
   pub replays_push : (sent : List Sent) (starts : List ℕ) (j l : ℕ) (s : State) (ns : List ℕ) (ms : List (Numbered (List ℕ))) (t : State) (n : ℕ)
       (m : Numbered (List ℕ)) (u : State) → j + length ns + 1 ≡ l → has_number l starts ≡ false → Executes sent t n m u → Replays sent starts j s ns ms t
       → Replays sent starts j s (ns ++ n ∷ []) (ms ++ m ∷ []) u
@@ -79,12 +78,15 @@ module _ {State : Type 0} (ends : Ends State) where
   replays_push sent starts j l s [] (x ∷ ms) t n m u e none r h = absurd h
   replays_push sent starts j l s (k ∷ ns) [] t n m u e none r h = absurd h
 
-  -- a restart leads to the same state, whether there was another one directly before it (b) or not
-  begun_twice : ((s : State) → ends.restarted (ends.restarted s) ≡ ends.restarted s) → (b : Bool) (s : State) → ends.restarted s ≡ ends.restarted (begun ends.restarted b s)
+  -- if restarting twice is restarting once, a restart leads to the same state, whether there was another one directly before it
+  -- (b) or not
+  begun_twice : ((s : State) → ends.restarted (ends.restarted s) ≡ ends.restarted s) → (b : Bool) (s : State)
+      → ends.restarted s ≡ ends.restarted (begun ends.restarted b s)
   begun_twice twice false s = refl
   begun_twice twice true s = sym (twice s)
 
-  -- a replay of at least one execution, with one more start after the last, is a replay that ends in the restarted state
+  -- if restarting twice is restarting once, a replay of at least one execution, with one more start after the last, is a replay
+  -- that ends in the restarted state
   replays_start : ((s : State) → ends.restarted (ends.restarted s) ≡ ends.restarted s)
       → (sent : List Sent) (starts : List ℕ) (j l : ℕ) (s : State) (n : ℕ) (ns : List ℕ) (ms : List (Numbered (List ℕ))) (t : State) → j + length ns + 1 ≡ l
       → Replays sent starts j s (n ∷ ns) ms t → Replays sent (starts ++ l ∷ []) j s (n ∷ ns) ms (ends.restarted t)
@@ -106,8 +108,8 @@ module _ {State : Type 0} (ends : Ends State) where
   replays_start twice sent starts j l s n [] (m ∷ (x ∷ ms)) t e h = absurd h.2
   replays_start twice sent starts j l s n (k ∷ ns) [] t e h = absurd h
 
-  -- a replay from the restarted opening state on, also of no executions, with one more start after it, is a replay that ends
-  -- in the restarted state
+  -- if restarting twice is restarting once, a replay from the restarted opening state on, also of no executions, with one more
+  -- start after it, is a replay that ends in the restarted state
   pub replays_started : ((s : State) → ends.restarted (ends.restarted s) ≡ ends.restarted s)
       → (sent : List Sent) (starts : List ℕ) (opening : State) (ns : List ℕ) (ms : List (Numbered (List ℕ))) (t : State)
       → Replays sent starts 0 (ends.restarted opening) ns ms t → Replays sent (starts ++ length ns ∷ []) 0 (ends.restarted opening) ns ms (ends.restarted t)
@@ -115,7 +117,8 @@ module _ {State : Type 0} (ends : Ends State) where
   replays_started twice sent starts opening (n ∷ ns) ms t h = replays_start twice sent starts 0 (length (n ∷ ns)) (ends.restarted opening) n ns ms t (omega arith) h
   replays_started twice sent starts opening [] (m ∷ ms) t h = absurd h
 
--- a request in flight is the one that was sent with its number
+-- a request in flight is the one that was sent with its number: it has that one's call, and an id below 8 with which that one's
+-- line was written
 pub record IsOf {Q : Type 0} (written : ℕ → Q → List ℕ) (sent : List (Worlds.Sent Q)) (x : Numbered (Worlds.Request Q)) : Type 0 where
   pub request : Worlds.Sent Q
   pub found : slice_get sent x.number ≡ Some request
@@ -124,5 +127,6 @@ pub record IsOf {Q : Type 0} (written : ℕ → Q → List ℕ) (sent : List (Wo
   pub text : request.line ≡ written x.line.id x.line.call
 
 -- a request in flight stays the one that was sent with its number when more are sent
-pub of_more : {Q : Type 0} (written : ℕ → Q → List ℕ) (sent more : List (Worlds.Sent Q)) (x : Numbered (Worlds.Request Q)) → IsOf written sent x → IsOf written (sent ++ more) x
+pub of_more : {Q : Type 0} (written : ℕ → Q → List ℕ) (sent more : List (Worlds.Sent Q)) (x : Numbered (Worlds.Request Q)) → IsOf written sent x
+    → IsOf written (sent ++ more) x
 of_more written sent more x h = record { request = h.request; found = get_more sent more x.number h.request h.found; small = h.small; call = h.call; text = h.text }

@@ -1,9 +1,9 @@
 -- What holds of a run's wire holds of a report that has its lists and counts (`IsReport`).
 use Rattle.std.proofs.Common.{◌≡◌, ℕ, zero, suc, ◌+◌, ◌<◌, ◌≤◌, inl, inr, List, [], ◌∷◌, length, Some, refl, sym, ◌∙◌, ap, subst, arith}
-use Rattle.std.specs.Prelude.{slice_get, All}
+use Rattle.std.specs.Prelude.{slice_get}
 use Rattle.std.proofs.lemmas.Bool.{cases_lt}
 use Rattle.std.proofs.lemmas.List.{length-map}
-use Rattle.std.proofs.lemmas.List.Elements.{All-head, All-tail}
+use Rattle.std.proofs.lemmas.List.Elements.{recursion_from_All}
 use Rattle.gc_catalogue.specs.Calls.{IsFitting}
 use Rattle.gc_catalogue.specs.declared.answer.Reading.{Reading}
 use Rattle.gc_catalogue.specs.declared.call.Call.{Call}
@@ -19,23 +19,17 @@ use Rattle.gc_world.specs.declared.report.Report.{Report}
 use Rattle.gc_world.specs.declared.report.Sent.{Sent}
 use Rattle.gc_world.specs.Faithful.{OneForOne, IsValueOrRefusal, IsBookedAnswer, BooksAnswers, has_number, begun, AreBefore, IsReplyOf, RecordsExecution, ActsOnce, sent_seen, AgreesWith}
 use Rattle.gc_world.specs.Order.{Each}
-use Rattle.gc_world.specs.Record.{Increasing, IsOneForOne, IsReplyTo, IsBooked, IsExecuted, IsExecution}
+use Rattle.gc_world.specs.Record.{Increasing, IsOneForOne, IsReplyTo, IsBooked, IsExecutedIn, IsExecution}
 use Rattle.gc_world.specs.Reports.{made_seen, IsReport, IsNoLongerThan}
 use Rattle.gc_world.specs.Clients.{ends}
 use Rattle.gc_instrument.specs.Execution.{exec}
-use Rattle.gc_instrument.specs.Replying.{executed_line}
+use Rattle.gc_instrument.specs.Replying.{executed_line, without_kept}
 use Rattle.gc_world.specs.World
 use Rattle.gc_world.specs.World.{Numbered, Wire}
 use Rattle.gc_world.proofs.Counts.{IsWithin}
-use Rattle.gc_world.proofs.Handing.{without_kept, bare_after, bare_line, bare_begun}
+use Rattle.gc_world.proofs.Handing.{bare_after, bare_line, bare_begun}
 use Rattle.std.proofs.lemmas.Option.{same_Some, none-some, slice_get_within}
-use Rattle.gc_world.proofs.Places.{get_map, get_seen, in_range, each_get}
-
--- a property that all elements of a list have holds of the element at place n
-all_get : {A : Type 0} (P : A → Type 0) (xs : List A) (n : ℕ) (x : A) → All P xs → slice_get xs n ≡ Some x → P x
-all_get P [] n x h e = absurd (none-some x e)
-all_get P (y ∷ xs) zero x h e = subst P (same_Some y x e) (All-head P y xs h)
-all_get P (y ∷ xs) (suc n) x h e = all_get P xs n x (All-tail P y xs h) e
+use Rattle.gc_world.proofs.Places.{get_map, get_seen, in_range, all_at}
 
 -- increasing numbers from `low` on are at least `low`
 above_low : (low : ℕ) (xs : List ℕ) (j m : ℕ) → Increasing low xs → slice_get xs j ≡ Some m → low ≤ m
@@ -43,7 +37,7 @@ above_low low [] j m h e = absurd (none-some m e)
 above_low low (x ∷ xs) zero m h e = subst (λ k. low ≤ k) (same_Some x m e) h.0
 above_low low (x ∷ xs) (suc j) m h e = omega (arith, h.0, above_low (x + 1) xs j m h.1 e)
 
--- of increasing numbers one at a later place is greater
+-- of increasing numbers the one at a later place is greater than the one at an earlier place
 rises : (low : ℕ) (xs : List ℕ) (i j n m : ℕ) → Increasing low xs → i < j → slice_get xs i ≡ Some n → slice_get xs j ≡ Some m → n < m
 rises low [] i j n m h lt e f = absurd (none-some n e)
 rises low (x ∷ xs) i zero n m h lt e f = absurd (omega (arith, lt))
@@ -79,8 +73,8 @@ module _ (r : Report) (w : Wire State) (h : IsReport r w) where
   -- Premises: a reply made in a good state to a call that fits reads as a value or a refusal, and the calls of the report fit.
   module _ (Good : State → Type 0) (fine : (call : Call) (bytes : List ℕ) (reading : Reading) → IsReplyTo ends Good call bytes → IsFitting call
       → ReadsAs call bytes reading → IsValueOrRefusal reading) (fits : Each (λ (q : Sent). IsFitting q.call) r.sent) where
-    -- where the run's answers are booked, settlement m of the report, with the outcome o, is booked for request m if it is an
-    -- answer
+    -- where the report is one for one, and the run's answers are booked, settlement m of the report, with the outcome o, is
+    -- booked for request m if it is an answer whose reading is that of its line
     booked_at : (one : OneForOne r) → ((m : ℕ) (s : Rule.Settlement Call) → slice_get w.settled m ≡ Some s → IsBooked ends Good w.made m s)
         → (m : ℕ) (s : Settlement Call) (o : Outcome) → s.outcome ≡ o → slice_get r.settled m ≡ Some s → IsReadForCall s.call o → IsBookedAnswer r m s.call o
     booked_at one booked m s Late o e read = tt
@@ -98,15 +92,18 @@ module _ (r : Report) (w : Wire State) (h : IsReport r w) where
           number = ap (λ (x : Numbered (List ℕ)). x.number) entry.2;
           same_line = ap (λ (x : Numbered (List ℕ)). x.line) entry.2;
           reads = read;
-          fine = fine s.call line.items reading b.1 (subst IsFitting (sym same) (each_get (λ (p : Sent). IsFitting p.call) r.sent m q.0 fits q.1)) read;
+          fine = fine s.call line.items reading b.1 (subst IsFitting (sym same) (all_at (λ (p : Sent). IsFitting p.call) r.sent m q.0 fits q.1)) read;
         }
 
-    -- where the run's answers are booked, those of the report are
+    -- where the report is one for one, and the run's answers are booked, those of the report are
     pub books_answers : OneForOne r → ((m : ℕ) (s : Rule.Settlement Call) → slice_get w.settled m ≡ Some s → IsBooked ends Good w.made m s) → BooksAnswers r
-    books_answers one booked m s e = booked_at one booked m s s.outcome refl e (all_get (λ (x : Settlement Call). IsReadForCall x.call x.outcome) r.settled m s h.settled.read e)
+    books_answers one booked m s e =
+        booked_at one booked m s s.outcome refl e
+        (all_at (λ (x : Settlement Call). IsReadForCall x.call x.outcome) r.settled m s
+        (recursion_from_All (λ (x : Settlement Call). IsReadForCall x.call x.outcome) r.settled h.settled.read) e)
 
   module _ (opening : State) (x : IsExecution ends opening w) where
-    -- the state before each execution, as the run has it
+    -- the state before each execution, as the run has it, but with no kept reply
     abbrev before : ℕ → State
     before j = without_kept (x.before j)
 
@@ -114,20 +111,21 @@ module _ (r : Report) (w : Wire State) (h : IsReport r w) where
     executed_is : (j n : ℕ) → slice_get r.executed j ≡ Some n → slice_get w.executed j ≡ Some n
     executed_is j n e = ap (λ l. slice_get l j) (sym h.executed) ∙ e
 
-    -- an execution's request is in the report
-    request_of : (j n : ℕ) (d : IsExecuted ends w x.before j n) → (q : Sent) × (slice_get r.sent n ≡ Some q) × (sent_seen q ≡ d.request)
+    -- where request n was executed (`IsExecutedIn`), the report's request n is that request
+    request_of : (j n : ℕ) (d : IsExecutedIn ends w.sent n (x.before j)) → (q : Sent) × (slice_get r.sent n ≡ Some q) × (sent_seen q ≡ d.request)
     request_of j n d = get_seen sent_seen r.sent n d.request (ap (λ l. slice_get l n) h.sent ∙ d.found)
 
-    -- these states are the ones before each execution of the report
+    -- the states `before` are those before the executions of the report, as `AreBefore` has it
     states : AreBefore opening r before
     states =
         record {
           first = ap without_kept x.first;
           next = λ j n request e sent.
-              let d = x.each j n (executed_is j n e) in
+              let one = x.each j n (executed_is j n e) in
+              let d = one.is_executed in
               let q = request_of j n d in
               let call : d.request.call ≡ request.call = sym (ap (λ (p : World.Sent). p.call) q.2) ∙ ap (λ (p : Sent). p.call) (same_Some q.0 request (sym q.1 ∙ sent)) in
-              ap without_kept d.next
+              ap without_kept one.next
               ∙ bare_begun (has_number (j + 1) w.starts) _ _ (bare_after (x.before j) d.id d.request.call d.executed)
               ∙ ap (λ starts. begun restarted (has_number (j + 1) starts) (exec (before j) d.request.call).state) (sym h.starts)
               ∙ ap (λ c. begun restarted (has_number (j + 1) r.starts) (exec (before j) c).state) call;
@@ -147,11 +145,11 @@ module _ (r : Report) (w : Wire State) (h : IsReport r w) where
       ]
     ]
 
-    -- each reply of the report is one of an execution
+    -- each reply of the report is that of an execution, as `IsReplyOf` has it
     reply_of : (k : ℕ) (entry : Made) → slice_get r.made k ≡ Some entry → IsReplyOf r before entry
     reply_of k entry e =
         let y = x.replies k (made_seen entry) (ap (λ l. slice_get l k) (sym h.made) ∙ get_map made_seen r.made k entry e) in
-        let d = y.execution in
+        let d = y.execution.is_executed in
         let q = request_of y.j entry.number d in
         let call : q.0.call ≡ d.request.call = ap (λ (p : World.Sent). p.call) q.2 in
         let executed = ap (λ l. slice_get l y.j) h.executed ∙ y.executed in
@@ -178,7 +176,7 @@ module _ (r : Report) (w : Wire State) (h : IsReport r w) where
     pub records_execution : RecordsExecution opening r
     records_execution = record { before = before; states = states; replies = reply_of; replied = replied }
 
-    -- by the report each request acted once
+    -- by the report each request acted at most once (`ActsOnce`)
     pub acts_once : ActsOnce opening r
     acts_once =
         record {
@@ -188,11 +186,11 @@ module _ (r : Report) (w : Wire State) (h : IsReport r w) where
           last = ap without_kept (h.instrument ∙ x.last) ∙ ap (λ l. before (length l)) (sym h.executed);
         }
 
-  -- the report agrees with a wire that is the run's
+  -- the report agrees (`AgreesWith`) with each wire v that equals the run's
   pub agrees_with : (v : Wire State) → w ≡ v → AgreesWith v r
   agrees_with v same = subst (λ u. AgreesWith u r) same (record { sent = h.sent; settled = h.settled; refused = h.refused; idle = h.idle })
 
-  -- no list of the report is longer than the run's bound
+  -- where the run's lists are within n (`IsWithin`), and the report is one for one, no list of the report is longer than n
   pub no_longer : (n : ℕ) → IsWithin n w → OneForOne r → IsNoLongerThan n r
   no_longer n few one =
       record {

@@ -1,20 +1,18 @@
--- Numbers in a queue: what holds of each, and that they never fall.
-use Rattle.std.proofs.Common.{◌≡◌, ℕ, zero, suc, ◌+◌, ◌<◌, ◌≤◌, List, [], ◌∷◌, ◌++◌, length, refl, ◌∙◌, ap, arith}
-use Rattle.gc_client.specs.declared.pending.Pending.{Pending}
-use Rattle.gc_client.specs.Rule.{settle}
+-- Numbers in a queue: what holds of each, and that they never fall. Where a comment says that numbers never fall, `Rising low`
+-- holds of them: none is below low - 1 either.
+use Rattle.std.proofs.Common.{ℕ, zero, suc, ◌+◌, ◌<◌, ◌≤◌, List, [], ◌∷◌, ◌++◌, arith}
+use Rattle.gc_lines.proofs.Lists.{all_append, all_on}
 use Rattle.gc_world.specs.Worlds.{without, doubled, Numbered}
 use Rattle.gc_world.specs.Order.{Each, Rising, numbers}
 
 module _ {A : Type 0} where
-  -- a property that each element of two lists has holds of each element of the two in a row
+  -- a property that each element of xs and of ys has holds of each element of xs followed by ys: `all_append`, said of `Each`
   pub each_append : (P : A → Type 0) (xs ys : List A) → Each P xs → Each P ys → Each P (xs ++ ys)
-  each_append P [] ys h g = g
-  each_append P (x ∷ xs) ys h g = (h.0, each_append P xs ys h.1 g)
+  each_append P xs ys h g = all_append P xs ys h g
 
-  -- where each element has P, and P gives Q, each element has Q
+  -- where each element has P, and P gives Q, each element has Q: `all_on`, said of `Each`
   pub each_more : (P Q : A → Type 0) → ((x : A) → P x → Q x) → (xs : List A) → Each P xs → Each Q xs
-  each_more P Q f [] h = tt
-  each_more P Q f (x ∷ xs) h = (f x h.0, each_more P Q f xs h.1)
+  each_more P Q f xs h = all_on P Q xs f h
 
   -- a property that each element has holds of each element of the list without element k
   pub each_without : (P : A → Type 0) (k : ℕ) (xs : List A) → Each P xs → Each P (without k xs)
@@ -39,48 +37,47 @@ rising_lower low high [] le h = tt
 rising_lower low high (n ∷ ns) le h = (omega (arith, h.0), h.1)
 
 module _ {Line : Type 0} where
-  -- numbers that never fall still never fall once a line of the queue in front is lost
+  -- where the numbers of a queue, and ns after them, never fall, they still don't once line k of the
+  -- queue, if there is one, is lost
   pub rising_without : (low k : ℕ) (xs : List (Numbered Line)) (ns : List ℕ) → Rising low (numbers xs ++ ns) → Rising low (numbers (without k xs) ++ ns)
   rising_without low k [] ns h = h
   rising_without low zero (x ∷ xs) ns h = rising_lower low (x.number + 1) (numbers xs ++ ns) h.0 h.1
   rising_without low (suc k) (x ∷ xs) ns h = (h.0, rising_without (x.number + 1) k xs ns h.1)
 
-  -- numbers that never fall still never fall once a line of the queue in front is repeated
+  -- where the numbers of a queue, and ns after them, never fall, they still don't once line k of the
+  -- queue, if there is one, is repeated
   pub rising_doubled : (low k : ℕ) (xs : List (Numbered Line)) (ns : List ℕ) → Rising low (numbers xs ++ ns) → Rising low (numbers (doubled k xs) ++ ns)
   rising_doubled low k [] ns h = h
   rising_doubled low zero (x ∷ xs) ns h = (h.0, (omega arith, h.1))
   rising_doubled low (suc k) (x ∷ xs) ns h = (h.0, rising_doubled (x.number + 1) k xs ns h.1)
 
-  -- numbers that never fall still never fall once a line of the queue after them is lost
+  -- where ns, and the numbers of a queue after them, never fall, they still don't once line k of the
+  -- queue, if there is one, is lost
   pub rising_without_behind : (low k : ℕ) (ns : List ℕ) (xs : List (Numbered Line)) → Rising low (ns ++ numbers xs) → Rising low (ns ++ numbers (without k xs))
   rising_without_behind low k [] [] h = tt
   rising_without_behind low zero [] (x ∷ xs) h = rising_lower low (x.number + 1) (numbers xs) h.0 h.1
   rising_without_behind low (suc k) [] (x ∷ xs) h = (h.0, rising_without_behind (x.number + 1) k [] xs h.1)
   rising_without_behind low k (n ∷ ns) xs h = (h.0, rising_without_behind (n + 1) k ns xs h.1)
 
-  -- numbers that never fall still never fall once a line of the queue after them is repeated
+  -- where ns, and the numbers of a queue after them, never fall, they still don't once line k of the
+  -- queue, if there is one, is repeated
   pub rising_doubled_behind : (low k : ℕ) (ns : List ℕ) (xs : List (Numbered Line)) → Rising low (ns ++ numbers xs) → Rising low (ns ++ numbers (doubled k xs))
   rising_doubled_behind low k [] [] h = tt
   rising_doubled_behind low zero [] (x ∷ xs) h = (h.0, (omega arith, h.1))
   rising_doubled_behind low (suc k) [] (x ∷ xs) h = (h.0, rising_doubled_behind (x.number + 1) k [] xs h.1)
   rising_doubled_behind low k (n ∷ ns) xs h = (h.0, rising_doubled_behind (n + 1) k ns xs h.1)
 
-  -- where the number n follows those of a queue, a line with that number may go to the queue's back: the numbers still never
-  -- fall
+  -- where the numbers of a queue, then n, and then ns never fall, they still don't once a line with the number n goes to the
+  -- queue's back in the place of that n, before ns
   pub rising_moved : (low n : ℕ) (line : Line) (xs : List (Numbered Line)) (ns : List ℕ) → Rising low (numbers xs ++ n ∷ ns)
       → Rising low (numbers (xs ++ record { number = n; line = line } ∷ []) ++ ns)
   rising_moved low n line [] ns h = h
   rising_moved low n line (x ∷ xs) ns h = (h.0, rising_moved (x.number + 1) n line xs ns h.1)
 
-  -- numbers never fall where a line with a number above all others goes to the queue's back
+  -- where ns, and the numbers of a queue after them, never fall, and n is above all of them, and at least low - 1, they still
+  -- don't once a line with the number n goes to the queue's back
   pub rising_push : (low n : ℕ) (line : Line) (ns : List ℕ) (xs : List (Numbered Line)) → low ≤ n + 1
       → Each (λ m. m < n) (ns ++ numbers xs) → Rising low (ns ++ numbers xs) → Rising low (ns ++ numbers (xs ++ record { number = n; line = line } ∷ []))
   rising_push low n line [] [] le below h = (le, tt)
   rising_push low n line [] (x ∷ xs) le below h = (h.0, rising_push (x.number + 1) n line [] xs (omega (arith, below.0)) below.1 h.1)
   rising_push low n line (m ∷ ns) xs le below h = (h.0, rising_push (m + 1) n line ns xs (omega (arith, below.0)) below.1 h.1)
-
--- settling through place k settles k + 1 requests
-pub length-settle : {Q : Type 0} (k : ℕ) (line : List ℕ) (ps : List (Pending Q)) → k < length ps → length (settle k line ps) ≡ k + 1
-length-settle k line [] h = omega arith
-length-settle zero line (p ∷ ps) h = refl
-length-settle (suc k) line (p ∷ ps) h = ap suc (length-settle k line ps (omega arith)) ∙ omega arith

@@ -17,7 +17,7 @@ use Rattle.gc_world.proofs.Settled.{one_for_one, whole_at}
 use Rattle.gc_world.proofs.Execution.{IsAnswerAt, each_has, execution, answers_at, booked}
 
 module _ {State : Type 0} (width : ℕ) (ends : Ends State) (es : List Step) where
-  -- every run by ids settles one for one; no law of the ends is needed
+  -- `IsOneForOne` holds of the requests and settlements of every run by ids; no law of the ends is needed
   pub one_for_one_at : (state : State) → IsOneForOne (run_by_ids width ends es state).wire.sent (run_by_ids width ends es state).wire.settled
   one_for_one_at state =
       let w = run_by_ids width ends es state in
@@ -34,7 +34,7 @@ module _ {State : Type 0} (width : ℕ) (narrow : width ≤ 7) (ends : Ends Stat
   abbrev wire : Wire State
   wire = (run_by_ids width ends es (ends.restarted opening)).wire
 
-  -- the run by numbers leaves a world in which each request was executed once
+  -- the run by numbers leaves a world in which each request was executed at most once
   once : Once width narrow ends Good ex kept keeper opening by_number
   once = once_at width narrow ends Good ex kept keeper opening joint good es
 
@@ -48,7 +48,7 @@ module _ {State : Type 0} (width : ℕ) (narrow : width ≤ 7) (ends : Ends Stat
       let t = once.once.replayed in
       subst (IsExecution ends opening) (sym same) (execution ends opening by_number.wire t.replies t.replays t.each t.among once.once.climbs)
 
-  -- while a reply is kept, each request in flight has the number executed last or one of the `width` above it
+  -- while a reply is kept, each request in flight upward has the number executed last or one of the `width` above it
   pub recent_at : IsRecent width (kept wire.state) wire.executed (numbers wire.up)
   recent_at =
       subst (λ (w : Wire State). IsRecent width (kept w.state) w.executed (numbers w.up)) (sym same) (recent width narrow ends Good ex kept keeper opening by_number once)

@@ -3,6 +3,7 @@ use Rattle.std.proofs.Common.{◌≡◌, ℕ, zero, suc, cond, ◌+◌, ◌<◌,
 use Rattle.std.specs.Prelude.{replicate}
 use Rattle.std.proofs.lemmas.Bool.{eqb-true, eqb-false}
 use Rattle.std.proofs.lemmas.List.{append-nil, length_push}
+use Rattle.gc_lines.proofs.Lists.{cons_tail}
 use Rattle.gc_catalogue.specs.declared.call.Call.{Call}
 use Rattle.gc_catalogue.specs.Texts.{request_line}
 use Rattle.gc_client.specs.Rule.{ById, Sending}
@@ -12,7 +13,7 @@ use Rattle.gc_world.specs.declared.event.Event.TheVariants.{Send, UpDeliver, UpB
 use Rattle.gc_world.specs.Clients.{by_ids, ids_open, streams_by_ids}
 use Rattle.gc_world.specs.Streams.{Streams, untouched, cut, passed, is_begun, up_lines, down_lines, flows, flow}
 use Rattle.gc_world.specs.World
-use Rattle.gc_world.specs.FirstReply.{IsSentBefore, IsInTime, IsTooLate}
+use Rattle.gc_world.specs.FirstReply.{IsSentBefore, IsInTime, IsTooLate, IsInTimeOrTooLate, IsNeverInTimeAndTooLate}
 use Rattle.gc_world.specs.Laws.{left_by_ids}
 use Rattle.gc_world.specs.Clients.{ends}
 use Rattle.gc_world.specs.World.{Request, Numbered, Ends, Rule, Wire, World, Step, Up_deliver, Down_deliver, up_delivered, with_up, with_down, started, instrument_restarted, requested, down_delivered, client_restarted, happens, run}
@@ -57,7 +58,7 @@ module _ {Client S : Type 0} (ends : Ends S) (rule : Rule Client) where
   at_down w [] = refl
   at_down w (x ∷ rest) = refl
 
-  -- a start of the instrument sends nothing
+  -- whether there is a start of the instrument (b) or not, nothing is sent
   at_start : (w : Wire S) (b : Bool) → (started ends w b).sent ≡ w.sent
   at_start w true = refl
   at_start w false = refl
@@ -75,7 +76,8 @@ module _ {Client S : Type 0} (ends : Ends S) (rule : Rule Client) where
   at_instrument w (x ∷ up) down = refl
 
   -- where a step sends nothing, neither it (b false) nor `Nothing` in its place (b true) does
-  at_begun : (w : World Client S) (step : Step) (b : Bool) → (happens ends rule w step).wire.sent ≡ w.wire.sent → (happens ends rule w (cond b World.Nothing step)).wire.sent ≡ w.wire.sent
+  at_begun : (w : World Client S) (step : Step) (b : Bool) → (happens ends rule w step).wire.sent ≡ w.wire.sent
+      → (happens ends rule w (cond b World.Nothing step)).wire.sent ≡ w.wire.sent
   at_begun w step true e = refl
   at_begun w step false e = e
 
@@ -121,18 +123,20 @@ module _ (width : ℕ) (opening : State) (n : ℕ) where
   abbrev sent_in : List Event → ℕ
   sent_in events = length (left_by_ids width opening events).sent
 
-  -- what the run by ids of one more event leaves
-  left_more : (events : List Event) (e : Event) → left_by_ids width opening (events ++ e ∷ []) ≡ (flows ends (by_ids width ends) (streams_by_ids width ends events (restarted opening)) e).world.wire
+  -- the wire that the run by ids of one more event leaves is that of the streams after the others and then this event
+  left_more : (events : List Event) (e : Event) → left_by_ids width opening (events ++ e ∷ [])
+      ≡ (flows ends (by_ids width ends) (streams_by_ids width ends events (restarted opening)) e).world.wire
   left_more events e = ap (λ (v : Streams (ById Call) State). v.world.wire) (flow_append ends (by_ids width ends) events (e ∷ []) (untouched (ids_open (restarted opening))))
 
-  -- the events have the send of request n, before some later ones
+  -- the events have the send of request n, at whatever place
   abbrev pub HasSend : List Event → Type 0
   HasSend events = (deadline : ℕ) × (later : List Event) × IsSentBefore width opening events n deadline later
 
-  -- The event e sends a request. Where n requests were sent before it (b), e is the send of request n. Where fewer were, the last
-  -- premise gives the send among the rest
+  -- The list has the send of request n, where the event e sends a request, and at most n were sent before it: if n were (b true),
+  -- that send is e; if fewer were (b false), the last premise gives it
   found_at : (earlier : List Event) (e : Event) (rest : List Event) (b : Bool) (test : eqb (sent_in earlier) n ≡ b) (few : sent_in earlier ≤ n) (send : IsSend e)
-      (more : sent_in (earlier ++ e ∷ []) ≡ sent_in earlier + 1) (again : (sent_in (earlier ++ e ∷ []) ≤ n → HasSend (earlier ++ e ∷ rest))) → HasSend (earlier ++ e ∷ rest)
+      (more : sent_in (earlier ++ e ∷ []) ≡ sent_in earlier + 1) (again : (sent_in (earlier ++ e ∷ []) ≤ n → HasSend (earlier ++ e ∷ rest)))
+      → HasSend (earlier ++ e ∷ rest)
   found_at earlier e rest true t le (target, call, deadline, is) more again =
       let here : sent_in earlier ≡ n = eqb-true _ _ t in (
         deadline,
@@ -148,7 +152,8 @@ module _ (width : ℕ) (opening : State) (n : ℕ) where
       )
   found_at earlier e rest false t le send more again = again (omega (arith, eqb-false _ _ t, le, more))
 
-  -- where at most n requests were sent before the event e, the send of request n is e, or is among the rest, by the last premise
+  -- where at most n requests were sent before the event e, and e sends nothing or is a send of one request, the list has the send
+  -- of request n: it is e, or the last premise gives it
   found_by : (earlier : List Event) (e : Event) (rest : List Event) → sent_in earlier ≤ n
       → (sent_in (earlier ++ e ∷ []) ≡ sent_in earlier) ⊎ (IsSend e × (sent_in (earlier ++ e ∷ []) ≡ sent_in earlier + 1))
       → (sent_in (earlier ++ e ∷ []) ≤ n → HasSend (earlier ++ e ∷ rest)) → HasSend (earlier ++ e ∷ rest)
@@ -156,7 +161,8 @@ module _ (width : ℕ) (opening : State) (n : ℕ) where
   found_by earlier e rest le (inr (send, more)) again = found_at earlier e rest (eqb (sent_in earlier) n) refl le send more again
 
   -- an event after others sends nothing, or is a send of one request
-  sends_one_in : (earlier : List Event) (e : Event) → (sent_in (earlier ++ e ∷ []) ≡ sent_in earlier) ⊎ (IsSend e × (sent_in (earlier ++ e ∷ []) ≡ sent_in earlier + 1))
+  sends_one_in : (earlier : List Event) (e : Event)
+      → (sent_in (earlier ++ e ∷ []) ≡ sent_in earlier) ⊎ (IsSend e × (sent_in (earlier ++ e ∷ []) ≡ sent_in earlier + 1))
   sends_one_in earlier e =
       subst (λ (w : Wire State). (length w.sent ≡ sent_in earlier) ⊎ (IsSend e × (length w.sent ≡ sent_in earlier + 1))) (sym (left_more earlier e))
       (sends_one ends (by_ids width ends) (streams_by_ids width ends earlier (restarted opening)) e)
@@ -182,7 +188,7 @@ in_time_or_too_late width opening events n deadline later s (inl early) = inl (r
 in_time_or_too_late width opening events n deadline later s (inr (now, has, reached)) = inr (record { deadline = deadline; later = later; sent = s; now = now; given = has; reached = reached })
 
 -- a request that was sent is in time or too late
-pub one_or_other : (width : ℕ) (opening : State) (events : List Event) (n : ℕ) → n < length (left_by_ids width opening events).sent → IsInTime width opening events n ⊎ IsTooLate width opening events n
+pub one_or_other : IsInTimeOrTooLate
 one_or_other width opening events n lt =
     let s = is_sent width opening n events lt in
     in_time_or_too_late width opening events n s.0 s.1 s.2 (early_or_reached s.0 s.1)
@@ -190,7 +196,7 @@ one_or_other width opening events n lt =
 -- The send of a request is in the list once.
 
 module _ (rule : Rule (ById Call)) (n : ℕ) where
-  -- the streams after these events, by ids
+  -- the streams after these events, by this rule
   abbrev runs : List Event → Streams (ById Call) State → Streams (ById Call) State
   runs es v = flow ends rule es v
 
@@ -205,7 +211,7 @@ module _ (rule : Rule (ById Call)) (n : ℕ) where
   sent_grows (e ∷ es) w = omega (arith, no_fewer w e (sends_one ends rule w e), sent_grows es (flows ends rule w e))
 
   -- the send of request n is at one place of a list of events: where two splits of the list, at the events a and b, each
-  -- have n requests sent before that event and n + 1 after it, what follows is the same
+  -- have n requests sent before that event and n + 1 after it, that event and what follows it are the same
   one_split : (xs ys : List Event) (a b : Event) (later rest : List Event) (w : Streams (ById Call) State) (same : xs ++ a ∷ later ≡ ys ++ b ∷ rest)
       (before_a : length (runs xs w).world.wire.sent ≡ n) (before_b : length (runs ys w).world.wire.sent ≡ n) (after_a : length (runs (xs ++ a ∷ []) w).world.wire.sent ≡ n + 1)
       (after_b : length (runs (ys ++ b ∷ []) w).world.wire.sent ≡ n + 1) → a ∷ later ≡ b ∷ rest
@@ -232,17 +238,13 @@ module _ (rule : Rule (ById Call)) (n : ℕ) where
 same_deadline : (t u : ℕ) (c d : Call) (k m : ℕ) (later rest : List Event) → Send t c k ∷ later ≡ Send u d m ∷ rest → k ≡ m
 same_deadline t u c d k m later rest e = cc
 
--- lists that are equal have equal rests after their first elements
-same_later : (a b : Event) (later rest : List Event) → a ∷ later ≡ b ∷ rest → later ≡ rest
-same_later a b later rest e = cc
-
 -- no request is both in time and too late
-pub never_both : (width : ℕ) (opening : State) (events : List Event) (n : ℕ) → IsInTime width opening events n → IsTooLate width opening events n → ⊥
+pub never_both : IsNeverInTimeAndTooLate
 never_both width opening events n a b =
     let s = a.sent in
     let t = b.sent in
     let x : Event = Send s.target s.call a.deadline in
     let y : Event = Send t.target t.call b.deadline in
     let one = one_split (by_ids width ends) n s.earlier t.earlier x y a.later b.later (untouched (ids_open (restarted opening))) (sym s.order ∙ t.order) s.number t.number s.taken t.taken in
-    let lt : b.now < a.deadline = a.early b.now (subst (λ es. Contains es (Expire b.now)) (sym (same_later x y a.later b.later one)) b.given) in
+    let lt : b.now < a.deadline = a.early b.now (subst (λ es. Contains es (Expire b.now)) (sym (cons_tail x y a.later b.later one)) b.given) in
     absurd (omega (arith, lt, b.reached, same_deadline s.target t.target s.call t.call a.deadline b.deadline a.later b.later one))

@@ -22,7 +22,7 @@ module _ {Q State : Type 0} (width : ℕ) (ends : Ends Q State) where
   abbrev pub Whole : World Q (ById Q) State → Type 0
   Whole w = map of_settled w.wire.settled ++ map of_pending w.client.waiting ≡ map of_sent w.wire.sent
 
-  -- a send keeps a world whole
+  -- a send that isn't refused keeps a world whole
   whole_sent : (written : ℕ → Q → List ℕ) (w : World Q (ById Q) State) (target : ℕ) (call : Q) (deadline : ℕ) (full : Bool) (x : Sending (ById Q))
       → id_send w.client target call deadline full ≡ Some x → Whole w → Whole (requested written w target call (Some x))
   whole_sent written w target call deadline true x e h = absurd (none-some x e)
@@ -33,8 +33,8 @@ module _ {Q State : Type 0} (width : ℕ) (ends : Ends Q State) where
       ∙ ap (λ l. l ++ record { target = target; call = call } ∷ []) h) in
       subst (λ z. Whole (requested written w target call (Some z))) (same_Some y x e) done
 
-  -- a settling keeps a world whole, where the requests settled, and after them those that then wait, are those that waited
-  -- before
+  -- where w is whole, `wire` has w's settlements and requests sent, and the requests that x settles, and after them those that
+  -- wait then, are those that waited in w, the world that x leaves on `wire` (`with_settled`) is whole
   whole_booked : (w : World Q (ById Q) State) (wire : Wire Q State) (x : Settled Q (ById Q)) → wire.settled ≡ w.wire.settled → wire.sent ≡ w.wire.sent
       → map of_settled x.settlements ++ map of_pending x.client.waiting ≡ map of_pending w.client.waiting → Whole w → Whole (with_settled wire x)
   whole_booked w wire x e1 e2 p h =
@@ -43,12 +43,12 @@ module _ {Q State : Type 0} (width : ℕ) (ends : Ends Q State) where
       pieces : map of_settled (wire.settled ++ x.settlements) ++ map of_pending x.client.waiting ≡ map of_settled wire.settled ++ (map of_settled x.settlements ++ map of_pending x.client.waiting)
       pieces = simp (map-append, append_assoc)
 
-  -- a restart of the client keeps a world whole
+  -- a restart of the client, with one of the instrument (b true) or without, keeps a world whole
   whole_restarted : (w : World Q (ById Q) State) (b : Bool) → Whole w → Whole (with_settled (started ends w.wire b) ((by_ids width ends).restart w.client))
   whole_restarted w false h = whole_booked w w.wire ((by_ids width ends).restart w.client) refl refl (append-nil _ ∙ lost_parts w.client.waiting) h
   whole_restarted w true h = whole_booked w (started ends w.wire true) ((by_ids width ends).restart w.client) refl refl (append-nil _ ∙ lost_parts w.client.waiting) h
 
-  -- each step keeps a world whole
+  -- each elementary change keeps a world whole
   keeps_whole : (written : ℕ → Q → List ℕ) → IsStable written ends (by_ids width ends) Whole
   keeps_whole written =
       record {
@@ -83,8 +83,10 @@ same_at (x ∷ xs) rest (y ∷ ys) (suc m) s r e g h =
     let tail : map of_settled xs ++ rest ≡ map of_sent ys = cc in
     same_at xs rest ys m s r tail g h
 
--- where what is settled and what waits are the requests that were sent, settlements correspond one for one
-pub one_for_one : {Q : Type 0} (settled : List (Settlement Q)) (waiting : List (Pending Q)) (sent : List (Sent Q)) → map of_settled settled ++ map of_pending waiting ≡ map of_sent sent
+-- where what is settled, and after it what waits, are the requests that were sent, in order, settlement m has the target and the
+-- call of request m, and there are no more settlements than requests (`IsOneForOne`)
+pub one_for_one : {Q : Type 0} (settled : List (Settlement Q)) (waiting : List (Pending Q)) (sent : List (Sent Q))
+    → map of_settled settled ++ map of_pending waiting ≡ map of_sent sent
     → IsOneForOne sent settled
 one_for_one {Q} settled waiting sent e =
     record {

@@ -1,14 +1,13 @@
--- For the proofs of `stage.rt`. A report, two queues and a client *show* a world where they are those of the world (`AreOfWorld`).
--- Each lemma says: where they show a world, and a function has done to them what its contract says, they show the world after
--- that step. Variables such as `executed` and `made` are the values that the function left; the premises are what its contract
--- says of them.
+-- For the proofs of `stage.rt`. A report, two queues and a client *show* a world where they are those of the world
+-- (`AreOfWorld`). Each lemma says: where they show a world, and a function has done to them what its contract says, they show the
+-- world after that step. Variables such as `executed` and `made` are the values that the function left; the premises are what its
+-- contract says of them.
 use Rattle.std.proofs.Common.{◌≡◌, ℕ, ◌+◌, ◌<◌, ◌≤◌, Bool, true, false, cond, List, [], ◌∷◌, ◌++◌, length, map, Option, Some, None, ◌⊎◌, inl, inr, refl, sym, ◌∙◌, ap, subst, ltb, eqb, arith}
 use mathlib.Core.Path.{ap₂}
 use Rattle.std.specs.Prelude.{slice_get}
 use Rattle.std.proofs.lemmas.List.{map-append, length-map, append-nil}
 use Rattle.std.proofs.lemmas.List.Elements.{All-append}
 use Rattle.std.proofs.lemmas.Bool.{ltb-false, cases_eq}
-use Rattle.gc_lines.specs.Answering.{AppendsAnswer}
 use Rattle.gc_catalogue.specs.declared.call.Call.{Call}
 use Rattle.gc_catalogue.specs.Calls.{IsFitting}
 use Rattle.gc_catalogue.specs.Texts.{request_line}
@@ -21,7 +20,7 @@ use Rattle.gc_client.specs.Rule.{ById, Windowed, Sending, heard, hears, place_in
 use Rattle.gc_client.specs.Rule
 use Rattle.gc_client.specs.Settlements.{AreSettlements, settlement_seen, IsReadForCall}
 use Rattle.gc_instrument.specs.State.{State, restarted}
-use Rattle.gc_instrument.specs.Replying.{handed, IsExchanged}
+use Rattle.gc_instrument.specs.Replying.{handed, IsExchanged, AppendsExchange}
 use Rattle.gc_world.specs.declared.report.Made.{Made}
 use Rattle.gc_world.specs.declared.report.Report.{Report}
 use Rattle.gc_world.specs.declared.report.Sent.{Sent}
@@ -39,22 +38,21 @@ use Rattle.gc_world.proofs.Rows.{each_append, each_more, each_without, each_doub
 use Rattle.std.proofs.lemmas.Option.{same_Some, none-some}
 use Rattle.gc_world.proofs.Places.{get_map, get_more, get_push}
 
--- where the line is the request line of a call, with whatever id, the instrument got from `before` to `after`, and gave this
--- reply, as `IsExchanged` has it
-abbrev pub ExchangesAny : State → List ℕ → State → Option (List ℕ) → Type 0
+-- where the line is the request line of a call that fits, with whatever id below 8, the instrument got from `before` to `after`,
+-- and gave this reply, as `IsExchanged` has it
+abbrev pub ExchangesAny : (before : State) → (line : List ℕ) → (after : State) → (reply : Option (List ℕ)) → Type 0
 ExchangesAny before line after reply = (id : ℕ) (call : Call) → id < 8 → IsFitting call → line ≡ request_line (Some id) call → IsExchanged before id call after reply
 
--- where the reply to a line, if there is one (b), was appended to the empty text `old`, the text `new` is the reply, and
--- `ExchangesAny` holds of it
+-- where the reply to the line, if there is one (b true), was appended to the empty text `old`, and gave `new`, `ExchangesAny`
+-- holds with `new` as the reply, or with no reply where b is false
 pub exchanges_any : (before : State) (bytes line : List ℕ) (after : State) (old new : List ℕ) (b : Bool) → bytes ≡ line → old ≡ []
-    → ((id : ℕ) (call : Call) → id < 8 → IsFitting call → bytes ≡ request_line (Some id) call → AppendsAnswer (IsExchanged before id call after) old new b)
-    → ExchangesAny before line after (cond b (Some new) None)
+    → AppendsExchange before bytes after old new b → ExchangesAny before line after (cond b (Some new) None)
 exchanges_any before bytes line after old new true is none h id call digit fits e =
     let a = h id call digit fits (is ∙ e) in
     subst (λ (t : List ℕ). IsExchanged before id call after (Some t)) (sym (a.2 ∙ ap (λ l. l ++ a.0) none)) a.1
 exchanges_any before bytes line after old new false is none h id call digit fits e = (h id call digit fits (is ∙ e)).0
 
--- the number was appended to those executed exactly where the kept id changed
+-- the number n was appended to `old`, which gave `new`, where the kept id changed from `before` to `after`; else `new` is `old`
 pub record Notes (before after : State) (n : ℕ) (old new : List ℕ) : Type 0 where
   pub new_is : (kept_id before.kept ≡ kept_id after.kept → ⊥) → new ≡ old ++ n ∷ []
   pub same_is : kept_id before.kept ≡ kept_id after.kept → new ≡ old
@@ -69,7 +67,8 @@ either_id (Some x) (Some y) = elim (cases_eq x y) [
   | inr ne ↦ inr (λ e. ne (same_Some x y e))
 ]
 
--- where a number was noted exactly if the kept id changed, it was noted exactly if the request was executed
+-- where `after` is the state after a request was handed to the instrument, and n was appended to `old` exactly if the kept id
+-- changed by that (`Notes`), n was appended exactly if the request was executed
 noted : (s : State) (id : ℕ) (call : Call) (after : State) (n : ℕ) (old new : List ℕ) → after ≡ (handed s id call).state → Notes s after n old new
     → new ≡ cond (handed s id call).executed (old ++ n ∷ []) old
 noted s id call after n old new is h =
@@ -79,8 +78,8 @@ noted s id call after n old new is h =
       | inr ne ↦ h.new_is ne ∙ ap (λ b. cond b (old ++ n ∷ []) old) (sym (executed_by_id s id call (λ e. ne (e ∙ sym (ap (λ (t : State). kept_id t.kept) is)))))
     ]
 
--- the report as it is (true), or with one more event that was not possible
-abbrev pub counted : Bool → Report → Report
+-- the report after an event: as it is if the event was possible (`possible`), else with one more event that wasn't
+abbrev pub counted : (possible : Bool) → Report → Report
 counted true r = r
 counted false r = record r { idle_events = r.idle_events + 1 }
 
@@ -90,12 +89,14 @@ reports_idle r w h =
     record { sent = h.sent; executed = h.executed; made = h.made; settled = h.settled; starts = h.starts; instrument = h.instrument; refused = h.refused; idle = ap (λ n. n + 1) h.idle }
 
 -- a report of a wire is also one of the wire with other queues, which a report doesn't have
-reports_queues : (r : Report) (w : Wire State) (up : List (Numbered Request)) (down : List (Numbered (List ℕ))) → IsReport r w → IsReport r (record w { up = up; down = down })
+reports_queues : (r : Report) (w : Wire State) (up : List (Numbered Request)) (down : List (Numbered (List ℕ))) → IsReport r w
+    → IsReport r (record w { up = up; down = down })
 reports_queues r w up down h =
     record { sent = h.sent; executed = h.executed; made = h.made; settled = h.settled; starts = h.starts; instrument = h.instrument; refused = h.refused; idle = h.idle }
 
 -- where the settlements xs are us of the client's rule, and ys are vs of it, xs followed by ys are us followed by vs
-pub are_more : (xs ys : List (Settlement Call)) (us vs : List (Rule.Settlement Call)) → AreSettlements xs us → AreSettlements ys vs → AreSettlements (xs ++ ys) (us ++ vs)
+pub are_more : (xs ys : List (Settlement Call)) (us vs : List (Rule.Settlement Call)) → AreSettlements xs us → AreSettlements ys vs
+    → AreSettlements (xs ++ ys) (us ++ vs)
 are_more xs ys us vs h g =
     record {
       seen = map-append settlement_seen xs ys ∙ ap₂ (λ (a b : List (Rule.Settlement Call)). a ++ b) h.seen g.seen;
@@ -107,13 +108,14 @@ settled_next : (c : ById Call) (line : List ℕ) (k : ℕ) (b : Bool) → (id_se
 settled_next c line k false = refl
 settled_next c line k true = refl
 
--- a line doesn't change the next id
+-- hearing a line doesn't change the client's next id, whatever the line settles
 pub hears_next : (c : ById Call) (line : List ℕ) (o : Option ℕ) → (hears c line o).client.next ≡ c.next
 hears_next c line None = refl
 hears_next c line (Some id) = settled_next c line (place_in c id) (ltb (place_in c id) (length c.waiting))
 
--- a send leaves a next id that is a digit below 8
-pub sends_next : (width : ℕ) (c : ById Call) (target : ℕ) (call : Call) (deadline : ℕ) (x : Sending (ById Call)) → sends width c target call deadline ≡ Some x → x.client.next < IDS
+-- a send that isn't refused leaves a next id that is a digit below 8
+pub sends_next : (width : ℕ) (c : ById Call) (target : ℕ) (call : Call) (deadline : ℕ) (x : Sending (ById Call))
+    → sends width c target call deadline ≡ Some x → x.client.next < IDS
 sends_next width c target call deadline x e = by_room (eqb (length c.waiting) width) e
   where
     by_room : (full : Bool) → id_send c target call deadline full ≡ Some x → x.client.next < IDS
@@ -121,17 +123,19 @@ sends_next width c target call deadline x e = by_room (eqb (length c.waiting) wi
     by_room false e = subst (λ (y : Sending (ById Call)). y.client.next < IDS) (same_Some _ x e) (omega arith)
 
 -- one more reply leaves the others at their places
-made_more : (made : List Made) (entry : Made) (p : ℕ) (x : Numbered (List ℕ)) → slice_get (map made_seen made) p ≡ Some x → slice_get (map made_seen (made ++ entry ∷ [])) p ≡ Some x
+made_more : (made : List Made) (entry : Made) (p : ℕ) (x : Numbered (List ℕ)) → slice_get (map made_seen made) p ≡ Some x
+    → slice_get (map made_seen (made ++ entry ∷ [])) p ≡ Some x
 made_more made entry p x e = ap (λ l. slice_get l p) (map-append made_seen made (entry ∷ [])) ∙ get_more (map made_seen made) (made_seen entry ∷ []) p x e
 
--- the reply that was made last is at the place of the old length
+-- one more reply made is at the place that is the count of those made before it
 made_last : (made : List Made) (entry : Made) → slice_get (map made_seen (made ++ entry ∷ [])) (length made) ≡ Some (made_seen entry)
 made_last made entry =
     ap (λ l. slice_get l (length made)) (map-append made_seen made (entry ∷ []))
     ∙ subst (λ n. slice_get (map made_seen made ++ made_seen entry ∷ []) n ≡ Some (made_seen entry)) (length-map made made_seen) (get_push (map made_seen made) (made_seen entry))
 
--- one more reply made doesn't change which replies the places of a queue name
-named_more : (made : List Made) (entry : Made) (places : List ℕ) (xs : List (Numbered (List ℕ))) → named made places ≡ map Some xs → named (made ++ entry ∷ []) places ≡ map Some xs
+-- places that name the replies xs among those made (`named`) still name xs once one more reply was made
+named_more : (made : List Made) (entry : Made) (places : List ℕ) (xs : List (Numbered (List ℕ))) → named made places ≡ map Some xs
+    → named (made ++ entry ∷ []) places ≡ map Some xs
 named_more made entry [] [] h = refl
 named_more made entry [] (x ∷ xs) h = cc
 named_more made entry (p ∷ ps) [] h = cc
@@ -140,7 +144,8 @@ named_more made entry (p ∷ ps) (x ∷ xs) h =
     let others : named made ps ≡ map Some xs = cc in
     ap₂ (λ (a : Option (Numbered (List ℕ))) b. a ∷ b) (made_more made entry p x one) (named_more made entry ps xs others)
 
--- a queue with the place of the reply made last at its back names that reply after the others
+-- where places name the replies xs among those made (`named`), these places, and after them that of one more reply
+-- made, name xs and then that reply
 named_push : (made : List Made) (entry : Made) (places : List ℕ) (xs : List (Numbered (List ℕ))) → named made places ≡ map Some xs
     → named (made ++ entry ∷ []) (places ++ length made ∷ []) ≡ map Some (xs ++ made_seen entry ∷ [])
 named_push made entry places xs h =
@@ -149,7 +154,8 @@ named_push made entry places xs h =
     ∙ sym (map-append Some xs (made_seen entry ∷ []))
 
 -- where a line settles nothing (o isn't `Settled`), appending its settlements `more` leaves the settlements as they are
-pub none_settled : (old new : ById Call) (line : List ℕ) (o : Hearing) (more settled : List (Settlement Call)) → HearsInto old line o more new → (o ≡ Settled → ⊥) → settled ≡ settled ++ more
+pub none_settled : (old new : ById Call) (line : List ℕ) (o : Hearing) (more settled : List (Settlement Call)) → HearsInto old line o more new
+    → (o ≡ Settled → ⊥) → settled ≡ settled ++ more
 none_settled old new line Settled more settled h not = absurd (not refl)
 none_settled old new line Stray more settled h not = sym (ap (λ l. settled ++ l) h.2 ∙ append-nil settled)
 none_settled old new line (Unread fault) more settled h not = sym (ap (λ l. settled ++ l) h.1 ∙ append-nil settled)
@@ -181,8 +187,8 @@ module _ (width : ℕ) (r : Report) (up down : List ℕ) (c : Windowed Call) (w 
   pub no_down : down ≡ [] → w.wire.down ≡ []
   no_down e = map_none Some w.wire.down (sym h.down_is ∙ ap (named r.made) e)
 
-  -- once the upward queue was replaced by `places`, if there is a line k (b), or else the event was counted as idle, report and
-  -- queues show the world in which the same was done
+  -- once the upward queue was replaced by `places`, the numbers of the sent requests `us`, if there is a line k (b true), or else
+  -- stayed, and the event was counted as idle, report and queues show the world in which the same was done with `us`
   up_changed : (k : ℕ) (b : Bool) (places : List ℕ) (us : List (Numbered Request)) → b ≡ ltb k (length up) → (length up ≤ k → places ≡ up)
       → places ≡ numbers us → Each (IsSentIn r.sent) us → AreOfWorld width (counted b r) places down c (on_wire w (with_up w.wire us (ltb k (length w.wire.up))))
   up_changed k true places us e past is each =
@@ -194,20 +200,22 @@ module _ (width : ℕ) (r : Report) (up down : List ℕ) (c : Windowed Call) (w 
       subst (λ v. AreOfWorld width (counted false r) places down c (on_wire w (with_up w.wire us v))) (sym e1)
       (subst (λ q. AreOfWorld width (counted false r) q down c (on_wire w (idle w.wire))) (sym (past (ltb-false _ _ (sym e)))) shows_idle)
 
-  -- once line k of the upward queue was lost, if there is one, the world after that step is shown
+  -- once line k of the upward queue was lost (b true), or the step counted as idle where there is no line k (b false), the world
+  -- after that step is shown
   pub shows_up_lose : (k : ℕ) (b : Bool) → b ≡ ltb k (length up) → AreOfWorld width (counted b r) (without k up) down c (after_step width w (Up_lose k))
   shows_up_lose k b e =
       up_changed k b (without k up) (without k w.wire.up) e (without_past k up)
       (ap (without k) h.up_is ∙ without_map (λ x. x.number) k w.wire.up) (each_without (IsSentIn r.sent) k w.wire.up h.requests)
 
-  -- once line k of the upward queue was repeated, if there is one, the world after that step is shown
+  -- once line k of the upward queue was repeated (b true), or the step counted as idle where there is no line k (b false), the
+  -- world after that step is shown
   pub shows_up_repeat : (k : ℕ) (b : Bool) → b ≡ ltb k (length up) → AreOfWorld width (counted b r) (doubled k up) down c (after_step width w (Up_repeat k))
   shows_up_repeat k b e =
       up_changed k b (doubled k up) (doubled k w.wire.up) e (doubled_past k up)
       (ap (doubled k) h.up_is ∙ doubled_map (λ x. x.number) k w.wire.up) (each_doubled (IsSentIn r.sent) k w.wire.up h.requests)
 
-  -- once the downward queue was replaced by `places`, if there is a line k (b), or else the event was counted as idle, report and
-  -- queues show the world in which the same was done
+  -- once the downward queue was replaced by `places`, which name the replies `ds`, if there is a line k (b true), or else stayed,
+  -- and the event was counted as idle, report and queues show the world in which the same was done with `ds`
   down_changed : (k : ℕ) (b : Bool) (places : List ℕ) (ds : List (Numbered (List ℕ))) → b ≡ ltb k (length down) → (length down ≤ k → places ≡ down)
       → named r.made places ≡ map Some ds → AreOfWorld width (counted b r) up places c (on_wire w (with_down w.wire ds (ltb k (length w.wire.down))))
   down_changed k true places ds e past is =
@@ -219,27 +227,32 @@ module _ (width : ℕ) (r : Report) (up down : List ℕ) (c : Windowed Call) (w 
       subst (λ v. AreOfWorld width (counted false r) up places c (on_wire w (with_down w.wire ds v))) (sym e1)
       (subst (λ q. AreOfWorld width (counted false r) up q c (on_wire w (idle w.wire))) (sym (past (ltb-false _ _ (sym e)))) shows_idle)
 
-  -- once line k of the downward queue was lost, if there is one, the world after that step is shown
+  -- once line k of the downward queue was lost (b true), or the step counted as idle where there is no line k (b false), the
+  -- world after that step is shown
   pub shows_down_lose : (k : ℕ) (b : Bool) → b ≡ ltb k (length down) → AreOfWorld width (counted b r) up (without k down) c (after_step width w (Down_lose k))
   shows_down_lose k b e =
       down_changed k b (without k down) (without k w.wire.down) e (without_past k down)
       (sym (without_map (slice_get (map made_seen r.made)) k down) ∙ ap (without k) h.down_is ∙ without_map Some k w.wire.down)
 
-  -- once line k of the downward queue was repeated, if there is one, the world after that step is shown
+  -- once line k of the downward queue was repeated (b true), or the step counted as idle where there is no line k (b false), the
+  -- world after that step is shown
   pub shows_down_repeat : (k : ℕ) (b : Bool) → b ≡ ltb k (length down) → AreOfWorld width (counted b r) up (doubled k down) c (after_step width w (Down_repeat k))
   shows_down_repeat k b e =
       down_changed k b (doubled k down) (doubled k w.wire.down) e (doubled_past k down)
       (sym (doubled_map (slice_get (map made_seen r.made)) k down) ∙ ap (doubled k) h.down_is ∙ doubled_map Some k w.wire.down)
 
-  -- the number at the front of the upward queue is that of the world's front request
-  pub up_front : (n : ℕ) (rest : List ℕ) → up ≡ n ∷ rest → (y : Numbered Request) × (ys : List (Numbered Request)) × (w.wire.up ≡ y ∷ ys) × (y.number ≡ n) × (rest ≡ numbers ys)
+  -- where n is at the front of the upward queue, the world has a front request, and its number is n; the numbers behind n are
+  -- those of the requests behind it
+  pub up_front : (n : ℕ) (rest : List ℕ) → up ≡ n ∷ rest
+      → (y : Numbered Request) × (ys : List (Numbered Request)) × (w.wire.up ≡ y ∷ ys) × (y.number ≡ n) × (rest ≡ numbers ys)
   up_front n rest e = front w.wire.up (sym h.up_is ∙ e)
     where
       front : (us : List (Numbered Request)) → numbers us ≡ n ∷ rest → (y : Numbered Request) × (ys : List (Numbered Request)) × (us ≡ y ∷ ys) × (y.number ≡ n) × (rest ≡ numbers ys)
       front [] g = cc
       front (y ∷ ys) g = let one : y.number ≡ n = cc in let others : numbers ys ≡ rest = cc in (y, ys, refl, one, sym others)
 
-  -- the place at the front of the downward queue names the world's front reply
+  -- where the place p is at the front of the downward queue, the world has a front reply, and it is the one that the report has
+  -- at p; the places behind p name the replies behind it
   pub down_front : (p : ℕ) (rest : List ℕ) → down ≡ p ∷ rest → (x : Numbered (List ℕ)) × (xs : List (Numbered (List ℕ))) × (w.wire.down ≡ x ∷ xs)
       × (slice_get (map made_seen r.made) p ≡ Some x) × (named r.made rest ≡ map Some xs)
   down_front p rest e = front w.wire.down (ap (named r.made) (sym e) ∙ h.down_is)
@@ -250,7 +263,7 @@ module _ (width : ℕ) (r : Report) (up down : List ℕ) (c : Windowed Call) (w 
       front [] g = cc
       front (x ∷ xs) g = let one : slice_get (map made_seen r.made) p ≡ Some x = cc in let others : named r.made rest ≡ map Some xs = cc in (x, xs, refl, one, others)
 
-  -- the reply at that place is the world's front reply
+  -- the reply that the report has at the place at the front of the downward queue is the world's front reply
   pub down_line : (p : ℕ) (rest : List ℕ) (m : Made) (e : down ≡ p ∷ rest) → slice_get r.made p ≡ Some m → made_seen m ≡ (down_front p rest e).0
   down_line p rest m e found = let f = down_front p rest e in same_Some (made_seen m) f.0 (sym (get_map made_seen r.made p m found) ∙ f.3)
 
@@ -336,7 +349,7 @@ module _ (width : ℕ) (r : Report) (up down : List ℕ) (c : Windowed Call) (w 
         calls = h.calls;
       })
 
-  -- the instrument always answers the front request
+  -- where o is what the instrument replies to the front request (`ExchangesAny`), o isn't `None`
   pub up_answered : (n : ℕ) (rest : List ℕ) (request : Sent) (state : State) (o : Option (List ℕ)) → up ≡ n ∷ rest → slice_get r.sent n ≡ Some request
       → ExchangesAny r.instrument request.line.items state o → o ≡ None → ⊥
   up_answered n rest request state o e found replied told =
@@ -404,31 +417,6 @@ module _ (width : ℕ) (r : Report) (up down : List ℕ) (c : Windowed Call) (w 
         down_is = h.down_is;
         client_is = client_is ∙ ap (λ (k : Windowed Call). record k { ids = (restarts k.ids).client }) h.client_is;
         next = omega arith;
-        requests = h.requests;
-        calls = h.calls;
-      }))
-
-  -- once the instrument was restarted, while no line is in flight, the world after that step is shown
-  pub shows_restart_instrument : (starts : List ℕ) (state : State) → up ≡ [] → down ≡ [] → starts ≡ r.starts ++ length r.executed ∷ []
-      → state ≡ restarted r.instrument → AreOfWorld width (record r { starts = starts; instrument = state }) up down c (after_step width w Restart_instrument)
-  shows_restart_instrument starts state eu ed starts_is state_is =
-      let after = record r { starts = starts; instrument = state } in
-      subst (λ u. AreOfWorld width after up down c (on_wire w (instrument_restarted ends w.wire u w.wire.down))) (sym (no_up eu))
-      (subst (λ d. AreOfWorld width after up down c (on_wire w (instrument_restarted ends w.wire [] d))) (sym (no_down ed)) (record {
-        reports = record {
-          sent = h.reports.sent;
-          executed = h.reports.executed;
-          made = h.reports.made;
-          settled = h.reports.settled;
-          starts = starts_is ∙ ap₂ (λ (l m : List ℕ). l ++ length m ∷ []) h.reports.starts h.reports.executed;
-          instrument = state_is ∙ ap restarted h.reports.instrument;
-          refused = h.reports.refused;
-          idle = h.reports.idle;
-        };
-        up_is = h.up_is;
-        down_is = h.down_is;
-        client_is = h.client_is;
-        next = h.next;
         requests = h.requests;
         calls = h.calls;
       }))

@@ -23,7 +23,7 @@ use Rattle.gc_world.specs.declared.report.Report.{Report}
 use Rattle.gc_world.specs.declared.report.Sent.{Sent}
 use Rattle.gc_world.specs.declared.side.Side.{Side}
 use Rattle.gc_world.specs.Clients.{by_ids, ends}
-use Rattle.gc_world.specs.Directions.{pick, bytes, texts, lines, gone, reaches}
+use Rattle.gc_world.specs.Directions.{pick, bytes, texts, lines, gone, with_front_gone, after_cut}
 use Rattle.gc_world.specs.Memory.{IsBusy}
 use Rattle.gc_world.specs.Order.{Each, numbers}
 use Rattle.gc_world.specs.Reports.{made_seen}
@@ -32,7 +32,7 @@ use Rattle.gc_world.specs.Stages
 use Rattle.gc_world.specs.Stages.{Seen, after_step, after_event, bytes_of, IsSentIn, named, AreOfWorld, AreStreamsOf}
 use Rattle.gc_world.specs.Streams.{Streams, up_texts, down_texts, is_begun, remaining}
 use Rattle.gc_world.specs.World.{Request, Numbered, Wire, World, Step, Send, Up_deliver, Up_lose, Up_repeat, Down_deliver, Down_lose, Down_repeat, Restart_client, Restart_instrument, Nothing, without, doubled, idle, up_delivered, with_up, with_down, on_wire, requested, down_delivered, client_restarted, instrument_restarted}
-use Rattle.gc_world.proofs.Directions.{bytes_pass, idle_bytes, after_cut}
+use Rattle.gc_world.proofs.Directions.{bytes_pass, idle_bytes}
 use Rattle.std.proofs.lemmas.Option.{same_Some}
 use Rattle.gc_world.proofs.Places.{get_seen}
 use Rattle.gc_world.proofs.Queues.{without_map, doubled_map}
@@ -42,50 +42,53 @@ use Rattle.gc_world.proofs.Streaming.{flow_start, flow_push, flow_without, flow_
 -- The queues after a step.
 
 module _ (P : List (Numbered Request) → Type 0) where
-  -- what holds of both upward queues holds of the one that is chosen
+  -- what holds of the upward queue `us` and of the wire's own holds of the one that `with_up` leaves, whatever b is
   either_up : (w : Wire State) (us : List (Numbered Request)) (b : Bool) → P us → P w.up → P (with_up w us b).up
   either_up w us true u h = u
   either_up w us false u h = h
 
 module _ (P : List (Numbered (List ℕ)) → Type 0) where
-  -- what holds of both downward queues holds of the one that is chosen
+  -- what holds of the downward queue `ds` and of the wire's own holds of the one that `with_down` leaves, whatever b is
   either_down : (w : Wire State) (ds : List (Numbered (List ℕ))) (b : Bool) → P ds → P w.down → P (with_down w ds b).down
   either_down w ds true d h = d
   either_down w ds false d h = h
 
--- another upward queue leaves the downward one
+-- putting another upward queue in place, or not, leaves the downward queue as it was
 down_of_up : (w : Wire State) (us : List (Numbered Request)) (b : Bool) → (with_up w us b).down ≡ w.down
 down_of_up w us true = refl
 down_of_up w us false = refl
 
--- another downward queue leaves the upward one
+-- putting another downward queue in place, or not, leaves the upward queue as it was
 up_of_down : (w : Wire State) (ds : List (Numbered (List ℕ))) (b : Bool) → (with_down w ds b).up ≡ w.up
 up_of_down w ds true = refl
 up_of_down w ds false = refl
 
--- a restart of the client leaves the queues
+-- a restart of the client, possible or not, leaves both queues as they were
 of_restart : (width : ℕ) (w : World (ById Call) State) (us : List (Numbered Request)) (ds : List (Numbered (List ℕ)))
     → ((client_restarted ends (by_ids width ends) w us ds).wire.up ≡ w.wire.up) × ((client_restarted ends (by_ids width ends) w us ds).wire.down ≡ w.wire.down)
 of_restart width w [] [] = (refl, refl)
 of_restart width w [] (d ∷ ds) = (refl, refl)
 of_restart width w (u ∷ us) ds = (refl, refl)
 
--- a restart of the instrument leaves the queues
-of_start : (w : Wire State) (us : List (Numbered Request)) (ds : List (Numbered (List ℕ))) → ((instrument_restarted ends w us ds).up ≡ w.up) × ((instrument_restarted ends w us ds).down ≡ w.down)
+-- a restart of the instrument, possible or not, leaves both queues as they were
+of_start : (w : Wire State) (us : List (Numbered Request)) (ds : List (Numbered (List ℕ)))
+    → ((instrument_restarted ends w us ds).up ≡ w.up) × ((instrument_restarted ends w us ds).down ≡ w.down)
 of_start w [] [] = (refl, refl)
 of_start w [] (d ∷ ds) = (refl, refl)
 of_start w (u ∷ us) ds = (refl, refl)
 
 -- The texts of what is in flight, as the report has them.
 
--- the numbers of the upward queue name the texts of the requests in flight
+-- where each request of the upward queue q is the one that was sent with its number (`IsSentIn`), the numbers of q name the
+-- requests' texts in the report
 names_up : (r : Report) (q : List (Numbered Request)) → Each (IsSentIn r.sent) q → map (written Up r) (numbers q) ≡ map Some (map (λ x. bytes_of x.line) q)
 names_up r [] h = refl
 names_up r (x ∷ xs) h =
     ap₂ (λ (o : Option (List ℕ)) l. o ∷ l) (ap (option_map (λ (q : Sent). q.line.items)) h.0.found ∙ ap Some h.0.line) (names_up r xs h.1)
 
--- the places of the downward queue name the texts of the replies in flight
-names_down : (r : Report) (places : List ℕ) (q : List (Numbered (List ℕ))) → named r.made places ≡ map Some q → map (written Down r) places ≡ map Some (map (λ x. x.line) q)
+-- where places name the replies of the downward queue q (`named`), they name the texts of these replies in the report
+names_down : (r : Report) (places : List ℕ) (q : List (Numbered (List ℕ))) → named r.made places ≡ map Some q
+    → map (written Down r) places ≡ map Some (map (λ x. x.line) q)
 names_down r [] [] h = refl
 names_down r [] (x ∷ xs) h = cc
 names_down r (p ∷ ps) [] h = cc
@@ -95,7 +98,7 @@ names_down r (p ∷ ps) (x ∷ xs) h =
     let m = get_seen made_seen r.made p x one in
     ap₂ (λ (o : Option (List ℕ)) l. o ∷ l) (ap (option_map (λ (e : Made). e.line.items)) m.1 ∙ ap (λ (y : Numbered (List ℕ)). Some y.line) m.2) (names_down r ps xs others)
 
--- a side of which no byte has gone, with an assembler at the start, carries plain texts
+-- a side of whose front line no byte has gone, with an assembler at the start of a line, carries any plain texts (`IsFlow`)
 from_start : (s : Side) (texts : List (List ℕ)) → s.gone ≡ 0 → StandsFor s.assembler [] → Each IsPlain texts → IsFlow s.assembler s.gone texts
 from_start s texts none stands plain = subst (λ g. IsFlow s.assembler g texts) (sym none) (flow_start s.assembler texts stands plain)
 
@@ -105,7 +108,7 @@ counted_is true r = refl
 counted_is false r = refl
 
 module _ (width : ℕ) (s : Seen) (v : Streams (ById Call) State) (h : AreStreamsOf width s v) where
-  -- what has gone of a side's front line is what has gone in its direction
+  -- how many bytes of a side's front line have gone is how many have gone in its direction
   pub gone_is : (d : Direction) → (pick d s.up s.down).gone ≡ gone d v
   gone_is Up = h.up_is
   gone_is Down = h.down_is
@@ -115,16 +118,18 @@ module _ (width : ℕ) (s : Seen) (v : Streams (ById Call) State) (h : AreStream
   carries Up = record { names = ap (map (written Up s.report)) h.lines.up_is ∙ names_up s.report v.world.wire.up h.lines.requests; flow = h.up_flow }
   carries Down = record { names = names_down s.report s.down.queue v.world.wire.down h.lines.down_is; flow = h.down_flow }
 
-  -- not all bytes of the front line of a direction have gone
+  -- not all bytes of the front line of a direction have gone; and where no line is in flight, none has
   pub part : (d : Direction) → IsPart (gone d v) (lines d v.world.wire)
   part d = subst (λ g. IsPart g (lines d v.world.wire)) (gone_is d) (carries d).flow.part
 
-  -- what a side has still to hand over of its front line is what its direction has
-  pub left_is : (d : Direction) (n : ℕ) → n ≡ remaining (pick d s.up s.down).gone (map with_end (texts d v.world.wire)) → n ≡ remaining (gone d v) (lines d v.world.wire)
+  -- where n bytes of a side's front line are still to go, n bytes of its direction's front line are
+  pub left_is : (d : Direction) (n : ℕ) → n ≡ remaining (pick d s.up s.down).gone (map with_end (texts d v.world.wire))
+      → n ≡ remaining (gone d v) (lines d v.world.wire)
   left_is d n e = e ∙ ap (λ g. remaining g (lines d v.world.wire)) (gone_is d)
 
   -- bytes that don't complete the front line of a direction don't complete that of its side
-  pub more_left : (d : Direction) (n : ℕ) → n < remaining (gone d v) (lines d v.world.wire) → n < remaining (pick d s.up s.down).gone (map with_end (texts d v.world.wire))
+  pub more_left : (d : Direction) (n : ℕ) → n < remaining (gone d v) (lines d v.world.wire)
+      → n < remaining (pick d s.up s.down).gone (map with_end (texts d v.world.wire))
   more_left d n lt = subst (λ g. n < remaining g (lines d v.world.wire)) (sym (gone_is d)) lt
 
   -- the number at the front of the upward queue is that of a request in the report
@@ -141,7 +146,8 @@ module _ (width : ℕ) (s : Seen) (v : Streams (ById Call) State) (h : AreStream
       let m = get_seen made_seen s.report.made p f.0 f.3 in
       (m.0, m.1)
 
-  -- where both queues stay, and report and client show a new world, the stage shows the streams of that world, with as much gone
+  -- where the stage's queues stay, the report r' and the client c' with these queues are those of the world w, and w has the same
+  -- lines in flight as before, the stage with r' and c' shows the streams of w, with as much gone
   kept : (r' : Report) (c' : Windowed Call) (w : World (ById Call) State) → AreOfWorld width r' s.up.queue s.down.queue c' w
       → (w.wire.up ≡ v.world.wire.up) × (w.wire.down ≡ v.world.wire.down)
       → AreStreamsOf width (record s { report = r'; client = c' }) (record { world = w; up_gone = v.up_gone; down_gone = v.down_gone })
@@ -160,7 +166,8 @@ module _ (width : ℕ) (s : Seen) (v : Streams (ById Call) State) (h : AreStream
 
   -- Losses and repeats.
 
-  -- once the upward queue was replaced, if the event is possible, the streams with that queue are shown
+  -- where report and queues show the world in which the upward queue was replaced by `us`, if there is a line k, and the upward
+  -- assembler carries the texts of `us` (`IsFlow`), the stage shows the streams of that world, with as much gone
   up_queue : (b : Bool) (queue : List ℕ) (us : List (Numbered Request)) (k : ℕ)
       → AreOfWorld width (counted b s.report) queue s.down.queue s.client (on_wire v.world (with_up v.world.wire us (ltb k (length v.world.wire.up))))
       → IsFlow s.up.assembler s.up.gone (map (λ x. bytes_of x.line) us)
@@ -176,7 +183,8 @@ module _ (width : ℕ) (s : Seen) (v : Streams (ById Call) State) (h : AreStream
         down_flow = subst (λ q. IsFlow s.down.assembler s.down.gone (map (λ x. x.line) q)) (sym (down_of_up v.world.wire us t)) h.down_flow;
       }
 
-  -- once the downward queue was replaced, if the event is possible, the streams with that queue are shown
+  -- where report and queues show the world in which the downward queue was replaced by `ds`, if there is a line k, and the
+  -- downward assembler carries the texts of `ds` (`IsFlow`), the stage shows the streams of that world, with as much gone
   down_queue : (b : Bool) (queue : List ℕ) (ds : List (Numbered (List ℕ))) (k : ℕ)
       → AreOfWorld width (counted b s.report) s.up.queue queue s.client (on_wire v.world (with_down v.world.wire ds (ltb k (length v.world.wire.down))))
       → IsFlow s.down.assembler s.down.gone (map (λ x. x.line) ds)
@@ -198,7 +206,7 @@ module _ (width : ℕ) (s : Seen) (v : Streams (ById Call) State) (h : AreStream
 
   -- a loss or a repeat of line k, possible only before its first byte has gone, shows the streams after that step. `old` is
   -- the side before it and `side` after it, `g` is how many bytes of its front line have gone, and `put` sets a side and a
-  -- count of idle events in the stage
+  -- count of idle events in the stage. The last premise is the case in which line k hasn't begun to go
   changes : (old : Side) (g : ℕ) (put : Side → ℕ → Seen) (k : ℕ) (queue : List ℕ) (step : Step) (side : Side) (count : ℕ) → old.gone ≡ g
       → put old (s.report.idle_events + 1) ≡ record s { report = counted false s.report } → Changes k queue old side s.report.idle_events count
       → (is_begun k old.gone ≡ false → (b : Bool) → b ≡ ltb k (length old.queue)
@@ -219,29 +227,37 @@ module _ (width : ℕ) (s : Seen) (v : Streams (ById Call) State) (h : AreStream
     abbrev with_down_side : Side → ℕ → Seen
     with_down_side x n = record s { report = record s.report { idle_events = n }; down = x }
 
-    -- once line k of the upward side was lost, if that was possible, the streams after that event are shown
-    pub up_lost : Changes k (without k s.up.queue) s.up side s.report.idle_events count → AreStreamsOf width (with_up_side side count) (after_event width v (event.UpLose k))
+    -- once line k of the upward side was lost, or the event counted as idle where that isn't possible (`Changes`), the streams
+    -- after that event are shown
+    pub up_lost : Changes k (without k s.up.queue) s.up side s.report.idle_events count
+        → AreStreamsOf width (with_up_side side count) (after_event width v (event.UpLose k))
     up_lost c =
         changes s.up v.up_gone with_up_side k (without k s.up.queue) (Up_lose k) side count h.up_is refl c
         (λ e b is. up_queue b (without k s.up.queue) (without k v.world.wire.up) k (shows_up_lose width s.report s.up.queue s.down.queue s.client v.world h.lines k b is)
         (subst (IsFlow s.up.assembler s.up.gone) (without_map (λ x. bytes_of x.line) k v.world.wire.up) (flow_without k s.up.assembler s.up.gone (up_texts v.world.wire) e h.up_flow)))
 
-    -- once line k of the upward side was repeated, if that was possible, the streams after that event are shown
-    pub up_repeated : Changes k (doubled k s.up.queue) s.up side s.report.idle_events count → AreStreamsOf width (with_up_side side count) (after_event width v (event.UpRepeat k))
+    -- once line k of the upward side was repeated, or the event counted as idle where that isn't possible (`Changes`), the
+    -- streams after that event are shown
+    pub up_repeated : Changes k (doubled k s.up.queue) s.up side s.report.idle_events count
+        → AreStreamsOf width (with_up_side side count) (after_event width v (event.UpRepeat k))
     up_repeated c =
         changes s.up v.up_gone with_up_side k (doubled k s.up.queue) (Up_repeat k) side count h.up_is refl c
         (λ e b is. up_queue b (doubled k s.up.queue) (doubled k v.world.wire.up) k (shows_up_repeat width s.report s.up.queue s.down.queue s.client v.world h.lines k b is)
         (subst (IsFlow s.up.assembler s.up.gone) (doubled_map (λ x. bytes_of x.line) k v.world.wire.up) (flow_doubled k s.up.assembler s.up.gone (up_texts v.world.wire) e h.up_flow)))
 
-    -- once line k of the downward side was lost, if that was possible, the streams after that event are shown
-    pub down_lost : Changes k (without k s.down.queue) s.down side s.report.idle_events count → AreStreamsOf width (with_down_side side count) (after_event width v (event.DownLose k))
+    -- once line k of the downward side was lost, or the event counted as idle where that isn't possible (`Changes`), the streams
+    -- after that event are shown
+    pub down_lost : Changes k (without k s.down.queue) s.down side s.report.idle_events count
+        → AreStreamsOf width (with_down_side side count) (after_event width v (event.DownLose k))
     down_lost c =
         changes s.down v.down_gone with_down_side k (without k s.down.queue) (Down_lose k) side count h.down_is refl c
         (λ e b is. down_queue b (without k s.down.queue) (without k v.world.wire.down) k (shows_down_lose width s.report s.up.queue s.down.queue s.client v.world h.lines k b is)
         (subst (IsFlow s.down.assembler s.down.gone) (without_map (λ x. x.line) k v.world.wire.down) (flow_without k s.down.assembler s.down.gone (down_texts v.world.wire) e h.down_flow)))
 
-    -- once line k of the downward side was repeated, if that was possible, the streams after that event are shown
-    pub down_repeated : Changes k (doubled k s.down.queue) s.down side s.report.idle_events count → AreStreamsOf width (with_down_side side count) (after_event width v (event.DownRepeat k))
+    -- once line k of the downward side was repeated, or the event counted as idle where that isn't possible (`Changes`), the
+    -- streams after that event are shown
+    pub down_repeated : Changes k (doubled k s.down.queue) s.down side s.report.idle_events count
+        → AreStreamsOf width (with_down_side side count) (after_event width v (event.DownRepeat k))
     down_repeated c =
         changes s.down v.down_gone with_down_side k (doubled k s.down.queue) (Down_repeat k) side count h.down_is refl c
         (λ e b is. down_queue b (doubled k s.down.queue) (doubled k v.world.wire.down) k (shows_down_repeat width s.report s.up.queue s.down.queue s.client v.world h.lines k b is)
@@ -291,13 +307,15 @@ module _ (width : ℕ) (s : Seen) (v : Streams (ById Call) State) (h : AreStream
       (of_restart width v.world v.world.wire.up v.world.wire.down)
 
   -- while a line is in flight, a restart of the client is only counted
-  pub streams_busy_client : IsBusy s.up.queue s.down.queue → AreStreamsOf width (record s { report = counted false s.report }) (after_event width v event.RestartClient)
+  pub streams_busy_client : IsBusy s.up.queue s.down.queue
+      → AreStreamsOf width (record s { report = counted false s.report }) (after_event width v event.RestartClient)
   streams_busy_client b =
       kept (counted false s.report) s.client (after_step width v.world Restart_client) (busy_client width s.report s.up.queue s.down.queue s.client v.world h.lines b)
       (of_restart width v.world v.world.wire.up v.world.wire.down)
 
   -- while a line is in flight, a restart of the instrument is only counted
-  pub streams_busy_instrument : IsBusy s.up.queue s.down.queue → AreStreamsOf width (record s { report = counted false s.report }) (after_event width v event.RestartInstrument)
+  pub streams_busy_instrument : IsBusy s.up.queue s.down.queue
+      → AreStreamsOf width (record s { report = counted false s.report }) (after_event width v event.RestartInstrument)
   streams_busy_instrument b =
       kept (counted false s.report) s.client (after_step width v.world Restart_instrument) (busy_instrument width s.report s.up.queue s.down.queue s.client v.world h.lines b)
       (of_start v.world.wire v.world.wire.up v.world.wire.down)
@@ -369,7 +387,7 @@ module _ (width : ℕ) (s : Seen) (v : Streams (ById Call) State) (h : AreStream
     where
       by_direction : (d : Direction) → IsFlow side.assembler side.gone (texts d v.world.wire) → side.gone ≡ gone d v + n
           → side.queue ≡ (pick d s.up s.down).queue → AreStreamsOf width (record s { up = pick d side s.up; down = pick d s.down side })
-          (reaches d v v.world (gone d v + n))
+          (with_front_gone d v v.world (gone d v + n))
       by_direction Up flow gone queue =
           record { lines = subst (λ q. AreOfWorld width s.report q s.down.queue s.client v.world) (sym queue) h.lines; up_is = gone; down_is = h.down_is; up_flow = flow; down_flow = h.down_flow }
       by_direction Down flow gone queue =
@@ -381,6 +399,6 @@ module _ (width : ℕ) (s : Seen) (v : Streams (ById Call) State) (h : AreStream
   streams_idle_bytes d n r e none = subst (λ x. AreStreamsOf width (record s { report = counted false s.report }) x)
       (sym (bytes_pass ends (by_ids width ends) d v n ∙ idle_bytes ends (by_ids width ends) d v (lines d v.world.wire) n e none (part d))) nothing
 
--- where P says that no line is in flight, and the test for P gives false, P doesn't hold
+-- where `quiet` is the test for P, and is false, P doesn't hold
 pub is_busy : {P : Type 0} (quiet : Bool) → IsTrue quiet ↔ P → quiet ≡ false → P → ⊥
 is_busy quiet iff not p = let e : quiet ≡ true = iff.1 p in cc

@@ -17,7 +17,8 @@ record AreNamed (f : ℕ → Option (List ℕ)) (place : ℕ) (texts : List (Lis
   found : f place ≡ Some text
 
 -- where f finds the texts at the places of a queue, in order, and the queue begins with this place, f finds the first text there
-named_first : (f : ℕ → Option (List ℕ)) (queue : List ℕ) (place : ℕ) (rest : List ℕ) (texts : List (List ℕ)) → queue ≡ place ∷ rest → map f queue ≡ map Some texts → AreNamed f place texts
+named_first : (f : ℕ → Option (List ℕ)) (queue : List ℕ) (place : ℕ) (rest : List ℕ) (texts : List (List ℕ)) → queue ≡ place ∷ rest
+    → map f queue ≡ map Some texts → AreNamed f place texts
 named_first f queue place rest texts e h = by_texts texts (sym (ap (map f) e) ∙ h)
   where
     by_texts : (ts : List (List ℕ)) → map f (place ∷ rest) ≡ map Some ts → AreNamed f place ts
@@ -30,29 +31,34 @@ pub taken : (d : Direction) (r : Report) (s : Side) (texts : List (List ℕ)) (p
 taken d r s texts place rest e h = record { names = ap (map (written d r)) (sym e) ∙ h.names; flow = h.flow }
 
 module _ (d : Direction) (r : Report) (s : Side) (texts : List (List ℕ)) (h : Carries d r s texts) where
-  -- the front line is in the report
+  -- where the queue has this place at its front, the report has a line at that place
   pub front_written : (place : ℕ) (rest : List ℕ) → s.queue ≡ place ∷ rest → (text : List ℕ) × (written d r place ≡ Some text)
   front_written place rest e = let f = named_first (written d r) s.queue place rest texts e h.names in (f.text, f.found)
 
-  -- the assembler stands for what has gone of the front line
-  pub front_line : (place : ℕ) (rest : List ℕ) (line : List ℕ) → s.queue ≡ place ∷ rest → written d r place ≡ Some line → IsFront line s.assembler s.gone (map with_end texts)
+  -- where the report has `line` at the place at the queue's front, `line` is as `IsFront` has it: the front line without its CR
+  -- LF, and the assembler stands for the bytes of that line that have gone
+  pub front_line : (place : ℕ) (rest : List ℕ) (line : List ℕ) → s.queue ≡ place ∷ rest → written d r place ≡ Some line
+      → IsFront line s.assembler s.gone (map with_end texts)
   front_line place rest line e found =
       let f = named_first (written d r) s.queue place rest texts e h.names in
       let same : f.text ≡ line = same_Some f.text line (sym f.found ∙ found) in
       subst (λ (t : List ℕ). IsFront t s.assembler s.gone (map with_end texts)) same
       (subst (λ ts. IsFront f.text s.assembler s.gone (map with_end ts)) (sym f.are) (front_of s.assembler s.gone f.text f.behind (subst (λ ts. IsFlow s.assembler s.gone ts) f.are h.flow)))
 
-  -- the assembler carries the front line and those after it, as `IsFlow` has it
-  pub front_flow : (place : ℕ) (rest : List ℕ) (line : List ℕ) → s.queue ≡ place ∷ rest → written d r place ≡ Some line → (behind : List (List ℕ)) × IsFlow s.assembler s.gone (line ∷ behind)
+  -- where the report has `line` at the place at the queue's front, the assembler carries, as `IsFlow` has it,
+  -- `line` and some lines after it
+  pub front_flow : (place : ℕ) (rest : List ℕ) (line : List ℕ) → s.queue ≡ place ∷ rest → written d r place ≡ Some line
+      → (behind : List (List ℕ)) × IsFlow s.assembler s.gone (line ∷ behind)
   front_flow place rest line e found =
       let f = named_first (written d r) s.queue place rest texts e h.names in
       (f.behind, subst (λ (t : List ℕ). IsFlow s.assembler s.gone (t ∷ f.behind)) (same_Some f.text line (sym f.found ∙ found)) (subst (λ ts. IsFlow s.assembler s.gone ts) f.are h.flow))
 
   -- what is still to go of the front line is its bytes, CR LF counted, less what has gone
-  pub left_of : (place : ℕ) (rest : List ℕ) (line : List ℕ) → s.queue ≡ place ∷ rest → written d r place ≡ Some line → length line + 2 - s.gone ≡ remaining s.gone (map with_end texts)
+  pub left_of : (place : ℕ) (rest : List ℕ) (line : List ℕ) → s.queue ≡ place ∷ rest → written d r place ≡ Some line
+      → length line + 2 - s.gone ≡ remaining s.gone (map with_end texts)
   left_of place rest line e found = remaining_is line s.assembler s.gone (map with_end texts) (front_line place rest line e found)
 
-  -- where no line is in flight, nothing is to go
+  -- where the queue is empty, no bytes of a front line are still to go (`remaining` is 0)
   pub none_left : s.queue ≡ [] → 0 ≡ remaining s.gone (map with_end texts)
   none_left e = by_texts texts (sym (ap (map (written d r)) e) ∙ h.names)
     where

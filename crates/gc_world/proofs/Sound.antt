@@ -6,11 +6,12 @@ use Rattle.std.proofs.lemmas.Bool.{ltb-false, eqb-false}
 use Rattle.gc_client.specs.declared.pending.Pending.{Pending}
 use Rattle.gc_client.specs.Rule.{pending_of, expired, lost}
 use Rattle.gc_client.specs.Rule.{Sending}
+use Rattle.gc_client.proofs.OneForOne.{length-settle}
 use Rattle.gc_world.specs.Worlds.{Request, Numbered, Ends, Step, World, without, doubled, replied, started, on_wire, requested, with_settled, happens, run}
 use Rattle.gc_world.specs.Clients.{ByNumber, number_send, number_reply, by_numbers, numbers_open}
 use Rattle.gc_world.specs.Exchange.{IsExchange}
 use Rattle.gc_world.specs.Order.{Each, Rising, numbers}
-use Rattle.gc_world.proofs.Rows.{each_append, each_more, each_number, each_without, each_doubled, rising_lower, rising_without, rising_doubled, rising_without_behind, rising_doubled_behind, rising_moved, rising_push, length-settle}
+use Rattle.gc_world.proofs.Rows.{each_append, each_more, each_number, each_without, each_doubled, rising_lower, rising_without, rising_doubled, rising_without_behind, rising_doubled_behind, rising_moved, rising_push}
 use Rattle.gc_world.proofs.Stable.{IsStable, stable, stable_all}
 use Rattle.std.proofs.lemmas.Option.{same_Some}
 
@@ -20,22 +21,25 @@ length_expired now zero ps = length-map ps (expired now)
 length_expired now (suc k) [] = refl
 length_expired now (suc k) (p ∷ ps) = ap suc (length_expired now k ps)
 
--- a request in flight: it was sent since the client's last start, and its id is that of its number
+-- a request in flight: it was sent since the client's last start, and its id is how many requests were sent from
+-- that start on before it, modulo 8
 pub record IsGoing {Q : Type 0} (since total : ℕ) (x : Numbered (Request Q)) : Type 0 where
   pub recent : since ≤ x.number
   pub sent : x.number < total
   pub id : x.line.id ≡ (x.number - since) % 8
 
 module _ {Q State : Type 0} (width : ℕ) (ends : Ends Q State) (Good : State → Type 0) where
-  -- a reply in flight: its request was sent since the client's last start, and it is heard with the id of its number
+  -- a reply in flight: its request was sent since the client's last start, and it is heard with the id that is how many requests
+  -- were sent from that start on before its request, modulo 8
   pub record IsComing (since total : ℕ) (x : Numbered (List ℕ)) : Type 0 where
     pub recent : since ≤ x.number
     pub sent : x.number < total
     pub id : ends.heard x.line ≡ Some ((x.number - since) % 8)
 
-  -- the invariant. The client has as many requests as were sent, and counts as settled as many as there are settlements. No
-  -- more had been sent at its last start than are settled, no more are settled than were sent, and at most `width` aren't
-  -- settled. The numbers in flight never fall, and each line in flight belongs to a request sent since the last start
+  -- the invariant. The instrument's state is good. The client has as many requests as were sent, and counts as settled as many as
+  -- there are settlements. No more had been sent at its last start than are settled, no more are settled than were sent, and at
+  -- most `width` aren't settled. The numbers in flight, downward and then upward, never fall, and none is below the count of
+  -- settled ones less one (`Rising`); and each line in flight is as `IsGoing` or `IsComing` says
   pub record IsSound (c : ByNumber Q) (sent settled : ℕ) (down : List (Numbered (List ℕ))) (up : List (Numbered (Request Q))) (state : State) : Type 0 where
     pub good : Good state
     pub counted : length c.requests ≡ sent
@@ -67,7 +71,7 @@ module _ {Q State : Type 0} (width : ℕ) (ends : Ends Q State) (Good : State �
       (each_number (λ n. n < total) down (each_more (IsComing since total) (λ x. x.number < total) (λ x h. h.sent) down cs))
       (each_number (λ n. n < total) up (each_more (IsGoing since total) (λ x. x.number < total) (λ x h. h.sent) up gs))
 
-  -- a send keeps a world sound
+  -- a send that isn't refused keeps a world sound
   sound_sent : (written : ℕ → Q → List ℕ) (w : World Q (ByNumber Q) State) (target : ℕ) (call : Q) (deadline : ℕ) (full : Bool) (x : Sending (ByNumber Q))
       → eqb (length w.client.requests - w.client.count) width ≡ full → number_send w.client target call deadline full ≡ Some x → Sound w
       → Sound (requested written w target call (Some x))
@@ -102,8 +106,9 @@ module _ {Q State : Type 0} (width : ℕ) (ends : Ends Q State) (Good : State �
       } in
       subst (λ z. Sound (requested written w target call (Some z))) (same_Some _ x s) done
 
-  -- an instrument's reply keeps a world sound
-  sound_answer : IsExchange ends Good → (w : World Q (ByNumber Q) State) (x : Numbered (Request Q)) (rest : List (Numbered (Request Q))) → w.wire.up ≡ x ∷ rest → Sound w
+  -- answering the front request as the instrument does keeps a world sound, where `IsExchange` holds of the two ends
+  sound_answer : IsExchange ends Good → (w : World Q (ByNumber Q) State) (x : Numbered (Request Q)) (rest : List (Numbered (Request Q)))
+      → w.wire.up ≡ x ∷ rest → Sound w
       → Sound (on_wire w (replied w.wire x.number rest (ends.handed w.wire.state x.line.id x.line.call)))
   sound_answer ex w x rest e h =
       let c = w.client in
@@ -123,14 +128,14 @@ module _ {Q State : Type 0} (width : ℕ) (ends : Ends Q State) (Good : State �
             (record { recent = g.0.recent; sent = g.0.sent; id = ex.reads w.wire.state x.line.id x.line.call h.good small ∙ ap Some g.0.id }, tt);
       }
 
-  -- other queues, whose numbers never fall and are of requests and replies in flight, keep a world sound
+  -- other queues, whose numbers never fall and whose lines are as `IsGoing` and `IsComing` have them, keep a world sound
   sound_queues : (w : World Q (ByNumber Q) State) (down : List (Numbered (List ℕ))) (up : List (Numbered (Request Q)))
       → Rising w.client.count (numbers down ++ numbers up) → Each (IsGoing w.client.since (length w.client.requests)) up
       → Each (IsComing w.client.since (length w.client.requests)) down → Sound w → Sound (on_wire w (record w.wire { down = down; up = up }))
   sound_queues w down up order going coming h =
       record { good = h.good; counted = h.counted; booked = h.booked; begun = h.begun; within = h.within; few = h.few; order = order; going = going; coming = coming }
 
-  -- delivering a reply keeps a world sound
+  -- delivering the front reply, whether its request is settled already (`old` true) or not, keeps a world sound
   sound_reply : (w : World Q (ByNumber Q) State) (x : Numbered (List ℕ)) (rest : List (Numbered (List ℕ))) (old : Bool) → w.wire.down ≡ x ∷ rest
       → ltb x.number w.client.count ≡ old → Sound w → Sound (with_settled (record w.wire { down = rest }) (number_reply w.client x old))
   sound_reply w x rest true e t h =
@@ -184,7 +189,7 @@ module _ {Q State : Type 0} (width : ℕ) (ends : Ends Q State) (Good : State �
         coming = subst (λ n. Each (IsComing c.since n) w.wire.down) (sym same) h.coming;
       }
 
-  -- a start of the instrument keeps a world sound
+  -- with a start of the instrument (b true) or without one, a sound world stays sound
   sound_started : IsExchange ends Good → (w : World Q (ByNumber Q) State) (b : Bool) → Sound w → Sound (on_wire w (started ends w.wire b))
   sound_started ex w false h = h
   sound_started ex w true h =
@@ -201,7 +206,7 @@ module _ {Q State : Type 0} (width : ℕ) (ends : Ends Q State) (Good : State �
         coming = h.coming;
       }
 
-  -- settling all that wait while no line is in flight keeps a world sound
+  -- settling all that wait as lost, while no line is in flight, keeps a world sound
   sound_lost : (w : World Q (ByNumber Q) State) → w.wire.up ≡ [] → w.wire.down ≡ [] → Sound w → Sound (with_settled w.wire ((by_numbers width).restart w.client))
   sound_lost w eu ed h =
       let c = w.client in
@@ -219,7 +224,7 @@ module _ {Q State : Type 0} (width : ℕ) (ends : Ends Q State) (Good : State �
         coming = subst (λ q. Each (IsComing total total) q) (sym ed) tt;
       }
 
-  -- a restart of the client while no line is in flight keeps a world sound
+  -- a restart of the client, with one of the instrument (b true) or without, while no line is in flight, keeps a world sound
   sound_restarted : IsExchange ends Good → (w : World Q (ByNumber Q) State) (b : Bool) → w.wire.up ≡ [] → w.wire.down ≡ [] → Sound w
       → Sound (with_settled (started ends w.wire b) ((by_numbers width).restart w.client))
   sound_restarted ex w false eu ed h = sound_lost w eu ed h
@@ -248,13 +253,15 @@ module _ {Q State : Type 0} (width : ℕ) (ends : Ends Q State) (Good : State �
       }
 
   -- each step keeps a world sound
-  pub sound_step : (written : ℕ → Q → List ℕ) → IsExchange ends Good → (w : World Q (ByNumber Q) State) (e : Step Q) → Sound w → Sound (happens written ends (by_numbers width) w e)
+  pub sound_step : (written : ℕ → Q → List ℕ) → IsExchange ends Good → (w : World Q (ByNumber Q) State) (e : Step Q) → Sound w
+      → Sound (happens written ends (by_numbers width) w e)
   sound_step written ex w e h = stable written ends (by_numbers width) Sound (keeps written ex) w e h
 
   -- a run keeps a world sound
-  pub sound_all : (written : ℕ → Q → List ℕ) → IsExchange ends Good → (es : List (Step Q)) (w : World Q (ByNumber Q) State) → Sound w → Sound (run written ends (by_numbers width) es w)
+  pub sound_all : (written : ℕ → Q → List ℕ) → IsExchange ends Good → (es : List (Step Q)) (w : World Q (ByNumber Q) State) → Sound w
+      → Sound (run written ends (by_numbers width) es w)
   sound_all written ex es w h = stable_all written ends (by_numbers width) Sound (keeps written ex) es w h
 
-  -- the world before the first event is sound
+  -- where the instrument's state is good, the world before the first event is sound
   pub sound_open : (state : State) → Good state → Sound (numbers_open state)
   sound_open state g = record { good = g; counted = refl; booked = refl; begun = omega arith; within = omega arith; few = omega arith; order = tt; going = tt; coming = tt }

@@ -16,7 +16,8 @@ use Rattle.gc_world.specs.World.{Numbered, World}
 use Rattle.gc_world.proofs.Showing.{same_up, same_down, no_up, no_down, down_front, down_line}
 
 module _ (width : ℕ) (r : Report) (up down : List ℕ) (c : Windowed Call) (w : World (ById Call) State) (h : AreOfWorld width r up down c w) where
-  -- where the world's client has as many requests waiting as its width, the stage's has
+  -- where the world's client has as many requests waiting as its window is wide, the stage's client
+  -- has as many as its own is wide
   pub full : length w.client.waiting ≡ width → length c.ids.waiting ≡ c.width
   full t = ap (λ (x : Windowed Call). length x.ids.waiting) h.client_is ∙ t ∙ sym (ap (λ (x : Windowed Call). x.width) h.client_is)
 
@@ -32,14 +33,16 @@ module _ (width : ℕ) (r : Report) (up down : List ℕ) (c : Windowed Call) (w 
   pub past_down : (k : ℕ) → length w.wire.down ≤ k → length down ≤ k
   past_down k t = omega (arith, same_down width r up down c w h, t)
 
-  -- a request that the world can't repeat, the stage can't
+  -- where a repeat of line k of the world's upward queue isn't possible (`IsNoRepeat`), one of line k of the stage's isn't
+  -- either, with as many bytes gone of its front line
   pub no_repeat_up : (k gone gone' : ℕ) → gone ≡ gone' → IsNoRepeat k gone' w.wire.up → IsNoRepeat k gone up
   no_repeat_up k gone gone' e t = elim t [
     | inl begun ↦ inl (ap (is_begun k) e ∙ begun)
     | inr past ↦ inr (past_up k past)
   ]
 
-  -- a reply that the world can't repeat, the stage can't
+  -- where a repeat of line k of the world's downward queue isn't possible (`IsNoRepeat`), one of line k of the stage's isn't
+  -- either, with as many bytes gone of its front line
   pub no_repeat_down : (k gone gone' : ℕ) → gone ≡ gone' → IsNoRepeat k gone' w.wire.down → IsNoRepeat k gone down
   no_repeat_down k gone gone' e t = elim t [
     | inl begun ↦ inl (ap (is_begun k) e ∙ begun)
@@ -50,7 +53,8 @@ module _ (width : ℕ) (r : Report) (up down : List ℕ) (c : Windowed Call) (w 
   pub busy : IsBusy w.wire.up w.wire.down → IsBusy up down
   busy b = λ quiet. b (no_up width r up down c w h quiet.0, no_down width r up down c w h quiet.1)
 
-  -- where no request of the world waits for the front reply, none of the stage does
+  -- where the world's front reply is a stray (`IsStray`), no request of the stage's client waits for a reply with these bytes:
+  -- those of reply m, which the report has at place p, the front of the stage's downward queue
   pub stray : (p : ℕ) (rest : List ℕ) (m : Made) (bytes : List ℕ) → down ≡ p ∷ rest → slice_get r.made p ≡ Some m → bytes ≡ m.line.items
       → IsStray w.client w.wire.down → fits c.ids (heard bytes) ≡ false
   stray p rest m bytes e found same t =

@@ -36,13 +36,17 @@ module _ {Q Client State : Type 0} (written : ℕ → Q → List ℕ) (ends : En
     at_up w [] e h = st.idles w h
     at_up w (x ∷ rest) e h = st.answers w x rest e h
 
-    -- putting another upward queue in place, or counting an idle event instead, keeps P
-    at_with_up : (w : World Q Client State) (up : List (Numbered (Request Q))) (b : Bool) → P (on_wire w (record w.wire { up = up })) → P w → P (on_wire w (with_up w.wire up b))
+    -- where P holds of the world with another upward queue, and of the world as it is, P holds where this queue is put in place
+    -- (b true), and where an idle event is counted instead (b false)
+    at_with_up : (w : World Q Client State) (up : List (Numbered (Request Q))) (b : Bool) → P (on_wire w (record w.wire { up = up })) → P w
+        → P (on_wire w (with_up w.wire up b))
     at_with_up w up false u h = st.idles w h
     at_with_up w up true u h = u
 
-    -- putting another downward queue in place, or counting an idle event instead, keeps P
-    at_with_down : (w : World Q Client State) (down : List (Numbered (List ℕ))) (b : Bool) → P (on_wire w (record w.wire { down = down })) → P w → P (on_wire w (with_down w.wire down b))
+    -- where P holds of the world with another downward queue, and of the world as it is, P holds where this queue is put in place
+    -- (b true), and where an idle event is counted instead (b false)
+    at_with_down : (w : World Q Client State) (down : List (Numbered (List ℕ))) (b : Bool) → P (on_wire w (record w.wire { down = down })) → P w
+        → P (on_wire w (with_down w.wire down b))
     at_with_down w down false u h = st.idles w h
     at_with_down w down true u h = u
 
@@ -52,7 +56,8 @@ module _ {Q Client State : Type 0} (written : ℕ → Q → List ℕ) (ends : En
     at_down w (x ∷ rest) e h = st.hears w x rest e h
 
     -- a restart of the client keeps P
-    at_restart : (w : World Q Client State) (up : List (Numbered (Request Q))) (down : List (Numbered (List ℕ))) → w.wire.up ≡ up → w.wire.down ≡ down → P w → P (client_restarted ends rule w up down)
+    at_restart : (w : World Q Client State) (up : List (Numbered (Request Q))) (down : List (Numbered (List ℕ))) → w.wire.up ≡ up
+        → w.wire.down ≡ down → P w → P (client_restarted ends rule w up down)
     at_restart w [] [] u d h = st.restarts w u d h
     at_restart w [] (y ∷ down) u d h = st.idles w h
     at_restart w (x ∷ up) down u d h = st.idles w h

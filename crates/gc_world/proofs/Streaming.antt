@@ -11,7 +11,7 @@ use Rattle.gc_world.specs.World.{without, doubled}
 use Rattle.gc_world.proofs.Pieces.{end_length}
 use Rattle.gc_world.proofs.Rows.{each_append, each_without, each_doubled}
 
--- where the front line hasn't begun to go, no byte of it has gone
+-- where `is_begun` is false of line 0, of which `gone` bytes have gone, `gone` is 0
 not_begun : (gone : ℕ) → is_begun 0 gone ≡ false → gone ≡ 0
 not_begun gone e = let le : gone ≤ 0 = ltb-false 0 gone e in omega (arith, le)
 
@@ -20,30 +20,33 @@ pub flow_start : (kept : Kept) (texts : List (List ℕ)) → StandsFor kept [] �
 flow_start kept [] s p = record { part = refl; stands = s; plain = p }
 flow_start kept (text ∷ texts) s p = record { part = omega (arith, end_length text); stands = s; plain = p }
 
--- one more plain text at the back is carried, too
+-- where an assembler carries texts, it carries them with one more plain text at the back, too
 pub flow_push : (kept : Kept) (gone : ℕ) (texts : List (List ℕ)) (text : List ℕ) → IsPlain text → IsFlow kept gone texts → IsFlow kept gone (texts ++ text ∷ [])
 flow_push kept gone [] text p h = subst (λ g. IsFlow kept g (text ∷ [])) (sym h.part) (flow_start kept (text ∷ []) h.stands (p, tt))
 flow_push kept gone (t ∷ ts) text p h = record { part = h.part; stands = h.stands; plain = each_append _ (t ∷ ts) (text ∷ []) h.plain (p, tt) }
 
--- where no byte of the front line has gone, the assembler carries any other plain texts (`rest`), too
-flow_tail : (kept : Kept) (gone : ℕ) (text : List ℕ) (texts rest : List (List ℕ)) → gone ≡ 0 → IsFlow kept gone (text ∷ texts) → Each IsPlain rest → IsFlow kept gone rest
+-- where an assembler carries texts, and no byte of the front line has gone, it also carries any other plain
+-- texts (`rest`) in place of those
+flow_tail : (kept : Kept) (gone : ℕ) (text : List ℕ) (texts rest : List (List ℕ)) → gone ≡ 0 → IsFlow kept gone (text ∷ texts) → Each IsPlain rest
+    → IsFlow kept gone rest
 flow_tail kept gone text texts rest e h p =
     let at = subst (λ g. IsFlow kept g (text ∷ texts)) e h in
     subst (λ g. IsFlow kept g rest) (sym e) (flow_start kept rest at.stands p)
 
--- losing a line that hasn't begun to go leaves the others carried
+-- where an assembler carries texts, it still does once text k, of whose line no byte has gone (`is_begun`), is lost
 pub flow_without : (k : ℕ) (kept : Kept) (gone : ℕ) (texts : List (List ℕ)) → is_begun k gone ≡ false → IsFlow kept gone texts → IsFlow kept gone (without k texts)
 flow_without k kept gone [] e h = h
 flow_without zero kept gone (t ∷ ts) e h = flow_tail kept gone t ts ts (not_begun gone e) h h.plain.1
 flow_without (suc k) kept gone (t ∷ ts) e h = record { part = h.part; stands = h.stands; plain = each_without _ (suc k) (t ∷ ts) h.plain }
 
--- repeating a line that hasn't begun to go leaves all carried
+-- where an assembler carries texts, it still does once text k, of whose line no byte has gone (`is_begun`), is repeated
 pub flow_doubled : (k : ℕ) (kept : Kept) (gone : ℕ) (texts : List (List ℕ)) → is_begun k gone ≡ false → IsFlow kept gone texts → IsFlow kept gone (doubled k texts)
 flow_doubled k kept gone [] e h = h
 flow_doubled zero kept gone (t ∷ ts) e h = flow_tail kept gone t ts (t ∷ t ∷ ts) (not_begun gone e) h (h.plain.0, h.plain)
 flow_doubled (suc k) kept gone (t ∷ ts) e h = record { part = h.part; stands = h.stands; plain = each_doubled _ (suc k) (t ∷ ts) h.plain }
 
--- `line` is the front line of `lines`, `gone` of its bytes have gone, not all, and the assembler stands for these
+-- `line`, which has no CR and no LF in it, is the front line of `lines`, but without its CR LF; `gone` of the front line's bytes
+-- have gone, not all, and the assembler stands for these
 pub record IsFront (line : List ℕ) (kept : Kept) (gone : ℕ) (lines : List (List ℕ)) : Type 0 where
   pub behind : List (List ℕ)
   pub lines_are : lines ≡ with_end line ∷ behind
@@ -51,25 +54,28 @@ pub record IsFront (line : List ℕ) (kept : Kept) (gone : ℕ) (lines : List (L
   pub some : gone < length line + 2
   pub stands : StandsFor kept (take gone (with_end line))
 
--- the first of the texts that an assembler carries is its front line, as `IsFront` has it
-pub front_of : (kept : Kept) (gone : ℕ) (text : List ℕ) (texts : List (List ℕ)) → IsFlow kept gone (text ∷ texts) → IsFront text kept gone (map with_end (text ∷ texts))
+-- where an assembler carries texts, `IsFront` holds of the first of them, and of the lines of all of them
+pub front_of : (kept : Kept) (gone : ℕ) (text : List ℕ) (texts : List (List ℕ)) → IsFlow kept gone (text ∷ texts)
+    → IsFront text kept gone (map with_end (text ∷ texts))
 front_of kept gone text texts h =
     record { behind = map with_end texts; lines_are = refl; plain = h.plain.0; some = omega (arith, h.part, end_length text); stands = h.stands }
 
--- what is still to go of the front line is its bytes, CR LF counted, less what has gone
+-- where `IsFront` holds of `line`, what is still to go of the front line is the length of `line`, and two more
+-- for the CR LF, less what has gone
 pub remaining_is : (line : List ℕ) (kept : Kept) (gone : ℕ) (lines : List (List ℕ)) → IsFront line kept gone lines → length line + 2 - gone ≡ remaining gone lines
 remaining_is line kept gone lines h =
     let at : remaining gone lines ≡ length (with_end line) - gone = ap (remaining gone) h.lines_are in
     omega (arith, at, end_length line)
 
--- once n more bytes have gone, which don't complete the front line, the texts are still carried
+-- where an assembler carried texts, of which `line` is the first, and n more bytes have gone, which don't complete the front
+-- line, the assembler `after`, which stands for the front line's first gone + n bytes, carries these texts
 pub flow_more : (kept after : Kept) (gone n : ℕ) (line : List ℕ) (texts : List (List ℕ)) → IsFront line kept gone (map with_end texts)
     → n < remaining gone (map with_end texts) → StandsFor after (take (gone + n) (with_end line)) → IsFlow kept gone texts → IsFlow after (gone + n) texts
 flow_more kept after gone n line [] front lt s h = absurd (omega (arith, lt))
 flow_more kept after gone n line (t ∷ ts) front lt s h =
     record { part = omega (arith, lt, h.part); stands = subst (StandsFor after) (sym (ap (gone_of (gone + n)) front.lines_are)) s; plain = h.plain }
 
--- bytes that don't complete the front line complete none
+-- n more bytes that don't complete the front line complete no line: of the front line gone + n bytes have gone then
 pub cut_short : (lines : List (List ℕ)) (gone n : ℕ) → n < remaining gone lines → cut lines (gone + n) ≡ record { lines = 0; gone = gone + n }
 cut_short [] gone n lt = absurd (omega (arith, lt))
 cut_short (line ∷ lines) gone n lt =

@@ -1,6 +1,6 @@
 -- A turn of the loop that plays events.
-use Rattle.std.proofs.Common.{◌≡◌, ℕ, ◌+◌, ◌<◌, ◌≤◌, List, [], ◌∷◌, ◌++◌, length, take, get_or, sym, ◌∙◌, ap, subst, arith, length-take}
-use Rattle.std.proofs.lemmas.List.{take_all, take_more}
+use Rattle.std.proofs.Common.{◌≡◌, ℕ, ◌+◌, ◌<◌, ◌≤◌, List, length, take, get_or, sym, subst, arith, length-take}
+use Rattle.std.proofs.lemmas.List.{take_all}
 use Rattle.gc_lines.specs.Assembler.{Kept}
 use Rattle.gc_catalogue.specs.declared.call.Call.{Call}
 use Rattle.gc_client.specs.Rule.{ById, Windowed}
@@ -12,16 +12,14 @@ use Rattle.gc_world.specs.Clients.{by_ids, ends, streamed, played}
 use Rattle.gc_world.specs.Stages.{after_event, streams_at_start, Seen, AreOfWorld, AreStreamsOf}
 use Rattle.gc_world.specs.World.{World}
 use Rattle.gc_world.proofs.Counts.{IsWithin, within_all}
-use Rattle.gc_world.proofs.Flow.{flow_append}
+use Rattle.gc_world.proofs.Flow.{flow_more}
 
 -- the streams after the first i + 1 events are those after the first i, and then event i
 pub played_more : (width : ℕ) (opening : State) (events : List Event) (i : ℕ) (e : Event) → i < length events → e ≡ get_or events i e
     → streamed width opening (take (i + 1) events) ≡ after_event width (streamed width opening (take i events)) e
-played_more width opening events i e lt is =
-    ap (streamed width opening) (take_more events i e lt ∙ ap (λ x. take i events ++ x ∷ []) (sym is))
-    ∙ flow_append ends (by_ids width ends) (take i events) (e ∷ []) (streams_at_start opening)
+played_more width opening events i e lt is = flow_more ends (by_ids width ends) events i e (streams_at_start opening) lt is
 
--- no list of a run is longer than its list of events
+-- none of the lists and counts of a run that `IsWithin` speaks of is above the count of its events
 pub played_within : (width : ℕ) (opening : State) (events : List Event) → IsWithin (length events) (played width opening events).wire
 played_within width opening events =
     let e : 0 + length events ≡ length events = omega arith in
@@ -29,10 +27,10 @@ played_within width opening events =
     (within_all ends (by_ids width ends) events (streams_at_start opening) 0 (record
     { sent = omega arith; executed = omega arith; made = omega arith; starts = omega arith; refused = omega arith; idle = omega arith }))
 
--- a report with other assemblers has the same lists and counts, so it is still that of the world
-with_kept : (width : ℕ) (r : Report) (up down : List ℕ) (c : Windowed Call) (w : World (ById Call) State) (a b : Kept) → AreOfWorld width r up down c w
+-- where a report, two queues and a client are those of a world (`AreOfWorld`), they still are with other assemblers in the report
+with_assemblers : (width : ℕ) (r : Report) (up down : List ℕ) (c : Windowed Call) (w : World (ById Call) State) (a b : Kept) → AreOfWorld width r up down c w
     → AreOfWorld width (record r { up = a; down = b }) up down c w
-with_kept width r up down c w a b h =
+with_assemblers width r up down c w a b h =
     let g = h.reports in
     record {
       reports = record { sent = g.sent; executed = g.executed; made = g.made; settled = g.settled; starts = g.starts; instrument = g.instrument; refused = g.refused; idle = g.idle };
@@ -44,16 +42,18 @@ with_kept width r up down c w a b h =
       calls = h.calls;
     }
 
--- after the last event the report that is handed back is that of the whole run
+-- where i is at least the count of the events, and s shows the streams after the first i of them, which are all of
+-- them, the report r, which is that of s with the assemblers of its two sides, and the queues and the client of s are
+-- those of the whole run (`AreOfWorld`)
 pub at_end : (width : ℕ) (opening : State) (events : List Event) (s : Seen) (i : ℕ) (r : Report) → length events ≤ i
     → AreStreamsOf width s (streamed width opening (take i events)) → r ≡ record s.report { up = s.up.assembler; down = s.down.assembler }
     → AreOfWorld width r s.up.queue s.down.queue s.client (played width opening events)
 at_end width opening events s i r all h is =
     let shows = subst (λ es. AreStreamsOf width s (streamed width opening es)) (take_all i events all) h in
     subst (λ (x : Report). AreOfWorld width x s.up.queue s.down.queue s.client (played width opening events)) (sym is)
-    (with_kept width s.report s.up.queue s.down.queue s.client (played width opening events) s.up.assembler s.down.assembler shows.lines)
+    (with_assemblers width s.report s.up.queue s.down.queue s.client (played width opening events) s.up.assembler s.down.assembler shows.lines)
 
--- the stage after the first i events has counted at most i refused sends and i idle events
+-- a report of the first i events has counted at most i refused sends and at most i idle events
 pub counts_at : (width : ℕ) (opening : State) (events : List Event) (i : ℕ) (report : Report) → IsReport report (played width opening (take i events)).wire
     → i ≤ length events → (report.refused_sends ≤ i) × (report.idle_events ≤ i)
 counts_at width opening events i report h le =

@@ -12,7 +12,7 @@ use Rattle.gc_world.specs.Width.{boundary_of_eight}
 use Rattle.gc_world.specs.World.{Ends, Step, Send, Up_deliver, Down_deliver, Down_repeat, World, Wire, with_settled, run}
 use Rattle.gc_world.proofs.Handing.{KeptFits, reads}
 
--- the steps before the first delivery of the first reply: its request, and the reply's repeat
+-- the steps before the first delivery of the first reply: its request is sent and handed over, and the reply is repeated
 abbrev pub opening_steps : List Step
 opening_steps = Send 1 NullProc 9 ∷ Up_deliver ∷ Down_repeat 0 ∷ []
 
@@ -30,7 +30,7 @@ module _ {State : Type 0} (ends : Ends State) (Good : State → Type 0) (ex : Is
   abbrev line : List ℕ
   line = (ends.handed s 0 NullProc).reply
 
-  -- the first reply is heard with the id 0
+  -- the line of the first reply reads as a reply with the id 0
   zero_heard : ends.heard line ≡ Some 0
   zero_heard = ex.reads s 0 NullProc good (lit< tt)
 
@@ -42,32 +42,33 @@ module _ {State : Type 0} (ends : Ends State) (Good : State → Type 0) (ex : Is
   abbrev once_heard : Option ℕ → World (ById Call) State
   once_heard o = with_settled (record twice.wire { down = record { number = 0; line = line } ∷ [] }) (hears twice.client line o)
 
-  -- the world after eight other requests were sent
+  -- the world after the first reply was heard once, with the id 0, and then eight other requests were sent
   abbrev full : World (ById Call) State
   full = run ends (by_ids 8 ends) sends (once_heard (Some 0))
 
-  -- the world after the first reply was heard again, with this id
+  -- the world after these sends (`full`), once the first reply was heard again, with this id
   abbrev heard_again : Option ℕ → World (ById Call) State
   heard_again o = with_settled (record full.wire { down = [] }) (hears full.client line o)
 
-  -- by ids the repeat settles all nine requests
+  -- by ids, with a window of eight, the steps of `schedule` settle all nine requests: the first `Down_deliver` one of them, and
+  -- the second the other eight
   pub settles_nine : length (run ends (by_ids 8 ends) schedule (ids_open s)).wire.settled ≡ 9
   settles_nine =
       ap (λ o. length (run ends (by_ids 8 ends) (sends ++ Down_deliver ∷ []) (once_heard o)).wire.settled) zero_heard
       ∙ ap (λ o. length (heard_again o).wire.settled) zero_heard
 
-  -- by numbers the same steps settle the first request alone
+  -- by numbers, with a window of eight, the steps of `schedule` settle the first request alone
   pub settles_one : length (run ends (by_numbers 8) schedule (numbers_open s)).wire.settled ≡ 1
   settles_one = refl
 
--- the run by ids of the schedule settles nine requests
+-- with a width of eight the run by ids of `boundary_of_eight` settles nine requests
 pub nine : (opening : State) → length (left_by_ids 8 opening boundary_of_eight).settled ≡ 9
 nine opening = settles_nine ends KeptFits reads (restarted opening) tt
 
--- the run by numbers of the schedule settles one
+-- with a width of eight the run by numbers of `boundary_of_eight` settles one request
 pub one : (opening : State) → length (left_by_numbers 8 opening boundary_of_eight).settled ≡ 1
 one opening = settles_one ends KeptFits reads (restarted opening) tt
 
--- with a width of eight the two runs leave different wires
+-- with a width of eight the two runs of `boundary_of_eight` leave different wires
 pub differs : (opening : State) → left_by_ids 8 opening boundary_of_eight ≢ left_by_numbers 8 opening boundary_of_eight
 differs opening e = let h : 9 ≡ 1 = sym (nine opening) ∙ ap (λ (w : Wire State). length w.settled) e ∙ one opening in absurd (omega (arith, h))

@@ -1,5 +1,6 @@
 -- Two clients of the world, this project's own: one that knows requests by ids of one digit, and one, the oracle client,
--- that knows their numbers; and the runs of a list of events with each, on the simulated instrument.
+-- that knows their numbers; and the runs with each: of steps or events, between any two ends, and of events on the simulated
+-- instrument.
 use Rattle.std.specs.Prelude.{ℕ, ◌+◌, ◌-◌, ◌%◌, Bool, true, false, List, [], ◌∷◌, ◌++◌, length, map, take, drop, Option, Some, None, nat_lt, nat_eq}
 use Rattle.gc_catalogue.specs.declared.call.Call.{Call}
 use Rattle.gc_client.specs.declared.window.TheConstants.{IDS}
@@ -33,9 +34,9 @@ pub record ByNumber (Q : Type 0) : Type 0 where
   pub requests : List (Pending Q)
   pub since : ℕ
 
--- a send: refused where the flag says that the window is full. Else the request's id is the count of the sends since the last
+-- a send: refused if the window is full (`full`). Else the request's id is the count of the requests that were sent since the last
 -- start, modulo the number of ids
-abbrev pub number_send : {Q : Type 0} → ByNumber Q → ℕ → Q → ℕ → Bool → Option (Sending (ByNumber Q))
+abbrev pub number_send : {Q : Type 0} → ByNumber Q → (target : ℕ) → Q → (deadline : ℕ) → (full : Bool) → Option (Sending (ByNumber Q))
 number_send c target call deadline true = None
 number_send c target call deadline false =
     Some (record {
@@ -43,9 +44,9 @@ number_send c target call deadline false =
       client = record { count = c.count; requests = c.requests ++ pending_of target call deadline ∷ []; since = c.since };
     })
 
--- a reply: where its request is settled already (the flag) nothing happens. Else the requests before it that aren't settled are
+-- a reply: if its request is settled already (`is_settled`), nothing happens. Else the requests before it that aren't settled are
 -- lost, and its own is settled by this line
-abbrev pub number_reply : {Q : Type 0} → ByNumber Q → Numbered (List ℕ) → Bool → Settled Q (ByNumber Q)
+abbrev pub number_reply : {Q : Type 0} → ByNumber Q → Numbered (List ℕ) → (is_settled : Bool) → Settled Q (ByNumber Q)
 number_reply c x true = record { settlements = []; client = c }
 number_reply c x false =
     record {
@@ -53,15 +54,22 @@ number_reply c x false =
       client = record { count = x.number + 1; requests = c.requests; since = c.since };
     }
 
--- the rule of the oracle client: what the client would do if every reply carried its request's number. No id is read in a reply;
--- sends are refused at the same width, and get the same ids
+-- the rule of the oracle client, for a window of this width: what the client would do if every reply carried its request's
+-- number. No id is read in a reply; sends are refused at the same width as by `by_ids`, and get the same ids
 abbrev pub by_numbers : {Q : Type 0} → ℕ → Worlds.Rule Q (ByNumber Q)
 by_numbers width =
     record {
       send = λ c target call deadline. number_send c target call deadline (nat_eq (length c.requests - c.count) width);
       reply = λ c x. number_reply c x (nat_lt x.number c.count);
-      expire = λ c now. record { count = c.count; requests = take c.count c.requests ++ map (expired now) (drop c.count c.requests); since = c.since };
-      restart = λ c. record { settlements = map lost (drop c.count c.requests); client = record { count = length c.requests; requests = c.requests; since = length c.requests } };
+      expire = λ c now. record {
+        count = c.count;
+        requests = take c.count c.requests ++ map (expired now) (drop c.count c.requests);
+        since = c.since;
+      };
+      restart = λ c. record {
+        settlements = map lost (drop c.count c.requests);
+        client = record { count = length c.requests; requests = c.requests; since = length c.requests };
+      };
     }
 
 -- The runs.

@@ -1,12 +1,12 @@
 -- The two directions of the line, by what each has of its own. This project's own.
-use Rattle.std.specs.Prelude.{ℕ, List, map}
+use Rattle.std.specs.Prelude.{ℕ, ◌+◌, List, map, replicate}
 use Rattle.gc_lines.specs.Lines.{with_end}
 use Rattle.gc_world.specs.declared.direction.Direction.{Direction}
 use Rattle.gc_world.specs.declared.direction.Direction.TheVariants.{Up, Down}
 use Rattle.gc_world.specs.declared.event.Event.{Event}
 use Rattle.gc_world.specs.declared.event.Event.TheVariants as event
-use Rattle.gc_world.specs.Streams.{Streams, up_texts, down_texts}
-use Rattle.gc_world.specs.World.{Wire, World, Step, Up_deliver, Down_deliver}
+use Rattle.gc_world.specs.Streams.{Streams, Cut, cut, up_texts, down_texts}
+use Rattle.gc_world.specs.World.{Ends, Rule, Wire, World, Step, Up_deliver, Down_deliver, run}
 
 -- the first of two for `Up`, the second for `Down`
 abbrev pub pick : {A : Type 0} → Direction → A → A → A
@@ -40,5 +40,14 @@ module _ {Client State : Type 0} where
   gone d v = pick d v.up_gone v.down_gone
 
   -- the streams v, but with the world w, and with n bytes of the front line gone in this direction
-  abbrev pub reaches : Direction → Streams Client State → World Client State → ℕ → Streams Client State
-  reaches d v w n = record { world = w; up_gone = pick d n v.up_gone; down_gone = pick d v.down_gone n }
+  abbrev pub with_front_gone : Direction → Streams Client State → World Client State → ℕ → Streams Client State
+  with_front_gone d v w n = record { world = w; up_gone = pick d n v.up_gone; down_gone = pick d v.down_gone n }
+
+module _ {Client State : Type 0} (ends : Ends State) (rule : Rule Client) where
+  -- the streams after as many deliveries in a direction as the cut has lines, and with as much gone of the next line as it says
+  abbrev pub after_cut : Direction → Streams Client State → Cut → Streams Client State
+  after_cut d v c = with_front_gone d v (run ends rule (replicate c.lines (deliver d)) v.world) c.gone
+
+  -- the streams after the next n bytes of a direction were handed over
+  abbrev pub handed_over : Direction → Streams Client State → (n : ℕ) → Streams Client State
+  handed_over d v n = after_cut d v (cut (lines d v.world.wire) (gone d v + n))

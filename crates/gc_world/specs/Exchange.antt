@@ -1,18 +1,26 @@
--- No part of a promise: what the proofs ask of the two ends.
+-- No part of this crate's promise: what the proofs ask of the two ends, and of the reply that an instrument keeps.
 use Rattle.std.specs.Prelude.{◌≡◌, ℕ, ◌<◌, List, true, false, Option, Some, None}
 use Rattle.gc_instrument.specs.Replying.{kept_line}
 use Rattle.gc_instrument.specs.State.{KeptReply}
+use Rattle.gc_client.specs.Rule.{heard}
 use Rattle.gc_client.specs.declared.window.TheConstants.{IDS}
 use Rattle.gc_world.specs.Worlds.{Ends}
 
--- in a good state the reply to a request reads as one with the request's id; replying and restarting lead to good states
+-- the line of this kept reply, if there is one, reads as a reply with the id that it is kept with
+abbrev pub ReadsWithItsId : Option KeptReply → Type 0
+ReadsWithItsId None = Unit {0}
+ReadsWithItsId (Some k) = heard k.line ≡ Some k.id
+
+-- in a good state (`Good`) the reply to a request, whose id is below `IDS`, reads as one with that id, and the state after it is
+-- good again; a restart leads from a good state to a good one
 pub record IsExchange {Q State : Type 0} (ends : Ends Q State) (Good : State → Type 0) : Type 0 where
   pub reads : (state : State) (id : ℕ) (call : Q) → Good state → id < IDS → ends.heard (ends.handed state id call).reply ≡ Some id
   pub stays_good : (state : State) (id : ℕ) (call : Q) → Good state → id < IDS → Good (ends.handed state id call).state
   pub restart_good : (state : State) → Good state → Good (ends.restarted state)
 
--- the instrument keeps its last reply, with the reply's id. A request with that id gets the kept line, and nothing changes; a request with
--- another id is executed, and its reply is kept. Restarting twice is restarting once, and leaves nothing kept
+-- the instrument keeps its last reply, with the reply's id: `kept` gives what a state keeps. A request with the kept id gets the
+-- kept line, isn't executed, and leaves the state as it is; any other request is executed, and its reply is kept. Restarting
+-- twice is restarting once, and leaves nothing kept
 pub record IsKeeper {Q State : Type 0} (ends : Ends Q State) (kept : State → Option KeptReply) : Type 0 where
   pub twice : (state : State) → ends.restarted (ends.restarted state) ≡ ends.restarted state
   pub forgets : (state : State) → kept (ends.restarted state) ≡ None

@@ -46,7 +46,8 @@ pub record IsBookedFor (r : Report) (m : ℕ) (call : Call) (reading : Reading) 
   pub reads : ReadsAs call line reading
   pub fine : IsValueOrRefusal reading
 
--- if the outcome is an answer, it is booked for request m, as `IsBookedFor` has it; any other outcome may be
+-- if the outcome of this call is an answer, it is booked for request m, as `IsBookedFor` has it; of any other outcome nothing is
+-- claimed
 abbrev pub IsBookedAnswer : Report → ℕ → Call → Outcome → Type 0
 IsBookedAnswer r m call (Answered reading line) = IsBookedFor r m call reading line.items
 IsBookedAnswer r m call Late = ⊤
@@ -63,8 +64,8 @@ abbrev pub has_number : ℕ → List ℕ → Bool
 has_number n [] = false
 has_number n (x ∷ xs) = nat_eq x n || has_number n xs
 
--- the state in which the instrument goes on: restarted where there was a restart (true), else unchanged
-abbrev pub begun : {State : Type 0} → (State → State) → Bool → State → State
+-- the state in which the instrument goes on: restarted if there was a restart (`starts`), else unchanged
+abbrev pub begun : {State : Type 0} → (State → State) → (starts : Bool) → State → State
 begun restarted false state = state
 begun restarted true state = restarted state
 
@@ -97,8 +98,8 @@ pub record RecordsExecution (opening : State) (r : Report) : Type 0 where
   pub replies : (k : ℕ) (entry : Made) → slice_get r.made k ≡ Some entry → IsReplyOf r before entry
   pub replied : (j n : ℕ) → slice_get r.executed j ≡ Some n → (k : ℕ) × (entry : Made) × (slice_get r.made k ≡ Some entry) × (entry.number ≡ n)
 
--- each request acts once: the executed numbers strictly increase, and the instrument, apart from its kept reply, is in the state
--- after the last execution
+-- each request acts at most once: the executed numbers strictly increase, and the instrument, apart from its kept reply, is in
+-- the state before the execution that would come next
 pub record ActsOnce (opening : State) (r : Report) : Type 0 where
   pub climbs : (i j n m : ℕ) → i < j → slice_get r.executed i ≡ Some n → slice_get r.executed j ≡ Some m → n < m
   pub before : ℕ → State
@@ -111,11 +112,9 @@ sent_seen s = record { target = s.target; call = s.call; line = s.line.items }
 
 -- agreement: the report's requests and settlements, with their lines and readings, and its counts of refused sends and of idle
 -- events are those of the wire w. In `Faithful` that wire is the one that the run by numbers of the same events leaves: what the
--- client would do if every reply carried its request's number. By that run each request's first reply, if it comes unsettled and in
--- time, is booked. First: it is the first of the replies to its request that is delivered. Unsettled: the request's number isn't
--- below the count of requests settled until then. In time: no `Expire` with a moment at or past the request's deadline came between
--- its send and this delivery. Where one had come, the reply settles the request as late; and the requests before it that weren't
--- settled are lost.
+-- client would do if every reply carried its request's number. By that run each request's first reply is booked if it comes unsettled
+-- and in time (`FirstReply.antt` says what these words mean); if it comes unsettled and too late, its request is settled as late. The
+-- requests before it that weren't settled are lost.
 pub record AgreesWith (w : Wire State) (r : Report) : Type 0 where
   pub sent : map sent_seen r.sent ≡ w.sent
   pub settled : AreSettlements r.settled w.settled

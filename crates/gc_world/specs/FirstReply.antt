@@ -57,7 +57,7 @@ abbrev pub ended : Outcome → Sent → Settlement Call
 ended outcome r = record { target = r.target; call = r.call; outcome = outcome }
 
 -- the requests from number m through number n - 1
-abbrev pub between : ℕ → ℕ → List Sent → List Sent
+abbrev pub between : (m n : ℕ) → List Sent → List Sent
 between m n sent = take (n - m) (drop m sent)
 
 -- between the two wires the requests before request n that weren't settled, timed out or not, were settled as lost, in
@@ -67,25 +67,25 @@ pub record IsSettledAs (before after : Wire State) (n : ℕ) (outcome : Outcome)
   pub found : slice_get before.sent n ≡ Some request
   pub settled : after.settled ≡ before.settled ++ map (ended Lost) (between (length before.settled) n before.sent) ++ ended outcome request ∷ []
 
--- the event hands over the last byte of the line at the front of the downward queue, and no byte after it
+-- if a line is in flight downward, the event hands over the last byte of the front one, and no byte after it
 abbrev pub IsDelivery : Streams (ById Call) State → Event → Type 0
 IsDelivery v e = (e ≡ DownDeliver) ⊎ ((n : ℕ) × (e ≡ DownBytes (n + 1)) × (remaining v.down_gone (down_lines v.world.wire) ≡ n + 1))
 
 -- after these events, if this line is the reply at the front of the downward queue, and request n, to which it belongs,
--- isn't settled: its delivery settles request n with this outcome, and the unsettled requests before that one as lost
-abbrev pub DeliverySettles : ℕ → State → List Event → ℕ → List ℕ → Outcome → Type 0
+-- isn't settled: the line's delivery settles request n with this outcome, and the unsettled requests before request n as lost
+abbrev pub DeliverySettles : (width : ℕ) → State → List Event → (n : ℕ) → (line : List ℕ) → Outcome → Type 0
 DeliverySettles width opening events n line outcome =
     (delivery : Event) → IsDelivery (streamed width opening events) delivery → IsNextFor (left_by_ids width opening events) n line →
     IsSettledAs (left_by_ids width opening events) (left_by_ids width opening (events ++ delivery ∷ [])) n outcome
 
--- a first reply in time is booked: its request is answered with that very line. That the answer's reading in the report is what the line
--- says of the call is proved of each settlement, in `AreSettlements`
+-- with a window of at most seven, a first reply in time is booked: its request is answered with that very line. That the answer's
+-- reading in the report is what the line says of the call holds of each settlement, as `AreSettlements` has it
 abbrev pub BooksFirstReply : Type 0
 BooksFirstReply =
     (width : ℕ) → width ≤ WINDOW → (opening : State) (events : List Event) (n : ℕ) (line : List ℕ) →
     IsInTime width opening events n → DeliverySettles width opening events n line (Answered line)
 
--- a first reply that comes too late settles its request as late
+-- with a window of at most seven, a first reply that comes too late settles its request as late
 abbrev pub FirstReplyIsLate : Type 0
 FirstReplyIsLate =
     (width : ℕ) → width ≤ WINDOW → (opening : State) (events : List Event) (n : ℕ) (line : List ℕ) →
@@ -102,7 +102,7 @@ abbrev pub IsNeverInTimeAndTooLate : Type 0
 IsNeverInTimeAndTooLate =
     (width : ℕ) (opening : State) (events : List Event) (n : ℕ) → IsInTime width opening events n → IsTooLate width opening events n → ⊥
 
--- a further reply, which is one to a request that is settled already, settles nothing
+-- with a window of at most seven, a further reply, which is one to a request that is settled already, settles nothing
 abbrev pub NoSecondReply : Type 0
 NoSecondReply =
     (width : ℕ) → width ≤ WINDOW → (opening : State) (events : List Event) (n : ℕ) (line : List ℕ) (behind : List (Numbered (List ℕ))) →

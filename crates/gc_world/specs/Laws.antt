@@ -1,4 +1,4 @@
--- What holds of every list of events, whatever the width of the window, up to seven: laws of this project's own definitions.
+-- What holds of every list of events: laws of this project's own definitions. A law that needs a window of at most seven says so.
 use Rattle.std.specs.Prelude.{◌≡◌, ℕ, ◌≤◌, List, Some, slice_get}
 use Rattle.gc_catalogue.specs.Calls.{IsFitting}
 use Rattle.gc_catalogue.specs.declared.answer.Reading.{Reading}
@@ -14,26 +14,30 @@ use Rattle.gc_world.specs.Order.{IsOrderly, IsRecent, numbers}
 use Rattle.gc_world.specs.Record.{IsOneForOne, IsReplyTo, IsBooked, IsExecution}
 use Rattle.gc_world.specs.World.{Wire}
 
--- the wire that the run by ids of these events leaves: the world but its client
+-- the wire that the run by ids of these events leaves, from the restarted opening state, with a window of this width: the world
+-- but its client
 abbrev pub left_by_ids : ℕ → State → List Event → Wire State
 left_by_ids width opening events = (played width opening events).wire
 
--- the wire that the run by numbers of these events leaves
+-- the wire that the run by numbers of these events leaves, from the restarted opening state, with a window of this width
 abbrev pub left_by_numbers : ℕ → State → List Event → Wire State
 left_by_numbers width opening events = (played_by_numbers width opening events).wire
 
--- the wire that each list of events leaves keeps the order of the line, as `IsOrderly` has it
+-- with a window of at most seven, the wire that a list of events leaves by ids keeps the order of the line, as `IsOrderly` has it
 abbrev pub KeepsOrder : Type 0
 KeepsOrder = (width : ℕ) → width ≤ WINDOW → (opening : State) (events : List Event) → IsOrderly width (left_by_ids width opening events)
 
--- while a reply is kept, each request in flight has the number that was executed last, or one of the next `width` numbers:
--- so a request with the kept id is the one executed last, repeated
+-- with a window of at most seven: while a reply is kept, each request in flight has the number that was executed last, or one of
+-- the next `width` numbers, so a request with the kept id is the one executed last, repeated
 abbrev pub KeepsRecent : Type 0
-KeepsRecent = (width : ℕ) → width ≤ WINDOW → (opening : State) (events : List Event) → (let w = left_by_ids width opening events in IsRecent width w.state.kept w.executed (numbers w.up))
+KeepsRecent =
+    (width : ℕ) → width ≤ WINDOW → (opening : State) (events : List Event) →
+    (let w = left_by_ids width opening events in IsRecent width w.state.kept w.executed (numbers w.up))
 
--- the run by ids and the run by numbers leave the same wire
+-- with a window of at most seven, the run by ids and the run by numbers leave the same wire
 abbrev pub RunsAgree : Type 0
-RunsAgree = (width : ℕ) → width ≤ WINDOW → (opening : State) (events : List Event) → left_by_ids width opening events ≡ left_by_numbers width opening events
+RunsAgree =
+    (width : ℕ) → width ≤ WINDOW → (opening : State) (events : List Event) → left_by_ids width opening events ≡ left_by_numbers width opening events
 
 -- settlement m has the target and the call of request m, and there are no more settlements than requests
 abbrev pub SettlesInOrder : Type 0
@@ -41,22 +45,25 @@ SettlesInOrder =
     (width : ℕ) (opening : State) (events : List Event) →
     IsOneForOne (left_by_ids width opening events).sent (left_by_ids width opening events).settled
 
--- if the restarted opening state is fitting, an answer that is booked at place m is a line that was made on executing request m, for
--- the call of that request
+-- with a window of at most seven, if the restarted opening state is fitting: where settlement m is answered, its line is among
+-- those made for request m, and is what the instrument replies when it executes the settlement's call in a fitting state
+-- (`IsBooked`)
 abbrev pub BooksItsOwn : Type 0
 BooksItsOwn =
     (width : ℕ) → width ≤ WINDOW → (opening : State) → IsFittingState (restarted opening) → (events : List Event) (m : ℕ) (s : Settlement Call) →
     slice_get (left_by_ids width opening events).settled m ≡ Some s → IsBooked ends IsFittingState (left_by_ids width opening events).made m s
 
--- a line that the instrument writes on executing a fitting call, in a fitting state, reads for that call as a value or a refusal: so
--- each answer that is booked does
+-- a line that the instrument writes on executing a fitting call, in a fitting state, reads for that call as a value or a refusal.
+-- So, by `BooksItsOwn`, each answer that is booked for a fitting call reads so, if the window is at most seven wide and the
+-- restarted opening state is fitting
 abbrev pub RepliesAreFine : Type 0
 RepliesAreFine =
     (call : Call) (bytes : List ℕ) (reading : Reading) → IsReplyTo ends IsFittingState call bytes → IsFitting call → ReadsAs call bytes reading →
     IsValueOrRefusal reading
 
--- the executions that each list of events leads to are as `IsExecution` has them: each reply that was made is that of an execution, in the
--- state before it, each execution's reply was made, and requests are executed in order, none twice
+-- with a window of at most seven, the executions that a list of events leads to are as `IsExecution` has them: each reply that
+-- was made is that of an execution, in the state before that execution, each execution's reply was made, and requests are
+-- executed in order, none twice
 abbrev pub RecordsExecutions : Type 0
 RecordsExecutions =
     (width : ℕ) → width ≤ WINDOW → (opening : State) (events : List Event) → IsExecution ends opening (left_by_ids width opening events)

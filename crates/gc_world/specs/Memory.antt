@@ -9,7 +9,7 @@ use Rattle.gc_world.specs.Clients.{streamed}
 use Rattle.gc_world.specs.Streams.{Streams, up_lines, down_lines, cut, is_begun}
 use Rattle.gc_world.specs.World.{Numbered}
 
--- a line is in flight in one of the two queues
+-- a line is in flight in at least one of the two queues
 abbrev pub IsBusy : {A B : Type 0} → List A → List B → Type 0
 IsBusy up down = ¬ ((up ≡ []) × (down ≡ []))
 
@@ -18,7 +18,7 @@ abbrev pub IsStray : ById Call → List (Numbered (List ℕ)) → Type 0
 IsStray client [] = ⊤
 IsStray client (x ∷ rest) = fits client (heard x.line) ≡ false
 
--- the first k replies of the downward queue are strays: no request of the client waits for any of them
+-- the first k replies of the downward queue, or all if there are fewer, are strays: no request of the client waits for them
 abbrev pub AreStrays : ById Call → ℕ → List (Numbered (List ℕ)) → Type 0
 AreStrays client zero down = ⊤
 AreStrays client (suc k) [] = ⊤
@@ -26,7 +26,7 @@ AreStrays client (suc k) (x ∷ rest) = (fits client (heard x.line) ≡ false) �
 
 -- a repeat of line k of a queue isn't possible, where `gone` bytes of the front line have gone: there is no line k, or its first byte
 -- has gone
-abbrev pub IsNoRepeat : {A : Type 0} → ℕ → ℕ → List A → Type 0
+abbrev pub IsNoRepeat : {A : Type 0} → (k gone : ℕ) → List A → Type 0
 IsNoRepeat k gone queue = (is_begun k gone ≡ true) ⊎ (length queue ≤ k)
 
 -- on these streams, with a window of this width, the event takes no memory: it is a refused send, a loss, an expiry, a delivery of

@@ -1,17 +1,16 @@
 -- What the laws of the runs say of the order of the line: which numbers can be in flight. A request's number is its place
 -- among those sent, counted from 0, and a reply has its request's number. This project's own.
 use Rattle.std.specs.Prelude.{◌≡◌, ℕ, ◌+◌, ◌<◌, ◌≤◌, List, [], ◌∷◌, ◌++◌, length, map, Option, Some, None}
+use Rattle.std.specs.List.{AllByRecursion}
 use Rattle.gc_instrument.specs.State.{KeptReply}
 use Rattle.gc_world.specs.Worlds.{Numbered, Wire}
 
--- each element of a list has this property. It is std's `All` by recursion on the list, because proofs split lists at their front;
--- `All` speaks of places
+-- each element of a list has this property: std's `AllByRecursion` by a shorter name
 abbrev pub Each : {A : Type 0} → (A → Type 0) → List A → Type 0
-Each P [] = Unit {0}
-Each P (x ∷ xs) = P x × Each P xs
+Each P xs = AllByRecursion P xs
 
 -- the numbers of a list never fall from one to the next, and none is below low - 1
-abbrev pub Rising : ℕ → List ℕ → Type 0
+abbrev pub Rising : (low : ℕ) → List ℕ → Type 0
 Rising low [] = Unit {0}
 Rising low (n ∷ ns) = (low ≤ n + 1) × Rising (n + 1) ns
 
@@ -25,7 +24,7 @@ in_flight w = numbers w.down ++ numbers w.up
 
 -- while a reply is kept, some request was executed, and each of the numbers `up` is the one executed last or one of the `width`
 -- above it
-abbrev pub IsRecent : ℕ → Option KeptReply → List ℕ → List ℕ → Type 0
+abbrev pub IsRecent : (width : ℕ) → Option KeptReply → (executed up : List ℕ) → Type 0
 IsRecent width None executed up = Unit {0}
 IsRecent width (Some k) executed up = (earlier : List ℕ) × (last : ℕ) × (executed ≡ earlier ++ last ∷ []) × Each (λ n. (last ≤ n) × (n ≤ last + width)) up
 

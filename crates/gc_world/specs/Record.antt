@@ -21,7 +21,7 @@ pub record IsOneForOne {Q : Type 0} (sent : List (Worlds.Sent Q)) (settled : Lis
       (s.target ≡ r.target) × (s.call ≡ r.call)
 
 module _ {Q State : Type 0} (ends : Worlds.Ends Q State) where
-  -- the instrument wrote these bytes when it executed this call in some good state
+  -- these bytes are the reply that the instrument makes when it executes this call in some good state, with some id from 0 to 7
   pub record IsReplyTo (Good : State → Type 0) (call : Q) (bytes : List ℕ) : Type 0 where
     pub state : State
     pub good : Good state
@@ -30,36 +30,43 @@ module _ {Q State : Type 0} (ends : Worlds.Ends Q State) where
     pub executed : (ends.handed state id call).executed ≡ true
     pub reply : bytes ≡ (ends.handed state id call).reply
 
-  -- where settlement m is answered, its line is among those that were made for request m, in answer to that very call
+  -- where settlement m is answered, its line is among those that were made for request m, and is a reply to the settlement's call
+  -- (`IsReplyTo`)
   abbrev pub IsBooked : (State → Type 0) → List (Numbered (List ℕ)) → ℕ → Settlement Q → Type 0
   IsBooked Good made m s =
       (bytes : List ℕ) → s.outcome ≡ Answered bytes →
       ((j : ℕ) × (slice_get made j ≡ Some (record { number = m; line = bytes }))) × IsReplyTo Good s.call bytes
 
 module _ {State : Type 0} (ends : Ends State) where
-  -- execution j is that of request n. The request's line is that of its call with some id from 0 to 7; the call is executed in
-  -- the state `before j`; and `before (j + 1)` is the state that comes of it, restarted where `starts` has the number j + 1
-  pub record IsExecuted (w : Wire State) (before : ℕ → State) (j n : ℕ) : Type 0 where
+  -- request n of those that were sent is executed in this state; its line is that of its call with some id from 0 to 7
+  pub record IsExecutedIn (sent : List Sent) (n : ℕ) (state : State) : Type 0 where
     pub request : Sent
-    pub found : slice_get w.sent n ≡ Some request
+    pub found : slice_get sent n ≡ Some request
     pub id : ℕ
     pub small : id < IDS
     pub line : request.line ≡ request_line (Some id) request.call
-    pub executed : (ends.handed (before j) id request.call).executed ≡ true
-    pub next : before (j + 1) ≡ begun ends.restarted (has_number (j + 1) w.starts) (ends.handed (before j) id request.call).state
+    pub executed : (ends.handed state id request.call).executed ≡ true
+
+  -- execution j is that of request n, in the state `before j`; and `before (j + 1)` is the state that comes of it, restarted where
+  -- `starts` has the number j + 1
+  pub record IsExecuted (w : Wire State) (before : ℕ → State) (j n : ℕ) : Type 0 where
+    pub is_executed : IsExecutedIn w.sent n (before j)
+    pub next : before (j + 1)
+        ≡ begun ends.restarted (has_number (j + 1) w.starts) (ends.handed (before j) is_executed.id is_executed.request.call).state
     -- its reply is among those that were made
     pub place : ℕ
-    pub made : slice_get w.made place ≡ Some (record { number = n; line = (ends.handed (before j) id request.call).reply })
+    pub made : slice_get w.made place
+        ≡ Some (record { number = n; line = (ends.handed (before j) is_executed.id is_executed.request.call).reply })
 
   -- this entry, a reply that was made, is the reply of execution j, which is that of the entry's request
   pub record IsReplyAt (w : Wire State) (before : ℕ → State) (entry : Numbered (List ℕ)) : Type 0 where
     pub j : ℕ
     pub executed : slice_get w.executed j ≡ Some entry.number
     pub execution : IsExecuted w before j entry.number
-    pub line : entry.line ≡ (ends.handed (before j) execution.id execution.request.call).reply
+    pub line : entry.line ≡ (ends.handed (before j) execution.is_executed.id execution.is_executed.request.call).reply
 
-  -- the executions of a run: `before j` is the state before execution j, at first the restarted opening state, and the state
-  -- after the last one is the wire's; each reply that was made is that of an execution
+  -- the executions of a run: `before j` is the state before execution j, at first the restarted opening state, and the wire's
+  -- state is the one before the execution that would come next; each reply that was made is that of an execution
   pub record IsExecution (opening : State) (w : Wire State) : Type 0 where
     pub before : ℕ → State
     pub first : before 0 ≡ ends.restarted opening

@@ -17,7 +17,7 @@ use Rattle.gc_world.specs.World.{Numbered, Wire}
 abbrev pub made_seen : Made → Numbered (List ℕ)
 made_seen m = record { number = m.number; line = m.line.items }
 
--- the report has the lists, the instrument's state and the counts of this wire
+-- the report has the instrument's state of this wire, and its lists and counts of what has happened, but not its queues
 pub record IsReport (r : Report) (w : Wire State) : Type 0 where
   pub sent : map sent_seen r.sent ≡ w.sent
   pub executed : r.executed ≡ w.executed

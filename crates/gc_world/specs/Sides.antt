@@ -27,8 +27,8 @@ abbrev pub IsPart : ℕ → List (List ℕ) → Type 0
 IsPart gone [] = gone ≡ 0
 IsPart gone (line ∷ lines) = gone < length line
 
--- the texts are lines without their CR LF. Of the first line, with its CR LF, `gone` bytes have gone, and not the last one; the
--- assembler stands for those bytes; and no text has a CR or an LF in it
+-- the texts are lines without their CR LF. Of the first line, with its CR LF, `gone` bytes have gone, and not the last one; where
+-- there is no line, `gone` is 0. The assembler stands for the bytes that have gone, and no text has a CR or an LF in it
 pub record IsFlow (kept : Kept) (gone : ℕ) (texts : List (List ℕ)) : Type 0 where
   pub part : IsPart gone (map with_end texts)
   pub stands : StandsFor kept (gone_of gone (map with_end texts))
@@ -55,8 +55,10 @@ StandsForPart kept gone line = StandsFor kept (take gone (with_end line))
 abbrev pub IsLine : Lent → List ℕ → Type 0
 IsLine lent line = lent_seen lent ≡ Frame.Line (record { items = line })
 
--- what a loss or a repeat of line k does to a side: this queue takes the place of the old one, if line k is in flight and no
--- byte of it has gone. Else the count of idle events grows by one, from `before` to `after`
+-- what a loss or a repeat of line k does to a side, and to the count of idle events, which changes from `before` to `after`. If
+-- a byte of line k has gone, the side is as it was, and the count grows by one. Else this queue takes the place of the old one,
+-- and the count grows by one only where there is no line k
 pub record Changes (k : ℕ) (queue : List ℕ) (old new : Side) (before after : ℕ) : Type 0 where
   pub held : is_begun k old.gone ≡ true → (new ≡ old) × (after ≡ before + 1)
-  pub done : is_begun k old.gone ≡ false → (new ≡ record old { queue = queue }) × (after ≡ (if nat_lt k (length old.queue) then before else before + 1))
+  pub done : is_begun k old.gone ≡ false
+      → (new ≡ record old { queue = queue }) × (after ≡ (if nat_lt k (length old.queue) then before else before + 1))

@@ -1,6 +1,6 @@
 -- No part of a promise: what a stage shows of the streams of a run. A stage is what the code keeps while it plays events:
 -- the report so far, the client, and for each direction a side, with the lines in flight in it.
-use Rattle.std.specs.Prelude.{◌≡◌, ℕ, ◌+◌, ◌<◌, List, Option, Some, Result, IsOk, map, replicate, slice_get}
+use Rattle.std.specs.Prelude.{◌≡◌, ℕ, ◌<◌, List, Option, Some, Result, IsOk, map, slice_get}
 use Rattle.gc_catalogue.specs.Calls.{IsFitting}
 use Rattle.gc_catalogue.specs.Texts.{request_line}
 use Rattle.gc_catalogue.specs.declared.call.Call.{Call}
@@ -15,13 +15,13 @@ use Rattle.gc_world.specs.declared.report.Sent.{Sent}
 use Rattle.gc_world.specs.declared.side.Side.{Side}
 use Rattle.gc_world.specs.declared.stage.Stage.{Stage}
 use Rattle.gc_world.specs.Clients.{by_ids, ids_open, ends}
-use Rattle.gc_world.specs.Directions.{deliver, lines, gone, reaches}
+use Rattle.gc_world.specs.Directions.{lines, gone, handed_over}
 use Rattle.gc_world.specs.Memory.{TakesNoMemory}
 use Rattle.gc_world.specs.Order.{Each, numbers}
 use Rattle.gc_world.specs.Reports.{made_seen, IsReport}
 use Rattle.gc_world.specs.Sides.{IsFlow}
-use Rattle.gc_world.specs.Streams.{Streams, up_texts, down_texts, untouched, cut, flows, remaining}
-use Rattle.gc_world.specs.World.{Request, Numbered, Step, World, happens, run}
+use Rattle.gc_world.specs.Streams.{Streams, up_texts, down_texts, untouched, flows, remaining}
+use Rattle.gc_world.specs.World.{Request, Numbered, Step, World, happens}
 
 -- the streams of the run by ids before the first event: the instrument is restarted from this state, and nothing is in flight
 abbrev pub streams_at_start : State → Streams (ById Call) State
@@ -36,10 +36,8 @@ abbrev pub after_event : ℕ → Streams (ById Call) State → Event → Streams
 after_event width v e = flows ends (by_ids width ends) v e
 
 -- the streams after the next n bytes of a direction were handed over, by the run by ids with a window of this width
-abbrev pub after_bytes : ℕ → Direction → Streams (ById Call) State → ℕ → Streams (ById Call) State
-after_bytes width d v n =
-    let c = cut (lines d v.world.wire) (gone d v + n) in
-    reaches d v (run ends (by_ids width ends) (replicate c.lines (deliver d)) v.world) c.gone
+abbrev pub after_bytes : (width : ℕ) → Direction → Streams (ById Call) State → (n : ℕ) → Streams (ById Call) State
+after_bytes width d v n = handed_over ends (by_ids width ends) d v n
 
 -- the bytes of the line of a request in flight, without CR LF
 abbrev pub bytes_of : Request → List ℕ
@@ -60,7 +58,8 @@ named made places = map (slice_get (map made_seen made)) places
 
 -- the report, the queues and the client are those of this world, for a client with a window of this width: the queue upward
 -- has the numbers of the requests in flight, and the queue downward names the replies. Each request in flight is the one that was
--- sent with its number, the id of the next one is a digit below 8, and the numbers of each call lie in their types
+-- sent with its number, the id that the client gives next is below 8, and the numbers of each call that was sent lie in their
+-- types
 pub record AreOfWorld (width : ℕ) (report : Report) (up down : List ℕ) (client : Windowed Call) (w : World (ById Call) State) : Type 0 where
   pub reports : IsReport report w.wire
   pub up_is : up ≡ numbers w.wire.up
@@ -101,9 +100,9 @@ IsShown s = (width : ℕ) × (v : Streams (ById Call) State) × Shows width s v
 abbrev pub Follows : {W : Type 0} → Stage W → Event → Stage W → Type 0
 Follows s e t = (width : ℕ) (v : Streams (ById Call) State) → Shows width s v → Shows width t (after_event width v e)
 
--- the result is `Ok` if the event takes no memory, on whatever streams the stage shows
-abbrev pub IsSpare : {W A E : Type 0} → Stage W → Event → Result A E → Type 0
-IsSpare s e result = (width : ℕ) (v : Streams (ById Call) State) → Shows width s v → TakesNoMemory width v e → IsOk result
+-- whatever streams the stage shows: if the event takes no memory on them, the result is `Ok`
+abbrev pub IsOkWithoutMemory : {W A E : Type 0} → Stage W → Event → Result A E → Type 0
+IsOkWithoutMemory s e result = (width : ℕ) (v : Streams (ById Call) State) → Shows width s v → TakesNoMemory width v e → IsOk result
 
 -- on whatever streams the stage shows, more than n bytes of the front line of the direction are still to go
 abbrev pub HasMoreThan : {W : Type 0} → Stage W → Direction → ℕ → Type 0

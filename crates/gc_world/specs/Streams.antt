@@ -58,7 +58,7 @@ pub record Cut : Type 0 where
 abbrev pub one_more : Cut → Cut
 one_more c = record { lines = suc c.lines; gone = c.gone }
 
--- how many of these lines their first n bytes complete, and how many bytes of the next one those reach
+-- how many of these lines their first n bytes complete, and how many bytes of the next one those reach: 0 if there is no next one
 abbrev pub cut : List (List ℕ) → ℕ → Cut
 cut [] n = record { lines = 0; gone = 0 }
 cut (line ∷ lines) n = if nat_lt n (length line) then record { lines = 0; gone = n } else one_more (cut lines (n - length line))
@@ -70,34 +70,35 @@ pub record Course : Type 0 where
   pub down_gone : ℕ
 
 -- the course of an event that is this one step, after which `up` and `down` bytes of the two front lines have gone
-abbrev pub of_one_step : Step → ℕ → ℕ → Course
+abbrev pub of_one_step : Step → (up down : ℕ) → Course
 of_one_step step up down = record { steps = step ∷ []; up_gone = up; down_gone = down }
 
--- whether the first byte of line k has gone: it is the front line, and some of its bytes have
-abbrev pub is_begun : ℕ → ℕ → Bool
+-- whether the first byte of line k has gone, where `gone` bytes of the front line have gone: k is 0, and `gone` isn't
+abbrev pub is_begun : (k gone : ℕ) → Bool
 is_begun k gone = nat_eq k 0 && nat_lt 0 gone
 
 -- the step that loses or repeats line k, where `gone` bytes of the front line have gone; it isn't possible once the first byte of
 -- line k has gone
-abbrev pub at_line : ℕ → ℕ → Step → Step
+abbrev pub at_line : (k gone : ℕ) → Step → Step
 at_line k gone step = if is_begun k gone then Nothing else step
 
 -- the steps that the next n bytes of a direction make, where `gone` bytes of the front line have gone: `step`, which hands
 -- over a line, once for each line that they complete. Where n is 0, or no line is in flight, it is the one step that isn't
 -- possible
-abbrev pub passed : Step → List (List ℕ) → ℕ → ℕ → List Step
+abbrev pub passed : Step → List (List ℕ) → (gone n : ℕ) → List Step
 passed step [] gone n = Nothing ∷ []
 passed step (line ∷ lines) gone zero = Nothing ∷ []
 passed step (line ∷ lines) gone (suc n) = replicate (cut (line ∷ lines) (gone + suc n)).lines step
 
 -- how many bytes of the front line have gone once the next n bytes of a direction went over, with these lines in flight, of the
 -- first of which `gone` bytes had gone before
-abbrev pub left_gone : List (List ℕ) → ℕ → ℕ → ℕ
+abbrev pub left_gone : List (List ℕ) → (gone n : ℕ) → ℕ
 left_gone [] gone n = gone
 left_gone (line ∷ lines) gone zero = gone
 left_gone (line ∷ lines) gone (suc n) = (cut (line ∷ lines) (gone + suc n)).gone
 
--- the course of an event, with these lines in flight, of whose front lines `up` and `down` bytes have gone
+-- the course of an event, with the lines `ups` in flight upward, `up` bytes of whose front line have gone, and the lines `downs`
+-- downward, `down` bytes of whose front line have gone
 abbrev pub course : (ups downs : List (List ℕ)) (up down : ℕ) → Event → Course
 course ups downs up down (event.Send target call deadline) = of_one_step (Send target call deadline) up down
 course ups downs up down event.UpDeliver = of_one_step Up_deliver 0 down

@@ -46,7 +46,8 @@ abbrev pub Step : Type 0
 Step = Worlds.Step Call
 
 module _ {Client State : Type 0} where
-  -- the world after a call of the client's send: the request is sent, and goes to the back of the upward queue, or a refusal is counted
+  -- the world after the client was asked to send, by what came of that (the last argument): the request is sent, and goes to
+  -- the back of the upward queue; or, where there is none (`None`), a refusal is counted
   abbrev pub requested : World Client State → ℕ → Call → Option (Sending Client) → World Client State
   requested w target call sending = Worlds.requested call_line w target call sending
 

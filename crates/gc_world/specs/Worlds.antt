@@ -29,11 +29,11 @@ pub record Wire (Q State : Type 0) : Type 0 where
   pub sent : List (Sent Q)
   -- the numbers of the requests that the instrument executed
   pub executed : List ℕ
-  -- the replies that it made, each with the number of its request
+  -- the replies that the instrument made, each with the number of its request
   pub made : List (Numbered (List ℕ))
   -- what the client settled
   pub settled : List (Settlement Q)
-  -- how many had been executed at each restart of the instrument, that before the first event not among them
+  -- how many requests had been executed at each restart of the instrument; a restart before the first event isn't among these
   pub starts : List ℕ
   -- the requests in flight to the instrument, and the replies in flight to the client, the front of each queue first
   pub up : List (Numbered (Request Q))
@@ -62,16 +62,17 @@ pub record Ends (Q State : Type 0) : Type 0 where
   pub restarted : State → State
   -- the id that the client reads in a line, where the line is a reply with one
   pub heard : List ℕ → Option ℕ
-  -- whether a restart of the client restarts the instrument too: for one that keeps its last reply by the client's ids
+  -- whether a restart of the client restarts the instrument, too: meant for an instrument that keeps its last reply by the
+  -- client's ids
   pub joint : Bool
 
 -- a client's rule: what each event does to it
 pub record Rule (Q Client : Type 0) : Type 0 where
-  -- a send to a target, with its deadline; none is a refusal
-  pub send : Client → ℕ → Q → ℕ → Option (Sending Client)
+  -- a send to a target, with its deadline; `None` is a refusal
+  pub send : Client → (target : ℕ) → Q → (deadline : ℕ) → Option (Sending Client)
   -- a reply line, with the number of the request that it belongs to
   pub reply : Client → Numbered (List ℕ) → Settled Q Client
-  -- a moment: each waiting request whose deadline it has reached times out
+  -- a moment: each waiting request whose deadline is at most this moment times out
   pub expire : Client → ℕ → Client
   -- a restart of the client, with the settlements of the requests that waited
   pub restart : Client → Settled Q Client
@@ -96,13 +97,14 @@ pub data Step (Q : Type 0) : Type 0 where
   -- something that is not possible
   Nothing : Step Q
 
--- the list without element k
+-- the list without element k, counted from 0; all of it where there is no element k
 abbrev pub without : {A : Type 0} → ℕ → List A → List A
 without k [] = []
 without zero (x ∷ xs) = xs
 without (suc k) (x ∷ xs) = x ∷ without k xs
 
--- the list with element k twice, the second directly after the first
+-- the list with element k, counted from 0, twice, the second directly after the first; the list as it is where there is no
+-- element k
 abbrev pub doubled : {A : Type 0} → ℕ → List A → List A
 doubled k [] = []
 doubled zero (x ∷ xs) = x ∷ x ∷ xs
@@ -125,27 +127,29 @@ module _ {Q State : Type 0} where
         state = h.state;
       }
 
-  -- the wire after the front of the upward queue was handed to the instrument; where the queue is empty, the event is only counted
+  -- the wire after the front of the upward queue, which is the last argument, was handed to the instrument; where that queue is
+  -- empty, the event is only counted
   abbrev pub up_delivered : Ends Q State → Wire Q State → List (Numbered (Request Q)) → Wire Q State
   up_delivered ends w [] = idle w
   up_delivered ends w (x ∷ rest) = replied w x.number rest (ends.handed w.state x.line.id x.line.call)
 
-  -- the wire with this upward queue, where that is possible (true); else the event is only counted
-  abbrev pub with_up : Wire Q State → List (Numbered (Request Q)) → Bool → Wire Q State
+  -- the wire with this upward queue, if that is possible (`possible`); else the event is only counted
+  abbrev pub with_up : Wire Q State → List (Numbered (Request Q)) → (possible : Bool) → Wire Q State
   with_up w up false = idle w
   with_up w up true = record w { up = up }
 
-  -- the wire with this downward queue, where that is possible (true); else the event is only counted
-  abbrev pub with_down : Wire Q State → List (Numbered (List ℕ)) → Bool → Wire Q State
+  -- the wire with this downward queue, if that is possible (`possible`); else the event is only counted
+  abbrev pub with_down : Wire Q State → List (Numbered (List ℕ)) → (possible : Bool) → Wire Q State
   with_down w down false = idle w
   with_down w down true = record w { down = down }
 
-  -- the wire after the instrument restarted (true), or the wire as it was (false)
-  abbrev pub started : Ends Q State → Wire Q State → Bool → Wire Q State
+  -- if `restarts` is true, the wire after a restart of the instrument, which the list `starts` notes; else the wire as it was
+  abbrev pub started : Ends Q State → Wire Q State → (restarts : Bool) → Wire Q State
   started ends w false = w
   started ends w true = record w { starts = w.starts ++ length w.executed ∷ []; state = ends.restarted w.state }
 
-  -- the wire after a restart of the instrument, which is possible with no line in flight; else the event is only counted
+  -- the wire after a restart of the instrument, which is possible where both queues, the last two arguments, are empty; else
+  -- the event is only counted
   abbrev pub instrument_restarted : Ends Q State → Wire Q State → List (Numbered (Request Q)) → List (Numbered (List ℕ)) → Wire Q State
   instrument_restarted ends w [] [] = started ends w true
   instrument_restarted ends w _ _ = idle w
@@ -160,19 +164,22 @@ module _ {Q Client State : Type 0} where
   abbrev pub with_settled : Wire Q State → Settled Q Client → World Q Client State
   with_settled wire x = record { wire = record wire { settled = wire.settled ++ x.settlements }; client = x.client }
 
-  -- the world after the front of the downward queue was handed to the client; where the queue is empty, the event is only counted
+  -- the world after the front of the downward queue, which is the last argument, was handed to the client; where that queue is
+  -- empty, the event is only counted
   abbrev pub down_delivered : Rule Q Client → World Q Client State → List (Numbered (List ℕ)) → World Q Client State
   down_delivered rule w [] = on_wire w (idle w.wire)
   down_delivered rule w (x ∷ rest) = with_settled (record w.wire { down = rest }) (rule.reply w.client x)
 
-  -- the world after a restart of the client, and of the instrument where `joint` says so, which is possible with no line in
-  -- flight; else the event is only counted
-  abbrev pub client_restarted : Ends Q State → Rule Q Client → World Q Client State → List (Numbered (Request Q)) → List (Numbered (List ℕ)) → World Q Client State
+  -- the world after a restart of the client, and of the instrument where `joint` says so, which is possible where both queues,
+  -- the last two arguments, are empty; else the event is only counted
+  abbrev pub client_restarted : Ends Q State → Rule Q Client → World Q Client State → List (Numbered (Request Q)) → List (Numbered (List ℕ))
+      → World Q Client State
   client_restarted ends rule w [] [] = with_settled (started ends w.wire ends.joint) (rule.restart w.client)
   client_restarted ends rule w _ _ = on_wire w (idle w.wire)
 
 module _ {Q Client State : Type 0} (written : ℕ → Q → List ℕ) where
-  -- the world after a call of the client's send: the request is sent, and goes to the back of the upward queue, or a refusal is counted
+  -- the world after the client was asked to send, by what came of that (the last argument): the request is sent, and goes to
+  -- the back of the upward queue; or, where there is none (`None`), a refusal is counted
   abbrev pub requested : World Q Client State → ℕ → Q → Option (Sending Client) → World Q Client State
   requested w target call None = on_wire w (record w.wire { refused = w.wire.refused + 1 })
   requested w target call (Some x) =

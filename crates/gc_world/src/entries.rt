@@ -26,7 +26,8 @@ impl<T> Model for Entries<T> {
 }
 
 impl<T> Entries<T> {
-    /// An empty list, with room for `count` entries. Where memory for that room is refused, the list grows entry by entry.
+    /// An empty list, with room for `count` entries. Where memory for that room is refused, the list has no room yet, and
+    /// each append asks for what it needs.
     pub(crate) fn with_room(alloc: Global, count: usize) -> Entries<T>
         ensures { result ≡ [] }
     {
@@ -185,7 +186,7 @@ impl Entries<Settlement<Call>> {
         Ok(())
     }
 
-    // Appends the settlement of a request that is late. `Err`: memory for it was refused, and the list is as before. The function has a
+    // Appends the settlement of a request as late. `Err`: memory for it was refused, and the list is as before. The function has a
     // frame of its own, because a settlement is large.
     #[inline(never)]
     fn push_late(&mut self, target: u32, call: &Call) -> Result<(), AllocError>
@@ -198,7 +199,7 @@ impl Entries<Settlement<Call>> {
         })
     }
 
-    // Appends the settlement of a request that is lost. `Err`: memory for it was refused, and the list is as before. The function has a
+    // Appends the settlement of a request as lost. `Err`: memory for it was refused, and the list is as before. The function has a
     // frame of its own, because a settlement is large.
     #[inline(never)]
     fn push_lost(&mut self, target: u32, call: &Call) -> Result<(), AllocError>

@@ -9,7 +9,8 @@ ghost use Rattle.gc_world.specs.Sides.{IsLine, StandsForPart};
 use gc_lines::{Assembler, Lent, Line};
 
 /// Feeds the next `n` bytes of a line whose first `gone` bytes have gone, its CR LF counted. The last byte, the LF, isn't among them, so
-/// the line isn't completed. `cut` is where the assembler puts the line together.
+/// the line isn't completed. `cut` is left as it is: the assembler puts a line together there only when the line's last byte
+/// comes.
 #[inline(never)]
 pub fn feed_some(assembler: &mut Assembler, line: &[u8], gone: usize, n: usize, cut: &mut Line)
     requires plain { IsPlain line.now }
@@ -28,8 +29,8 @@ pub fn feed_some(assembler: &mut Assembler, line: &[u8], gone: usize, n: usize, 
     }
 }
 
-/// Feeds what remains of a line whose first `gone` bytes have gone, and returns the completed line. `cut` is where the assembler has
-/// put together what went before.
+/// Feeds what remains of a line whose first `gone` bytes have gone, and returns the completed line. `cut` is where the
+/// assembler puts together a line of which bytes have gone before; its old content doesn't matter.
 #[inline(always)]
 pub fn feed_rest<'a>(
     assembler: &mut Assembler,

@@ -2,7 +2,8 @@
 //!
 //! A request's number is its place among the requests sent, counted from 0. A reply in flight has the number of its request.
 //! In the run by ids the client knows requests by ids of one digit; in the run by numbers it is given each reply's number.
-//! In all laws but the last the client's window is at most seven wide.
+//! Where a law needs that the client's window is at most seven wide, its contract says so, and its comment leaves it out. The
+//! last law shows what happens at eight.
 
 ghost use Rattle.gc_world.specs.FirstReply.{BooksFirstReply, FirstReplyIsLate, IsNeverInTimeAndTooLate, IsInTimeOrTooLate, NoSecondReply};
 ghost use Rattle.gc_world.specs.Laws.{KeepsOrder, KeepsRecent, RunsAgree, SettlesInOrder, BooksItsOwn, RepliesAreFine, RecordsExecutions};
@@ -17,9 +18,8 @@ pub fn line_keeps_order()
     ensures { KeepsOrder }
 {}
 
-/// While the instrument retains a reply, every request in flight is the one executed last, or one of those sent next after it,
-/// of which there are at most as many as the window is wide. So a request with the retained id is the one executed last,
-/// repeated.
+/// While the instrument keeps a reply, every request in flight is the one executed last, or one of the w requests sent next after that
+/// one, where w is the width of the window. So a request in flight with the kept reply's id is the one executed last, repeated.
 pub fn kept_reply_is_recent()
     ensures { KeepsRecent }
 {}
@@ -34,8 +34,8 @@ pub fn settlements_are_one_for_one()
     ensures { SettlesInOrder }
 {}
 
-/// If the restarted opening state is fitting (`IsFittingState`), each answer that is booked was made for that very request, and reads
-/// as a value or a refusal.
+/// If the restarted opening state is fitting (`IsFittingState`), each answer that is booked was made for the very request that it
+/// settles, and, if the numbers of its call are in the ranges of their types, reads as a value or a refusal.
 pub fn answers_are_booked()
     ensures own { BooksItsOwn }
     ensures fine { RepliesAreFine }
@@ -47,9 +47,10 @@ pub fn executions_are_recorded()
     ensures { RecordsExecutions }
 {}
 
-/// When the last byte of a reply to an unsettled request is delivered, the requests before that one are settled as lost. The
-/// request is answered with that very line if the client was given no time at or past its deadline since its send, and late if
-/// it was. A further reply settles nothing. If the bytes of one event complete several replies, each is delivered in turn, by
+/// When the last byte of a reply to an unsettled request is delivered, the unsettled requests before that request are settled as
+/// lost. The request itself is settled as answered with that very line if the client was given no time at or past the request's
+/// deadline since its send, and else as late. A further reply settles nothing. If the bytes of one event complete several
+/// replies, each is delivered in turn, by
 /// [`bytes_go_over_in_turn`].
 pub fn first_reply_is_booked()
     ensures in_time { BooksFirstReply }

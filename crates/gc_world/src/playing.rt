@@ -17,23 +17,24 @@ use std::alloc::{AllocError, Global};
 /// Returns the report of the run, and the client as the last event leaves it.
 ///
 /// The report is that of the world's run by ids, and it is faithful: the settlements correspond one for one and in order to
-/// the requests sent; each answer that the client booked is a line that the instrument made on executing that very request,
-/// and reads as a value or a refusal; and requests, settlements and both counts are those of a client that is given which
-/// request each reply belongs to. So the first reply to a request is booked, if it comes while the request isn't settled,
-/// and in time. First: it is the first of the request's replies that is delivered. Not settled: the request's number isn't
-/// below the count of requests settled until then. In time: no `Expire` with a moment at or past the request's deadline came
-/// between its send and this delivery, which is that of the reply's last byte.
+/// the requests sent, as far as they go; each answer that the client booked is a line that the instrument made on executing the very
+/// request that the answer settles, and reads as a value or a refusal; and requests, settlements and both counts are those of a client
+/// that is given which request each reply belongs to. So the first reply to a request is booked, if it comes while the request isn't
+/// settled, and in time. First: it is the first of the request's replies that is delivered. Not settled: the request's number isn't
+/// below the count of requests settled until then. In time: no `Expire` with a moment at or past the request's deadline came between
+/// its send and this delivery, which is that of the reply's last byte.
 ///
 /// By what the events are, the line keeps order; a line that has begun to arrive arrives whole; a repeat directly follows
 /// its original; and either end restarts only while no byte is in flight. An event that isn't possible changes nothing and
 /// is counted.
 ///
-/// Each request acts once: the instrument executes each at most once, in order, whatever the line repeats. To a repeat it sends
-/// the reply that it keeps, which is made and not executed. A restart of the client restarts the instrument too. Every restart
-/// leaves the instrument's precision as it is, also the one before the first event.
+/// No request acts twice: the instrument executes each at most once, in order, whatever the line repeats. To a repeat it sends
+/// the reply that it keeps: then that reply is once more in `made`, and the request isn't once more in `executed`. A restart of
+/// the client restarts the instrument too. Every restart leaves the instrument's precision as it is, also the one before the
+/// first event.
 ///
 /// Each end has an assembler before it and gets the lines that come out of it. Each of the two assemblers in the report
-/// holds those bytes of the front line of its direction that have gone over. Where none have, it is as a new one.
+/// holds those bytes of the front line of its direction that have gone over. Where none has, the assembler is as a new one.
 ///
 /// `Err`: memory for a longer list or queue was refused; then nothing is returned. If none of the events takes memory, the
 /// result is `Ok`.
@@ -62,7 +63,7 @@ pub fn play_width<W: Window<Asked = Call>>(
     Ok(stage.ended())
 }
 
-// How many of the events send a request.
+// How many of the events are a `Send`, one that is refused included.
 fn count_sends(events: &[Event]) -> usize {
     events
         .iter()

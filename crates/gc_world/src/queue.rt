@@ -40,14 +40,15 @@ impl Queue {
         self.places.is_empty()
     }
 
-    /// The place of the line in front, if one is in flight.
+    /// The place of the line in front. `None`: no line is in flight.
     pub fn front(&self) -> Option<usize>
         ensures { MatchOption result (self.now ≡ []) (λ front. (rest : List ℕ) × (self.now ≡ front ∷ rest)) }
     {
         self.places.front().copied()
     }
 
-    /// Puts the line of this place at the back: it was written last. `Err`: memory for it was refused.
+    /// Puts the line of this place at the back: it was written last. `Err`: memory for it was refused, and the queue is as
+    /// before.
     #[inline(always)]
     pub fn push(&mut self, place: usize) -> Result<(), AllocError>
         ensures { OnOk result (self.new ≡ self.old ++ place ∷ []) }
@@ -56,14 +57,15 @@ impl Queue {
         Ok(())
     }
 
-    /// Takes the line in front out, if there is one, because it is handed over, and returns its place.
+    /// Takes the line in front out, and returns its place. `None`: no line is in flight.
     pub fn take_front(&mut self) -> Option<usize>
         ensures { MatchOption result ((self.old ≡ []) × (self.new ≡ [])) (λ front. self.old ≡ front ∷ self.new) }
     {
         self.places.pop_front()
     }
 
-    /// Takes line k out, because it is lost, and says whether there was one. Lines are counted from 0, at the front.
+    /// Takes line k out: it is lost. Returns whether there was a line k; if not, nothing changes. Lines are counted from 0, at
+    /// the front.
     pub fn lose(&mut self, k: usize) -> bool
         ensures found { result ≡ nat_lt k (length self.old) }
         ensures left { self.new ≡ without k self.old }
@@ -71,8 +73,8 @@ impl Queue {
         self.places.remove(k).is_some()
     }
 
-    /// Puts line k in once more, directly after itself, and says whether there is one. Lines are counted from 0, at the
-    /// front. `Err`: memory for it was refused.
+    /// Puts line k in once more, directly after itself. Returns whether there is a line k; if not, nothing changes. Lines are
+    /// counted from 0, at the front. `Err`: memory for it was refused, and the queue is as before.
     pub fn repeat(&mut self, k: usize) -> Result<bool, AllocError>
         ensures spare { length self.old ≤ k → IsOk result }
         ensures found { IfOk result (λ found. found ≡ nat_lt k (length self.old)) }

@@ -13,7 +13,7 @@ use gc_lines::{Assembler, Line};
 /// A request that was sent. Its number is its place among these, counted from 0.
 #[derive(Debug, PartialEq, Eq, Drop)]
 pub struct Sent {
-    /// Whom it was for, as it was handed to the client.
+    /// The target that it was for, as the client was given it.
     pub target: u32,
     /// What it asks for.
     pub call: Call,
@@ -56,7 +56,7 @@ pub struct Report {
 }
 
 impl Report {
-    /// The line at this place of a direction's list: that is `sent` upward, and `made` downward.
+    /// The line at this place of a direction's list, which is `sent` upward and `made` downward.
     #[inline(always)]
     pub(crate) fn line(&self, direction: Direction, place: usize) -> &Line
         requires { (text : List ℕ) × (written direction self.now place ≡ Some text) }

@@ -5,11 +5,12 @@ ghost use Rattle.gc_lines.specs.Assembler.{StandsFor};
 ghost use Rattle.gc_lines.specs.Lines.{with_end};
 ghost use Rattle.gc_world.specs.Memory.{IsNoRepeat};
 ghost use Rattle.gc_world.specs.Sides.{Carries, CarriesMoreThan, Changes, IsFlow, IsLine, KeepsFlow, written};
-ghost use Rattle.gc_world.specs.Streams.{is_begun, remaining};
+ghost use Rattle.gc_world.specs.Streams.{remaining};
 ghost use Rattle.gc_world.specs.Worlds.{without, doubled};
 
 use crate::direction::Direction;
 use crate::feeding::{feed_rest, feed_some};
+use crate::parts::is_begun;
 use crate::queue::Queue;
 use crate::report::Report;
 use gc_lines::{Assembler, Lent, Line};
@@ -54,7 +55,7 @@ impl Side {
     }
 
     /// Feeds the next `n` bytes of the front line to the assembler: fewer than remain, so they don't complete the line. `cut` is
-    /// where the assembler puts the line together.
+    /// left as it is (`feed_some`).
     pub fn go_on(&mut self, direction: Direction, report: &Report, n: usize, cut: &mut Line)
         requires { CarriesMoreThan direction report.now self.old n }
         ensures flow { KeepsFlow direction report.now self.old self.new }
@@ -69,8 +70,8 @@ impl Side {
         self.gone += n;
     }
 
-    /// Feeds the assembler what remains of this line, which was taken from the front of the queue, and returns the line that the
-    /// assembler completes. `cut` is where the assembler has put together what went before.
+    /// Feeds the assembler what remains of this line, which was taken from the front of the queue, and returns the completed line.
+    /// `cut` is where the assembler puts together a line of which bytes have gone before (`feed_rest`).
     #[inline(always)]
     pub fn finish<'a>(&mut self, line: &'a [u8], cut: &'a mut Line) -> Lent<'a>
         requires flow { (texts : List (List ℕ)) × IsFlow self.old.assembler self.old.gone (line.now ∷ texts) }
@@ -101,7 +102,7 @@ impl Side {
     }
 
     /// Puts line k, counted from 0 at the front, in once more, directly after itself. If there is no line k, or its first byte has
-    /// gone, only `idle` changes: it grows by one. `Err`: memory was refused.
+    /// gone, only `idle` changes: it grows by one. `Err`: memory was refused, and nothing changes.
     pub fn repeat(&mut self, k: usize, idle: &mut usize) -> Result<(), AllocError>
         requires { idle.old + 1 < 2 ^ 64 }
         ensures changes { OnOk result (Changes k (doubled k self.old.queue) self.old self.new idle.old idle.new) }
@@ -116,11 +117,4 @@ impl Side {
         }
         Ok(())
     }
-}
-
-// Whether the first byte of line k has gone.
-fn is_begun(k: usize, gone: usize) -> bool
-    ensures { result ≡ is_begun k gone }
-{
-    k == 0 && gone > 0
 }

@@ -7,12 +7,13 @@ ghost use Rattle.gc_instrument.specs.State.{State, IsFittingState, restarted};
 ghost use Rattle.gc_world.specs.declared.event.Event.{Event};
 ghost use Rattle.gc_world.specs.Directions.{bytes, delivery, gone, lines};
 ghost use Rattle.gc_world.specs.Memory.{IsBusy};
-ghost use Rattle.gc_world.specs.Stages.{streams_at_start, Shows, IsShown, Follows, FollowsBytes, HasMoreThan, IsSpare};
+ghost use Rattle.gc_world.specs.Stages.{streams_at_start, Shows, IsShown, Follows, FollowsBytes, HasMoreThan, IsOkWithoutMemory};
 ghost use Rattle.gc_world.specs.Streams.{Streams, remaining};
 
 use crate::direction::Direction;
 use crate::entries::Entries;
 use crate::event::Event;
+use crate::parts::completes;
 use crate::report::{Made, Report, Sent};
 use crate::side::Side;
 use arrayvec::ArrayVec;
@@ -34,16 +35,16 @@ pub struct Stage<W: Window<Asked = Call>> {
     pub down: Side,
     pub client: Client<W>,
 
-    // Two buffers that all events use, made once because they are large.
-    /// The buffer in which an assembler puts together a line that goes over in pieces.
+    // Two buffers that are made once, because they are large. No event needs what an earlier one left in them.
+    /// For a request's line that the client writes, and for a line that an assembler puts together when its last byte comes.
     pub cut: Line,
-    /// What the last reply settled.
+    /// For what a reply settles.
     pub settled: ArrayVec<Settlement<Call>, WINDOW>,
 }
 
 impl<W: Window<Asked = Call>> Stage<W> {
     /// The stage before the first event: the instrument is restarted, and the client is new. The report has room for this many
-    /// requests, where memory for it is granted.
+    /// requests, and as many replies and settlements, where memory for it is granted.
     pub fn new(
         alloc: Global,
         mut instrument: Instrument,
@@ -85,7 +86,7 @@ impl<W: Window<Asked = Call>> Stage<W> {
         requires idle { self.old.report.idle_events + 1 < 2 ^ 64 }
         requires shown { IsShown self.old }
         ensures follows { OnOk result (Follows self.old event.now self.new) }
-        ensures spare { IsSpare self.old event.now result }
+        ensures spare { IsOkWithoutMemory self.old event.now result }
     {
         match *event {
             Event::Send(target, ref call, deadline) => self.send(target, call, deadline)?,
@@ -168,14 +169,14 @@ impl<W: Window<Asked = Call>> Stage<W> {
         Ok(())
     }
 
-    // Hands the front reply to the client, and appends its settlements to the report. If no reply is in flight, the event is only
+    // Hands the front reply to the client, and appends what it settles to the report. If no reply is in flight, the event is only
     // counted. `Err`: memory was refused.
     #[inline(always)]
     fn down_deliver(&mut self) -> Result<(), AllocError>
         requires idle { self.old.report.idle_events + 1 < 2 ^ 64 }
         requires shown { IsShown self.old }
         ensures follows { OnOk result (Follows self.old Event.DownDeliver self.new) }
-        ensures spare { IsSpare self.old Event.DownDeliver result }
+        ensures spare { IsOkWithoutMemory self.old Event.DownDeliver result }
     {
         let Some(place) = self.down.queue.take_front() else {
             self.report.idle_events += 1;
@@ -193,14 +194,14 @@ impl<W: Window<Asked = Call>> Stage<W> {
         Ok(())
     }
 
-    // Hands over the next `n` bytes of a direction: each line that they complete is delivered. Where `n` is 0 or no byte is
-    // in flight, the event is only counted. `Err`: memory was refused.
+    // Hands over the next `n` bytes of a direction, or all that are in flight if those are fewer: each line that they complete is
+    // delivered. Where `n` is 0 or no byte is in flight, the event is only counted. `Err`: memory was refused.
     #[inline(never)]
     fn deliver_bytes(&mut self, direction: Direction, n: usize) -> Result<(), AllocError>
         requires idle { self.old.report.idle_events + 1 < 2 ^ 64 }
         requires shown { IsShown self.old }
         ensures follows { OnOk result (Follows self.old (bytes direction n) self.new) }
-        ensures spare { IsSpare self.old (bytes direction n) result }
+        ensures spare { IsOkWithoutMemory self.old (bytes direction n) result }
     {
         let mut left = n;
         let mut remaining = self.remaining(direction);
@@ -226,7 +227,7 @@ impl<W: Window<Asked = Call>> Stage<W> {
         requires idle { self.old.report.idle_events + 1 < 2 ^ 64 }
         requires shown { IsShown self.old }
         ensures follows { OnOk result (Follows self.old (delivery direction) self.new) }
-        ensures spare { IsSpare self.old (delivery direction) result }
+        ensures spare { IsOkWithoutMemory self.old (delivery direction) result }
     {
         match direction {
             Direction::Up => self.up_deliver(),
@@ -246,7 +247,7 @@ impl<W: Window<Asked = Call>> Stage<W> {
     }
 
     // Hands over the next `n` bytes of the front line of a direction, after those that have gone already. They don't
-    // complete it.
+    // complete the line.
     fn go_on(&mut self, direction: Direction, n: usize)
         requires shown { IsShown self.old }
         requires some { HasMoreThan self.old direction n }
@@ -262,16 +263,17 @@ impl<W: Window<Asked = Call>> Stage<W> {
 
     // The ends.
 
-    // Hands this moment to the client, which times out each request whose deadline the moment has reached.
+    // Hands this moment to the client, which times out each outstanding request whose deadline is at most `now`. Nothing is
+    // settled.
     fn expire(&mut self, now: u64)
         ensures { Follows self.old (Event.Expire now) self.new }
     {
         self.client.expire(now);
     }
 
-    // Restarts the client, which settles all requests that wait as lost. It restarts the instrument, too: the reply that the
-    // instrument keeps has an id that the new client uses again. Where a line is in flight, the event is only counted. `Err`: memory
-    // was refused.
+    // Restarts the client, which settles all requests that wait as lost, and restarts the instrument, too, since it may keep a
+    // reply whose id the restarted client uses again. Where a line is in flight, the event is only counted. `Err`: memory was
+    // refused.
     fn restart_client(&mut self) -> Result<(), AllocError>
         requires { self.old.report.idle_events + 1 < 2 ^ 64 }
         ensures follows { OnOk result (Follows self.old Event.RestartClient self.new) }
@@ -314,7 +316,7 @@ impl<W: Window<Asked = Call>> Stage<W> {
 }
 
 // Appends the request's number to those executed, if the instrument's kept id changed from `before` to `after`: an execution
-// changes that id, and a repeat leaves it. `Err`: memory was refused.
+// changes that id, and a repeat leaves it. `Err`: memory was refused, and `executed` is as before.
 #[inline(always)]
 fn note_execution(
     executed: &mut Entries<usize>,
@@ -329,11 +331,4 @@ fn note_execution(
         executed.push(number)?;
     }
     Ok(())
-}
-
-// Whether `n` bytes complete a line of which `remaining` bytes remain, at least one.
-fn completes(remaining: usize, n: usize) -> bool
-    ensures { IsTrue result ↔ ((0 < remaining) × (remaining ≤ n)) }
-{
-    0 < remaining && remaining <= n
 }

@@ -1,11 +1,12 @@
-//! The program `geocom`: it checks which standard streams are open, and hands these, its words and the net to `gc_console`.
+//! The program `geocom`: it checks which standard streams are open, and hands these, its words and the system to `gc_console`.
 #![tactic(auto)]
 
 use gc_console::{Standard, Streams, run_program};
 use std::process::ExitCode;
 use std::{env, io};
 
-// Runs the program over the system's streams, words and net, and returns its exit status.
+// Runs the program with the system's words, over its streams, net, clock and files, and returns the exit status. `Err`: as
+// `run_program` says.
 fn main(rt: HostRuntime) -> io::Result<ExitCode> {
     run_program(
         &rt,

@@ -14,7 +14,8 @@ use Rattle.geocom_c.specs.Rest.{IsRest}
 use Rattle.geocom_c.specs.declared.rest.GeocomRest.{GeocomRest}
 
 -- hearing the lines of the frames f and `fs` is hearing f, and then the lines of `fs`
-past_first : (left : List ℕ) (f : Frame) (fs : List Frame) → unanswered_after left (filter_map line_in (f ∷ fs)) ≡ unanswered_after (left_past left f) (filter_map line_in fs)
+past_first : (left : List ℕ) (f : Frame) (fs : List Frame)
+    → unanswered_after left (filter_map line_in (f ∷ fs)) ≡ unanswered_after (left_past left f) (filter_map line_in fs)
 past_first left (Line line) fs = refl
 past_first left Cleared fs = refl
 past_first left Overlong fs = refl
@@ -74,7 +75,7 @@ heard_to_end r bytes before rest left more f none = (sym (ap (rest_behind f.now)
 
 -- Of how many null procedures are answered.
 
--- after eight answers no id of the synchronization is left
+-- after eight answers or more no id of the synchronization is left
 pub is_begun : (a : ℕ) → 8 ≤ a → drop a the_word ≡ []
 is_begun a le = drop_all a the_word le
 

@@ -35,19 +35,19 @@ record Leads (width : ℕ) (x y : Course Asked) (left after : List ℕ) (front :
 leads_none : (width : ℕ) (x : Course Asked) (left : List ℕ) → Leads width x x left left []
 leads_none width x left = record { turns = λ es h. h; reached = λ es. refl; behind = λ es. refl }
 
--- lines that come to the synchronization answer null procedures
+-- lines that come to the synchronization leave the course as it was, and lead to the ids that aren't answered after these lines
 leads_came : (width : ℕ) (x : Course Asked) (lines : List (List ℕ)) (left : List ℕ) → Leads width x x left (unanswered_after left lines) (map Came lines)
 leads_came width x [] left = leads_none width x left
 leads_came width x (line ∷ lines) left =
     let more = leads_came width x lines (left_by left (heard line)) in
     record { turns = more.turns; reached = more.reached; behind = more.behind }
 
--- a null procedure that is asked for changes nothing
+-- a null procedure that is asked for, or none, leaves the course and the ids as they were
 leads_asked : (width : ℕ) (x : Course Asked) (left : List ℕ) (o : Option (List ℕ)) → Leads width x x left left (ask_events o)
 leads_asked width x left None = leads_none width x left
 leads_asked width x left (Some line) = record { turns = λ es h. h; reached = λ es. refl; behind = λ es. refl }
 
--- where events lead from one state to another, and others from there to a third, all of them lead from the first to the third
+-- where events lead from one course to another, and others from there to a third, all of them lead from the first to the third
 leads_both : (width : ℕ) (x y z : Course Asked) (left between after : List ℕ) (front later : List Event) → Leads width x y left between front
     → Leads width y z between after later → Leads width x z left after (front ++ later)
 leads_both width x y z left between after front later f g =
@@ -72,11 +72,11 @@ leads_begin width x (asked ∷ later) rest bytes =
 abbrev new : ById Asked
 new = fresh
 
--- no line settles anything of a new client
+-- a line in which an id is heard settles nothing of a new client, which stays new
 none_fits : (id : ℕ) (line : List ℕ) → hears new line (Some id) ≡ record { settlements = []; client = new }
 none_fits id line = ap (id_settled new line (place_in new id)) (le-ltb (place_in new id) 0 (omega arith))
 
--- no line, whatever id is heard in it, settles anything of a new client
+-- a line, whether an id is heard in it or none, settles nothing of a new client, which stays new
 none_settled : (line : List ℕ) (o : Option ℕ) → hears new line o ≡ record { settlements = []; client = new }
 none_settled line None = refl
 none_settled line (Some id) = none_fits id line
@@ -113,27 +113,29 @@ leads_idle width x y left same = subst (λ (z : Course Asked). Leads width x z l
 abbrev IsIdle : Course Asked → List ℕ → Type 0
 IsIdle x left = (left ≡ [] → ⊥) → x.client ≡ fresh
 
--- lines that a client hears once it has synchronized are steps of it
+-- lines that are heard once no id is left are steps, and lead to the course that has heard them
 leads_heard : (width : ℕ) (x : Course Asked) (lines : List (List ℕ)) → Leads width x (course width x (map one.Hear lines)) [] [] (map Stepped (map one.Hear lines))
 leads_heard width x [] = leads_none width x []
 leads_heard width x (line ∷ lines) =
     let more = leads_heard width (course_after width x (one.Hear line)) lines in
     record { turns = λ es h. (refl, more.turns es h); reached = more.reached; behind = more.behind }
 
--- the events of lines that are fed lead to the course that has heard these lines
+-- the events of lines that are fed lead to the course that has heard these lines, if the client is new unless it has synchronized
 leads_feed : (width : ℕ) (x : Course Asked) (left : List ℕ) (lines : List (List ℕ)) → IsIdle x left
     → Leads width x (course width x (map one.Hear lines)) left left (step_events left (map one.Hear lines))
 leads_feed width x [] lines idle = leads_heard width x lines
 leads_feed width x (asked ∷ later) lines idle = leads_idle width x _ (asked ∷ later) (idle_lines width x lines (idle (cons_not_nil asked later)))
 
--- the events of a moment lead to the course after it
+-- the events of a moment lead to the course after it, if the client is new unless it has synchronized
 leads_expire : (width : ℕ) (x : Course Asked) (left : List ℕ) (now : ℕ) → IsIdle x left
     → Leads width x (course_after width x (one.Expire now)) left left (step_events left (one.Expire now ∷ []))
 leads_expire width x [] now idle = record { turns = λ es h. (refl, h); reached = λ es. refl; behind = λ es. refl }
 leads_expire width x (asked ∷ later) now idle = leads_idle width x _ (asked ∷ later) (idle_moment width x now (idle (cons_not_nil asked later)))
 
--- the events of a restart lead to the course after it, and to the ids that are to be answered then
-leads_restart : (width : ℕ) (x : Course Asked) (left : List ℕ) → IsIdle x left → Leads width x (course_after width x one.Restart) left (left_by_restart left) (step_events left (one.Restart ∷ []))
+-- the events of a restart lead to the course after it, and to the ids that are to be answered then, if the client is new unless it has
+-- synchronized
+leads_restart : (width : ℕ) (x : Course Asked) (left : List ℕ) → IsIdle x left
+    → Leads width x (course_after width x one.Restart) left (left_by_restart left) (step_events left (one.Restart ∷ []))
 leads_restart width x [] idle = record { turns = λ es h. (refl, h); reached = λ es. refl; behind = λ es. refl }
 leads_restart width x (asked ∷ later) idle = leads_idle width x _ (asked ∷ later) (idle_restart width x (idle (cons_not_nil asked later)))
 
@@ -147,7 +149,8 @@ record Over (width : ℕ) (s : Stage) (calls : List Step) (t : Stage) : Type 0 w
   reached : t.reached ≡ course width s.reached (steps_among events)
   left : t.left ≡ left_among s.left events
 
--- calls that lead from stage s to stage t are events that lead from s to t (`Over`)
+-- calls that lead from stage s to stage t are events that lead from s to t (`Over`), if the client at s is a new one unless it has
+-- synchronized
 as_events : (width : ℕ) (s : Stage) (calls : List Step) (t : Stage) → IsIdle s.reached s.left → CallsReach width s calls t → Over width s calls t
 as_events width s [] t idle f = record { events = []; are = refl; turns = tt; reached = ap (λ (x : Stage). x.reached) f; left = ap (λ (x : Stage). x.left) f }
 as_events width s (Send target deadline procedure params ∷ calls) t idle (inl f) =

@@ -30,12 +30,13 @@ not_alone : {A : Type 0} → (◌≡◌ {A = ℕ} 6 0 × A) ⊎ ⊥ → ⊥
 not_alone (inl f) = absurd (omega (arith, f.0))
 not_alone (inr f) = f
 
--- after each request the instrument that counts retains its own reply
+-- after each request, also a raw one, the instrument that counts retains its own reply, or nothing
 counting_alike : TreatsRawsAlike counting AnyState kept_by
 counting_alike state id call good lt = inr (counted.keeps.always state id call good lt refl)
 
 -- the calls over an instrument that counts meet every premise of `EachAnswerIsOwn` (`AreInField`)
-over_counting : (raw : RawCall) → AreInField counting AnyState kept_by (record { count = 27; keeps = None }) chain.null_replies (raw_second raw) (Raw raw) chain.first_reply chain.second_reply
+over_counting : (raw : RawCall)
+    → AreInField counting AnyState kept_by (record { count = 27; keeps = None }) chain.null_replies (raw_second raw) (Raw raw) chain.first_reply chain.second_reply
 unfolding header_at reply_at digits
 over_counting raw =
     record {

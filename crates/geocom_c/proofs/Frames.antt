@@ -20,11 +20,11 @@ chosen_not_more false b l other e = let bad : Cleared ≡ More = e in cc
 chosen_not_more true true l other e = let bad : Overlong ≡ More = e in cc
 chosen_not_more true false l other e = other e
 
--- a line feed always makes a frame
+-- what a line feed makes of the bytes before it is never `More`
 pub never_more : (bs : List ℕ) → frame_of bs ≡ More → ⊥
 never_more bs e = chosen_not_more (ends_in_return bs) (nat_lt 512 (length bs - 1)) (Line (record { items = take (length bs - 1) bs })) (λ same. cc) e
 
--- a state stands for the same client with other bytes since the last line feed
+-- if a state stands for a client, then with another rest (`IsRest`) it stands for the same client with the bytes of that rest
 pub with_rest : (s : GeocomClient) (r : GeocomRest) (c : Windowed Asked) (old new : List ℕ) → StandsFor s c old → IsRest r new → StandsFor (record s { rest = r }) c new
 with_rest s r c old new is rest =
     record {

@@ -27,15 +27,16 @@ course_past width x Overlong = x
 course_past width x More = x
 
 -- the client after a frame is that of the course after it
-pub client_of_course : (width : ℕ) (x : Course Asked) (f : Frame) → client_past (record { width = width; ids = x.client }) f ≡ record { width = width; ids = (course_past width x f).client }
+pub client_of_course : (width : ℕ) (x : Course Asked) (f : Frame)
+    → client_past (record { width = width; ids = x.client }) f ≡ record { width = width; ids = (course_past width x f).client }
 client_of_course width x (Line line) = refl
 client_of_course width x Cleared = refl
 client_of_course width x Overlong = refl
 client_of_course width x More = refl
 
 -- hearing the lines of the frames f and `fs` is hearing f, and then the lines of `fs`
-frame_first : (width : ℕ) (x : Course Asked) (f : Frame) (fs : List Frame) → course width x (map one.Hear (filter_map line_in (f ∷ fs))) ≡ course width
-    (course_past width x f) (map one.Hear (filter_map line_in fs))
+frame_first : (width : ℕ) (x : Course Asked) (f : Frame) (fs : List Frame)
+    → course width x (map one.Hear (filter_map line_in (f ∷ fs))) ≡ course width (course_past width x f) (map one.Hear (filter_map line_in fs))
 frame_first width x (Line line) fs = refl
 frame_first width x Cleared fs = refl
 frame_first width x Overlong fs = refl
@@ -99,7 +100,8 @@ fed_all width x rest bytes left state f none =
     subst (λ (y : Course Asked). StandsFor state (record { width = width; ids = y.client }) (rest_behind rest bytes)) same
     (subst (λ (r : List ℕ). StandsFor state (record { width = width; ids = f.reached.client }) r) behind f.stands)
 
--- after a send, taken or refused by the rule, the state stands for the course that goes on with it
+-- after a send, taken or refused by the rule, the state stands for the client of the course after that send (`sent_on`), if
+-- before it the state stood for the client of the course x
 pub sent_course : (width : ℕ) (x : Course Asked) (rest : List ℕ) (call : Asked) (target : ℕ) (o : Option (Sending (ById Asked))) (sent : SendEffect)
     → StandsFor sent.old (record { width = width; ids = x.client }) rest → SendMeets (record { width = width; ids = x.client }) rest call o sent
     → StandsFor sent.new (record { width = width; ids = (sent_on x target call o).client }) rest

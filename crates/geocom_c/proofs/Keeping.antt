@@ -15,7 +15,7 @@ use Rattle.gc_lines.proofs.Keeping.{take-append, last-append}
 abbrev pub last_byte : List ℕ → ℕ
 last_byte t = get_or t (length t - 1) 0
 
--- which frame a line feed makes of more than 513 bytes depends on the last of them alone (13 is CR)
+-- of more than 513 bytes a line feed makes the frame `Overlong` if the last of them is CR (13), and else `Cleared`
 long_frame : (t : List ℕ) → 513 < length t → frame_of t ≡ (if last_byte t == 13 then Overlong else Cleared)
 long_frame t h = rw (lt-ltb 0 (length t) (omega (arith, h)), lt-ltb 512 (length t - 1) (omega (arith, h))) refl
 
@@ -34,8 +34,8 @@ cut_same t more h =
     ∙ ap (λ b. if b == 13 then Overlong else Cleared) (last_same u t more l)
     ∙ sym (long_frame (t ++ more) (omega (arith, h, length-append t more)))
 
--- the same bytes added to both of these texts make the same frame, whatever they are
-abbrev pub GoAlike : List ℕ → List ℕ → Type 0
+-- whatever bytes are added to both of these texts, the same frame comes of both
+abbrev pub GoAlike : (t rest : List ℕ) → Type 0
 GoAlike t rest = (more : List ℕ) → frame_of (t ++ more) ≡ frame_of (rest ++ more)
 
 -- where `GoAlike` holds of the bytes kept, `t`, and those that came, `rest`, it holds of both with the piece p after them
@@ -47,13 +47,14 @@ alike_all t p rest same more = ap frame_of (append_assoc t p more) ∙ same (p +
 pub alike_cut : (t p rest : List ℕ) → 513 < length (t ++ p) → GoAlike t rest → GoAlike (take 513 (t ++ p) ++ last_byte (t ++ p) ∷ []) (rest ++ p)
 alike_cut t p rest h same more = cut_same (t ++ p) more h ∙ alike_all t p rest same more
 
--- the first 513 bytes of `t` and then the piece p are known from the n bytes of p for which there is room
+-- where n bytes of the piece p fill the room for 514 after t, t with these bytes begins with the same 513 bytes as t with all of p
 filled : (t p : List ℕ) (n : ℕ) → length t ≤ 514 → n ≡ 514 - length t → n ≤ length p → take 513 (t ++ take n p) ≡ take 513 (t ++ p)
 filled t p n short room fits = take-append 513 t (take n p) ∙ ap (λ xs. take 513 t ++ xs) (take-take (513 - length t) n p (omega (arith, room))) ∙ sym (take-append 513 t p)
 
+-- a piece `p` comes after the n bytes `t` that are kept, neither of which has a line feed, and f more bytes are kept, in the room `bytes`;
+-- `t` goes on as `rest` does, which came since the last line feed (`GoAlike`)
 module _ (bytes t p rest : List ℕ) (n f : ℕ) (is : n ≡ length t) (clean : All (λ b. b ≢ 10) t) (cleanly : All (λ b. b ≢ 10) p) (same : GoAlike t rest) where
-  -- if all of the piece `p` was kept, its f bytes after the n bytes `t` that were kept before, what is retained stands for all
-  -- bytes that came since the last line feed, `rest` and then `p`
+  -- if all of the piece was kept, what is retained stands for all bytes that came since the last line feed, `rest` and then `p`
   pub all_rest : n + f ≤ 514 → take (n + f) bytes ≡ t ++ p → IsRest (record { length = n + f; bytes = bytes }) (rest ++ p)
   all_rest short text =
       record {
@@ -61,9 +62,10 @@ module _ (bytes t p rest : List ℕ) (n f : ℕ) (is : n ≡ length t) (clean : 
         same = λ more. ap (λ u. frame_of (u ++ more)) text ∙ alike_all t p rest same more;
       }
 
-  -- if the first f bytes of the piece `p` were kept, as many as there was room for, and its last byte in the last place, what
-  -- is retained stands for all bytes that came since the last line feed, `rest` and then `p`
-  pub cut_rest : (last : ℕ) (short : n ≤ 514) (room : f ≡ 514 - n) (more : f < length p) (text : take (n + f) bytes ≡ t ++ take f p) (within : 513 < length bytes)
+  -- if the first f bytes of the piece were kept, as many as there was room for, and its last byte in the last place, 513, what is retained
+  -- stands for all bytes that came since the last line feed, `rest` and then `p`
+  pub cut_rest : (last : ℕ) (short : n ≤ 514) (room : f ≡ 514 - n) (more : f < length p) (text : take (n + f) bytes ≡ t ++ take f p)
+      (within : 513 < length bytes)
       → last ≡ last_byte p → IsRest (record { length = n + f; bytes = slice_set bytes 513 last }) (rest ++ p)
   cut_rest last short room more text within e =
       let sum : n + f ≡ 514 = omega (arith, short, room) in

@@ -5,11 +5,10 @@ use Rattle.std.proofs.Common.{ℕ, ◌≤◌, List, [], ◌∷◌, Option, refl}
 use Rattle.gc_instrument.specs.State.{KeptReply}
 use Rattle.gc_field.specs.World.{Ends}
 use Rattle.gc_field.specs.Begin.{IsWellFormed, UnderWay}
-use Rattle.gc_field.specs.Beginnings.{AreFewKilled, AreRuns, HasRisingIds, Run, killed_if, left_by_run, after_turns}
+use Rattle.gc_field.specs.Beginnings.{AreFewKilled, AreRuns, HasRisingIds, Run, killed_if, left_by_run, left_by_runs, after_turns}
 use Rattle.gc_field.specs.Instrument.{IsAnInstrument}
 use Rattle.gc_field.proofs.BegunRuns.{IsShort, run_result, short_rising, short_word}
 use Rattle.geocom_c.specs.Laws.{MayBegin}
-use Rattle.geocom_c.specs.Runs.{left_by_runs}
 
 module _ {State : Type 0} (ends : Ends State) (Good : State → Type 0) (kept : State → Option KeptReply) (is : IsAnInstrument ends Good kept) (width : ℕ) (narrow : width ≤ 7) where
   -- where what is in flight is what n runs in a row, killed while they synchronized, may leave (`IsShort n`), the word isn't in

@@ -1,26 +1,18 @@
 -- Bytes without a line feed.
-use Rattle.std.proofs.Common.{◌≡◌, ◌≢◌, ℕ, ◌≤◌, Bool, true, false, not, cond, List, length, get_or, All, Some, None, refl, arith, ltb, eq-eqb}
+use Rattle.std.proofs.Common.{◌≡◌, ◌≢◌, ℕ, ◌≤◌, true, false, cond, List, length, get_or, All, Some, None, refl, arith, ltb}
 use Rattle.std.specs.List.{prefix_len, position}
-use Rattle.std.proofs.lemmas.Bool.{ltb-true, ltb-false, eqb-true}
+use Rattle.std.proofs.lemmas.Bool.{ltb-true, ltb-false, eqb-true, eqb-false, not-true, not-false}
 use Rattle.std.proofs.lemmas.List.Sums.{prefix_len_passes, prefix_len_stops}
 use Rattle.gc_lines.specs.Frames.{is_line_feed}
 use Rattle.gc_lines.proofs.Cutting.{goes_on}
 
 -- a byte at which the search stops is a line feed
 is_feed : (b : ℕ) → goes_on b ≡ false → b ≡ 10
-is_feed b e = eqb-true b 10 (flip (is_line_feed b) e) where
-  -- if the negation of a test doesn't hold, the test does
-  flip : (v : Bool) → not v ≡ false → v ≡ true
-  flip true e = refl
-  flip false e = cc
+is_feed b e = eqb-true b 10 (not-false (is_line_feed b) e)
 
 -- a byte at which the search goes on is no line feed
 no_feed : (b : ℕ) → goes_on b ≡ true → b ≢ 10
-no_feed b e same = clash (is_line_feed b) e (eq-eqb b 10 same) where
-  -- a test and its negation don't both hold
-  clash : (v : Bool) → not v ≡ true → v ≡ true → ⊥
-  clash true e t = cc
-  clash false e t = cc
+no_feed b e = eqb-false b 10 (not-true (is_line_feed b) e)
 
 -- in bytes without a line feed none is found
 pub clean_none : (xs : List ℕ) → All (λ b. b ≢ 10) xs → position is_line_feed xs ≡ None

@@ -15,16 +15,11 @@ use Rattle.gc_field.specs.World.{Ends, Sent}
 use Rattle.gc_field.specs.Begin.{leaves}
 use Rattle.gc_field.specs.Begun.{IsFaithful}
 use Rattle.gc_field.specs.Laws.{asked}
-use Rattle.gc_field.proofs.Among.{get_drop}
+use Rattle.gc_field.proofs.Among.{each_at, get_drop}
 use Rattle.geocom_c.specs.Laws.{IsOwnAnswer, IsSafeRun}
 use Rattle.geocom_c.specs.Runs.{Part, begun_at, world}
 
--- what holds of the item at each place holds of all
-all_of_places : {A : Type 0} (P : A → Type 0) (xs : List A) → ((m : ℕ) (x : A) → slice_get xs m ≡ Some x → P x) → AllByRecursion P xs
-all_of_places P [] f = tt
-all_of_places P (x ∷ xs) f = (f 0 x refl, all_of_places P xs (λ m y e. f (suc m) y e))
-
--- a request and a settlement with one target and call ask the same
+-- a request and a settlement with the same target and call ask the same
 same_asked : (r : Sent) (s : Settlement Asked) → s.target ≡ r.target → s.call ≡ r.call → asked r ≡ of_settled s
 same_asked r s t c = rw (t, c) refl
 
@@ -60,7 +55,7 @@ module _ {State : Type 0} (width : ℕ) (ends : Ends State) (Good : State → Ty
   -- this run, if the run's commands are safe
   pub own_here : (p : Part State) (ps : List (Part State)) → IsFaithful width ends (leaves (begun_at ends p)) p.run.moves Good kept
       → IsSafeRun width ends Good kept p → AllByRecursion (IsOwnAnswer width ends Good kept (p ∷ ps)) (drop 8 (world width ends p).wire.settled)
-  own_here p ps f safe = all_of_places (IsOwnAnswer width ends Good kept (p ∷ ps)) (drop 8 (world width ends p).wire.settled)
+  own_here p ps f safe = each_at (IsOwnAnswer width ends Good kept (p ∷ ps)) (drop 8 (world width ends p).wire.settled)
       (λ m x e. own_at_place p ps f safe (8 + m) x (omega arith) (get_drop 8 m (world width ends p).wire.settled x e))
 
   -- an answer of a later run is its own request's in the list with one more run before it, too
@@ -83,7 +78,7 @@ module _ {State : Type 0} (width : ℕ) (ends : Ends State) (Good : State → Ty
         made_on = o.made_on;
       }
 
-  -- what is lost is no answer
+  -- the settlements of lost requests are as `IsOwnAnswer` asks, because none of them is an answer
   pub none_answered : (ps : List (Part State)) (lost_ones : List (Pending Asked)) → AllByRecursion (IsOwnAnswer width ends Good kept ps) (map lost lost_ones)
   none_answered ps [] = tt
   none_answered ps (p ∷ lost_ones) = ((λ line is. absurd (clash line is)), none_answered ps lost_ones) where

@@ -3,13 +3,13 @@
 -- eight null procedures, and `left` those of them that aren't answered. `ends` is the instrument, `Good` the states that it may
 -- be in, and `kept` the reply that it retains. `Turned` says which events a synchronization's turns are, `Begins` and `Passes`
 -- that a run has synchronized cleanly, and `Holds` what the law promises of runs.
-use Rattle.std.proofs.Common.{◌≡◌, ℕ, ◌≤◌, List, [], ◌∷◌, ◌++◌, map, drop, Option, Some, None, refl, sym, ◌∙◌, ap, subst, append_assoc}
+use Rattle.std.proofs.Common.{◌≡◌, ℕ, ◌≤◌, List, [], ◌∷◌, ◌++◌, map, drop, Option, refl, sym, ◌∙◌, ap, subst, append_assoc}
 use Rattle.std.proofs.lemmas.List.{append-nil}
 use Rattle.std.specs.List.{AllByRecursion}
 use Rattle.gc_catalogue.specs.declared.asked.Asked.{Asked}
 use Rattle.gc_client.specs.Beginning.{the_word}
-use Rattle.gc_client.specs.OneForOne.{Step, Send, Hear, Expire, Restart, Course, begun, sent_on, settled_on, course_after, course}
-use Rattle.gc_client.specs.Rule.{ById, Sending, Settled, Settlement, sends, heard, hears, expires, restarts, lost}
+use Rattle.gc_client.specs.OneForOne.{Step, Restart, Course, begun, settled_on, course}
+use Rattle.gc_client.specs.Rule.{ById, Settlement, restarts, lost}
 use Rattle.gc_instrument.specs.State.{KeptReply}
 use Rattle.gc_world.specs.Clients.{by_ids}
 use Rattle.gc_station.proofs.Behind.{course_append}
@@ -23,7 +23,7 @@ use Rattle.gc_field.specs.Field as field
 use Rattle.gc_field.specs.Instrument.{IsAnInstrument}
 use Rattle.gc_field.proofs.BeginJoin.{begins_cleanly, left_lines}
 use Rattle.gc_field.proofs.BeginWords.{cons_not_nil}
-use Rattle.gc_field.proofs.BegunFaithful.{faithful}
+use Rattle.gc_field.proofs.BegunFaithful.{faithful, prefixed_all}
 use Rattle.gc_field.proofs.BegunRuns.{clean_lines}
 use Rattle.gc_field.proofs.BegunRising.{rising_lack_the_word, runs_leave_rising_ids, runs_leave_good}
 use Rattle.geocom_c.specs.Following.{CallsReach, Stage, opened}
@@ -34,41 +34,6 @@ use Rattle.geocom_c.specs.declared.following.Step as call
 use Rattle.geocom_c.proofs.Courses.{over_events}
 use Rattle.geocom_c.proofs.Owning.{later_own, none_answered, own_here}
 
--- Two courses, one of which settled more before (`Behind`).
-
--- course x is course y with the settlements `old` before it: the same client, and settlements that are `old` and then those of
--- y
-record Behind (old : List (Settlement Asked)) (x y : Course Asked) : Type 0 where
-  settled : x.settlements ≡ old ++ y.settlements
-  client : x.client ≡ y.client
-
--- if `Behind` holds of two courses, it still does after both send
-behind_send : (old : List (Settlement Asked)) (x y : Course Asked) (target : ℕ) (call : Asked) (o : Option (Sending (ById Asked))) → Behind old x y
-    → Behind old (sent_on x target call o) (sent_on y target call o)
-behind_send old x y target call None h = h
-behind_send old x y target call (Some s) h = record { settled = h.settled; client = refl }
-
--- if `Behind` holds of two courses, it still does after both settle the same
-behind_settled : (old : List (Settlement Asked)) (x y : Course Asked) (s : Settled Asked (ById Asked)) → Behind old x y → Behind old (settled_on x s) (settled_on y s)
-behind_settled old x y s h = record { settled = ap (λ l. l ++ s.settlements) h.settled ∙ append_assoc old y.settlements s.settlements; client = refl }
-
--- if `Behind` holds of two courses, it still does after both make one step
-behind_step : (width : ℕ) (old : List (Settlement Asked)) (x y : Course Asked) (step : Step Asked) → Behind old x y → Behind old (course_after width x step) (course_after width y step)
-behind_step width old x y (Send target call deadline) h =
-    subst (λ c. Behind old (sent_on x target call (sends width c target call deadline)) (sent_on y target call (sends width y.client target call deadline))) (sym h.client)
-    (behind_send old x y target call (sends width y.client target call deadline) h)
-behind_step width old x y (Hear line) h =
-    subst (λ c. Behind old (settled_on x (hears c line (heard line))) (settled_on y (hears y.client line (heard line)))) (sym h.client)
-    (behind_settled old x y (hears y.client line (heard line)) h)
-behind_step width old x y (Expire now) h = record { settled = h.settled; client = ap (λ c. expires c now) h.client }
-behind_step width old x y Restart h =
-    subst (λ c. Behind old (settled_on x (restarts c)) (settled_on y (restarts y.client))) (sym h.client) (behind_settled old x y (restarts y.client) h)
-
--- if `Behind` holds of two courses, it still does after both make these steps
-behind_all : (width : ℕ) (old : List (Settlement Asked)) (steps : List (Step Asked)) (x y : Course Asked) → Behind old x y → Behind old (course width x steps) (course width y steps)
-behind_all width old [] x y h = h
-behind_all width old (step ∷ steps) x y h = behind_all width old steps _ _ (behind_step width old x y step h)
-
 -- Steps among events.
 
 -- the steps among events that begin with `steps` are these, and then those among the other events
@@ -76,12 +41,12 @@ steps_in_front : (steps : List (Step Asked)) (es : List Event) → steps_among (
 steps_in_front [] es = refl
 steps_in_front (step ∷ steps) es = ap (λ l. step ∷ l) (steps_in_front steps es)
 
--- no step comes before the eighth answer
+-- where an id isn't answered yet, and events in their turn begin with `steps`, `steps` is empty
 no_step : (asked : ℕ) (later : List ℕ) (steps : List (Step Asked)) (es : List Event) → AreInTurn (asked ∷ later) (map Stepped steps ++ es) → steps ≡ []
 no_step asked later [] es h = refl
 no_step asked later (step ∷ steps) es h = absurd (cons_not_nil asked later h.0)
 
--- no restart comes before the eighth answer, as a step
+-- where an id isn't answered yet, no events in their turn begin with `steps` and then a restart
 no_restart : (asked : ℕ) (later : List ℕ) (steps : List (Step Asked)) (es : List Event) → AreInTurn (asked ∷ later) (map Stepped steps ++ Stepped Restart ∷ es) → ⊥
 no_restart asked later [] es h = cons_not_nil asked later h.0
 no_restart asked later (step ∷ steps) es h = cons_not_nil asked later h.0
@@ -128,22 +93,23 @@ module _ {State : Type 0} (width : ℕ) (ends : Ends State) where
         steps = λ es. refl;
       }
 
-  -- a null procedure that is sent leaves the ids as its event does
+  -- the event of a null procedure that is sent, while the ids `left` aren't answered, goes with the turn that sends it; where
+  -- `left` is empty, none is sent, and there is no event
   turned_asked : (s : Model State) (left : List ℕ) → Turned s (asks s left) (null_of left)
   turned_asked s [] = turned_same s s refl
   turned_asked s (asked ∷ later) = record { turns = λ es h. h; left = λ es. refl; steps = λ es. refl }
 
-  -- a line that comes leaves the ids as its event does
+  -- the event that the front reply of `down` comes goes with the turn in which it comes; where `down` is empty, there is no event
   turned_front : (s : Model State) (down : List (InFlight (List ℕ))) → Turned s (comes s down) (came_of down)
   turned_front s [] = turned_same s s refl
   turned_front s (x ∷ rest) = record { turns = λ es h. h; left = λ es. refl; steps = λ es. refl }
 
-  -- a request that reaches the instrument answers nothing
+  -- a request that reaches the instrument, or none, leaves the ids that aren't answered as they were
   reached_left : (s : Model State) (up : List (InFlight Request)) → (reaches ends s up).left ≡ s.left
   reached_left s [] = refl
   reached_left s (x ∷ rest) = refl
 
-  -- one turn of a synchronization leaves the ids as its events do
+  -- the events of one turn of a synchronization go with that turn (`Turned`)
   turned_one : (s : Model State) (t : Turn State) → Turned s (turns ends s t) (event_of s t)
   turned_one s Asks = turned_asked s s.left
   turned_one s Comes = turned_front s s.down
@@ -156,7 +122,7 @@ module _ {State : Type 0} (width : ℕ) (ends : Ends State) where
   turned_one s Anew = turned_same s _ refl
   turned_one s (Changes state) = turned_same s _ refl
 
-  -- the turns of a synchronization leave the ids as their events do
+  -- the events of turns of a synchronization go with these turns (`Turned`)
   turned_all : (ts : List (Turn State)) (s : Model State) → Turned s (turned ends ts s) (events_of ends s ts)
   turned_all [] s = turned_same s s refl
   turned_all (t ∷ ts) s =
@@ -293,7 +259,8 @@ module _ {State : Type 0} (width : ℕ) (ends : Ends State) where
         let z = settled_on x (restarts x.client) in
         let all = p ∷ next ∷ others in
         let same = front.steps tail ∙ steps_in_front steps (Stepped Restart ∷ rest) in
-        let on = behind_all width z.settlements later z begun (record { settled = sym (append-nil z.settlements); client = refl }) in
+        let on = prefixed_all width z.sent z.settlements later z begun
+        (record { sent = sym (append-nil z.sent); settled = sym (append-nil z.settlements); client = refl }) in
         let here : z.settlements ≡ drop 8 w.wire.settled ++ map lost w.client.waiting =
         ap (λ l. l ++ map lost x.client.waiting) (sym (ap (drop 8) f.settled)) ∙ ap (λ (c : ById Asked). drop 8 w.wire.settled ++ map lost c.waiting) f.stands in
         let over : settled_over width ends all ≡ (drop 8 w.wire.settled ++ map lost w.client.waiting) ++ settled_over width ends (next ∷ others) =
@@ -321,8 +288,8 @@ module _ {State : Type 0} (width : ℕ) (ends : Ends State) where
           each = (subst (λ l. IsOwnIf width ends Good kept l s p.run.moves) (sym e) pass.begins.own, more.each);
         }
 
-    -- `Holds` is true of all runs, one after the other, if the word isn't in flight at first, the runs are possible and safe, and
-    -- their events come in their turn
+    -- `Holds` is true of all runs, one after the other, if what is in flight at first is well-formed and hasn't the word in it,
+    -- the runs are possible and safe, and their events come in their turn
     all_hold : (rs : List (Run State)) (u : UnderWay State) (lines : IsWellFormed Good u) (may : MayBegin u) (possible : ArePossibleRuns width ends Good kept u rs)
         (safe : AllByRecursion (IsSafeRun width ends Good kept) (parts width ends u rs))
         → AreInTurn the_word (events_over width ends u rs) → Holds (parts width ends u rs) (events_over width ends u rs)

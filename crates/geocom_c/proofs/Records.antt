@@ -39,8 +39,8 @@ few_values (answer.Angles hz v) = omega arith
 few_values (answer.Measured hz v d) = omega arith
 few_values (answer.MeasuredMode hz v d m) = omega arith
 
--- the items of a reply's parameters, which are at most 16, are listed where its line was written to the text (`IsListedLine`): as
--- many as the record says
+-- where a reply's line was written to the text (`IsListedLine`), and the items of its parameters are at most 16 and read as
+-- `AreReadAs` says, they are listed, as many as the record says (`AreListed`)
 listed : (asked : Asked) (answer : Answer) (text line : List ℕ) (count items : ℕ) (places : List GeocomItem) (reply : ReplyFields) (xs : List (List ℕ))
     (told : IsListedLine text count places line) (is : IsReply line reply) (split : IsParams reply.params xs) (few : length xs ≤ 16)
     (read : AreReadAs asked answer xs) (same : items ≡ count) → AreListed asked answer items places text reply.params
@@ -48,7 +48,8 @@ listed asked answer text line count items places reply xs told is split few read
     let stand = told.listed reply xs is split few in
     record { items = xs; split = split; read = read; counted = same ∙ stand.counted; stand = stand.stand }
 
--- a value of a call, or of a procedure that isn't in the table, has its items listed
+-- where a reply's line was written to the text (`IsListedLine`), and the reply reads as a value of what was asked, the items of
+-- its parameters are listed, as many as the record says (`AreListed`)
 value_listed : (asked : Asked) (answer : Answer) (text line : List ℕ) (count items : ℕ) (places : List GeocomItem) (reply : ReplyFields)
     → IsListedLine text count places line → IsReply line reply → IsAskedReading asked reply (Value answer) → items ≡ count
     → AreListed asked answer items places text reply.params
@@ -59,9 +60,9 @@ value_listed (Table call) answer text line count items places reply told is read
 value_listed (Raw raw) answer text line count items places reply told is reads same =
     listed (Raw raw) answer text line count items places reply reads.2.0 told is reads.2.1 reads.2.2 tt same
 
--- the record r of a reply, whose line was written to the text (`IsListedLine`), has what the reply says (`HasReading`): numbers for
--- its kind and code, and the places of its values in the text. It has as many items as were listed if its reading is 1 (a value), and
--- none if it is 2 or more
+-- the record r of a reply, whose line was written to the text (`IsListedLine`), has what the reply says (`HasReading`), if its
+-- reading and its code are those of the reply (`IsKind`), and it has as many items as were listed if its reading is 1 (a value),
+-- and none if it is 2 or more
 pub has_reading : (r : GeocomSettlement) (text line : List ℕ) (count : ℕ) (asked : Asked) (reply : ReplyFields) (reading : Reading)
     (told : IsListedLine text count r.places line) (is : IsReply line reply) (reads : IsAskedReading asked reply reading)
     (kind : IsKind reading r.reading r.code) (some : r.reading ≡ 1 → r.items ≡ count)
@@ -114,32 +115,33 @@ pub more_record : (text more : List ℕ) (r : GeocomSettlement) (s : Settlement 
 more_record text more r s is = record { target = is.target; procedure = is.procedure; outcome = more_outcome text more r s.call s.outcome is.outcome }
 
 -- a request that a line settles, late (b) or answered, has this line if it is answered
-met_by : (p : Pending Asked) (line : List ℕ) (b : Bool) → AnswerHasLine line (if b then Rule.Late else Rule.Answered line)
-met_by p line true = tt
-met_by p line false = refl
+met_has_line : (p : Pending Asked) (line : List ℕ) (b : Bool) → AnswerHasLine line (if b then Rule.Late else Rule.Answered line)
+met_has_line p line true = tt
+met_has_line p line false = refl
 
 -- each request that a line answers, among those that are settled up to place k, has this line
-settle_by : (k : ℕ) (line : List ℕ) (ps : List (Pending Asked)) → AnswersHaveLine line (settle k line ps)
-settle_by k line [] = tt
-settle_by zero line (p ∷ ps) = (met_by p line p.given_up, tt)
-settle_by (suc k) line (p ∷ ps) = (tt, settle_by k line ps)
+settled_have_line : (k : ℕ) (line : List ℕ) (ps : List (Pending Asked)) → AnswersHaveLine line (settle k line ps)
+settled_have_line k line [] = tt
+settled_have_line zero line (p ∷ ps) = (met_has_line p line p.given_up, tt)
+settled_have_line (suc k) line (p ∷ ps) = (tt, settled_have_line k line ps)
 
 -- if a line has the id of place k, each request that the client settles by it as answered has this line, whether a request is
 -- outstanding at that place (b) or not
-chosen_by : (c : ById Asked) (line : List ℕ) (k : ℕ) (b : Bool) → AnswersHaveLine line (id_settled c line k b).settlements
-chosen_by c line k true = settle_by k line c.waiting
-chosen_by c line k false = tt
+chosen_have_line : (c : ById Asked) (line : List ℕ) (k : ℕ) (b : Bool) → AnswersHaveLine line (id_settled c line k b).settlements
+chosen_have_line c line k true = settled_have_line k line c.waiting
+chosen_have_line c line k false = tt
 
 -- each request that a client settles by a line as answered has this line
-pub hears_by : (c : ById Asked) (line : List ℕ) (id : Option ℕ) → AnswersHaveLine line (hears c line id).settlements
-hears_by c line None = tt
-hears_by c line (Some id) = chosen_by c line (place_in c id) _
+pub heard_have_line : (c : ById Asked) (line : List ℕ) (id : Option ℕ) → AnswersHaveLine line (hears c line id).settlements
+heard_have_line c line None = tt
+heard_have_line c line (Some id) = chosen_have_line c line (place_in c id) _
 
 -- if each of these settlements that is an answer has this line, so has the one at place k
-pub by_at : (line : List ℕ) (ss : List (Settlement Asked)) (k : ℕ) (s : Settlement Asked) → AnswersHaveLine line ss → slice_get ss k ≡ Some s → AnswerHasLine line s.outcome
-by_at line [] k s are e = cc
-by_at line (a ∷ ss) zero s are e = let same : a ≡ s = cc in subst (λ (x : Settlement Asked). AnswerHasLine line x.outcome) same are.0
-by_at line (a ∷ ss) (suc k) s are e = by_at line ss k s are.1 e
+pub has_line_at : (line : List ℕ) (ss : List (Settlement Asked)) (k : ℕ) (s : Settlement Asked) → AnswersHaveLine line ss
+    → slice_get ss k ≡ Some s → AnswerHasLine line s.outcome
+has_line_at line [] k s are e = cc
+has_line_at line (a ∷ ss) zero s are e = let same : a ≡ s = cc in subst (λ (x : Settlement Asked). AnswerHasLine line x.outcome) same are.0
+has_line_at line (a ∷ ss) (suc k) s are e = has_line_at line ss k s are.1 e
 
 -- among the settlements of lost requests, the one at place k has the outcome `Lost`
 pub lost_at : (ps : List (Pending Asked)) (k : ℕ) (s : Settlement Asked) → slice_get (map lost ps) k ≡ Some s → s.outcome ≡ Rule.Lost
@@ -147,7 +149,7 @@ lost_at [] k s e = cc
 lost_at (p ∷ ps) zero s e = let same : lost p ≡ s = cc in sym (ap (λ (x : Settlement Asked). x.outcome) same)
 lost_at (p ∷ ps) (suc k) s e = lost_at ps k s e
 
--- a reply whose id is that of an outstanding request has the kind 1, of a line that settled, and the number 0
+-- a reply whose id is that of an outstanding request has the kind 1, of a line that settled, and the fault number 0
 pub settling : (c : ById Asked) (r : Result ReplyFields LineFault) → fits c (id_in r) ≡ true → (1 ≡ line_kind r (fits c (id_in r))) × (0 ≡ fault_number_in r)
 settling c (Ok reply) e = (rw e refl, refl)
 settling c (Err f) e = absurd (false≢true e)

@@ -1,7 +1,6 @@
--- When what calls on a state send is safe: if a request that is no call of the table is to the instrument as all others, and if
--- each call sends what is in the table. An event is a null procedure that is sent, a line that comes, or a step of a client; a
--- run is the turns of a synchronization and then the moves of the field, and a part is a run with what was in flight when it
--- began.
+-- When what calls on a state send is safe: either if a request that is no call of the table is to the instrument as all others,
+-- or if no call sends a raw request. An event is a null procedure that is sent, a line that comes, or a step of a client; a run
+-- is the turns of a synchronization and then the moves of the field, and a part is a run with what was in flight when it began.
 use Rattle.std.proofs.Common.{◌≡◌, ℕ, true, List, [], ◌∷◌, ◌++◌, map, Option, Some, None, refl, sym, subst, inl, inr}
 use Rattle.std.specs.List.{AllByRecursion}
 use Rattle.gc_catalogue.specs.Asked.{is_of_table}
@@ -42,7 +41,7 @@ came_in_table : (lines : List (List ℕ)) → AreInTable (map Came lines)
 came_in_table [] = tt
 came_in_table (line ∷ lines) = (tt, came_in_table lines)
 
--- a null procedure that is sent is a call of the table
+-- a null procedure that is sent, or none, asks for nothing but a call of the table
 null_in_table : (o : Option (List ℕ)) → AreInTable (ask_events o)
 null_in_table None = tt
 null_in_table (Some line) = (tt, tt)
@@ -74,7 +73,7 @@ restarted_in_table : (left : List ℕ) → AreInTable (step_events left (one.Res
 restarted_in_table [] = (tt, tt)
 restarted_in_table (asked ∷ later) = tt
 
--- calls on a state that send what is in the table are events that ask for that alone
+-- calls on a state of which none sends a raw request are events that ask for calls of the table alone
 calls_in_table : (left rest : List ℕ) (calls : List Step) (events : List Event) → AreOfTheTable calls → AreEvents left rest calls events → AreInTable events
 calls_in_table left rest [] events t e = subst (λ (es : List Event). AreInTable es) (sym e) tt
 calls_in_table left rest (Send target deadline procedure params ∷ calls) events t (inl f) =
@@ -128,7 +127,7 @@ module _ {State : Type 0} (width : ℕ) (ends : Ends State) (Good : State → Ty
       let own = all_front IsInTable (map Stepped (seen r.moves)) later rest in
       ((λ m command went. inl (table_moves r.moves own)), table_safe (next ∷ others) after (all_behind IsInTable (map Stepped (seen r.moves)) later rest).1)
 
-  -- if each call on a state sends what is in the table, the runs whose events these calls are are safe
+  -- if no call on a state sends a raw request, each run whose events the calls are is safe
   pub calls_safe : (calls : List Step) (u : UnderWay State) (rs : List (Run State)) → AreOfTheTable calls
       → AreEvents the_word [] calls (events_over width ends u rs) → AllByRecursion (IsSafeRun width ends Good kept) (parts width ends u rs)
   calls_safe calls u rs t are = table_safe rs u (calls_in_table the_word [] calls (events_over width ends u rs) t are)

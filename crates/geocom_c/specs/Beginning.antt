@@ -35,8 +35,8 @@ given_unless true after = None
 given_unless false after = asks after
 
 -- the line that is sent after these bytes, by the ids that aren't answered before and after them. Without bytes it is the null
--- procedure that is asked for, the first time or again; if one was answered, it is the next one; otherwise, and once the client
--- has synchronized, none is sent
+-- procedure that is asked for, the first time or again; if the bytes answer any, it is the next one; otherwise, and once the
+-- client has synchronized, none is sent
 abbrev pub given : (bytes before after : List ℕ) → Option (List ℕ)
 given [] before after = asks after
 given (byte ∷ bytes) before after = given_unless (nat_eq (length before) (length after)) after
@@ -72,13 +72,13 @@ ReportsBegun told state = told.fault ≡ 0 → (told.has_begun ≡ 1) ↔ (left_
 abbrev pub unbegun_with : (fault : ℕ) → GeocomBeginning
 unbegun_with fault = record { fault = fault; count = 0; answered = 0; has_begun = 0 }
 
--- a call that returned `told`: after a fault all other numbers are 0, the state is `new` as it was `old`, and the room for the line is
--- `after` as it was `before`
+-- a call that returned `told`: after a fault all other numbers are 0, and the call changed neither the state (`old` before it,
+-- `new` after) nor the room for the line (`before` and `after`)
 abbrev pub BeginFaultLeavesAll : GeocomBeginning → (old new : GeocomClient) → (before after : List ℕ) → Type 0
 BeginFaultLeavesAll told old new before after = told.fault ≢ 0 → (told ≡ unbegun_with told.fault) × (new ≡ old) × (after ≡ before)
 
--- no part of a promise: if `bytes` have no line feed, all are used, `new` keeps them after what `old` keeps of a line, and the ids that
--- aren't answered are `after` as they were `before`
+-- no part of a promise: if `bytes` have no line feed, all are used, `new` keeps them after what `old` keeps of a line, and the ids
+-- that aren't answered are the same before and after (`before`, `after`)
 abbrev pub KeepsUnended : (bytes : List ℕ) → (used : ℕ) → (old new : GeocomRest) → (before after : List ℕ) → Type 0
 KeepsUnended bytes used old new before after =
     (r : List ℕ) → IsRest old r → position is_line_feed bytes ≡ None → (used ≡ length bytes) × IsRest new (r ++ bytes) × (after ≡ before)

@@ -11,8 +11,8 @@ use Rattle.geocom_c.specs.declared.state.GeocomClient.{GeocomClient}
 abbrev pub earliest_in : GeocomDeadline → Option ℕ
 earliest_in d = if nat_eq d.is_set 1 then Some d.deadline else None
 
--- a client was handed the moment `now`: the state is then the rule's, and the targets of the requests that time out are at the
--- front of `targets`, as many as `told` counts
+-- the client `c`, with the bytes `rest` since the last line feed, was handed the moment `now`: the state is then the rule's, and
+-- the targets of the requests that time out are at the front of `targets`, as many as `told` counts
 abbrev pub HasExpired : Windowed Asked → (rest : List ℕ) → (now : ℕ) → (state : GeocomClient) → (told : GeocomCount) → (targets : List ℕ) → Type 0
 HasExpired c rest now state told targets =
     (told.fault ≡ 0) × StandsFor state (record c { ids = expires c.ids now }) rest
@@ -28,7 +28,7 @@ abbrev pub ReportsEarliest : GeocomClient → GeocomDeadline → Type 0
 ReportsEarliest state told =
     (c : Windowed Asked) (rest : List ℕ) → StandsFor state c rest → (told.fault ≡ 0) × IsEarliest (deadlines c.ids.waiting) (earliest_in told)
 
--- a record of plain fields that holds no deadline has 0 in both
+-- a record of plain fields that holds no deadline has 0 as `is_set` and as `deadline`
 abbrev pub IsBlankIfUnset : GeocomDeadline → Type 0
 IsBlankIfUnset told = told.is_set ≢ 1 → (told.is_set ≡ 0) × (told.deadline ≡ 0)
 

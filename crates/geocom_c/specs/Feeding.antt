@@ -31,7 +31,7 @@ line_kind (Ok reply) true = SETTLED
 line_kind (Ok reply) false = STRAY
 line_kind (Err fault) fit = UNREAD
 
--- the kind of a frame
+-- the kind of a frame, for the client `c`
 abbrev pub frame_kind : Windowed Asked → Frame → ℕ
 frame_kind c (Line line) = line_kind (reply_at line.items) (fits c.ids (heard line.items))
 frame_kind c Cleared = CLEARED
@@ -85,11 +85,13 @@ pub record IsFed (c : Windowed Asked) (frame : Frame) (r : GeocomHeard) (records
 abbrev pub unended : (used : ℕ) → GeocomHeard
 unended used = record { used = used; fault = 0; count = 0; kind = MORE; line_fault = 0 }
 
--- a frame was fed, by this many bytes, and after it no byte is left of a line
-abbrev pub FeedsFrame : Windowed Asked → Frame → (used : ℕ) → (state : GeocomClient) → GeocomHeard → (records : List GeocomSettlement) → (text : List ℕ) → Type 0
+-- a frame was fed to the client `c`, by `used` bytes: what was returned, the records and the text are as `IsFed` has it, and the state is
+-- that of the client after the frame, with no byte of a line
+abbrev pub FeedsFrame : Windowed Asked → Frame → (used : ℕ) → (state : GeocomClient) → GeocomHeard
+    → (records : List GeocomSettlement) → (text : List ℕ) → Type 0
 FeedsFrame c frame used state r records text = (r.used ≡ used) × IsFed c frame r records text × StandsFor state (client_past c frame) []
 
--- a client was restarted: the state is then the rule's, and each request that was outstanding has a record
+-- a client was restarted: the state is then the rule's, with no byte of a line, and each request that was outstanding has a record
 abbrev pub HasRestarted : Windowed Asked → (state : GeocomClient) → (told : GeocomCount) → (records : List GeocomSettlement) → Type 0
 HasRestarted c state told records =
     (told.fault ≡ 0) × StandsFor state (record c { ids = (restarts c.ids).client }) []
@@ -103,12 +105,14 @@ FeedsUnended c bytes old new told =
 
 -- if these bytes have a line feed, feeding them to the client `c` in the state `old` feeds the frame that the first one ends, as
 -- `FeedsFrame` says of the state `new`, of what was returned and of the records and the text
-abbrev pub FeedsFirst : Windowed Asked → (bytes : List ℕ) → (old new : GeocomClient) → (told : GeocomHeard) → (records : List GeocomSettlement) → (text : List ℕ) → Type 0
+abbrev pub FeedsFirst : Windowed Asked → (bytes : List ℕ) → (old new : GeocomClient) → (told : GeocomHeard)
+    → (records : List GeocomSettlement) → (text : List ℕ) → Type 0
 FeedsFirst c bytes old new told records text =
     (rest : List ℕ) (at : ℕ) → StandsFor old c rest → position is_line_feed bytes ≡ Some at
     → FeedsFrame c (frame_of (rest ++ take at bytes)) (at + 1) new told records text
 
--- a feed that returned `told`: after a fault all other numbers are 0, and the state is `new` as it was `old`
+-- a feed that returned `told`: after a fault all other numbers are 0, and the state (`old` before the feed, `new` after it) has not
+-- changed
 abbrev pub FeedFaultLeavesState : (told : GeocomHeard) → (old new : GeocomClient) → Type 0
 FeedFaultLeavesState told old new =
     told.fault ≢ 0 → (told.used ≡ 0) × (told.count ≡ 0) × (told.kind ≡ 0) × (told.line_fault ≡ 0) × (new ≡ old)

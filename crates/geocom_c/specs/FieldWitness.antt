@@ -63,7 +63,7 @@ calls replies second one other =
     ∷ Begin (record { ref_ptr = (0, 0); now = [] })
     ∷ [])
 
--- the old reply comes; each null procedure reaches the instrument, and its reply comes
+-- the first null procedure is asked for, and the old reply comes; each null procedure reaches the instrument, and its reply comes
 abbrev pub beginning : {State : Type 0} → List (Turn State)
 beginning = Asks ∷ Comes ∷ drop 1 eight_answered
 
@@ -77,7 +77,8 @@ raw_second raw = SendRaw 8 9 raw.rpc (record { ref_ptr = (0, 0); now = raw_param
 
 -- the moves of the field for these calls: each command reaches the instrument, and its reply comes
 abbrev pub moves : {State : Type 0} → Asked → (one other : List ℕ) → List (Move State)
-moves asked one other = Sends 7 (Table InstrumentNo) 9 ∷ Sends 8 asked 9 ∷ Tells 5 ∷ OnLine Up_deliver ∷ OnLine Up_deliver ∷ field.Comes one ∷ field.Comes other ∷ []
+moves asked one other =
+    Sends 7 (Table InstrumentNo) 9 ∷ Sends 8 asked 9 ∷ Tells 5 ∷ OnLine Up_deliver ∷ OnLine Up_deliver ∷ field.Comes one ∷ field.Comes other ∷ []
 
 -- the runs of the field for these calls: one with these moves, and after the restart one that has only asked
 abbrev pub runs : {State : Type 0} → Asked → (one other : List ℕ) → List (Run State)
@@ -85,10 +86,12 @@ runs asked one other = record { turns = beginning; moves = moves asked one other
 
 -- the stage that the calls come to
 abbrev pub end_stage : {State : Type 0} → Ends State → State → Asked → (one other : List ℕ) → Stage
-end_stage ends state asked one other = record { reached = course WINDOW begun (steps_among (events_over WINDOW ends (before state) (runs asked one other))); rest = []; left = the_word }
+end_stage ends state asked one other =
+    record { reached = course WINDOW begun (steps_among (events_over WINDOW ends (before state) (runs asked one other))); rest = []; left = the_word }
 
--- all premises of `EachAnswerIsOwn` hold of these calls at once; both commands are answered, and the first answer was made on executing its
--- request
+-- all premises of `EachAnswerIsOwn` hold at once of the calls with these replies, this second command, which asks for `asked`, and the
+-- answers `one` and `other`, and the instrument is as `AnswersAreTheirOwn` asks besides; both commands are answered, and the first
+-- answer was made on executing its request
 pub record AreInField {State : Type 0} (ends : Ends State) (Good : State → Type 0) (kept : State → Option KeptReply) (state : State)
     (replies : List (List ℕ)) (second : Step) (asked : Asked) (one other : List ℕ) : Type 0 where
   pub instrument : IsAnInstrument ends Good kept
@@ -108,6 +111,7 @@ pub record AreInField {State : Type 0} (ends : Ends State) (Good : State → Typ
 -- is at the start
 pub record SomeCallsAreInField : Type 0 where
   pub any :
-      (raw : RawCall) → AreInField counting AnyState kept_by (record { count = 27; keeps = None }) chain.null_replies (raw_second raw) (Raw raw) chain.first_reply chain.second_reply
+      (raw : RawCall)
+      → AreInField counting AnyState kept_by (record { count = 27; keeps = None }) chain.null_replies (raw_second raw) (Raw raw) chain.first_reply chain.second_reply
   pub simulator :
       AreInField ends IsFittingState kept_of simulator_opening replies table_second (Table InstrumentNo) (codes "%R1P,0,0:0,123456") (codes "%R1P,0,1:0,123456")

@@ -48,9 +48,11 @@ pub record IsAt (width : ℕ) (s : Stage) (state : GeocomClient) : Type 0 where
   pub stands : StandsFor state (record { width = width; ids = s.reached.client }) s.rest
   pub left : left_of state ≡ s.left
 
--- over these calls, in order, the client comes from the stage s to the stage t. A send is sent only once the client has
--- synchronized; the lines of a begin are heard by the synchronization, and not by the client; a restart of a client that has
--- synchronized has it resynchronize
+-- over these calls, in order, the client comes from the stage s to the stage t. A send is a step of the client if it has
+-- synchronized, and the number and the parameters are a call's, or for a raw send a raw call's; any other send changes nothing.
+-- Each line that a feed ends, and a moment, is a step of the client, also before it has synchronized. The lines of a begin are
+-- heard by the synchronization, and not by the client. A restart discards the bytes since the last line feed, and a client that
+-- has synchronized then resynchronizes
 abbrev pub CallsReach : (width : ℕ) → (s : Stage) → List Step → (t : Stage) → Type 0
 CallsReach width s [] t = t ≡ s
 CallsReach width s (Send target deadline procedure params ∷ steps) t =
@@ -61,10 +63,13 @@ CallsReach width s (SendRaw target deadline procedure params ∷ steps) t =
     ((raw : RawCall) × (s.left ≡ []) × IsAsked procedure params.now (Raw raw)
     × CallsReach width (record s { reached = course_after width s.reached (one.Send target (Raw raw) deadline) }) steps t)
     ⊎ ((s.left ≡ [] → (raw : RawCall) → IsAsked procedure params.now (Raw raw) → ⊥) × CallsReach width s steps t)
-CallsReach width s (Begin bytes ∷ steps) t = CallsReach width (record s { rest = rest_behind s.rest bytes.now; left = left_by_bytes s.left s.rest bytes.now }) steps t
-CallsReach width s (Feed bytes ∷ steps) t = CallsReach width (record s { reached = hearing width s.reached s.rest bytes.now; rest = rest_behind s.rest bytes.now }) steps t
+CallsReach width s (Begin bytes ∷ steps) t =
+    CallsReach width (record s { rest = rest_behind s.rest bytes.now; left = left_by_bytes s.left s.rest bytes.now }) steps t
+CallsReach width s (Feed bytes ∷ steps) t =
+    CallsReach width (record s { reached = hearing width s.reached s.rest bytes.now; rest = rest_behind s.rest bytes.now }) steps t
 CallsReach width s (Expire now ∷ steps) t = CallsReach width (record s { reached = course_after width s.reached (one.Expire now) }) steps t
-CallsReach width s (Restart ∷ steps) t = CallsReach width (record { reached = course_after width s.reached one.Restart; rest = []; left = left_by_restart s.left }) steps t
+CallsReach width s (Restart ∷ steps) t =
+    CallsReach width (record { reached = course_after width s.reached one.Restart; rest = []; left = left_by_restart s.left }) steps t
 
 -- no part of a promise: the state is at some stage. Whatever the calls `later`, which are left, come to from that stage, all
 -- the calls `steps` come to from the stage s

@@ -14,12 +14,12 @@ use Rattle.gc_field.specs.Simulator.{ends}
 use Rattle.gc_world.specs.Record.{IsReplyTo}
 use Rattle.gc_field.specs.World.{Ends, Sent}
 use Rattle.gc_field.specs.Begin.{IsWellFormed, UnderWay, ids_under_way, leaves}
-use Rattle.gc_field.specs.Beginnings.{AreFewKilled, AreRuns, IsOwnIf, HasRisingIds, Run}
+use Rattle.gc_field.specs.Beginnings.{AreFewKilled, AreRuns, IsOwnIf, HasRisingIds, Run, left_by_runs}
 use Rattle.gc_field.specs.Begun.{IsSafe, WasMadeOn}
 use Rattle.gc_field.specs.Instrument.{IsAnInstrument, AnyState, TreatsRawsAlike}
 use Rattle.gc_field.specs.Laws.{WasExecuted, asked, kept_of}
 use Rattle.geocom_c.specs.Following.{CallsReach, Stage, opened}
-use Rattle.geocom_c.specs.Runs.{Part, ArePossibleRuns, begun_at, client_over, events_over, left_by_runs, left_over, parts, settled_over, world}
+use Rattle.geocom_c.specs.Runs.{Part, ArePossibleRuns, begun_at, client_over, events_over, left_over, parts, settled_over, world}
 use Rattle.geocom_c.specs.Steps.{AreEvents, IsOverEvents}
 use Rattle.geocom_c.specs.declared.following.Step.{Step}
 use Rattle.geocom_c.specs.declared.following.Step.TheVariants.{Send, SendRaw, Begin, Feed, Expire, Restart}
@@ -34,9 +34,9 @@ abbrev pub MayBegin : {State : Type 0} → UnderWay State → Type 0
 MayBegin u = IsSubsequence the_word (ids_under_way u) → ⊥
 
 module _ {State : Type 0} (width : ℕ) (ends : Ends State) (Good : State → Type 0) (kept : State → Option KeptReply) where
-  -- where the answer `line` of settlement `s` comes from, over the runs `ps`: it settled request m of run k, which has the
-  -- settlement's target and call, and is none of the eight null procedures; and the instrument made this line on executing that
-  -- very request
+  -- where the answer `line` of settlement `s` comes from, over the runs `ps`: it settled request m of run k, which was sent with the
+  -- settlement's target and call, and is none of the eight null procedures; that request was executed, and on executing it the instrument
+  -- made this line, which is a reply to its call
   pub record IsItsOwn (ps : List (Part State)) (s : Settlement Asked) (line : List ℕ) : Type 0 where
     pub k : ℕ
     pub part : Part State
@@ -50,12 +50,12 @@ module _ {State : Type 0} (width : ℕ) (ends : Ends State) (Good : State → Ty
     pub made : (j : ℕ) × (slice_get (world width ends part).wire.made j ≡ Some (record { number = m; line = line }))
     pub reply : IsReplyTo ends Good s.call line
     pub executed : WasExecuted (world width ends part).wire.executed m
-    -- and it was made on executing that very request, by `WasMadeOn`
+    -- the line was made on executing this very request, also by the moves of the run (`WasMadeOn`)
     pub made_on : WasMadeOn width ends (leaves (begun_at ends part)) part.run.moves m s.call line
 
   -- each command that was sent in a run is safe (`IsSafe`): each request of the run is a call of the table; or the instrument
   -- retains its own reply, or none, after every request; or one of the seven requests before the command is a call of the table
-  -- that a reply ended
+  -- that a reply ended, or the eighth null procedure
   abbrev pub IsSafeRun : Part State → Type 0
   IsSafeRun p =
       (m : ℕ) → 8 ≤ m → m < length (world width ends p).wire.sent → IsSafe width ends (leaves (begun_at ends p)) Good kept p.run.moves m
@@ -79,9 +79,10 @@ module _ {State : Type 0} (width : ℕ) (ends : Ends State) (Good : State → Ty
     -- instrument retains its reply, and a first reply in time is booked
     pub each : AllByRecursion (λ p. IsOwnIf width ends Good kept (begun_at ends p).left (begun_at ends p) p.run.moves) ps
 
--- each answer is its own request's (`AreOwn`), over the ends `ends` with states of which `Good` holds, which retain the reply `kept`: for
--- every width, all calls on a state that are safe (`IsSafeRun`), whatever is in flight when the state is made, unless the word is, and
--- all that the line and the instrument may do meanwhile
+-- each answer is its own request's (`AreOwn`), over the ends `ends` with states of which `Good` holds, which retain the reply
+-- `kept`: for every width, all calls on a state that are safe (`IsSafeRun`), whatever is in flight and well formed
+-- (`IsWellFormed`) when the state is made, unless the word is (`MayBegin`), and all that the line and the instrument may do
+-- meanwhile
 abbrev pub EachAnswerIsOwn : {State : Type 0} → (ends : Ends State) → (Good : State → Type 0) → (kept : State → Option KeptReply) → Type 0
 EachAnswerIsOwn {State = State} ends Good kept =
     (width : ℕ) → IsWidth width → (calls : List Step) (t : Stage) → CallsReach width opened calls t →
@@ -98,8 +99,8 @@ AnswersAreTheirOwn State = (ends : Ends State) (kept : State → Option KeptRepl
 abbrev pub SimulatorsAnswersAreTheirOwn : Type 0
 SimulatorsAnswersAreTheirOwn = EachAnswerIsOwn ends IsFittingState kept_of
 
--- after a run that had synchronized, or over a line with nothing in flight (`HasRisingIds`): as long as fewer than six runs in a
--- row ended while they synchronized, the next one may begin
+-- for any instrument and every width (`IsWidth`), after a run that had synchronized, or over a line with nothing in flight
+-- (`HasRisingIds`, `IsWellFormed`): as long as fewer than six runs in a row ended while they synchronized, the next one may begin
 abbrev pub FewKilledMayBegin : Type 0 → Type 0
 FewKilledMayBegin State =
     (ends : Ends State) (kept : State → Option KeptReply) → IsAnInstrument ends AnyState kept →

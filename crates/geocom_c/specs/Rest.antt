@@ -1,5 +1,5 @@
 -- The bytes of an incomplete line, this project's own: what a state keeps of those since the last line feed.
-use Rattle.std.specs.Prelude.{◌≡◌, ◌≢◌, ◌<◌, ◌≤◌, ◌+◌, ℕ, List, ◌++◌, length, take, All, Some, None}
+use Rattle.std.specs.Prelude.{◌≡◌, ◌≢◌, ◌≤◌, ◌+◌, ℕ, List, ◌++◌, length, take, All, Some, None}
 use Rattle.std.specs.List.{position}
 use Rattle.gc_lines.specs.Frames.{is_line_feed, frame_of}
 pub use Rattle.gc_lines.specs.Passing.{lines_completed}
@@ -21,10 +21,6 @@ pub record IsValid (r : GeocomRest) : Type 0 where
 pub record IsRest (r : GeocomRest) (rest : List ℕ) : Type 0 where
   pub valid : IsValid r
   pub same : (more : List ℕ) → frame_of (kept r ++ more) ≡ frame_of (rest ++ more)
-
--- `used` is the number of some of these bytes, or of all, and not 0 if there are any
-abbrev pub UsesBytes : (used : ℕ) → (bytes : List ℕ) → Type 0
-UsesBytes used bytes = (used ≤ length bytes) × (0 < length bytes → 0 < used)
 
 -- no part of a promise: without a line feed in `piece`, which comes after the bytes that `r` keeps, all of it is used, and the frame is
 -- `More`

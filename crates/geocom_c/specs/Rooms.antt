@@ -30,12 +30,12 @@ FitsTheWindow count = count ≤ WINDOW
 abbrev pub ReportsNoRoom : {A : Type 0} → (room : List A) → (least fault : ℕ) → Type 0
 ReportsNoRoom room least fault = (fault ≡ NO_ROOM) ↔ (length room < least)
 
--- the fault is that of a state that is no client's if and only if the state is none, and the list `room` has at least `least` items
+-- the fault is `NO_CLIENT` if and only if the list `room` has at least `least` items and the bytes of the state are no client's
 abbrev pub ReportsNoClient : {A : Type 0} → (room : List A) → (least : ℕ) → GeocomClient → (fault : ℕ) → Type 0
 ReportsNoClient room least state fault = (fault ≡ NO_CLIENT) ↔ ((least ≤ length room) × IsAstray state)
 
--- a call that returned `told`: after a fault the count is 0, the state is `new` as it was `old`, and its room is `after` as it was
--- `before`
+-- a call that returned `told`: after a fault the count is 0, and the call changed neither the state (`old` before it, `new` after)
+-- nor its room (`before` and `after`)
 abbrev pub FaultLeavesAll : {A : Type 0} → GeocomCount → (old new : GeocomClient) → (before after : List A) → Type 0
 FaultLeavesAll told old new before after = told.fault ≢ 0 → (told.count ≡ 0) × (new ≡ old) × (after ≡ before)
 

@@ -60,7 +60,8 @@ module _ {State : Type 0} (width : ℕ) (ends : Ends State) where
   abbrev pub events_over : UnderWay State → List (Run State) → List Event
   events_over u [] = []
   events_over u (r ∷ []) = events_of ends (begins u) r.turns ++ map Stepped (seen r.moves)
-  events_over u (r ∷ next ∷ others) = events_of ends (begins u) r.turns ++ (map Stepped (seen r.moves) ++ Stepped one.Restart ∷ events_over (left_by_run width ends u r) (next ∷ others))
+  events_over u (r ∷ next ∷ others) =
+      events_of ends (begins u) r.turns ++ (map Stepped (seen r.moves) ++ Stepped one.Restart ∷ events_over (left_by_run width ends u r) (next ∷ others))
 
   -- Runs, one after the other.
 
@@ -68,19 +69,14 @@ module _ {State : Type 0} (width : ℕ) (ends : Ends State) where
   abbrev pub world : Part State → World (ById Asked) State
   world p = behind width ends (leaves (begun_at ends p)) p.run.moves
 
-  -- what runs leave in flight
-  abbrev pub left_by_runs : UnderWay State → List (Run State) → UnderWay State
-  left_by_runs u [] = u
-  left_by_runs u (r ∷ rs) = left_by_runs (left_by_run width ends u r) rs
-
-  -- each run begins among what the one before it left
+  -- the runs, each with what was in flight when it began: `u` for the first, and for each other what the run before it left
   abbrev pub parts : UnderWay State → List (Run State) → List (Part State)
   parts u [] = []
   parts u (r ∷ rs) = record { before = u; run = r } ∷ parts (left_by_run width ends u r) rs
 
-  -- what happens is possible, in the synchronization of each run and after it. That the run has synchronized before its moves is
-  -- no premise
-  abbrev pub ArePossibleRuns : (State → Type 0) → (State → Option KeptReply) → UnderWay State → List (Run State) → Type 0
+  -- what happens is possible, in the synchronization of each run and after it, over an instrument with states of which `Good` holds, which
+  -- retain the reply `kept`. That the run has synchronized before its moves is no premise
+  abbrev pub ArePossibleRuns : (Good : State → Type 0) → (kept : State → Option KeptReply) → UnderWay State → List (Run State) → Type 0
   ArePossibleRuns Good kept u [] = Unit {0}
   ArePossibleRuns Good kept u (r ∷ rs) =
       (AreTurns ends Good kept r.turns (begins u) × ArePossible ends Good kept (by_ids width ends) r.moves (ids_begun (leaves (after_turns ends u r))))
@@ -90,13 +86,13 @@ module _ {State : Type 0} (width : ℕ) (ends : Ends State) where
 
   -- what the library settles in a run, by the ids that aren't answered: all but the eight null procedures once it has
   -- synchronized, and nothing before
-  abbrev pub settled_if : List ℕ → World (ById Asked) State → List (Settlement Asked)
+  abbrev pub settled_if : (left : List ℕ) → World (ById Asked) State → List (Settlement Asked)
   settled_if [] w = drop 8 w.wire.settled
   settled_if (asked ∷ later) w = []
 
   -- what the library settles at the restart after a run: what is outstanding, as lost, if the run has synchronized, else
   -- nothing
-  abbrev pub lost_if : List ℕ → World (ById Asked) State → List (Settlement Asked)
+  abbrev pub lost_if : (left : List ℕ) → World (ById Asked) State → List (Settlement Asked)
   lost_if [] w = map lost w.client.waiting
   lost_if (asked ∷ later) w = []
 
@@ -104,20 +100,21 @@ module _ {State : Type 0} (width : ℕ) (ends : Ends State) where
   abbrev pub settled_over : List (Part State) → List (Settlement Asked)
   settled_over [] = []
   settled_over (p ∷ []) = settled_if (begun_at ends p).left (world p)
-  settled_over (p ∷ next ∷ others) = (settled_if (begun_at ends p).left (world p) ++ lost_if (begun_at ends p).left (world p)) ++ settled_over (next ∷ others)
+  settled_over (p ∷ next ∷ others) =
+      (settled_if (begun_at ends p).left (world p) ++ lost_if (begun_at ends p).left (world p)) ++ settled_over (next ∷ others)
 
   -- the client after a run, by the ids that aren't answered: a new one if the run hasn't synchronized
-  abbrev pub client_if : List ℕ → World (ById Asked) State → ById Asked
+  abbrev pub client_if : (left : List ℕ) → World (ById Asked) State → ById Asked
   client_if [] w = w.client
   client_if (asked ∷ later) w = fresh
 
-  -- the client after runs: that after the last one
+  -- the client after runs: that after the last one; a new one if there is no run
   abbrev pub client_over : List (Part State) → ById Asked
   client_over [] = fresh
   client_over (p ∷ []) = client_if (begun_at ends p).left (world p)
   client_over (p ∷ next ∷ others) = client_over (next ∷ others)
 
-  -- the ids of a synchronization that aren't answered after runs: those of the last one
+  -- the ids of a synchronization that aren't answered after runs: those of the last one; all ids of the word if there is no run
   abbrev pub left_over : List (Part State) → List ℕ
   left_over [] = the_word
   left_over (p ∷ []) = (begun_at ends p).left

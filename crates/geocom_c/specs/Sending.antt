@@ -46,8 +46,8 @@ SendsEach {X = X} to Is target deadline sent =
 abbrev pub RefusesEach : {E : Type 0} → (Is : E → Type 0) → (number : E → ℕ) → GeocomClient → (fault : ℕ) → Type 0
 RefusesEach {E = E} Is number state fault = (c : Windowed Asked) (rest : List ℕ) (e : E) → StandsFor state c rest → left_of state ≡ [] → Is e → fault ≡ number e
 
--- a fault is the number of a refusal e of which `Is` holds, unless it is that of a full window, of too little room, of a state that is
--- no client's or of a client that hasn't synchronized
+-- a fault other than 0 is the number of a refusal e of which `Is` holds, unless it is that of a full window, of too little room,
+-- of a state that is no client's or of a client that hasn't synchronized
 abbrev pub IsRefusalNumber : {E : Type 0} → (Is : E → Type 0) → (number : E → ℕ) → (fault : ℕ) → Type 0
 IsRefusalNumber {E = E} Is number fault =
     fault ≢ 0 → fault ≢ WINDOW_FULL → fault ≢ NO_ROOM → fault ≢ NO_CLIENT → fault ≢ NOT_BEGUN → (e : E) × Is e × (fault ≡ number e)
@@ -62,8 +62,8 @@ abbrev pub WasAsked : {X : Type 0} → (Is : X → Type 0) → (Fills : (count w
 WasAsked {X = X} Is Fills state =
     (c : Windowed Asked) × (rest : List ℕ) × (x : X) × StandsFor state c rest × (left_of state ≡ []) × Is x × Fills (length c.ids.waiting) c.width
 
--- the fault number of a raw request that is refused: of a CR or LF among its parameters that of a parameter that doesn't read
--- (`Spelling`), of a line that is too long that of a long line
+-- the fault number of a raw request that is refused. For a CR or LF among its parameters it is the number of a parameter that
+-- doesn't read (`Spelling`); for a request whose line would be too long, it is the number of a line that is too long (`TooLong`)
 abbrev pub raw_number : RawFault → ℕ
 raw_number InTable = IN_TABLE
 raw_number NotPlain = of_value.fault_number value.Spelling

@@ -97,11 +97,6 @@ IsKind (Refused rc) kind code = (kind ≡ REFUSED) × (code ≡ rc)
 IsKind (ComFault rc_com) kind code = (kind ≡ COM_FAULT) × (code ≡ rc_com)
 IsKind (Unreadable fault) kind code = (kind ≡ UNREADABLE) × (code ≡ fault_number fault)
 
--- no part of a promise: how many bytes these items have together
-abbrev pub total : List (List ℕ) → ℕ
-total [] = 0
-total (item ∷ items) = length item + total items
-
 -- no part of a promise: there are `count` items, each of which is in the text where its place says
 pub record AreStanding (count : ℕ) (places : List GeocomItem) (text : List ℕ) (items : List (List ℕ)) : Type 0 where
   pub counted : count ≡ length items
@@ -116,7 +111,8 @@ ListsItems text count places params = (items : List (List ℕ)) → IsParams par
 -- are in the text, as many as `count` says, and where `places` says
 pub record IsListedLine (text : List ℕ) (count : ℕ) (places : List GeocomItem) (line : List ℕ) : Type 0 where
   pub front : take (length line) text ≡ line
-  pub listed : (reply : ReplyFields) (items : List (List ℕ)) → IsReply line reply → IsParams reply.params items → length items ≤ 16 → AreStanding count places text items
+  pub listed : (reply : ReplyFields) (items : List (List ℕ)) → IsReply line reply → IsParams reply.params items → length items ≤ 16
+      → AreStanding count places text items
 
 -- no part of a promise: an outcome that is an answer has this line
 abbrev pub AnswerHasLine : List ℕ → Rule.Outcome → Type 0

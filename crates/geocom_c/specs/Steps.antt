@@ -35,17 +35,19 @@ ask_events (Some line) = Null ∷ []
 -- sent. Once it has synchronized there are none, and the lines are discarded
 abbrev pub begin_events : (left rest bytes : List ℕ) → List Event
 begin_events [] rest bytes = []
-begin_events (asked ∷ later) rest bytes = map Came (lines_completed rest bytes) ++ ask_events (given bytes (asked ∷ later) (left_by_bytes (asked ∷ later) rest bytes))
+begin_events (asked ∷ later) rest bytes =
+    map Came (lines_completed rest bytes) ++ ask_events (given bytes (asked ∷ later) (left_by_bytes (asked ∷ later) rest bytes))
 
 -- the events of steps of the client: none while it synchronizes
-abbrev pub step_events : List ℕ → List (one.Step Asked) → List Event
+abbrev pub step_events : (left : List ℕ) → List (one.Step Asked) → List Event
 step_events [] steps = map Stepped steps
 step_events (asked ∷ later) steps = []
 
 -- these calls are these events, by the ids that aren't answered (`left`) and the bytes since the last line feed (`rest`). A send
 -- is a step if the client has synchronized, and its number and parameters are a call's, whether the window has room or not; a raw
--- send is one if they are a raw call's; otherwise the send is no event. Each line that bytes end is a step, and so is a moment; a
--- restart is one, too, and discards `rest`. Lines that are fed while the client synchronizes are discarded
+-- send is one if they are a raw call's; otherwise the send is no event. A begin is its `begin_events`. Once the client has
+-- synchronized, each line that a feed ends is a step, and so are a moment and a restart; while it synchronizes, none of these is
+-- an event. A restart discards `rest` in both cases
 abbrev pub AreEvents : (left rest : List ℕ) → List Step → List Event → Type 0
 AreEvents left rest [] events = events ≡ []
 AreEvents left rest (Send target deadline procedure params ∷ calls) events =
@@ -77,22 +79,22 @@ left_by_step (one.Hear line) = []
 left_by_step (one.Expire now) = []
 left_by_step one.Restart = the_word
 
--- the ids that aren't answered after these events
-abbrev pub left_among : List ℕ → List Event → List ℕ
+-- the ids that aren't answered after these events, where `left` weren't before
+abbrev pub left_among : (left : List ℕ) → List Event → List ℕ
 left_among left [] = left
 left_among left (Null ∷ events) = left_among left events
 left_among left (Came line ∷ events) = left_among (left_by left (heard line)) events
 left_among left (Stepped step ∷ events) = left_among (left_by_step step) events
 
--- no step of the client comes before all of the word is answered, at first and after each restart
-abbrev pub AreInTurn : List ℕ → List Event → Type 0
+-- no step of the client comes before all ids of the word are answered; at first `left` aren't, and after each restart none is
+abbrev pub AreInTurn : (left : List ℕ) → List Event → Type 0
 AreInTurn left [] = Unit {0}
 AreInTurn left (Null ∷ events) = AreInTurn left events
 AreInTurn left (Came line ∷ events) = AreInTurn (left_by left (heard line)) events
 AreInTurn left (Stepped step ∷ events) = (left ≡ []) × AreInTurn (left_by_step step) events
 
 -- these calls are one list of events, and no other, each in its turn; and they bring the client to what its rule makes of the
--- steps among those events
+-- steps among those events, and its synchronization to the ids that those events leave unanswered
 pub record IsOverEvents (width : ℕ) (calls : List Step) (t : Stage) : Type 0 where
   pub events : List Event
   pub are : AreEvents the_word [] calls events

@@ -38,8 +38,8 @@ pub struct GeocomBeginning {
     pub has_begun: u32,
 }
 
-/// What came of a feed: a fault or 0, how many bytes were used, what they ended, and how many requests that settled. After a fault all
-/// other fields are 0.
+/// What came of a feed: a fault or 0, how many bytes were used, what they ended, and how many requests were settled. After a
+/// fault all other fields are 0.
 #[repr(C)]
 #[derive(Clone, Copy)]
 pub struct GeocomHeard {

@@ -3,10 +3,11 @@
 
 ghost use Rattle.std.specs.Prelude.{◌≡◌, ◌≤◌, ℕ, List, length, drop};
 ghost use Rattle.gc_lines.specs.Frames.{rest_behind};
+ghost use Rattle.gc_lines.specs.Taking.{IsUsedOf};
 ghost use Rattle.gc_client.specs.Beginning.{asks};
 ghost use Rattle.geocom_c.specs.Beginning.{given, given_unless, left_by_bytes, left_past, BeginFaultLeavesAll, GivesLine, HearsBytes, HearsFirst, IsGiven, KeepsUnended, ReportsBegun};
 ghost use Rattle.gc_client.specs.Beginning.{the_word};
-ghost use Rattle.geocom_c.specs.Rest.{IsValid, IsRest, UsesBytes};
+ghost use Rattle.geocom_c.specs.Rest.{IsValid, IsRest};
 ghost use Rattle.geocom_c.specs.Rooms.{KeepsLength, KeepsAfter, ReportsNoClient, ReportsNoRoom};
 ghost use Rattle.geocom_c.specs.State.{IsClients};
 ghost use Rattle.geocom_c.specs.declared.header.TheConstants.{LINE_ROOM};
@@ -30,11 +31,12 @@ fn hear_frame(beginning: &mut Beginning, frame: &Frame)
     }
 }
 
-// Takes bytes through the first line feed, and hands the line that it ends to the synchronization. Without a line feed all
-// bytes are kept. Returns how many were used.
+// Takes bytes through the first line feed, and hands the line that it ends, if it ends one, to the synchronization. Without a
+// line feed all bytes are used, and `rest` keeps of them what the frame of the next line feed depends on. Returns how many were
+// used.
 fn hear_line(rest: &mut GeocomRest, beginning: &mut Beginning, bytes: &[u8]) -> usize
     requires { IsValid rest.old }
-    ensures used { UsesBytes result bytes.now }
+    ensures used { IsUsedOf bytes.now result }
     ensures more { KeepsUnended bytes.now result rest.old rest.new beginning.old beginning.new }
     ensures frame { HearsFirst bytes.now result rest.old rest.new beginning.old beginning.new }
 {
@@ -97,8 +99,9 @@ fn ask_unless(is_waiting: bool, beginning: &Beginning, line: &mut [u8]) -> u32
     ask(beginning, line)
 }
 
-// Whether the reply of the null procedure that is asked for is still waited for: bytes came, and answered none. `before` and `after` are
-// how many null procedures were answered before and after these bytes. Once all eight are, none is asked for, and any bytes give `true`.
+// Whether the reply of the null procedure that is asked for is still waited for: bytes came, and answered none. `before` and
+// `after` are how many null procedures were answered before and after these bytes. Without bytes the result is `false`. If all
+// eight were answered before these bytes, none is asked for; the result is `true` then if bytes came.
 fn is_waiting(bytes: &[u8], before: u8, after: u8) -> bool
     requires before { before ≤ 8 }
     requires after { after ≤ 8 }

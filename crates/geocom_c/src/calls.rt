@@ -15,7 +15,7 @@ use crate::header::{NO_CLIENT, NO_ROOM, NO_WIDTH, VERSION};
 use crate::state::{GeocomClient, fresh, load, store};
 use gc_client::WINDOW;
 
-// The answer if no request has a deadline.
+// The result if no request is outstanding, or each outstanding one has timed out.
 const UNSET: GeocomDeadline = GeocomDeadline {
     deadline: 0,
     fault: 0,

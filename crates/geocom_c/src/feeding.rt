@@ -1,12 +1,13 @@
 //! Feeding: bytes come in any pieces, and the line that a line feed ends settles requests; so does a restart.
 
 ghost use Rattle.std.specs.Prelude.{◌≡◌, ◌↔◌, ◌<◌, ◌≤◌, ℕ, List, length, drop, IsTrue};
+ghost use Rattle.gc_lines.specs.Taking.{IsUsedOf};
 ghost use Rattle.gc_catalogue.specs.declared.asked.Asked.{Asked};
 ghost use Rattle.gc_client.specs.Rule.{Windowed};
 ghost use Rattle.gc_client.specs.Beginning.{the_word};
 ghost use Rattle.gc_client.specs.declared.window.TheConstants.{WINDOW};
 ghost use Rattle.geocom_c.specs.Beginning.{left_by_restart};
-ghost use Rattle.geocom_c.specs.Rest.{IsValid, UsesBytes};
+ghost use Rattle.geocom_c.specs.Rest.{IsValid};
 ghost use Rattle.geocom_c.specs.State.{Becomes, IsAstray, IsClients, KeepsAnswered, StandsFor, left_of};
 ghost use Rattle.geocom_c.specs.Rooms.{FaultLeavesAll, FitsTheWindow, KeepsLength, KeepsAfter, ReportsNoClient, ReportsNoRoom};
 ghost use Rattle.geocom_c.specs.Feeding.{FeedFaultLeavesState, FeedsFirst, FeedsUnended, HasRoom, IsFed, IsSilent, Restarts, client_past};
@@ -91,8 +92,8 @@ fn feed_frame(
     }
 }
 
-// Takes bytes through the first line feed, hands the client the frame that it ends, and returns what came of it. Without a line feed all
-// bytes are used and kept.
+// Takes bytes through the first line feed, hands the client the frame that it ends, and returns what came of it. Without a line
+// feed all bytes are used, and `state.rest` keeps of them what the frame of the next line feed depends on.
 fn feed(
     state: &mut GeocomClient,
     client: Client<SlotsOf<Asked>>,
@@ -106,7 +107,7 @@ fn feed(
     ensures frame { FeedsFirst client bytes.now state.old state.new result settlements.new text.new }
     ensures fault { result.fault ≡ 0 }
     ensures answered { KeepsAnswered state.old state.new }
-    ensures used { UsesBytes result.used bytes.now }
+    ensures used { IsUsedOf bytes.now result.used }
     ensures untouched { KeepsAfter result.count settlements.old settlements.new }
     ensures records { KeepsLength settlements.old settlements.new }
     ensures text { KeepsLength text.old text.new }
@@ -183,7 +184,7 @@ fn answered_after_restart(answered: u8) -> u8
 /// Settles all outstanding requests as lost, in the order of sending, and writes a record for each: `count` of them, and nothing after
 /// these. The next id is 0, the bytes of a line that hasn't ended are discarded, and the width stays. A client that had synchronized
 /// has to synchronize again (`geocom_client_begin`). One that hadn't continues with the null procedure that it was at, so it
-/// may be restarted any number of times.
+/// may be restarted any number of times. For another instrument or line make a new client.
 ///
 /// Faults: 62, `settlements` has fewer than seven places; 63, the state is no client's. After a fault nothing has changed.
 #[unsafe(no_mangle)]

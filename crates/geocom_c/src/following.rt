@@ -1,9 +1,9 @@
 //! Any sequence of calls: from `geocom_client_init` on, a state stands for what the client's rule makes of the calls.
 
 ghost use Rattle.std.specs.Prelude.{◌≡◌, ◌<◌, ℕ, List, ◌∷◌, length, drop, slice_get, Some};
+ghost use Rattle.gc_lines.specs.Taking.{IsUsedOf};
 ghost use Rattle.gc_client.specs.Rule.{IsWidth};
 ghost use Rattle.gc_client.specs.OneForOne.{IsOneForOne};
-ghost use Rattle.geocom_c.specs.Rest.{UsesBytes};
 ghost use Rattle.geocom_c.specs.State.{KeepsAnswered};
 ghost use Rattle.geocom_c.specs.Following.{FeedsBut, FeedsBytes, CallsReach, IsAt, Reached, Stage, opened};
 
@@ -59,7 +59,7 @@ const VACANT: GeocomSettlement = GeocomSettlement {
 // Feeds bytes through the first line feed, or all if there is none, and returns how many these are. If the feed has a fault, none is fed,
 // and all count as used.
 fn feed_line(state: &mut GeocomClient, bytes: &[u8]) -> usize
-    ensures used { UsesBytes result bytes.now }
+    ensures used { IsUsedOf bytes.now result }
     ensures fed { FeedsBut bytes.now (drop result bytes.now) state.old state.new }
     ensures answered { KeepsAnswered state.old state.new }
 {
@@ -137,7 +137,7 @@ fn step_at<'a>(steps: &[Step<'a>], k: usize) -> Step<'a>
 /// Makes a client of this width, 1 to 7, and then these calls, each with ample room. Whatever the calls are, the state stands for the
 /// client that the rule makes of them, for the bytes that came since the last line feed, and for how far its synchronization
 /// came. What was settled, and after it the outstanding requests, are the sends that weren't refused, in order, each once. With
-/// another width no client is made, and nothing is said of the state.
+/// another width no client is made: the calls are made on the state as it was, and nothing is said of what comes of it.
 pub fn follow(state: &mut GeocomClient, width: u8, steps: &[Step<'_>])
     ensures { IsWidth width → (t : Stage) × CallsReach width opened steps.now t × IsAt width t state.new × IsOneForOne t.reached }
 {

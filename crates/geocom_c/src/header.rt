@@ -70,7 +70,7 @@ pub const UNREADABLE: u8 = 4;
 
 // Kinds: what the bytes of a feed ended.
 
-/// No line feed came yet.
+/// No line feed has ended the frame yet.
 pub const MORE: u32 = 0;
 
 /// A line that settled requests.

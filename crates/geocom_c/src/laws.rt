@@ -5,7 +5,8 @@ ghost use Rattle.geocom_c.specs.Laws.{AnswersAreTheirOwn, CallsAreEvents, CallsA
 
 /// Any calls on a state are one list of events: the null procedures of a synchronization and the lines that arrive during it,
 /// and then the client's steps: a send whose number and parameters are a call's or a raw call's, each line that bytes end, a
-/// time, a restart. No step comes before the eighth answer. What `follow` reaches is what the client's rule makes of these steps.
+/// time, a restart. No step comes before the eighth answer, at first and after each restart. What `follow` reaches is what the
+/// client's rule makes of these steps.
 pub fn calls_are_events()
     ensures { CallsAreEvents }
 {}
@@ -24,13 +25,14 @@ pub fn simulators_answers_are_their_own()
 {}
 
 /// What is sent is safe over an instrument that retains its own reply, or none, after every request, and over any instrument if
-/// no call sends a raw request. Otherwise the caller has to see to it: a request is safe, too, if one of the seven requests before
-/// it is a call of the table that a reply ended (`IsSafeRun`).
+/// no call sends a raw request. Otherwise the caller has to see to it: a request is safe, too, if one of the seven requests
+/// before it is a call of the table that a reply ended, or the eighth null procedure of the synchronization (`IsSafeRun`).
 pub fn calls_are_safe<State>()
     ensures { CallsAreSafe State }
 {}
 
-/// The law of `calls_are_safe` for the simulator, which knows no procedure but those of the table.
+/// The half of `calls_are_safe` that holds of the simulator: what is sent is safe if no call sends a raw request. The simulator
+/// refuses each raw request, and retains the reply that it retained before.
 pub fn simulators_calls_are_safe()
     ensures { SimulatorsCallsAreSafe }
 {}

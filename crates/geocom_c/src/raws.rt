@@ -36,7 +36,8 @@ fn number_of(fault: RawFault) -> u32
 ///
 /// An instrument that doesn't know a procedure may refuse it and still retain its reply to an earlier request. Ids repeat after
 /// eight requests, so that old reply could answer a later request. With such an instrument let one of the seven requests before
-/// each request be a call of the table that was answered: after six raw requests in a row send a null procedure.
+/// each request be a call of the table that was answered: after six raw requests in a row send a null procedure, and continue
+/// once it, or another one after it, is answered.
 ///
 /// Faults: 62, `line` has fewer than 514 bytes; 63, the state is no client's; 67, the client hasn't synchronized; 68, the
 /// number is that of a procedure of the table; 11, a CR or LF is among the parameters; 6, the line would have more than 512

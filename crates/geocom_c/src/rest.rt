@@ -3,12 +3,13 @@
 ghost use Rattle.std.specs.Prelude.{◌≡◌, ◌≢◌, ◌≤◌, ◌↔◌, All, ◌+◌, ◌++◌, ℕ, List, [], length, drop, None, IsTrue};
 ghost use Rattle.std.specs.List.{position};
 ghost use Rattle.gc_lines.specs.Frames.{is_line_feed};
-ghost use Rattle.geocom_c.specs.Rest.{IsValid, IsRest, UsesBytes, UsesFrame, UsesUnended};
+ghost use Rattle.gc_lines.specs.Taking.{IsUsedOf};
+ghost use Rattle.geocom_c.specs.Rest.{IsValid, IsRest, UsesFrame, UsesUnended};
 ghost use Rattle.geocom_c.specs.Rooms.{IsWritten, KeepsLength, KeepsAfter};
 
 use gc_lines::{Assembler, Frame};
 
-// How many bytes are kept: a line of 512, its CR, and the last byte that came after these.
+// How many bytes are kept at most: a line of 512, its CR, and the last byte that came after these.
 const KEPT: usize = 514;
 
 /// The bytes since the last line feed: all of them, or of more than 514 the first 513 and the last.
@@ -40,11 +41,12 @@ impl GeocomRest {
         length <= KEPT && has_no_line_feed(&self.bytes[..length])
     }
 
-    // Returns how many bytes of a piece are used, those through its first line feed, and the frame that this line feed ends, of the kept
-    // bytes and then these. Without a line feed all bytes are used, and the frame is `More`.
+    // Returns how many bytes of a piece are used, those through its first line feed, and the frame that this line feed ends,
+    // which is made of the kept bytes and the used ones after them. Without a line feed all bytes are used, and the frame is
+    // `More`.
     pub(crate) fn frame(&self, piece: &[u8]) -> (usize, Frame)
         requires { IsValid self.now }
-        ensures used { UsesBytes result.0 piece.now }
+        ensures used { IsUsedOf piece.now result.0 }
         ensures more { UsesUnended self.now piece.now result.0 result.1 }
         ensures frame { UsesFrame self.now piece.now result.0 result.1 }
     {

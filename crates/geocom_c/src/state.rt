@@ -146,7 +146,7 @@ fn read_place(place: &GeocomWaiting) -> Option<Pending<Asked>>
     })
 }
 
-// The bytes of a line, and after them zeros, of which the contract says nothing: 512 bytes in all.
+// The bytes of a line, and after them zeros: 512 bytes in all. (That they are zeros the contract doesn't say.)
 fn padded(line: &Line) -> [u8; 512]
     ensures { take (length line.now.items) result ≡ line.now.items }
 {

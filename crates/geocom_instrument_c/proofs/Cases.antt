@@ -1,4 +1,6 @@
 -- What the code does in each case is what the definitions say: a feed with and without a reply, and calls of an instrument that is there.
+-- s or b is the state of the instrument before a call, and n the one after it; `old` and `new` are the text before and after the reply is
+-- appended.
 use Rattle.std.proofs.Common.{◌≡◌, ℕ, Bool, true, false, List, [], ◌∷◌, ◌++◌, Option, Some, None, refl, sym, ap, ◌∙◌, subst}
 use Rattle.gc_lines.specs.Answering.{AppendsAnswer}
 use Rattle.gc_lines.specs.Lines.{with_end}
@@ -16,16 +18,19 @@ pub unanswered : (s n : SlowState) (frame : Frame) (line old new : List ℕ) (no
 unanswered s n frame line old new now used r is heard nothing =
     subst (λ (f : Frame). Answers s f now n used r) (sym is) (record { text = None; hears = (None, heard.0, refl); says = nothing })
 
--- if the instrument hears a line and has a reply, a result with that reply and its CR LF (`IsSent`) meets `Answers`
-pub answered : (s n : SlowState) (frame : Frame) (line old new sent : List ℕ) (now used : ℕ) (r : GeocomReplied) → frame ≡ Line (record { items = line })
-    → AppendsAnswer (HearsLine s line now n) old new true → old ≡ [] → sent ≡ new ++ 13 ∷ 10 ∷ [] → IsSent sent used n.free_from r → Answers s frame now n used r
+-- if the instrument hears a line and has a reply, and the text was empty before, a result with that reply and its CR LF
+-- (`IsSent`) meets `Answers`
+pub answered : (s n : SlowState) (frame : Frame) (line old new sent : List ℕ) (now used : ℕ) (r : GeocomReplied)
+    → frame ≡ Line (record { items = line }) → AppendsAnswer (HearsLine s line now n) old new true → old ≡ []
+    → sent ≡ new ++ 13 ∷ 10 ∷ [] → IsSent sent used n.free_from r → Answers s frame now n used r
 answered s n frame line old new sent now used r is heard empty ends told =
     let whole : sent ≡ with_end heard.0 = ends ∙ ap (λ (x : List ℕ). x ++ 13 ∷ 10 ∷ []) (heard.2 ∙ ap (λ (x : List ℕ). x ++ heard.0) empty) in
     subst (λ (f : Frame). Answers s f now n used r) (sym is)
     (record { text = Some (with_end heard.0); hears = (Some heard.0, heard.1, refl); says = subst (λ (x : List ℕ). IsSent x used n.free_from r) whole told })
 
 -- if an instrument is there, what `IsFedTo` says of it is what `IsFed` says
-pub fed : (o : Option BenchState) (b n : BenchState) (bytes : List ℕ) (now : ℕ) (r : GeocomReplied) → o ≡ Some b → IsFedTo b bytes now n r → IsFed o bytes now (Some n) r
+pub fed : (o : Option BenchState) (b n : BenchState) (bytes : List ℕ) (now : ℕ) (r : GeocomReplied) → o ≡ Some b
+    → IsFedTo b bytes now n r → IsFed o bytes now (Some n) r
 fed o b n bytes now r is so = record {
   absent = λ none. let bad : Some b ≡ None = sym is ∙ none in cc;
   present = λ d e. let both : Some b ≡ Some d = sym is ∙ e in let same : b ≡ d = cc in (n, refl, subst (λ (x : BenchState). IsFedTo x bytes now n r) same so);

@@ -9,14 +9,14 @@ use Rattle.geocom_instrument_c.specs.Bench.{BenchState}
 use Rattle.geocom_instrument_c.specs.declared.header.TheConstants.{NO_INSTRUMENT}
 use Rattle.geocom_instrument_c.specs.declared.replied.GeocomReplied.{GeocomReplied}
 
--- there is no reply, and this many bytes were used
+-- there is no fault and no reply, and this many bytes were used
 pub record IsNothing (used : ℕ) (r : GeocomReplied) : Type 0 where
   pub no_fault : r.fault ≡ 0
   pub used_bytes : r.used ≡ used
   pub none : r.count ≡ 0
   pub not_due : r.due ≡ 0
 
--- no instrument is there, and no byte was used
+-- the fault is that no instrument is there; no byte was used, and there is no reply
 pub record IsUnheard (r : GeocomReplied) : Type 0 where
   pub refused : r.fault ≡ NO_INSTRUMENT
   pub used_bytes : r.used ≡ 0

@@ -41,8 +41,9 @@ impl Bench {
         }
     }
 
-    // Takes bytes that came at the moment `now`, in milliseconds, through the first line feed, and returns the reply to the line that it
-    // ends, if there is one. Without a line feed all bytes are used and kept, and there is no reply.
+    // Takes bytes that came at the moment `now`, in milliseconds, through the first line feed, and returns the reply to the line
+    // that it ends, if there is one. Without a line feed all bytes are used, as part of the line that a later one ends, and there
+    // is no reply.
     fn feed(&mut self, bytes: &[u8], now: u64) -> GeocomReplied
         ensures { IsFedTo self.old bytes.now now self.new result }
     {
@@ -60,8 +61,8 @@ impl Bench {
     }
 }
 
-// Passes the instrument the line that a frame is, if it is one, at the moment `now`, in milliseconds. Returns what the feed returns, which
-// used this many bytes (`used`): the instrument's reply with CR LF, if there is one, and when it goes out.
+// Passes the instrument the line that a frame is, if it is one, at the moment `now`, in milliseconds. Returns the result of a
+// feed that used this many bytes (`used`): it has the instrument's reply with CR LF, if there is one, and when that goes out.
 fn answer(slow: &mut SlowInstrument, frame: Lent<'_>, now: u64, used: usize) -> GeocomReplied
     ensures { Answers slow.old (lent_seen frame.entry) now slow.new used result }
 {
@@ -76,7 +77,7 @@ fn answer(slow: &mut SlowInstrument, frame: Lent<'_>, now: u64, used: usize) -> 
     GeocomReplied::sent(used, text.as_slice(), slow.free_from())
 }
 
-/// An instrument over bytes, or none if its scene was refused.
+/// An instrument over bytes, or none: before it is set up, or if its scene was refused.
 #[derive(Drop)]
 pub struct GeocomInstrument {
     pub(crate) bench: Option<Bench>,
@@ -99,8 +100,9 @@ impl GeocomInstrument {
         GeocomInstrument { bench: None }
     }
 
-    /// Takes bytes that came at the moment `now`, in milliseconds, through the first line feed, and returns the reply to the line that
-    /// it ends, if there is one. Without an instrument no byte is used, and the result has the fault that there is none.
+    /// Takes bytes that came at the moment `now`, in milliseconds, through the first line feed, and returns the reply to the line
+    /// that it ends, if there is one. Without a line feed all bytes are used, and there is no reply. Without an instrument no
+    /// byte is used, and the result has the fault that there is none.
     pub(crate) fn feed(&mut self, bytes: &[u8], now: u64) -> GeocomReplied
         ensures { IsFed self.old bytes.now now self.new result }
     {

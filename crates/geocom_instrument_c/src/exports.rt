@@ -22,9 +22,9 @@ pub extern "C" fn geocom_instrument_size() -> usize {
 /// Sets up the instrument of a scene's text, in its opening state, in the memory at `at`: `geocom_instrument_size` bytes, aligned to 16
 /// bytes. The call allocates memory while it reads the scene, and frees it.
 ///
-/// Faults: 41, more targets, faults, replies or delays than an instrument can have; 51, the scene's line number `line`, counted from 1,
-/// can't be read; 52, memory was refused; 53, more than 65,536 bytes. After a fault no instrument is there, and `geocom_instrument_feed`
-/// and `geocom_instrument_restart` return fault 69.
+/// Faults: 41, more targets, faults, replies or delays than an instrument can have; 51, the scene's line number `line`, counted
+/// from 1, is the first that has no form; 52, memory was refused; 53, more than 65,536 bytes. After a fault no instrument is
+/// there, and `geocom_instrument_feed` and `geocom_instrument_restart` return fault 69.
 #[unsafe(no_mangle)]
 pub unsafe extern "C" fn geocom_instrument_init(
     alloc: Global,
@@ -38,9 +38,10 @@ pub unsafe extern "C" fn geocom_instrument_init(
     GeocomInstrument::set_up(&mut *(at as *mut GeocomInstrument), alloc, scene)
 }
 
-/// Takes bytes that came at the moment `now`, through the first line feed, and returns the reply to the line that it ends, if there is
-/// one, with the moment at which it goes out. Call it again with the bytes that are left until all are used. `at` points to an
-/// instrument that `geocom_instrument_init` wrote. Moments are milliseconds of the caller's clock, which never runs backwards.
+/// Takes bytes that came at the moment `now`, through the first line feed, and returns the reply to the line that it ends, if
+/// there is one, with the moment at which it goes out. Without a line feed all bytes are used, and there is no reply. Call it
+/// again with the bytes that are left until all are used. `at` points to an instrument that `geocom_instrument_init` wrote.
+/// Moments are milliseconds of the caller's clock, which never runs backwards.
 ///
 /// Fault 69: no instrument is there. No byte was used, and there is no reply.
 #[unsafe(no_mangle)]
@@ -57,8 +58,8 @@ pub unsafe extern "C" fn geocom_instrument_feed(
 }
 
 /// Restarts the instrument, and discards the bytes of an incomplete line. The scene goes on: its counts, its targets and its
-/// noise stay, and the instrument is busy for as long as before. `at` points to an instrument that `geocom_instrument_init` wrote.
-/// Returns 0.
+/// noise stay, and so does a clock that runs. The instrument is busy until the same moment as before. `at` points to an
+/// instrument that `geocom_instrument_init` wrote. Returns 0.
 ///
 /// Fault 69: no instrument is there; nothing has changed.
 #[unsafe(no_mangle)]

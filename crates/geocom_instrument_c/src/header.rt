@@ -11,8 +11,9 @@ pub const REPLY_ROOM: usize = 514;
 /// No instrument is there: none was set up, or its scene was refused.
 pub const NO_INSTRUMENT: u32 = 69;
 
-/// The constants have the values of the header, and so have the faults of a scene, which are gc_texts'. `library/tests/same_numbers.py`
-/// compares these clauses with the constants above and with the header. The function does nothing: its contract is the law.
+/// The constants have the values that the header gives them, and the faults of a scene, which gc_texts names, have the header's
+/// numbers. `library/tests/same_numbers.py` compares these clauses with the constants above and with the header. The function
+/// does nothing: its contract is the law.
 pub fn instrument_numbers_are_the_headers()
     ensures instrument_rooms { REPLY_ROOM ≡ 514 }
     ensures instrument_faults { NO_INSTRUMENT ≡ 69 }

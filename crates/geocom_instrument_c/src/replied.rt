@@ -11,7 +11,7 @@ use crate::header::{NO_INSTRUMENT, REPLY_ROOM};
 pub struct GeocomMade {
     /// 0, or the fault for which the scene was refused.
     pub fault: u32,
-    /// The number of the scene's faulty line, from 1 on; 0 if the fault names none.
+    /// The number of the scene's faulty line, from 1 on; 0 without a fault, or if the fault names no line.
     pub line: u32,
 }
 

@@ -1,6 +1,6 @@
 //! Runs of the engines. A case has the engine and its input, and after how many calls each port fails, if it does; it expects how the
 //! run ends, what it writes, what is sent over a link, and the sizes of its writes if the case has them. If it names no sizes of the
-//! input's pieces, the input comes whole and in single bytes, and with `cuts each` cut in two at every place, too.
+//! input's pieces, the input comes whole and in single bytes; and if it says `cuts each`, also cut in two at every place.
 
 use crate::cases::outcome::Came;
 use crate::cases::setup::Setup;
@@ -12,7 +12,8 @@ use std::io;
 pub struct Engines;
 
 impl Player for Engines {
-    // Sets a run up as the case says, and compares what it comes to with what the case expects.
+    // Sets a run up as the case says, and compares what it comes to with what the case expects. If memory runs out for the
+    // set-up, `wrong` notes that it lacks a part.
     fn play(&self, rt: &HostRuntime, case: &Case<'_>, wrong: &mut Told) -> io::Result<()> {
         let mut setup = Setup::unset(rt.alloc());
         match setup.take(rt.alloc(), case) {
@@ -23,9 +24,9 @@ impl Player for Engines {
     }
 }
 
-// Runs a set-up, and compares what came of it with what the case expects. If the set-up gives no sizes of pieces, the run is repeated with
-// the input in single bytes, and with `cuts each` cut in two at each place. If one of these runs comes to something else, the words of
-// `differing` are appended to how the run ended.
+// Runs a set-up, and compares what came of it with what the case expects. If the set-up gives no sizes of pieces, the run is
+// repeated with the input in single bytes, and, if the case says `cuts each`, cut in two at each place, until a run comes to
+// something else. If one does, the words of `differing` are appended to how the run ended.
 fn play_setup(alloc: Global, case: &Case<'_>, setup: &Setup, wrong: &mut Told) {
     let whole = setup.run(alloc, setup.sizes.as_slice());
     let otherwise = if setup.sizes.is_empty() {
@@ -36,8 +37,9 @@ fn play_setup(alloc: Global, case: &Case<'_>, setup: &Setup, wrong: &mut Told) {
     whole.compare(alloc, case, otherwise, wrong);
 }
 
-/// In which pieces the input comes to something else than in one piece, where it came to `whole`, in words that begin with a comma: in
-/// single bytes, or else, if `is_each`, cut in two at some place. Empty: in none of these.
+/// In which pieces the input comes to something else than `whole`, to which it came in as few pieces as the reads allow: in
+/// single bytes; or else, if `is_each`, cut in two at some place. The result names these pieces in words that begin with a comma,
+/// and is empty if there are none. Memory that runs out for the sizes of single bytes counts as something else.
 pub fn differing(alloc: Global, setup: &Setup, whole: &Came, is_each: bool) -> &'static str {
     if !setup.is_same_in_single_bytes(alloc, whole) {
         return ", and otherwise in single bytes";

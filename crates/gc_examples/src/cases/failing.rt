@@ -21,6 +21,7 @@ const KEYS: [&str; 5] = ["first", "second", "third", "fourth", "fifth"];
 
 impl Player for Failing {
     // Sets a run up as the case says, with the input in single bytes, and plays it with a port that fails at each call in turn.
+    // If memory runs out for the set-up, `wrong` notes that it lacks a part.
     fn play(&self, rt: &HostRuntime, case: &Case<'_>, wrong: &mut Told) -> io::Result<()> {
         let mut setup = Setup::unset(rt.alloc());
         match take_single(rt.alloc(), case, &mut setup) {
@@ -69,8 +70,8 @@ fn play_call(
     came.end.is_done()
 }
 
-// Appends what was written by the run whose port failed at call k; for the output port `a part`, if that is the first k bytes of what
-// the run without a fault wrote.
+// Appends what was written by the run whose port failed at call k. If the port is the output, and the run wrote the first k bytes
+// of what the run without a fault wrote, it appends `a part` instead.
 fn append_output(came: &Came, whole: &Came, port: &str, k: u64, output: &mut Told) {
     let written = came.output.bytes.as_slice();
     if port == "output" && whole.begins_with(written, k) {
@@ -148,8 +149,8 @@ impl Groups {
         }
     }
 
-    // Compares the last group, how many runs it has and what they came to, with what the case has under the group's key. A sixth group has
-    // none, and is compared with the value under `?`.
+    // Compares the last group, how many runs it has and what they came to, with what the case has under the group's key. A
+    // sixth or later group has none, and is compared with the value under `?`.
     fn compare(&self, alloc: Global, case: &Case<'_>, wrong: &mut Told) {
         let mut told = Told::new(alloc);
         told.counted(&self.count, " calls: ");
@@ -157,8 +158,8 @@ impl Groups {
         case.tell_told(KEYS.get(self.before).copied().unwrap_or("?"), &told, wrong);
     }
 
-    // Ends the last group, and compares an empty text with the value under each later key, so that no group which the case expects is
-    // missed.
+    // Ends the last group, if it has a run, and compares an empty text with the value under each later key, so that no group
+    // which the case expects is missed.
     fn finish(&mut self, alloc: Global, case: &Case<'_>, wrong: &mut Told) {
         self.close(alloc, case, wrong);
         for key in KEYS.iter().skip(self.before) {

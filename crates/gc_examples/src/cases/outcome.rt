@@ -9,9 +9,11 @@ use std::alloc::Global;
 /// How a run ended.
 #[derive(Drop)]
 pub struct End {
-    /// `done`, or the fault as it is printed, with how many lines were written before, if the engine counts them.
+    /// `done`, or the fault as it is printed, but for the bytes of a failed write; and then, where the engine counted the lines
+    /// that it wrote, how many they are. Or `no such engine`. Empty before the end is stored.
     pub text: Told,
-    /// How many bytes of its line a failed write took, which the text leaves out; `None` if no write failed.
+    /// With the fault `Write`: how many bytes of the next line went out, which the text leaves out. `None` for any other end,
+    /// also for `Output`.
     pub bytes: Option<usize>,
 }
 
@@ -20,7 +22,7 @@ pub struct End {
 pub struct Came {
     pub end: End,
     pub output: Taking,
-    /// What went out over the link.
+    /// What went out over the link of `ask`; nothing for any other engine.
     pub link: Taking,
 }
 
@@ -52,9 +54,9 @@ impl Came {
         front.len() as u64 == count && self.output.bytes.starts_with(front)
     }
 
-    /// Compares how the run ended, what it wrote and what it sent with what the case has under `end`, `output` and `sent`, and, if the case
-    /// has `writes`, the sizes of its writes with that. `otherwise`, in which pieces of the input it came to something else, is appended to
-    /// how it ended.
+    /// Compares how the run ended, what it wrote and what it sent with what the case has under `end`, `output` and `sent`, and,
+    /// if the case has a value under `writes`, the sizes of its writes with this one. `otherwise`, which says in which pieces of the
+    /// input it came to something else (`differing`), is appended to how it ended.
     pub fn compare(&self, alloc: Global, case: &Case<'_>, otherwise: &str, wrong: &mut Told) {
         self.end.compare(alloc, case, otherwise, wrong);
         case.tell("output", self.output.bytes.as_slice(), wrong);
@@ -85,7 +87,7 @@ impl End {
         }
     }
 
-    /// Whether the run went well; `false` before its end is stored.
+    /// Whether the run went well; `false` before its end is stored, and where memory ran out for the word `done`.
     pub fn is_done(&self) -> bool {
         self.text.as_bytes().starts_with(b"done")
     }
@@ -97,7 +99,8 @@ impl End {
             && self.bytes == other.bytes
     }
 
-    // Compares the text, with the bytes if a write failed, and `otherwise` after them, with the case's `end`.
+    // Compares the text, with ` byte ` and `bytes` after it unless they are `None`, and `otherwise` at the end, with the case's
+    // `end`.
     fn compare(&self, alloc: Global, case: &Case<'_>, otherwise: &str, wrong: &mut Told) {
         let mut told = Told::new(alloc);
         told.append(&self.text);
@@ -108,7 +111,7 @@ impl End {
         case.tell_told("end", &told, wrong);
     }
 
-    // Stores the end of a run whose write failed: `replies` lines were written whole, and `bytes` bytes of the next.
+    // Stores the end of a run with the fault `Write`: `replies` lines were written whole, and `bytes` bytes of the next.
     fn set_write_failed(&mut self, replies: u64, bytes: usize) {
         self.text.titled("fault 43 reply ", &replies);
         self.bytes = Some(bytes);
@@ -126,7 +129,8 @@ impl End {
         }
     }
 
-    /// Stores the end of a run of an engine that doesn't count the lines that it writes. To be called once.
+    /// Stores the end of a run of an engine that doesn't count the lines that it writes, or whose scene doesn't read. To be
+    /// called once.
     pub fn set_run(&mut self, end: Result<(), RunFault>) {
         match end {
             Ok(()) => self.text.text("done"),

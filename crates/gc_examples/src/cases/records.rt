@@ -24,7 +24,7 @@ const DEFAULT_UTC: u64 = 1_795_388_907_123;
 pub struct Records;
 
 impl Player for Records {
-    // Writes the record of a case, or its form's head, and compares it with what the case has under `is`.
+    // Writes the record of a case, or its form's head, or `no such form`, and compares it with what the case has under `is`.
     fn play(&self, rt: &HostRuntime, case: &Case<'_>, wrong: &mut Told) -> io::Result<()> {
         let mut written = Told::new(rt.alloc());
         match form_of(case.value("form")) {
@@ -47,7 +47,9 @@ fn form_of(word: &str) -> Option<Form> {
     }
 }
 
-// Appends the record of a case to `written`; for a case without a command, the head that is written before all records.
+// Appends the record of a case to `written`; for a case without a command, the head that is written before all records. If memory
+// runs out for the name or the reply, `written` notes that it lacks a part. If it runs out for what is appended, `written` lacks
+// the end of the record or head, and doesn't note it.
 fn write_case(alloc: Global, case: &Case<'_>, form: Form, written: &mut Told) {
     if case.has("command", "") {
         let _ = write_head(&mut ToWriter::new(written.writer()), form);
@@ -59,8 +61,8 @@ fn write_case(alloc: Global, case: &Case<'_>, form: Form, written: &mut Told) {
     }
 }
 
-// Appends the record of a case for a target of this name to `written`. If memory runs out for the reply, `written` notes that it lacks a
-// part.
+// Appends the record of a case for a target of this name to `written`. If memory runs out for the reply, `written` notes that it
+// lacks a part. Where it runs out for the command or the record, `command_of` and `put_record` say what comes instead.
 fn write_with_name(alloc: Global, case: &Case<'_>, form: Form, name: &[u8], written: &mut Told) {
     let command = command_of(alloc, case.value("command").as_bytes());
     match bytes_of(alloc, case.value("reply")) {
@@ -97,7 +99,8 @@ fn write_with_reply(
     }
 }
 
-// Writes a record. A write that fails is ignored: the record then lacks its end, which no case expects.
+// Writes a record. A write that fails is ignored: then the end of the record, or all of it, is missing, and no case expects so
+// few bytes.
 fn put_record(
     form: Form,
     when: &When,
@@ -152,7 +155,8 @@ fn line_of(reply: &[u8]) -> Line {
     line
 }
 
-// The first command of a station's text; the null procedure, asked of target 0, if the text has none or doesn't read.
+// The first command of a station's text; the null procedure, asked of target 0, if the text has none or doesn't read, or memory
+// ran out for it.
 fn command_of(alloc: Global, text: &[u8]) -> Wish {
     let none = Wish {
         target: 0,
@@ -173,8 +177,8 @@ fn reading_of(asked: &Asked, line: &Line) -> Reading {
     reading
 }
 
-// How a command ended: as `word` says, or, if it is none of these words, as its reply reads. `reading` is what the reply in `line` says,
-// and `zeroed` what it says if its return code is taken as 0, as an accepted return code is.
+// How a command ended: as `word` says, or, if it is none of the words below, as its reply reads. `reading` is what the reply in
+// `line` says, and `zeroed` what it says if its return code is taken as 0, as an accepted return code is.
 fn ending_of<'a>(
     word: &str,
     reading: &'a Reading,
@@ -197,7 +201,8 @@ fn ending_of<'a>(
     }
 }
 
-// The quality of an answer whose reply says this, if no return code but 0 is accepted.
+// The quality of an answer whose reply says this, if no return code but 0 is accepted. One whose values don't read counts as
+// fine.
 fn quality_of(reading: &Reading) -> Quality {
     match reading {
         Reading::Value(_) | Reading::Unreadable(_) => Quality::Fine,

@@ -5,7 +5,7 @@ use crate::cases::setup::{Engine, Setup};
 use crate::cases::sink::Taking;
 use gc_engines::{read_rule_scene, read_scene, read_still_scene, read_timed_scene};
 use gc_instrument::serve;
-use gc_lines::{Line, Outgoing, Served, append, write_whole};
+use gc_lines::{Line, Served, write_line, write_whole};
 use gc_probes::PieceSource;
 use gc_scenes::{SceneInstrument, SlowInstrument, serve_scene};
 use gc_texts::{RunFault, before, behind, number_of};
@@ -15,12 +15,9 @@ use std::alloc::Global;
 // Writes the instrument's reply to a line, which may have a CR at its end, with CR LF. Returns whether there is a reply and the output took
 // all of it.
 fn answer_line(instrument: &mut SceneInstrument, line: &[u8], output: &mut Taking) -> bool {
-    let mut text = Outgoing::new();
-    if !instrument.reply_onto(line.strip_suffix(b"\r").unwrap_or(line), &mut text) {
-        return false;
-    }
-    append(&mut text, b"\r\n");
-    write_whole(output, text.as_slice()).is_ok()
+    let mut reply = Line::new();
+    instrument.reply_onto(line.strip_suffix(b"\r").unwrap_or(line), &mut reply)
+        && write_line(output, &reply).is_ok()
 }
 
 // The fault of reading a scene, if there is one, without the instrument that was read.
@@ -57,8 +54,8 @@ impl Setup {
         }
     }
 
-    // Has the instrument answer as many lines of the input as there are moments, each at its own, in milliseconds. The run always ends
-    // well, with the count of the replies that were written.
+    // Has the instrument answer as many lines of the input as there are moments, each at its own, in milliseconds; beyond the
+    // input's end the lines are empty. The run always ends well, with the count of the replies that were written whole.
     fn serve_by_moments(&self, instrument: &mut SceneInstrument, came: &mut Came) {
         let mut left = self.input.as_slice();
         let mut replies = 0u64;
@@ -99,9 +96,9 @@ impl Setup {
     }
 }
 
-// Gives an instrument the line of a row, which follows the moment of its arrival and a space, and writes the moment at which the reply is
-// sent, a space and the reply. Both are in milliseconds; the first is 0 if it is no number up to 4294967295. Without a reply nothing is
-// written.
+// Gives an instrument the line of a row, which follows the moment of its arrival and a space, and writes the moment at which
+// the reply is sent, a space, the reply and a line feed. Both moments are in milliseconds; the first is 0 if it is no number up
+// to 4294967295. Without a reply nothing is written.
 fn serve_row(slow: &mut SlowInstrument, row: &[u8], output: &mut Taking) {
     let at = number_of(before(b' ', row), 4_294_967_295).unwrap_or(0);
     let mut reply = Line::new();

@@ -127,8 +127,8 @@ pub(crate) fn size(case: &Case<'_>, key: &str, or: usize) -> usize {
     case.value(key).parse::<usize>().unwrap_or(or)
 }
 
-// Appends the sizes, or moments, of a text: numbers with a space between two, of which a word that is no number is skipped; or `N x M`, N
-// times the number M. `Err`: memory ran out, and some of them may be appended.
+// Appends the sizes, or moments, of a text: words with a space between two, of which those that are no number are skipped; or
+// `N x M`, N times the number M. `Err`: memory ran out, and some of them may be appended.
 fn push_sizes(sizes: &mut Vec<usize>, text: &str) -> Result<(), AllocError> {
     if let Some((times, size)) = text.split_once(" x ") {
         return push_times(sizes, times, size);
@@ -141,7 +141,8 @@ fn push_sizes(sizes: &mut Vec<usize>, text: &str) -> Result<(), AllocError> {
     Ok(())
 }
 
-// Appends the size that `size` writes as many times as `times` says. Each is 0 if it is no number. `Err`: as `push_sizes`.
+// Appends the size that `size` writes as many times as `times` says. Either of the two that is no number counts as 0. `Err`: as
+// `push_sizes`.
 fn push_times(sizes: &mut Vec<usize>, times: &str, size: &str) -> Result<(), AllocError> {
     let size = size.parse::<usize>().unwrap_or(0);
     for _ in 0..number_or(times, 0) {
@@ -151,8 +152,9 @@ fn push_times(sizes: &mut Vec<usize>, times: &str, size: &str) -> Result<(), All
 }
 
 impl Setup {
-    /// A run of an engine over an input, which comes in one piece, with ports that don't fail: a write of the output takes at most 5 bytes,
-    /// one of the link 1000. The link gives nothing, the scene is an empty text, and a drill prints its totals and has a window of 7.
+    /// A run of an engine over an input, which comes in as few pieces as the reads allow, with ports that don't fail but for
+    /// memory: a write of the output takes at most 5 bytes, one of the link 1000. The link gives nothing, the scene is an empty
+    /// text, there are no moments, and a drill prints its totals and has a window of 7.
     pub fn new(alloc: Global, engine: Engine, input: Vec<u8>) -> Setup {
         Setup {
             engine,
@@ -239,14 +241,15 @@ impl Setup {
         if self.width == 1 { 1 } else { 7 }
     }
 
-    /// Whether the input in single bytes comes to `whole`, which it came to in one piece; `false`, too, if memory runs out for the sizes.
+    /// Whether the input in single bytes comes to `whole`, which it came to in as few pieces as the reads allow; `false`, too, if
+    /// memory runs out for the sizes.
     pub fn is_same_in_single_bytes(&self, alloc: Global, whole: &Came) -> bool {
         let mut ones = Vec::new(alloc);
         push_single(&mut ones, self.input.as_slice()).is_ok()
             && self.comes_to(alloc, ones.as_slice(), whole)
     }
 
-    /// Whether the input, cut in two, comes to `whole` at each place of the cut.
+    /// Whether the input, cut in two, comes to `whole` at each place of the cut; `true` for an empty input.
     pub fn is_same_cut_in_two(&self, alloc: Global, whole: &Came) -> bool {
         for place in 0..self.input.len() {
             if !self.comes_to(alloc, &[place], whole) {
@@ -379,7 +382,8 @@ impl Setup {
     }
 
     // Asks the commands of `source` over two pipes: the client writes to `up` and reads from `down`, and the scene's instrument does
-    // the reverse. A write takes at least 1 byte, also if the case says 0. `Err`: the fault of the scene, or as `run_loop_on` says.
+    // the reverse. A write takes as many bytes as the case says at most, or 1 if it says 0. `Err`: the fault of the scene, or as
+    // `run_loop_on` says.
     fn loop_over(
         &self,
         alloc: Global,

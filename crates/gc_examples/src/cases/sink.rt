@@ -8,20 +8,22 @@ use std::alloc::Global;
 /// Takes up to `most` bytes of each write, and fails after `answers` writes, or where memory runs out.
 #[derive(Drop)]
 pub struct Taking {
-    /// What it took.
+    /// What it took; and after that the first bytes of a write that failed only because memory ran out for `sizes`.
     pub bytes: Vec<u8>,
-    /// How many bytes came with each write of which it took some, also those bytes that it didn't take.
+    /// How many bytes came with each write, also those that it didn't take; no entry for a write after the last that it may take,
+    /// for one after a failed one, or for one at which memory ran out.
     pub sizes: Vec<usize>,
     // The most bytes that it takes of a write.
     most: usize,
-    // How many more writes it takes.
+    // How many more writes it takes, unless one fails.
     answers: u64,
     // Whether a write has failed. Then each further one fails.
     failed: bool,
 }
 
 impl Taking {
-    /// A sink that took nothing yet, and takes at most `most` bytes of each of `answers` writes. It fails at the first write if one is 0.
+    /// A sink that took nothing yet, and takes at most `most` bytes of each of `answers` writes. It fails at the first write if
+    /// one of the two numbers is 0.
     pub fn new(alloc: Global, most: usize, answers: u64) -> Taking {
         Taking {
             bytes: Vec::new(alloc),
@@ -49,8 +51,8 @@ impl Sink for Taking {
 
     ghost failed = { λ s. s.failed };
 
-    // Takes the first bytes, at most `most`, and returns how many. `Err`: no write is left, memory ran out or no byte was taken, now or at
-    // an earlier write.
+    // Takes the first bytes, at most `most`, and returns how many. `Err`: it has taken as many writes as it may; or memory ran
+    // out or no byte was taken, now or at an earlier write.
     fn write(&mut self, bytes: &[u8]) -> Result<usize, PortFailed> {
         if self.failed || self.answers == 0 {
             self.failed = true;

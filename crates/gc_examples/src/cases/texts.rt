@@ -20,7 +20,8 @@ use std::io;
 pub struct Texts;
 
 impl Player for Texts {
-    // Reads the text that a case spells, and compares what comes of it with what the case expects.
+    // Reads the text that a case spells, and compares what comes of it with what the case expects. If memory runs out for the
+    // text, `wrong` notes that it lacks a part.
     fn play(&self, rt: &HostRuntime, case: &Case<'_>, wrong: &mut Told) -> io::Result<()> {
         match bytes_of(rt.alloc(), case.value("text")) {
             Ok(text) => play_text(rt.alloc(), case, text.as_slice(), wrong),
@@ -134,8 +135,9 @@ fn append_tasks(case: &Case<'_>, all: &Tasks, came: &mut Told) {
     }
 }
 
-// Appends a task's turn: its place, its attempt and its link; its `others`, how many tasks this attempt and those after it have together;
-// after which return codes and other outcomes it is asked again; and whether it sets the clock.
+// Appends a task's turn: its place, its attempt and its link; its `others`, which is how many tasks this attempt and those after
+// it have together if the task is the first of an attempt other than the first, and else 0; after which return codes and other
+// outcomes it is asked again; and whether it sets the clock.
 fn append_turn(task: &Task, came: &mut Told) {
     came.titled(" place ", &task.turn.place);
     came.titled(" attempt ", &task.turn.attempt);

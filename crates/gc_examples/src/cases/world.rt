@@ -166,8 +166,9 @@ impl WorldRows {
         }
     }
 
-    // Plays the events so far, and appends all that they lead to if `word` is `end`, otherwise the part of their report that it asks
-    // for; or `no schedule` if their lines don't read as one. If memory ran out for a line, `came` notes that it lacks a part.
+    // Plays the events so far, and appends all that they lead to if `word` is `end`, otherwise the part of their report that it
+    // asks for; or `no schedule` if their lines don't read as one, or memory ran out for the list of events. If memory had run
+    // out for a line, or the case's schedule couldn't be read, `came` notes that it lacks a part.
     fn append_end_or_part(&self, alloc: Global, word: &str, came: &mut Told) {
         if self.text.is_lacking() {
             came.lack();
@@ -280,7 +281,8 @@ fn add_events(rt: &HostRuntime, name: &str, text: &mut Told) {
     }
 }
 
-// Adds the lines of the schedule in the file of this name to `text`. If the file can't be read, `text` notes that it lacks a part.
+// Adds the lines of the schedule in the file of this name to `text`. If the file can't be read or isn't UTF-8, or memory runs out
+// for its lines, `text` notes that it lacks a part.
 fn read_events(rt: &HostRuntime, name: &str, text: &mut Told) {
     match fs::read_to_string(rt, name) {
         Ok(events) => text.text(events.as_str()),

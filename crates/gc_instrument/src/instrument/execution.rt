@@ -180,7 +180,8 @@ impl Instrument {
         }
     }
 
-    // Measures the distance of the first target that lies exactly where the telescope points. Without one the distance is cleared.
+    // Stores the distance of the first target that lies exactly where the telescope points. If there is no such target, the stored
+    // distance is cleared.
     fn measure(&mut self)
         ensures { self.new ≡ measured self.old }
     {
@@ -199,7 +200,7 @@ impl Instrument {
         0
     }
 
-    // Answers the angles and the distance that was measured last. Where there is none, the code is 1285, without an answer.
+    // Answers the angles and the stored distance. Where none is stored, the code is 1285, without an answer.
     #[inline(never)]
     fn answer_measured(&self, answer: &mut Answer) -> u16
         requires { answer.old ≡ Nothing }
@@ -238,7 +239,7 @@ impl Instrument {
         0
     }
 
-    // As `measure_and_answer`, but the answer has this mode, too, which changes nothing else.
+    // As `measure_and_answer`, but the answer also gives this mode, which has no other effect.
     #[tactic(auto, unfolding(crate::specs::Execution::exec))]
     #[inline(never)]
     fn measure_in_mode(&mut self, mode: i32, answer: &mut Answer) -> u16

@@ -1,4 +1,4 @@
-//! The stored reply: the id and the reply of the last request that carried an id and was executed.
+//! The stored reply: the id and the reply of the last request that carried an id and was executed, until a restart discards them.
 
 ghost use Rattle.std.specs.Prelude.{◌≡◌, ◌≤◌, None, IfSome, length};
 ghost use Rattle.std.specs.Option.{option_map};
@@ -78,7 +78,7 @@ impl Kept {
         }
     }
 
-    /// Stores a request's id and the line of its reply, at most 512 bytes. If the request had no id, nothing changes.
+    /// Stores a request's id and the line of its reply, at most 512 bytes, in place of those stored before. Without an id nothing changes.
     #[inline]
     pub fn keep(&mut self, id: Option<u8>, line: &[u8])
         requires { length line.now ≤ 512 }

@@ -19,15 +19,16 @@ use gc_lines::{Line, Request, append, push_reply, read_request};
 impl Instrument {
     ghost use Rattle.gc_catalogue.specs.declared.call.Call.{Call};
 
-    /// The reply to a line. `None`: the line is no request.
+    /// Takes a line, and returns the reply to it, both without CR LF. `None`: the line is no request.
     ///
-    /// The call is carried out, and its reply has the request's id, or 0, and doubles with the precision that is in force
-    /// after the call. A procedure that isn't in the catalogue is answered with the communication code 3081, and parameters
-    /// that can't be read with 3080; then nothing changes, as with a line that is no request.
+    /// The call is carried out, and its reply has the request's id, or 0 if it has none, and doubles rounded to the precision
+    /// that is in force after the call. A procedure that isn't in the catalogue is answered with the communication code 3081, and
+    /// parameters that can't be read with 3080; then nothing changes, as with a line that is no request.
     ///
-    /// The id and the reply of the last request that carried an id and was carried out are stored. A
-    /// request that names a call and carries that id is a repeat of it: it gets the stored reply, and
-    /// nothing is carried out. A request without an id is never a repeat, and leaves what is stored.
+    /// The id and the reply of the last request that carried an id and was carried out are stored until
+    /// a restart. A request that carries the stored id and names a call, even another one, is taken for a
+    /// repeat: it gets the stored reply, and nothing is carried out. A request without an id is never a
+    /// repeat, and leaves the stored reply as it is.
     #[tactic(auto, using(crate::proofs::Answering::replied_alone, crate::proofs::Answering::exchanged_alone))]
     pub fn on_line(&mut self, line: &Line) -> Option<Line>
         ensures replied { IsReplied self.old line.now.items self.new (option_map (λ r. r.items) result) }
@@ -43,8 +44,8 @@ impl Instrument {
         }
     }
 
-    /// As [`Instrument::on_line`], but the reply is appended to `out`, without CR LF. It returns `true`, or, if the line is no request,
-    /// `false`, and `out` is unchanged. `out` has to have room for 512 more bytes.
+    /// As [`Instrument::on_line`], but the line may be of any length, and the reply is appended to `out`, which has to have room for 512
+    /// more bytes. It returns whether there is a reply: `false` if the line is no request, and then `out` is unchanged.
     #[inline(always)]
     pub fn reply_onto<const N: usize>(&mut self, line: &[u8], out: &mut ArrayVec<u8, N>) -> bool
         requires { array_vec_len out.old + 512 ≤ N }
@@ -61,7 +62,7 @@ impl Instrument {
         }
     }
 
-    // Appends the reply to a request: with the communication code 3081 or 3080 if it names no call, and else that of
+    // Appends the reply to a request: one with the communication code 3081 or 3080 if it names no call, and else that of
     // `answer_call`.
     #[inline]
     fn reply_to<const N: usize>(&mut self, request: &Request<'_>, out: &mut ArrayVec<u8, N>)

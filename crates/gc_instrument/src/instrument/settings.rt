@@ -15,7 +15,7 @@ pub struct Settings {
     pub height: Decimal,
     pub face: Face,
     pub pointing: Pointing,
-    /// The slope distance that was measured last, unless it was cleared.
+    /// The slope distance that was measured last. `None`: none was measured, or it was cleared.
     pub distance: Option<Decimal>,
     pub date: DateTime,
     /// The type of the prism.

@@ -116,8 +116,7 @@ impl Station {
     {
         let before = self.commands_waiting();
         self.progress.note_moment(now);
-        self.client.expire(now.elapsed);
-        self.fresh = self.fresh.min(now.elapsed);
+        self.expire(now.elapsed);
         if let Err(failed) = self.take_lines(book, piece) {
             return Err(failed);
         }
@@ -128,7 +127,8 @@ impl Station {
     }
 
     // Reads once, and takes what came: a piece, or a silence, in which deadlines may have come. The end of the connection, a
-    // failed read and a clock that can't be read are noted as the cause to close for. `Err`: the book failed at a record.
+    // failed read and a clock that can't be read are noted (`fail`): the connection is to be closed for that, and without a
+    // connection the run is over for it. `Err`: the book failed at a record.
     pub(super) fn read<L: Link, B: Book>(
         &mut self,
         link: &mut L,
@@ -147,9 +147,8 @@ impl Station {
         match link.read(&mut buf, millis) {
             Came::Bytes(n, moment) => self.take_piece(book, plan, until, &buf[..n], moment),
             Came::Silence(moment) => {
-                self.client.expire(moment.elapsed);
-                self.fresh = self.fresh.min(moment.elapsed);
                 self.progress.note_silence(plan, until, moment);
+                self.expire(moment.elapsed);
                 Ok(())
             }
             Came::End => {

@@ -5,10 +5,12 @@ ghost use Rattle.std.specs.Prelude.{◌≡◌, ◌<◌, ◌≤◌, [], ◌∷◌
 ghost use Rattle.gc_client.specs.declared.window.TheConstants.{WINDOW};
 ghost use Rattle.gc_catalogue.specs.declared.asked.Asked.TheVariants.{Table};
 ghost use Rattle.gc_catalogue.specs.declared.call.Call.TheVariants.{NullProc};
+ghost use Rattle.gc_lines.specs.Lines.{with_end};
 ghost use Rattle.gc_links.specs.Acts.{Tells, put_act, IsPart};
 ghost use Rattle.gc_station.specs.Deciding.{has_begun};
 ghost use Rattle.gc_station.specs.Requests.{command_at};
-ghost use Rattle.gc_station.specs.Model.{request_text, null_text, mark_setup};
+ghost use Rattle.gc_station.specs.Model.{request_text, null_text};
+ghost use Rattle.gc_station.specs.NextCommand.{mark_setup};
 ghost use Rattle.gc_station.specs.Stations.{IsPaired, DoesAlone, cut_progress, setup_asked, station_asking};
 ghost use Rattle.gc_station.specs.declared.progress.Action.TheVariants.{Clear, Ask, Prepare, Send, Flush};
 
@@ -31,8 +33,8 @@ pub(crate) struct Outgoing {
     pub(crate) mark: Option<Mark>,
 }
 
-// The command of a task where its request is sent at the moment `utc`, in milliseconds since 1970-01-01, UTC: one that sets the
-// clock asks for that moment.
+// The command of a task whose request is sent at the moment `utc`, in milliseconds since 1970-01-01, UTC: a task that sets the
+// clock asks for that moment (`call_at`).
 fn command_at(task: &Task, utc: u64) -> Wish
     ensures { result ≡ command_at utc task.entry.now }
 {
@@ -50,6 +52,18 @@ fn null_command() -> Wish
         target: 0,
         call: Asked::Table(Call::NullProc),
     }
+}
+
+// Writes a line and then CR LF, as one call of the link. `Err`: the write was cut, with the number of bytes that were sent.
+fn put_line<L: Link>(link: &mut L, line: &Line) -> Result<(), usize>
+    ensures tells { Tells (L.acts link.old) (L.acts link.new) (put_act result (with_end line.now.items) ∷ []) }
+    ensures part { IsPart result (with_end line.now.items) }
+{
+    // A line has at most 512 bytes.
+    let mut text = ArrayVec::<u8, 514>::new();
+    append(&mut text, line);
+    append(&mut text, b"\r\n");
+    link.put(text.as_slice())
 }
 
 impl Station {
@@ -98,11 +112,7 @@ impl Station {
             unreachable!()
         };
         self.marks.push(mark);
-        // A line has at most 512 bytes, and CR LF ends it.
-        let mut text = ArrayVec::<u8, 514>::new();
-        append(&mut text, &line);
-        append(&mut text, b"\r\n");
-        link.put(text.as_slice())
+        put_line(link, &line)
     }
 
     // Writes the request line of the first null procedure of the synchronization that isn't answered. `Err`: the write was cut,
@@ -115,11 +125,7 @@ impl Station {
         let Some(line) = self.progress.word.ask() else {
             unreachable!()
         };
-        // A line has at most 512 bytes, and CR LF ends it.
-        let mut text = ArrayVec::<u8, 514>::new();
-        append(&mut text, &line);
-        append(&mut text, b"\r\n");
-        link.put(text.as_slice())
+        put_line(link, &line)
     }
 
     // Sends the null procedure of the first id that isn't answered, and notes its deadline; and a cut write, by `note_cut`.

@@ -44,8 +44,7 @@ impl Station {
                 let others = self.others_after(1, commands);
                 self.progress.skip(next_is_chained, others, moment);
                 self.progress.note_early(plan, waiting);
-                self.client.expire(moment.elapsed);
-                self.fresh = self.fresh.min(moment.elapsed);
+                self.expire(moment.elapsed);
                 Ok(())
             }
             Err(_) => {
@@ -55,8 +54,8 @@ impl Station {
         }
     }
 
-    // Reads the clock, and leaves out the further attempts of a chain that the next command begins. A clock that can't be read
-    // is noted, as by `read_clock`, and nothing is left out.
+    // Reads the clock, and leaves out the further attempt that the next command begins, and those of its chain after it. A clock
+    // that can't be read is noted, as by `read_clock`, and nothing is left out.
     pub(super) fn leave_out<L: Link>(&mut self, link: &mut L, plan: &Plan, commands: &[Task])
         ensures { DoesAlone plan.now commands.now Pass (L.acts link.old) (L.acts link.new) self.old self.new }
     {
@@ -68,15 +67,15 @@ impl Station {
                 let others = self.others_after(count, commands);
                 self.progress.leave_out(next_is_chained, others, moment);
                 self.progress.note_early(plan, waiting);
-                self.client.expire(moment.elapsed);
-                self.fresh = self.fresh.min(moment.elapsed);
+                self.expire(moment.elapsed);
             }
             Err(_) => self.progress.fail(Cause::Clock),
         }
     }
 
-    // Writes the record of the next command, which isn't sent: as missed if its cycle is missed, otherwise as skipped. `Err`: the
-    // book failed at the record.
+    // Writes the record of the next command, which isn't sent: as missed if its cycle is missed, otherwise as skipped. Notes in
+    // `recorded` its ending, that it wasn't answered well, and whether it or one before it of its attempt ended as its rule names.
+    // `Err`: the book failed at the record, and nothing is noted.
     fn write_unsent<B: Book>(
         &mut self,
         book: &mut B,
@@ -108,9 +107,11 @@ impl Station {
         if let Err(failed) = book.write(stamp, &task.command, ending) {
             return Err(failed);
         }
-        self.tally.count(mark.cycle, mark.expected.turn, ending);
-        self.well = false;
-        self.listed = is_listed_after(self.listed, &mark.expected, None, ending);
+        self.recorded
+            .tally
+            .count(mark.cycle, mark.expected.turn, ending);
+        self.recorded.well = false;
+        self.recorded.listed = is_listed_after(self.recorded.listed, &mark.expected, None, ending);
         Ok(())
     }
 }

@@ -1,6 +1,6 @@
 use Rattle.std.proofs.Common.{◌≡◌, ℕ, ◌+◌, ◌<◌, List, [], ◌++◌, length, take, drop, Ok, Err, ap, ◌∙◌, refl, arith, length-append}
 use Rattle.std.proofs.lemmas.List.{length-take, take_all}
-use Rattle.gc_lines.proofs.Known.{Consumes-append, Consumes-nil}
+use Rattle.std.proofs.KnownBytes.{Consumes-trans, Consumes-nil}
 use Rattle.gc_ask.specs.Asking.{LinkEnd, idle}
 use Rattle.gc_ask.specs.Links.{BothStep}
 use Rattle.gc_ask.specs.Looping.{BothEnd}
@@ -22,7 +22,7 @@ loop-place-init g c = record {
   held = refl;
 }
 
--- the place of the command is how many were asked
+-- the first `place` items of a list that has more are `place` items
 place_is : {A : Type 0} (xs : List A) (place : ℕ) → place < length xs → length (take place xs) ≡ place
 place_is xs place below = omega (arith, length-take place xs, below)
 
@@ -56,7 +56,7 @@ loop-place-preserved g c =
     record {
       course = (
         so.0 ++ one.0,
-        Consumes-append _ _ _ so.0 one.0 so.1 one.1,
+        Consumes-trans _ _ _ so.0 one.0 so.1 one.1,
         omega (arith, so.2, one.2, length-append so.0 one.0, c.loop-place.invariant.client.grows, c.in_default.ensures.grows),
         rw (at_place commands place command c.loop-place-test.true c.index-commands-place.is).0 next,
       );
@@ -85,7 +85,7 @@ returns-in-Err-clause-asks g c =
     let far' = g.L.Link.instrument c.ask.new.link in
     record {
       given = so.0 ++ one.0;
-      gave = Consumes-append _ _ _ so.0 one.0 so.1 one.1;
+      gave = Consumes-trans _ _ _ so.0 one.0 so.1 one.1;
       few = omega (arith, so.2, one.2, length-append so.0 one.0, c.loop-place.invariant.client.grows, c.in-Err.ensures.grows);
       asks = run_fault g.L.Link.is_remote commands (take place commands) (drop (place + 1) commands) command place so.0 old.ahead one.0 asking.ahead
           old.end.assembler asking.end.assembler old.end.client.ids asking.end.client.ids asking.end.settled.items

@@ -11,7 +11,7 @@ use Rattle.gc_catalogue.proofs.Plain.{plain_reply}
 use Rattle.gc_catalogue.proofs.Table.{few_answer_values, values-rounded}
 use Rattle.gc_catalogue.proofs.replies.encode_answer_onto.Goals as goal
 
--- the answer's values were appended, each before a comma, and lie in their ranges
+-- the answer's values, each double rounded, were appended, each before a comma, and lie in their ranges
 handed : (g : _) (c : goal.After-pop g) → (c.write_row.new.to.items ≡ c.push.new.self.items ++ before_commas
     (shown_values (Some c.args.places) (answer_fields c.args.answer.now).values))
     × AreValues (shown_values (Some c.args.places) (answer_fields c.args.answer.now).values)

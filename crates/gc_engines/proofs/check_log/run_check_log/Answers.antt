@@ -5,6 +5,7 @@ use Rattle.gc_lines.proofs.Exactly.{ended_exactly}
 use Rattle.gc_engines.proofs.LogVerdicts.{so_far_more, so_far_part}
 use Rattle.gc_engines.proofs.check_log.run_check_log.Goals as goal
 
+-- the test finds a number that isn't 0 unequal to 0
 not_zero : (n : ℕ) → (n ≡ 0 → ⊥) → eqb n 0 ≡ false
 not_zero n h = grind (arith, nat_tests)
 

@@ -2,8 +2,9 @@ use Rattle.std.proofs.Common.{◌≡◌, ◌+◌, ◌*◌, ◌<◌, ◌≤◌, l
 use Rattle.gc_engines.proofs.LogVerdicts.{VerdictsSoFar}
 use Rattle.gc_engines.proofs.check_log.run_check_log.Given as goal
 
--- the verdicts on the lines of all bytes read so far went out (`VerdictsSoFar`), in `counter` reads, at most 256
--- for each, the last of which wasn't the end; and whether a port has failed is as at the start
+-- the verdicts on the lines of all bytes read so far went out (`VerdictsSoFar`), in `counter` reads, at most 256 verdicts for
+-- each; the last read, if there was one, wasn't the end; whether a port has failed is as at the start; and the buffer has room
+-- for 256 bytes
 abbrev pub invariant-loop : goal.invariant-loop
 invariant-loop g l = record {
   so : VerdictsSoFar (g.S.Source.remaining l.initial.source) (g.S.Source.remaining l.source) (g.K.Sink.taken l.initial.sink) (g.K.Sink.taken l.sink) l.kept l.counter l.replies;

@@ -2,8 +2,8 @@ use Rattle.std.proofs.Common.{◌≡◌, ◌++◌, ◌+◌, ◌≤◌, drop, len
 use Rattle.gc_engines.specs.RuleScenes.{rules_prisms}
 use Rattle.gc_engines.proofs.rule_scene.prisms_of.Given as goal
 
--- the targets changed so far, and those that are left, whose first has the number `number`, as the lines change them, are all targets
--- as the lines change them
+-- the targets changed so far, and those that are left, whose first has the number `number`, as the lines change them, are all
+-- targets as the lines change them
 abbrev pub invariant-loop-target : goal.invariant-loop-target
 invariant-loop-target l =
     (l.prisms.items ++ rules_prisms l.lines l.number (drop l.target-index l.targets) ≡ rules_prisms l.lines 1 l.targets)

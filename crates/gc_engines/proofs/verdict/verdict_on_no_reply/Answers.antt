@@ -5,7 +5,7 @@ use Rattle.gc_lines.specs.declared.fault.LineFault.TheVariants as fault
 use Rattle.gc_engines.specs.Verdicts.{BeginsAsReply, no_reply}
 use Rattle.gc_engines.proofs.verdict.verdict_on_no_reply.Goals as goal
 
--- where a later field is the first bad one, the signature has its form
+-- where the first field that is bad in a reply isn't the signature, the line begins as a reply
 begins : (line : List ℕ) (f : LineFault) → f ≢ fault.Signature → FirstBadOfReply line f → BeginsAsReply line
 begins line fault.Signature other bad = absurd (other refl)
 begins line fault.Number other bad = (bad.0, bad.1)

@@ -1,14 +1,14 @@
-use Rattle.std.proofs.Common.{◌∙◌}
+use Rattle.std.proofs.Common.{sym, ◌∙◌}
 use Rattle.gc_client.specs.OneForOne.{begun}
+use Rattle.gc_station.proofs.Booking.{course_client}
 use Rattle.gc_instrument.specs.State.{IsFittingState}
 use Rattle.gc_field.specs.Simulator.{ends}
 use Rattle.gc_field.specs.Laws.{kept_of}
 use Rattle.gc_field.specs.Field.{seen}
 use Rattle.gc_field.proofs.InTime.{clean_faithful}
 use Rattle.gc_field.proofs.Instruments.{simulator}
-use Rattle.gc_field.proofs.Meaning.{client_is}
 use Rattle.gc_field.proofs.laws.simulators_stations_answers_are_their_own.Goals as goal
 
 pub returns : goal.returns
 returns c = λ u rest acts ms carried.
-    let f = clean_faithful ends IsFittingState kept_of simulator.instrument u carried.clean ms carried.possible in record { faithful = f; client = client_is (seen ms) begun ∙ f.stands }
+    let f = clean_faithful ends IsFittingState kept_of simulator.instrument u carried.clean ms carried.possible in record { faithful = f; client = sym (course_client (seen ms) begun) ∙ f.stands }

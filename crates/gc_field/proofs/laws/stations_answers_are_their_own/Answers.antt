@@ -1,11 +1,11 @@
-use Rattle.std.proofs.Common.{◌∙◌}
+use Rattle.std.proofs.Common.{sym, ◌∙◌}
 use Rattle.gc_client.specs.OneForOne.{begun}
+use Rattle.gc_station.proofs.Booking.{course_client}
 use Rattle.gc_field.specs.Field.{seen}
 use Rattle.gc_field.specs.Instrument.{AnyState}
 use Rattle.gc_field.proofs.InTime.{clean_faithful}
-use Rattle.gc_field.proofs.Meaning.{client_is}
 use Rattle.gc_field.proofs.laws.stations_answers_are_their_own.Goals as goal
 
 pub returns : goal.returns
 returns g c = λ ends kept is u rest acts ms carried.
-    let f = clean_faithful ends AnyState kept is u carried.clean ms carried.possible in record { faithful = f; client = client_is (seen ms) begun ∙ f.stands }
+    let f = clean_faithful ends AnyState kept is u carried.clean ms carried.possible in record { faithful = f; client = sym (course_client (seen ms) begun) ∙ f.stands }

@@ -3,7 +3,7 @@ use Rattle.gc_lines.specs.Frames.{IsCut, pieces, rest_of}
 use Rattle.gc_lines.proofs.Cutting.{one_cut, is_cut_of}
 use Rattle.gc_lines.proofs.laws.one_cut.Goals as goal
 
--- the pieces and the rest of a stream are a cutting of it
+-- parts and a rest that equal the pieces and the rest of a stream are a cutting of it
 back : (stream : List ℕ) (parts : List (List ℕ)) (rest : List ℕ) → (parts ≡ pieces stream) × (rest ≡ rest_of stream) → IsCut stream parts rest
 back stream parts rest same =
     let here = subst (λ (r : List ℕ). IsCut stream (pieces stream) r) (sym same.1) (is_cut_of stream) in

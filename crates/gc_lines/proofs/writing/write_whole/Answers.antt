@@ -1,7 +1,8 @@
 use Rattle.std.proofs.Common.{ℕ, List, take, sym, ap, ◌∙◌, arith, length-drop}
 use Rattle.std.proofs.Math.Seq.{take-add}
 use Rattle.std.proofs.lemmas.List.{take_rest}
-use Rattle.gc_lines.proofs.Known.{Appends-append, Appends-is}
+use Rattle.std.proofs.KnownBytes.{Appends-trans}
+use Rattle.gc_lines.proofs.Known.{Appends-is}
 use Rattle.gc_lines.proofs.writing.write_whole.Goals as goal
 
 pub loop-at-preserved : goal.loop-at-preserved
@@ -13,6 +14,6 @@ loop-at-preserved g c =
     let part = Appends-is _ _ _ _ (ap (λ (xs : List ℕ). take n xs) (take_rest bytes at)) c.in-Ok.ensures.bytes.2 in
     record {
       within = omega (arith, c.in-Ok.ensures.bytes.0, length-drop at bytes);
-      took = Appends-is _ _ _ _ (sym front) (Appends-append _ (g.K.Sink.taken c.loop-at.sink) _ _ _ c.loop-at.invariant.took part);
+      took = Appends-is _ _ _ _ (sym front) (Appends-trans _ (g.K.Sink.taken c.loop-at.sink) _ _ _ c.loop-at.invariant.took part);
       failed = c.in-Ok.ensures.fails.1 ∙ sym c.in-Ok.ensures.fails.0 ∙ c.loop-at.invariant.failed;
     }

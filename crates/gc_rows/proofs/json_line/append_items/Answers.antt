@@ -1,12 +1,13 @@
 use Rattle.std.proofs.Common.{rules, Err, ap, sym, arith, append-nil, ◌++◌, ◌∙◌}
 use Rattle.std.specs.Prelude.{codes}
 use Rattle.gc_rows.specs.JsonLines.{texts_member, item_members, members_text}
-use Rattle.gc_rows.proofs.Items.{items_fit, refused_is_none, splits}
+use Rattle.gc_values.proofs.ItemBytes.{items_within_params}
+use Rattle.gc_rows.proofs.Items.{refused_is_none, splits}
 use Rattle.gc_rows.proofs.json_line.append_items.Goals as goal
 
 pub append_list-requires : goal.append_list-requires
 append_list-requires g c =
-    let fit = items_fit c.args.values.now c.in-Ok.items c.in-Ok.ensures.found.0 in
+    let fit = items_within_params c.args.values.now c.in-Ok.items c.in-Ok.ensures.found.0 in
     let short = c.requires.short in
     (search rules, (omega (arith, fit, short), (c.in-Ok.ensures.found.1, c.requires.room)))
 

@@ -1,7 +1,7 @@
 use Rattle.std.proofs.Common.{◌≡◌, ◌+◌, ◌*◌, ◌≤◌, ◌++◌, false, take, drop, length}
 use Rattle.std.specs.Prelude.{nat_lt}
 use Rattle.arrayvec.specs.ArrayVec.{array_vec_len}
-use Rattle.gc_rows.specs.Items.{bytes_in}
+use Rattle.gc_values.specs.Params.{bytes_in}
 use Rattle.gc_rows.specs.JsonLines.{strings_text}
 use Rattle.gc_rows.proofs.json_line.append_strings.Given as goal
 

@@ -2,6 +2,6 @@ use Rattle.std.proofs.Common.{◌≡◌, drop}
 use Rattle.gc_scenes.specs.Slow.{delay_from}
 use Rattle.gc_scenes.proofs.slow.delay_of.Given as goal
 
--- the delay by `ms` and the delays that are left is the delay by all of them
+-- the delays that are left make of `ms` what all delays make of 0
 abbrev pub invariant-loop-delay : goal.invariant-loop-delay
 invariant-loop-delay l = delay_from l.rpc l.ms (drop l.delay-index l.delays) ≡ delay_from l.rpc 0 l.delays

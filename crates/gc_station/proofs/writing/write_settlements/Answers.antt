@@ -15,10 +15,10 @@ loop-settlement-init g c =
           let none = records-none reads c.args.now.utc c.args.marks.now.items in
           Appends-is start (g.B.Book.taken c.args.book.now) _ _ (sym (ap
           (λ rs. texts_of (g.B.Book.text c.args.book.now) (before ++ rs)) none ∙ ap (texts_of (g.B.Book.text c.args.book.now)) (append-nil before))) so;
-      tally = λ reads are. sym (ap (tallied c.args.tally.now) (records-none reads c.args.now.utc c.args.marks.now.items));
-      well = λ reads are. sym (ap (last_well c.args.well.now) (records-none reads c.args.now.utc c.args.marks.now.items));
-      listed = λ reads are. sym (listed-none reads c.args.listed.now c.args.marks.now.items);
-      fresh = λ reads are. sym (ap (fresh_after c.args.now.elapsed c.args.fresh.now) (records-none reads c.args.now.utc c.args.marks.now.items));
+      tally = λ reads are. sym (ap (tallied c.args.recorded.now.tally) (records-none reads c.args.now.utc c.args.marks.now.items));
+      well = λ reads are. sym (ap (last_well c.args.recorded.now.well) (records-none reads c.args.now.utc c.args.marks.now.items));
+      listed = λ reads are. sym (listed-none reads c.args.recorded.now.listed c.args.marks.now.items);
+      fresh = λ reads are. sym (ap (fresh_after c.args.now.elapsed c.args.recorded.now.fresh) (records-none reads c.args.now.utc c.args.marks.now.items));
       marks = refl;
       form = refl;
       failed = refl;
@@ -58,15 +58,16 @@ loop-settlement-preserved g c =
           let more = front_more reads utc marks ss i s c.take_mark-mark.result c.loop-settlement-test.true c.settlement-item.is here in
           let front = records_of reads utc marks (map settlement_seen (take i ss)) in
           let one = records_of reads utc (c.take_mark-mark.result ∷ []) (settlement_seen s ∷ []) in
-          tallied_more c.args.tally.now c.loop-settlement.tally c.write_one.new.tally front one _ (b.tally reads are) (c.in_default.ensures.tally reads are) more;
+          tallied_more c.args.recorded.now.tally c.loop-settlement.recorded.tally c.write_one.new.recorded.tally front one _ (b.tally reads are) (c.in_default.ensures.tally reads are) more;
       well = λ reads are.
           let here = ap (λ ms. records_of reads utc ms (settlement_seen s ∷ [])) (sym b.marks) ∙ c.take_mark-mark.ensures.records reads utc (settlement_seen s) in
           let more = front_more reads utc marks ss i s c.take_mark-mark.result c.loop-settlement-test.true c.settlement-item.is here in
           let front = records_of reads utc marks (map settlement_seen (take i ss)) in
           let one = records_of reads utc (c.take_mark-mark.result ∷ []) (settlement_seen s ∷ []) in
-          last_more c.args.well.now c.loop-settlement.well c.write_one.new.well front one _ (b.well reads are) (c.in_default.ensures.well reads are) more;
+          last_more c.args.recorded.now.well c.loop-settlement.recorded.well c.write_one.new.recorded.well front one _ (b.well reads are) (c.in_default.ensures.well reads are) more;
       listed = λ reads are.
-          listed_more reads c.args.listed.now c.loop-settlement.listed c.write_one.new.listed marks ss i s c.take_mark-mark.result c.loop-settlement-test.true c.settlement-item.is
+          listed_more reads c.args.recorded.now.listed c.loop-settlement.recorded.listed c.write_one.new.recorded.listed
+          marks ss i s c.take_mark-mark.result c.loop-settlement-test.true c.settlement-item.is
           (b.listed reads are) (c.in_default.ensures.listed reads are)
           (λ x. ap (λ ms. listed_by reads x ms (settlement_seen s ∷ [])) (sym b.marks) ∙ c.take_mark-mark.ensures.listed reads x (settlement_seen s));
       fresh = λ reads are.
@@ -74,7 +75,8 @@ loop-settlement-preserved g c =
           let more = front_more reads utc marks ss i s c.take_mark-mark.result c.loop-settlement-test.true c.settlement-item.is here in
           let front = records_of reads utc marks (map settlement_seen (take i ss)) in
           let one = records_of reads utc (c.take_mark-mark.result ∷ []) (settlement_seen s ∷ []) in
-          fresh_more c.args.now.elapsed c.args.fresh.now c.loop-settlement.fresh c.write_one.new.fresh front one _ (b.fresh reads are) (c.in_default.ensures.fresh reads are) more;
+          fresh_more c.args.now.elapsed c.args.recorded.now.fresh c.loop-settlement.recorded.fresh c.write_one.new.recorded.fresh
+          front one _ (b.fresh reads are) (c.in_default.ensures.fresh reads are) more;
       marks = c.take_mark-mark.ensures.goes ∙ ap (drop 1) b.marks ∙ drop-drop 1 i marks;
       form = c.in_default.ensures.form ∙ b.form;
       failed = c.in_default.ensures.fails ∙ b.failed;

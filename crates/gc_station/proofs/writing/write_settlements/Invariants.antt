@@ -19,12 +19,13 @@ invariant-loop-settlement g l = record {
       → Appends start (g.B.Book.taken l.initial.book) (texts_of (g.B.Book.text l.initial.book) before)
       → Appends start (g.B.Book.taken l.book) (texts_of (g.B.Book.text l.initial.book)
       (before ++ records_of reads l.now.utc l.initial.marks.items (map settlement_seen (take l.settlement-index l.settlements))));
-  tally : (reads : Asked → List ℕ → Reading) → AreReadings reads → l.tally ≡ tallied l.initial.tally
+  tally : (reads : Asked → List ℕ → Reading) → AreReadings reads → l.recorded.tally ≡ tallied l.initial.recorded.tally
       (records_of reads l.now.utc l.initial.marks.items (map settlement_seen (take l.settlement-index l.settlements)));
-  well : (reads : Asked → List ℕ → Reading) → AreReadings reads → l.well ≡ last_well l.initial.well
+  well : (reads : Asked → List ℕ → Reading) → AreReadings reads → l.recorded.well ≡ last_well l.initial.recorded.well
       (records_of reads l.now.utc l.initial.marks.items (map settlement_seen (take l.settlement-index l.settlements)));
-  listed : (reads : Asked → List ℕ → Reading) → AreReadings reads → l.listed ≡ listed_by reads l.initial.listed l.initial.marks.items (map settlement_seen (take l.settlement-index l.settlements));
-  fresh : (reads : Asked → List ℕ → Reading) → AreReadings reads → l.fresh ≡ fresh_after l.now.elapsed l.initial.fresh
+  listed : (reads : Asked → List ℕ → Reading) → AreReadings reads → l.recorded.listed ≡ listed_by reads l.initial.recorded.listed l.initial.marks.items
+      (map settlement_seen (take l.settlement-index l.settlements));
+  fresh : (reads : Asked → List ℕ → Reading) → AreReadings reads → l.recorded.fresh ≡ fresh_after l.now.elapsed l.initial.recorded.fresh
       (records_of reads l.now.utc l.initial.marks.items (map settlement_seen (take l.settlement-index l.settlements)));
   marks : l.marks.items ≡ drop l.settlement-index l.initial.marks.items;
   form : g.B.Book.text l.book ≡ g.B.Book.text l.initial.book;

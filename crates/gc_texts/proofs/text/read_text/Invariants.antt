@@ -2,8 +2,8 @@ use Rattle.std.proofs.Common.{◌≡◌, ◌≤◌, ◌+◌, ◌-◌, length}
 use Rattle.std.specs.Io.KnownBytes.{Consumes}
 use Rattle.gc_texts.proofs.text.read_text.Given as goal
 
--- the text so far is what the source gave, in at most one read for each byte, and is within the limit; the source has failed only if
--- it had before
+-- the text so far is what the source gave, in at most one read for each byte, and is within the limit; the source has failed only
+-- if it had before
 abbrev pub invariant-loop-text : goal.invariant-loop-text
 invariant-loop-text g l =
     Consumes (g.S.Source.remaining l.initial.source) (g.S.Source.remaining l.source) l.text.items × (g.S.Source.failed l.source ≡ g.S.Source.failed l.initial.source)

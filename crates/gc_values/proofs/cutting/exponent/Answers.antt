@@ -4,7 +4,8 @@ use Rattle.gc_values.specs.Digits.{number}
 use Rattle.gc_values.specs.Spelling.{IsExponentDigits, mark}
 use Rattle.gc_values.proofs.cutting.exponent.Goals as goal
 
--- a mark, a sign and one to three digits are read as an exponent
+-- a mark, a sign or none, and one to three digits that write n are read as an exponent, which divides by ten n times with a
+-- minus, and else multiplies n times
 reads_exponent_text : (text rest digits : List ℕ) (negative : Bool) (n : ℕ) → (capital : Bool) × (text ≡ mark capital ∷ rest)
     → CutsSign rest negative digits → IsExponentDigits digits × (n ≡ number digits) →
     ReadsExponent text (cond negative 0 n) (cond negative n 0)

@@ -1,7 +1,7 @@
 use Rattle.std.proofs.Common.{◌≡◌, ◌+◌, false, arith, rules, subst, get_or}
+use Rattle.std.proofs.lemmas.List.{take_rest}
 use Rattle.gc_values.specs.Nearest.{MadeOf}
 use Rattle.gc_values.proofs.FrontDecimals.{counts_room, front_found, front_range}
-use Rattle.gc_values.proofs.Trimming.{slice_to_end}
 use Rattle.gc_values.proofs.front.front_decimal.Goals as goal
 
 pub front_digits-value-requires : goal.front_digits-value-requires
@@ -21,4 +21,4 @@ returns c =
     let point : get_or text at 0 ≡ 46 = search rules in
     let made = subst (λ v. MadeOf false v places c.from_parts-decimal.result.digits c.from_parts-decimal.result.scale) c.from.ensures c.from_parts-decimal.ensures in
     front_found text _ _ at places _ _ _ c.from_parts-decimal.result c.front_digits-whole.ensures (omega arith) (omega arith) point
-    (slice_to_end text (at + 1)) c.front_digits-value.ensures (slice_to_end _ places) c.in_ok-rest.ensures made
+    (take_rest text (at + 1)) c.front_digits-value.ensures (take_rest _ places) c.in_ok-rest.ensures made

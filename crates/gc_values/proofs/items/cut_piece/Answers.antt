@@ -1,8 +1,7 @@
 use Rattle.std.proofs.Common.{◌≡◌, ℕ, true, ◌+◌, ◌-◌, arith, ap, ◌∙◌, get_or, take, drop, length, refl}
 use Rattle.std.proofs.lemmas.Grind.{common_steps}
 use Rattle.gc_values.proofs.Scanning.{parity_after, scanned_none, scanned_more, scanned_cut, scanned_all}
-use Rattle.std.proofs.lemmas.List.{drop-drop}
-use Rattle.gc_values.proofs.Trimming.{slice_to_end}
+use Rattle.std.proofs.lemmas.List.{drop-drop, take_rest}
 use Rattle.gc_values.proofs.items.cut_piece.Goals as goal
 use Rattle.gc_values.proofs.items.cut_piece.Goals.{then-byte-eq34, else-byte-eq34, else-byte-eq44-via-then-byte-eq44+else-not-quoted, else-byte-eq44-via-else-byte-eq44}
 
@@ -27,7 +26,7 @@ returns-then-not-quoted c =
     let text = c.args.text.now in
     let i = c.loop-i.i in
     let behind : take (length c.split_at.result.1.now - 1) (drop 1 c.split_at.result.1.now) ≡ drop (i + 1) text =
-    slice_to_end c.split_at.result.1.now 1 ∙ ap (λ xs. drop 1 xs) c.split_at.ensures.back ∙ drop-drop 1 i text in
+    take_rest c.split_at.result.1.now 1 ∙ ap (λ xs. drop 1 xs) c.split_at.ensures.back ∙ drop-drop 1 i text in
     rw (behind, c.split_at.ensures.front) (scanned_cut text i c.loop-i.quoted c.loop-i.invariant (omega arith) c.if-byte-eq44.true c.if-not-quoted.true)
 
 pub returns : goal.returns

@@ -11,7 +11,7 @@ use Rattle.gc_values.proofs.items.split.Goals as goal
 nows_push : (old : List (Bor (List ℕ))) (r : Bor (List ℕ)) → map (λ r. r.now) (old ++ r ∷ []) ≡ map (λ r. r.now) old ++ r.now ∷ []
 nows_push old r = map-append (λ r. r.now) old (r ∷ [])
 
--- a list of at most 16 items has no more than 16
+-- two lists of which the first has at most 16 items and the second more than 16 aren't equal
 longer_not_few : (xs ys : List (List ℕ)) → xs ≡ ys → length xs ≤ 16 → 16 < length ys → ⊥
 longer_not_few xs ys e few many = omega (arith, ap length e)
 

@@ -1,7 +1,6 @@
 use Rattle.std.proofs.Common.{◌≡◌, ◌+◌, ◌-◌, arith, ap, ◌∙◌, take, drop, length, rules}
-use Rattle.std.proofs.lemmas.List.{drop-drop}
+use Rattle.std.proofs.lemmas.List.{drop-drop, take_rest}
 use Rattle.gc_values.proofs.PlainLists.{plain_all, plain_cut}
-use Rattle.gc_values.proofs.Trimming.{slice_to_end}
 use Rattle.gc_values.proofs.quick.cut_plain.Goals as goal
 
 pub returns-then-byte-eq44 : goal.returns-then-byte-eq44
@@ -9,7 +8,7 @@ returns-then-byte-eq44 c =
     let text = c.args.text.now in
     let i = c.loop-i.i in
     let behind : take (length c.split_at.result.1.now - 1) (drop 1 c.split_at.result.1.now) ≡ drop (i + 1) text =
-    slice_to_end c.split_at.result.1.now 1 ∙ ap (λ xs. drop 1 xs) c.split_at.ensures.back ∙ drop-drop 1 i text in
+    take_rest c.split_at.result.1.now 1 ∙ ap (λ xs. drop 1 xs) c.split_at.ensures.back ∙ drop-drop 1 i text in
     rw (behind, c.split_at.ensures.front) (plain_cut text i c.loop-i.invariant (omega arith) (omega arith) c.if-byte-eq44.true)
 
 pub returns : goal.returns

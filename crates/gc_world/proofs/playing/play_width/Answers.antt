@@ -1,5 +1,6 @@
-use Rattle.std.proofs.Common.{◌+◌, take, sym, subst, arith}
+use Rattle.std.proofs.Common.{◌+◌, length, take, refl, sym, subst, arith}
 use Rattle.std.proofs.lemmas.Bool.{false≢true}
+use Rattle.std.proofs.lemmas.Option.{slice_get_read}
 use Rattle.gc_catalogue.specs.declared.call.Call.{Call}
 use Rattle.gc_client.specs.Rule.{ById}
 use Rattle.gc_instrument.specs.State.{State}
@@ -7,7 +8,6 @@ use Rattle.gc_world.specs.Clients.{streamed}
 use Rattle.gc_world.specs.Stages.{seen, AreStreamsOf}
 use Rattle.gc_world.specs.Streams.{Streams}
 use Rattle.gc_world.proofs.Faithfulness.{faithful, once, no_longer_than}
-use Rattle.gc_world.proofs.Places.{get_at}
 use Rattle.gc_world.proofs.Turns.{played_more, at_end, counts_at}
 use Rattle.gc_world.proofs.playing.play_width.Goals as goal
 
@@ -31,7 +31,7 @@ returns-in_err-happen-clause-spare g c =
     let event = c.event-item.result in
     let v = streamed c.args.width c.args.instrument (take i c.args.events.now) in
     λ none.
-    let is = get_at c.args.events.now i event c.loop-event-test.true c.event-item.is in
+    let is = slice_get_read c.args.events.now (length c.args.events.now) i event refl c.loop-event-test.true c.event-item.is in
     absurd (false≢true (c.in_err-happen.ensures.spare c.args.width v c.loop-event.invariant.shows (none i event is)))
 
 pub returns-clause-faithful : goal.returns-clause-faithful

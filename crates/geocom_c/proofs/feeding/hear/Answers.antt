@@ -9,7 +9,7 @@ use Rattle.geocom_c.specs.State.{StandsFor}
 use Rattle.geocom_c.specs.Settled.{IsRecord, AnswersHaveLine}
 use Rattle.geocom_c.specs.declared.answers.GeocomHeard.{GeocomHeard}
 use Rattle.geocom_c.proofs.Places.{first_map}
-use Rattle.geocom_c.proofs.Records.{hears_by, more_record, settling}
+use Rattle.geocom_c.proofs.Records.{heard_have_line, more_record, settling}
 use Rattle.geocom_c.proofs.feeding.hear.Goals as goal
 
 pub put_records-requires-clause-told : goal.put_records-requires-clause-told
@@ -18,7 +18,7 @@ put_records-requires-clause-told c =
     let ids = c.args.client.ids in
     let seen : map settlement_seen c.as_slice-in-Settled.result.now ≡ (hears ids line (heard line)).settlements =
     ap (map settlement_seen) c.as_slice-in-Settled.ensures.value ∙ c.in-Settled.ensures.settled.seen in
-    (line, c.list_line-answer.ensures, subst (λ (ss : List (Settlement Asked)). AnswersHaveLine line ss) (sym seen) (hears_by ids line (heard line)))
+    (line, c.list_line-answer.ensures, subst (λ (ss : List (Settlement Asked)). AnswersHaveLine line ss) (sym seen) (heard_have_line ids line (heard line)))
 
 pub returns-in-Settled-clause-fed : goal.returns-in-Settled-clause-fed
 returns-in-Settled-clause-fed c =

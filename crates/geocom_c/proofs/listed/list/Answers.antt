@@ -1,11 +1,11 @@
 use Rattle.std.proofs.Common.{◌≡◌, ◌∙◌, List, ℕ, Ok, sym, subst, arith}
 use Rattle.geocom_c.proofs.Clients.{never_ok}
 use Rattle.geocom_c.specs.Settled.{AreStanding}
-use Rattle.geocom_c.proofs.Items.{items_total}
+use Rattle.gc_values.proofs.ItemBytes.{items_within_params}
 use Rattle.geocom_c.proofs.listed.list.Goals as goal
 
 pub put_items-requires-clause-room : goal.put_items-requires-clause-room
-put_items-requires-clause-room c = omega (arith, c.requires, items_total c.args.params.now c.in-Ok.items c.in-Ok.ensures.found.0)
+put_items-requires-clause-room c = omega (arith, c.requires, items_within_params c.args.params.now c.in-Ok.items c.in-Ok.ensures.found.0)
 
 pub returns-in-Ok-clause-listed : goal.returns-in-Ok-clause-listed
 returns-in-Ok-clause-listed c = λ items is few.

@@ -1,7 +1,7 @@
 use Rattle.std.proofs.Common.{rules, ◌≡◌, ◌∙◌, [], sym, ap, subst}
 use Rattle.gc_lines.specs.Replies.{ReplyFields, reply_seen}
 use Rattle.gc_lines.specs.Readers.{reply_at}
-use Rattle.gc_lines.proofs.Replies.{reply_again, reply_one}
+use Rattle.gc_lines.proofs.Replies.{reply_again, one_reply}
 use Rattle.gc_values.specs.Params.{IsParams}
 use Rattle.geocom_c.specs.Settled.{AreStanding}
 use Rattle.geocom_c.proofs.Clients.{never_ok, front_of}
@@ -14,7 +14,7 @@ returns-in-Ok c =
     record {
       front = front_of line c.append.new.to.items c.list.new.told.text.items c.list.ensures.front.0 first c.list.ensures.front.1;
       listed = λ reply items is params few.
-          let same = reply_one line (reply_seen c.in-Ok.reply) reply (search (rules, c.in-Ok.ensures.found)) is in
+          let same = one_reply line (reply_seen c.in-Ok.reply) reply (search (rules, c.in-Ok.ensures.found)) is in
           subst (λ (r : ReplyFields). IsParams r.params items → AreStanding c.list.new.told.items c.list.new.told.places c.list.new.told.text.items items)
           same (λ params. c.list.ensures.listed items params few) params;
     }

@@ -1,6 +1,7 @@
 use Rattle.std.proofs.Common.{◌≡◌, ◌+◌, ◌++◌, ℕ, List, length, take}
 use Rattle.geocom_c.specs.FirstAre.{FirstAre}
-use Rattle.geocom_c.specs.Settled.{StandsAt, total}
+use Rattle.gc_values.specs.Params.{bytes_in}
+use Rattle.geocom_c.specs.Settled.{StandsAt}
 use Rattle.geocom_c.proofs.listed.put_items.Given as goal
 
 -- the first k items, and nothing else, were appended to the text, and the first k places say where they are
@@ -10,5 +11,5 @@ invariant-loop-k l =
       front : (more : List ℕ) × (l.text.items ≡ l.initial.text.items ++ more);
       places : FirstAre (StandsAt l.text.items) l.places (take l.k l.items);
       size : length l.places ≡ length l.initial.places;
-      room : length l.text.items ≡ length l.initial.text.items + total (take l.k l.items);
+      room : length l.text.items ≡ length l.initial.text.items + bytes_in (take l.k l.items);
     }

@@ -10,7 +10,7 @@ use Rattle.gc_client.specs.declared.settlement.Settlement.{Settlement}
 use Rattle.geocom_c.specs.FirstAre.{FirstAre}
 use Rattle.geocom_c.specs.Settled.{IsRecord}
 use Rattle.geocom_c.proofs.Places.{first_written}
-use Rattle.geocom_c.proofs.Records.{by_at}
+use Rattle.geocom_c.proofs.Records.{has_line_at}
 use Rattle.geocom_c.proofs.settled.put_records.Goals as goal
 
 pub record_of-requires : goal.record_of-requires
@@ -20,7 +20,7 @@ record_of-requires c =
     let s = c.index-settled-k.result in
     let here : slice_get (map settlement_seen settled) k ≡ Some (settlement_seen s) =
     slice_get-map settlement_seen settled k ∙ ap (option_map settlement_seen) (slice_get-get_or settled k s c.loop-k-test.true ∙ ap Some (sym c.index-settled-k.is)) in
-    (c.requires.told.0, c.requires.told.1, by_at c.requires.told.0 (map settlement_seen settled) k (settlement_seen s) c.requires.told.2 here)
+    (c.requires.told.0, c.requires.told.1, has_line_at c.requires.told.0 (map settlement_seen settled) k (settlement_seen s) c.requires.told.2 here)
 
 pub loop-k-preserved : goal.loop-k-preserved
 loop-k-preserved c =

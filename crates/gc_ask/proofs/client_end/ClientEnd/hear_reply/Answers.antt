@@ -1,7 +1,7 @@
 use Rattle.std.proofs.Common.{◌≡◌, ℕ, List, [], ◌++◌, sym, ap, ◌∙◌, subst, arith, length-append, append-nil, not, Ok}
 use Rattle.std.specs.Io.KnownBytes.{Consumes}
-use Rattle.gc_lines.proofs.Known.{Consumes-append}
-use Rattle.gc_ask.proofs.FirstReplies.{Consumes-keeps, reading_more, reading_quiet, reading_settles}
+use Rattle.std.proofs.KnownBytes.{Consumes-kept, Consumes-trans}
+use Rattle.gc_ask.proofs.FirstReplies.{reading_more, reading_quiet, reading_settles}
 use Rattle.gc_ask.proofs.client_end.ClientEnd.hear_reply.Goals as goal
 
 pub returns-in-Some-clause-hears : goal.returns-in-Some-clause-hears
@@ -30,7 +30,7 @@ pub returns-in_default-read-clause-hears : goal.returns-in_default-read-clause-h
 returns-in_default-read-clause-hears g c =
     let h = c.loop-used.invariant.heard in (
       h.0,
-      Consumes-keeps _ _ _ _ h.1 c.in_default-read.ensures.bytes.0,
+      Consumes-kept _ _ _ _ h.1 c.in_default-read.ensures.bytes.0,
       omega (arith, h.2, c.in_default-read.ensures.bytes.1),
       λ rest s.
           let r = h.3 rest s in
@@ -42,7 +42,7 @@ returns-then-not-more-clause-hears g c =
     let h = c.loop-used.invariant.heard in
     let ended : c.read.new.ahead ≡ [] = c.in-Ok.ensures.end (ap Ok c.if-not-more.true) in
     let gave = subst (λ (xs : List ℕ). Consumes (g.L.Link.client c.args.link.now).remaining (g.L.Link.client c.read.new.self).remaining xs) (append-nil h.0)
-    (Consumes-append _ _ _ h.0 [] h.1 (rw ended at c.in-Ok.ensures.bytes.0)) in (
+    (Consumes-trans _ _ _ h.0 [] h.1 (rw ended at c.in-Ok.ensures.bytes.0)) in (
       h.0,
       gave,
       omega (arith, h.2, c.in-Ok.ensures.bytes.1),
@@ -59,7 +59,7 @@ loop-used-preserved g c =
     record {
       heard = (
         h.0 ++ c.read.new.ahead,
-        Consumes-append _ _ _ h.0 c.read.new.ahead h.1 c.in-Ok.ensures.bytes.0,
+        Consumes-trans _ _ _ h.0 c.read.new.ahead h.1 c.in-Ok.ensures.bytes.0,
         omega (arith, h.2, length-append h.0 c.read.new.ahead, c.in-Ok.ensures.few, c.in-Ok.ensures.bytes.1, c.loop-used.invariant.grows),
         λ rest s.
             let r = h.3 rest s in

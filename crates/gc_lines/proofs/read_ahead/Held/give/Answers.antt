@@ -3,7 +3,8 @@ use Rattle.std.proofs.lemmas.List.{take_at, drop-drop, length-take-le}
 use Rattle.std.proofs.Math.Seq.{take-add}
 use Rattle.gc_lines.proofs.read_ahead.Held.give.Goals as goal
 
--- the first n of what is held are at the front of buf, and the rest is held
+-- of the bytes from `start` to `end`, which are held, the first n are put at the front of `buf`: these and then the bytes from
+-- start + n to `end` are the ones that were held
 given_and_held : (bytes buf part : List ℕ) (start end n : ℕ) → start + n ≤ end → end ≤ length bytes → part ≡ take n (drop start bytes)
     → take (end - start) (drop start bytes) ≡ take n (part ++ drop n buf) ++ take (end - (start + n)) (drop (start + n) bytes)
 given_and_held bytes buf part start end n within all is =

@@ -2,7 +2,8 @@ use Rattle.std.proofs.Common.{◌≡◌, ℕ, ◌-◌, ◌≤◌, List, [], ◌+
 use Rattle.std.proofs.lemmas.List.{take-append-drop, length-take-le, take_rest, take_at, nil_from_length}
 use Rattle.gc_probes.proofs.source.PieceSourceSource.read.Goals as goal
 
--- where the first n bytes of `left` were copied to the front of the buffer, they are its first n bytes, and they and the rest are `left`
+-- where the first n bytes of `left` were copied to the front of the buffer, they are its first n bytes, and they and the rest
+-- are `left`; if n is 0, which it is only if `left` has no bytes, the rest has none
 gives : (left buf got : List ℕ) (n : ℕ) → got ≡ take n left → n ≤ length left → (n ≡ 0 → length left ≡ 0)
     → (n ≤ length (got ++ drop n buf)) × (left ≡ take n (got ++ drop n buf) ++ take (length left - n) (drop n left)) × (n ≡ 0 → take (length left - n) (drop n left) ≡ [])
 gives left buf got n is fits none =

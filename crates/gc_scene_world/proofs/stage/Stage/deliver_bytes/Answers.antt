@@ -3,7 +3,7 @@ use Rattle.gc_catalogue.specs.declared.call.Call.{Call}
 use Rattle.gc_client.specs.Rule.{ById}
 use Rattle.gc_scenes.specs.SceneState.{SceneState}
 use Rattle.gc_scene_world.specs.SceneRuns.{scene_ends}
-use Rattle.gc_scene_world.specs.SceneStages.{seen, world_direction, AreStreamsOf}
+use Rattle.gc_scene_world.specs.SceneStages.{seen, AreStreamsOf}
 use Rattle.gc_world.specs.Clients.{by_ids}
 use Rattle.gc_world.specs.Streams.{Streams}
 use Rattle.gc_scene_world.proofs.Handed.{reached, reaches_next, reaches_end, runs_dry}
@@ -17,9 +17,9 @@ returns-then-n-eq0 c =
     let s = seen c.args.self.now in
     let left = c.remaining-remaining in
     elim c.then-n-eq0.branch [
-      | then-n-eq0-via-then-n-eq0 w ↦ λ width v h. streams_idle_bytes width s v h (world_direction c.args.direction) c.args.n left.result (left.ensures width v h) (inl w.if-n-eq0.true)
+      | then-n-eq0-via-then-n-eq0 w ↦ λ width v h. streams_idle_bytes width s v h c.args.direction c.args.n left.result (left.ensures width v h) (inl w.if-n-eq0.true)
       | then-n-eq0-via-else-n-eq0+then-remaining-eq0 w ↦ λ width v h.
-          streams_idle_bytes width s v h (world_direction c.args.direction) c.args.n left.result (left.ensures width v h) (inr w.if-remaining-eq0.true)
+          streams_idle_bytes width s v h c.args.direction c.args.n left.result (left.ensures width v h) (inr w.if-remaining-eq0.true)
     ]
 
 pub loop-left-init : goal.loop-left-init
@@ -95,7 +95,7 @@ returns-then-left-remaining c =
     λ width v h.
     let at = c.loop-left.invariant.follows width v h in
     subst (λ (x : Streams (ById Call) SceneState). AreStreamsOf width u x)
-    (sym (bytes_handed scene_ends (by_ids width scene_ends) (world_direction c.args.direction) v c.args.n first.result (first.ensures width v h).left c.if-n-eq0.false c.if-remaining-eq0.false))
+    (sym (bytes_handed scene_ends (by_ids width scene_ends) c.args.direction v c.args.n first.result (first.ensures width v h).left c.if-n-eq0.false c.if-remaining-eq0.false))
     (reaches_end width c.args.direction t v c.args.n c.loop-left.left at u (c.go_on.ensures width at.now at.shows))
 
 pub returns-else-left-remaining : goal.returns-else-left-remaining
@@ -105,6 +105,6 @@ returns-else-left-remaining c =
     λ width v h.
     let at = c.loop-left.invariant.follows width v h in
     subst (λ (x : Streams (ById Call) SceneState). AreStreamsOf width t x)
-    (sym (bytes_handed scene_ends (by_ids width scene_ends) (world_direction c.args.direction) v c.args.n first.result (first.ensures width v h).left c.if-n-eq0.false c.if-remaining-eq0.false))
+    (sym (bytes_handed scene_ends (by_ids width scene_ends) c.args.direction v c.args.n first.result (first.ensures width v h).left c.if-n-eq0.false c.if-remaining-eq0.false))
     (runs_dry width c.args.direction t v c.args.n c.loop-left.left at c.loop-left.remaining (c.loop-left.invariant.remaining width at.now at.shows)
     (runs_out c.completes.result c.loop-left.remaining c.loop-left.left c.completes.ensures c.loop-left-test.false (λ lt. omega (arith, lt, c.if-left-remaining.false))))

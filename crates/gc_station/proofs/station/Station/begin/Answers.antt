@@ -16,9 +16,9 @@ returns-in-Ok g c text known =
       tells = c.in-Ok.ensures;
       goes = λ s start stands so. (
         tt,
-        refines_expired old c.begin_cycle.new.self (cycle_begun plan count m s.progress) c.expire.new.self c.min-self.result m s stands
+        refines_expired old c.expire.new.self c.begin_cycle.new.self (cycle_begun plan count m s.progress) m s stands
             (c.begin_cycle.ensures ∙ ap (λ n. cycle_begun plan n m old.progress) c.saturating_sub-count.ensures ∙ ap
-            (cycle_begun plan count m) stands.progress) c.expire.ensures.client c.min-self.ensures,
+            (cycle_begun plan count m) stands.progress) c.expire.ensures,
         so,
       );
     }

@@ -6,7 +6,8 @@ use Rattle.gc_client.specs.Rule.{ById}
 use Rattle.gc_texts.specs.declared.wish.Wish.{Wish}
 use Rattle.gc_links.specs.Acts.{put_act}
 use Rattle.gc_station.specs.Progressing.{request_noted}
-use Rattle.gc_station.specs.Model.{Model, commands_before, request_text, asks_null, with_progress}
+use Rattle.gc_station.specs.Model.{Model, request_text, asks_null, with_progress}
+use Rattle.gc_station.specs.NextCommand.{commands_before}
 use Rattle.gc_station.proofs.Making.{refines_with, asks_refines, put_puts, put_refines, put_took}
 use Rattle.gc_station.proofs.station.Station.flush.Goals as goal
 

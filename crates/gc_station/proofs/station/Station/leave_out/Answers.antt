@@ -2,7 +2,8 @@ use Rattle.std.proofs.Common.{ap, ◌∙◌}
 use Rattle.gc_links.specs.Acts.{Told}
 use Rattle.gc_station.specs.declared.progress.Progress.{Progress}
 use Rattle.gc_station.specs.Marks.{commands_in}
-use Rattle.gc_station.specs.Model.{is_chained_after, others_after, next_left_out, with_passes}
+use Rattle.gc_station.specs.Model.{next_left_out, with_passes}
+use Rattle.gc_station.specs.NextCommand.{is_chained_after, others_after}
 use Rattle.gc_station.specs.Progressing.{early_noted, attempts_left_out}
 use Rattle.gc_station.specs.Stations.{Refines}
 use Rattle.gc_station.proofs.Hearing.{refines_expired}
@@ -40,8 +41,8 @@ returns-in-Ok g c text known =
           ∙ ap (λ k. attempts_left_out (is_chained_after n commands old.progress) k m old.progress) c.others_after-others.ensures
           ∙ ap goes_on stands.progress) in (
             tt,
-            refines_expired old c.note_early.new.self (early_noted plan (commands_in s.marks) (goes_on s.progress)) c.expire.new.self c.min-self.result m
-                (with_passes (next_left_out plan commands s.progress) s) there progress c.expire.ensures.client c.min-self.ensures,
+            refines_expired old c.expire.new.self c.note_early.new.self (early_noted plan (commands_in s.marks) (goes_on s.progress)) m
+                (with_passes (next_left_out plan commands s.progress) s) there progress c.expire.ensures,
             so,
           );
     }

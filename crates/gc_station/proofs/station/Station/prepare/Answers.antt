@@ -6,7 +6,8 @@ use Rattle.gc_station.specs.declared.station.sending.Outgoing.{Outgoing}
 use Rattle.gc_station.specs.declared.progress.Progress.{Progress}
 use Rattle.gc_station.specs.Progressing.{setup_sent}
 use Rattle.gc_station.specs.Stations.{setup_asked}
-use Rattle.gc_station.specs.Model.{Model, mark_setup, commands_before, request_text, text_or_null, asks_setup, with_progress}
+use Rattle.gc_station.specs.Model.{Model, request_text, text_or_null, asks_setup, with_progress}
+use Rattle.gc_station.specs.NextCommand.{mark_setup, commands_before}
 use Rattle.gc_station.proofs.Making.{refines_with, asks_refines, put_puts, put_refines, put_took, setup_refines, setup_text, setup_took}
 use Rattle.gc_station.proofs.station.Station.prepare.Goals as goal
 

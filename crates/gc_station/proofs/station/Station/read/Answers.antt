@@ -39,7 +39,7 @@ returns-in-Silence-clause-does g c commands =
     makes_read plan commands until (g.B.Book.text c.args.book.now) (g.L.Link.acts c.args.link.now) (g.L.Link.acts c.read.new.self)
     (g.B.Book.taken c.args.book.now) (g.B.Book.taken c.args.book.now) old _ (Silent m) c.in-Silence.ensures.tells tt
     (λ s start stands so. (
-      refines_expired old c.note_silence.new.self (silent plan until m s.progress) c.expire.new.self c.min-self.result m s stands
-          (c.note_silence.ensures ∙ ap (silent plan until m) stands.progress) c.expire.ensures.client c.min-self.ensures,
+      refines_expired old c.expire.new.self c.note_silence.new.self (silent plan until m s.progress) m s stands
+          (c.note_silence.ensures ∙ ap (silent plan until m) stands.progress) c.expire.ensures,
       so,
     ))

@@ -15,9 +15,9 @@ returns-in-Ok g c commands text known =
       tells = c.in-Ok.ensures;
       goes = λ s start stands so. (
         tt,
-        refines_expired c.args.self.now c.note_early.new.self (early_noted plan (commands_in s.marks) (moment_noted m s.progress)) c.expire.new.self c.min-self.result m s stands
+        refines_expired c.args.self.now c.expire.new.self c.note_early.new.self (early_noted plan (commands_in s.marks) (moment_noted m s.progress)) m s stands
             (c.note_early.ensures ∙ ap (λ n. early_noted plan n c.note_moment.new.self) (c.commands_waiting-commands.ensures ∙ ap commands_in stands.marks)
-            ∙ ap (λ (p : Progress). early_noted plan (commands_in s.marks) p) (c.note_moment.ensures ∙ ap (moment_noted m) stands.progress)) c.expire.ensures.client c.min-self.ensures,
+            ∙ ap (λ (p : Progress). early_noted plan (commands_in s.marks) p) (c.note_moment.ensures ∙ ap (moment_noted m) stands.progress)) c.expire.ensures,
         so,
       );
     }

@@ -13,8 +13,8 @@ returns-in-Ok g c commands text known =
       tells = c.in-Ok.ensures;
       goes = λ s start stands so. (
         tt,
-        refines_expired c.args.self.now c.note_early.new.self (early_noted plan 0 (renewed plan m s.progress)) c.expire.new.self c.min-self.result m s stands
-            (c.note_early.ensures ∙ ap (early_noted plan 0) (c.resynchronize.ensures ∙ ap (renewed plan m) stands.progress)) c.expire.ensures.client c.min-self.ensures,
+        refines_expired c.args.self.now c.expire.new.self c.note_early.new.self (early_noted plan 0 (renewed plan m s.progress)) m s stands
+            (c.note_early.ensures ∙ ap (early_noted plan 0) (c.resynchronize.ensures ∙ ap (renewed plan m) stands.progress)) c.expire.ensures,
         so,
       );
     }

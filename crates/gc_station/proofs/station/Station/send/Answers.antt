@@ -7,7 +7,8 @@ use Rattle.gc_links.specs.Acts.{put_act}
 use Rattle.gc_station.specs.declared.mark.Mark.{Mark}
 use Rattle.gc_station.specs.Progressing.{sent}
 use Rattle.gc_station.specs.Requests.{command_at}
-use Rattle.gc_station.specs.Model.{Model, place_next, mark_next, is_chained_after_next, others_after_next, commands_before, request_text, first_text, asks_next, with_progress}
+use Rattle.gc_station.specs.Model.{Model, request_text, first_text, asks_next, with_progress}
+use Rattle.gc_station.specs.NextCommand.{place_next, mark_next, is_chained_after_next, others_after_next, commands_before}
 use Rattle.gc_station.proofs.Making.{refines_with, asks_refines, put_puts, put_refines, put_took, drop_here, first_refines, first_took}
 use Rattle.gc_station.proofs.station.Station.send.Goals as goal
 

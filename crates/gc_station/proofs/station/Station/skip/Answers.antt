@@ -9,10 +9,11 @@ use Rattle.gc_texts.specs.Endings.{Missed, Skipped}
 use Rattle.gc_station.specs.Marks.{commands_in}
 use Rattle.gc_station.specs.Progressing.{failing, skipped, early_noted}
 use Rattle.gc_station.specs.Records.{Record, texts_of}
-use Rattle.gc_station.specs.Model.{Model, place_next, mark_next, is_chained_after_next, others_after_next, listed_after_skip, unsent_record, with_progress, with_listed, with_records}
+use Rattle.gc_station.specs.Model.{Model, listed_after_skip, unsent_record, with_progress, with_listed, with_records}
+use Rattle.gc_station.specs.NextCommand.{place_next, mark_next, is_chained_after_next, others_after_next}
 use Rattle.gc_station.specs.Stations.{Refines, Took}
 use Rattle.gc_station.proofs.Hearing.{refines_expired}
-use Rattle.gc_station.proofs.Making.{refines_with, drop_some, skips_unwell, skipped_refines, none_skipped}
+use Rattle.gc_station.proofs.Making.{refines_with, drop_some, skips_unwell, skipped_refines, with_no_records}
 use Rattle.gc_station.proofs.station.Station.skip.Goals as goal
 
 pub returns-in_default-clause-does : goal.returns-in_default-clause-does
@@ -37,7 +38,7 @@ returns-in_default-clause-does g c =
           let is = stands.progress in
           let same = ap (λ (x : Station). x.progress) c.in_default.ensures.after ∙ is in
           let here_stands : Refines mid (with_listed listed (with_records rs s)) = skipped_refines old mid s rs
-          (listed_after old.listed (mark_next plan commands p).expected None (if p.missed then Missed else Skipped)) listed stands
+          (listed_after old.recorded.listed (mark_next plan commands p).expected None (if p.missed then Missed else Skipped)) listed stands
           (λ b. skips_unwell b p m (mark_next plan commands p) (drop (place_next commands p) commands) here.0 here.1 here.2)
           (λ are. ap (λ b. listed_after b (mark_next plan commands p).expected None (if p.missed then Missed else Skipped)) (stands.listed are)
           ∙ ap (λ (x : Progress). listed_after s.listed (mark_next plan commands x).expected None (if x.missed then Missed else Skipped)) is)
@@ -53,8 +54,8 @@ returns-in_default-clause-does g c =
           ∙ ap (λ n. skipped next_is_chained n m mid.progress) (c.others_after-others.ensures ∙ ap (others_after_next commands) same)
           ∙ ap (skipped next_is_chained behind m) same) in (
             tt,
-            refines_expired mid c.note_early.new.self (early_noted plan (commands_in s.marks) (skipped next_is_chained behind m q)) c.expire.new.self c.min-self.result m
-                (with_listed listed (with_records (unsent_record plan commands q (Told m)) s)) there progress c.expire.ensures.client c.min-self.ensures,
+            refines_expired mid c.expire.new.self c.note_early.new.self (early_noted plan (commands_in s.marks) (skipped next_is_chained behind m q)) m
+                (with_listed listed (with_records (unsent_record plan commands q (Told m)) s)) there progress c.expire.ensures,
             λ are. subst (λ (xs : List Record). Appends start (g.B.Book.taken c.write_unsent.new.book)
                 (texts_of (g.B.Book.text c.args.book.now) (s.records ++ xs))) rs' (c.in_default.ensures.wrote start s.records (so are)),
           );
@@ -67,7 +68,7 @@ returns-in-Err-clause-does g c =
       act = Untold;
       tells = c.in-Err.ensures;
       goes = λ s start stands so.
-          let none = sym (none_skipped s) in (
+          let none = sym (with_no_records s) in (
             tt,
             subst (λ (x : Model). Refines (record old { progress = c.fail.new.self }) (with_progress (failing Clock) x)) none
                 (refines_with old c.fail.new.self (failing Clock) s stands c.fail.ensures),

@@ -10,8 +10,8 @@ pub returns-in-Err-clause-takes : goal.returns-in-Err-clause-takes
 returns-in-Err-clause-takes g c s start stands so =
     let m = c.args.now in
     c.in-Err.ensures.takes (with_moment m (with_progress (moment_noted m) s)) start
-    (refines_expired c.args.self.now c.note_moment.new.self (moment_noted m s.progress) c.expire.new.self c.min-self.result m s stands
-    (c.note_moment.ensures ∙ ap (moment_noted m) stands.progress) c.expire.ensures.client c.min-self.ensures) so
+    (refines_expired c.args.self.now c.expire.new.self c.note_moment.new.self (moment_noted m s.progress) m s stands
+    (c.note_moment.ensures ∙ ap (moment_noted m) stands.progress) c.expire.ensures) so
 
 pub returns-clause-takes : goal.returns-clause-takes
 returns-clause-takes g c s start stands so =
@@ -20,8 +20,8 @@ returns-clause-takes g c s start stands so =
     let until = c.args.until in
     let t =
     c.in_default.ensures.takes (with_moment m (with_progress (moment_noted m) s)) start
-    (refines_expired c.args.self.now c.note_moment.new.self (moment_noted m s.progress) c.expire.new.self c.min-self.result m s stands
-    (c.note_moment.ensures ∙ ap (moment_noted m) stands.progress) c.expire.ensures.client c.min-self.ensures) so in
+    (refines_expired c.args.self.now c.expire.new.self c.note_moment.new.self (moment_noted m s.progress) m s stands
+    (c.note_moment.ensures ∙ ap (moment_noted m) stands.progress) c.expire.ensures) so in
     let heard : Model = after_piece (is_heard s.progress.phase) s.progress.word c.args.piece.now (with_moment m (with_progress (moment_noted m) s)) in
     let before = c.commands_waiting-before.ensures ∙ ap commands_in stands.marks in
     let all = ap (λ (w : Waiting). w.all) c.waiting-after.ensures ∙ all_same c.take_lines.new.self heard t.0 in

@@ -2,7 +2,7 @@ use Rattle.std.proofs.Common.{◌≡◌, ◌-◌, ◌<◌, List, ◌++◌, lengt
 use Rattle.gc_texts.specs.declared.tasks.Task.{Task}
 use Rattle.gc_texts.specs.Endings.{ending_seen, Skipped, Missed}
 use Rattle.gc_station.specs.Records.{Record, WritesPart}
-use Rattle.gc_station.specs.Model.{mark_next}
+use Rattle.gc_station.specs.NextCommand.{mark_next}
 use Rattle.gc_station.proofs.Making.{drop_here, skips_as}
 use Rattle.gc_station.proofs.Records.{part_one}
 use Rattle.gc_station.proofs.station.Station.write_unsent.Goals as goal

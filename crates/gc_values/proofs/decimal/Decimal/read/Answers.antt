@@ -5,7 +5,7 @@ use Rattle.gc_values.proofs.Reading.{IsDecimalRead, reads_parts}
 use Rattle.gc_values.proofs.decimal.Decimal.read.Goals as goal
 use Rattle.gc_values.proofs.decimal.Decimal.read.Goals.{After-try_from_parts}
 
--- what `Decimal::read` returns for a text that has the parts of a number meets its contract, `IsDecimalRead`
+-- what `Decimal::read` returns for a text that has the parts of a number is as `IsDecimalRead` says
 result_is_reading : (c : After-try_from_parts) → IsDecimalRead c.args.text.now c.try_from_parts.result
 result_is_reading c =
     reads_parts c.args.text.now _ _ _ _ _ _ _ c.try_from_parts.result c.in-Some.ensures.found c.rounded_units-magnitude.ensures c.try_from_parts.ensures.made c.try_from_parts.ensures.exact

@@ -4,7 +4,7 @@ use Rattle.gc_values.proofs.Powers.{ten_pow_le}
 use Rattle.gc_values.proofs.WrittenLemmas.{two_runs}
 use Rattle.gc_values.proofs.tail.Tail.put_fraction.Goals as goal
 
--- the front half of at most 24 digits is below 10^12
+-- where n is below 10^count, and `count` is at most 24, n / 10^12 is below 10^12
 front_small : (n count : ℕ) → count ≤ 24 → n < 10 ^ count → n / 10 ^ 12 < 10 ^ 12
 front_small n count few small = div_below n (10 ^ 12) (10 ^ 12) (omega arith) (omega (arith, ten_pow_le count 24 few))
 

@@ -1,0 +1,94 @@
+-- The next command of a station's list, this project's own: its place, its mark and how it stands to the commands after it, at a
+-- given progress.
+use Rattle.std.specs.Prelude.{ℕ, ◌+◌, ◌-◌, ◌||◌, Bool, false, List, [], ◌∷◌, length, drop, None, if◌then◌else◌, nat_eq}
+use Rattle.gc_texts.specs.Again.{no_again}
+use Rattle.gc_texts.specs.Codes.{no_codes}
+use Rattle.gc_texts.specs.declared.near.Expected.{Expected}
+use Rattle.gc_texts.specs.declared.tasks.Task.{Task}
+use Rattle.gc_texts.specs.declared.turn.Turn.{Turn}
+use Rattle.gc_station.specs.declared.plan.Plan.{Plan}
+use Rattle.gc_station.specs.declared.progress.Progress.{Progress}
+use Rattle.gc_station.specs.declared.mark.Mark.{Mark}
+
+-- the place of the cycle's next command in the list `commands`, counted from 0, at the progress `p`. The setup is at the front
+-- of the list, and the commands of a cycle are its end, of which `p.unsent` are left. If none is left, as before the first cycle,
+-- it is the length of the list
+abbrev pub place_next : List Task → Progress → ℕ
+place_next commands p = length commands - p.unsent
+
+-- how many cycles have begun at the progress `p`, missed ones included
+abbrev pub cycles_begun : Plan → Progress → ℕ
+cycles_begun plan p = plan.cycles - p.left
+
+-- the turn that stands in where there is no command: place 0, attempt 1, link 0
+abbrev pub no_turn : Turn
+no_turn = record { place = 0; attempt = 1; link = 0 }
+
+-- what the text says of the answer of the first of these commands: where its target is, which return codes are accepted, and
+-- which endings send the chain again; and its turn. If there is no command: no place, no codes, no endings and `no_turn`
+abbrev pub expected_first : List Task → Expected
+expected_first [] = record { near = None; accepted = no_codes; again = no_again; turn = no_turn }
+expected_first (task ∷ others) = record { near = task.near; accepted = task.accepted; again = task.again; turn = task.turn }
+
+-- the mark of the cycle's next command at the progress `p`: its cycle, its place, the moment read last, and what is expected of
+-- its answer
+abbrev pub mark_next : Plan → List Task → Progress → Mark
+mark_next plan commands p = record {
+  cycle = cycles_begun plan p;
+  place = place_next commands p;
+  sent = p.moment.utc;
+  expected = expected_first (drop (place_next commands p) commands);
+}
+
+-- the turn of a command of the setup, of which the text says `turn`, in the attempt `attempt` of the setup. No attempt of a chain
+-- begins with it, so its link is 1
+abbrev pub turn_of_setup : (attempt : ℕ) → Turn → Turn
+turn_of_setup attempt turn = record turn { attempt = attempt; link = 1 }
+
+-- `expected` as it is for a command of the setup in the attempt `attempt` of the setup: no ending sends such a command again
+-- (`no_again`), and its turn is `turn_of_setup`
+abbrev pub in_attempt : (attempt : ℕ) → Expected → Expected
+in_attempt attempt expected = record expected { again = no_again; turn = turn_of_setup attempt expected.turn }
+
+-- the mark of the setup's next command at the progress `p`: it has cycle 0, and the attempt of the setup (`in_attempt`)
+abbrev pub mark_setup : List Task → Progress → Mark
+mark_setup commands p = record {
+  cycle = 0;
+  place = p.prepared;
+  sent = p.moment.utc;
+  expected = in_attempt p.attempt (expected_first (drop p.prepared commands));
+}
+
+-- how many commands come before the cycle's next one in the list `commands`, those of the setup included; 0 before the first
+-- cycle
+abbrev pub commands_before : Plan → List Task → Progress → ℕ
+commands_before plan commands p = if nat_eq p.left plan.cycles then 0 else place_next commands p
+
+-- whether the first of these commands is sent only once the one before it was answered well; false if there is no command
+abbrev pub is_chained : List Task → Bool
+is_chained [] = false
+is_chained (task ∷ others) = task.chained
+
+-- if the first of these commands begins a further attempt of its chain, the number of commands that this attempt and the
+-- chain's later attempts have together; otherwise 0
+abbrev pub others_in : List Task → ℕ
+others_in [] = 0
+others_in (task ∷ others) = task.others
+
+-- whether the command `count` places after the cycle's next one is sent only once the one before it was answered well; false if
+-- there is no such command. In a missed cycle, in which none is sent, always true
+abbrev pub is_chained_after : (count : ℕ) → List Task → Progress → Bool
+is_chained_after count commands p = p.missed || is_chained (drop (place_next commands p + count) commands)
+
+-- if the command `count` places after the cycle's next one begins a further attempt of its chain, the number of commands of
+-- this and the chain's later attempts (`others_in`); otherwise 0, also if there is no such command
+abbrev pub others_after : (count : ℕ) → List Task → Progress → ℕ
+others_after count commands p = others_in (drop (place_next commands p + count) commands)
+
+-- `is_chained_after` of the command after the cycle's next one
+abbrev pub is_chained_after_next : List Task → Progress → Bool
+is_chained_after_next commands p = is_chained_after 1 commands p
+
+-- `others_after` of the command after the cycle's next one
+abbrev pub others_after_next : List Task → Progress → ℕ
+others_after_next commands p = others_after 1 commands p

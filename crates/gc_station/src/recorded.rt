@@ -1,0 +1,35 @@
+//! What a station keeps of the records that it wrote.
+
+ghost use Rattle.std.specs.Prelude.{◌≡◌, false};
+ghost use Rattle.gc_station.specs.Tallies.{nothing_yet};
+
+use crate::tally::Counts;
+
+/// What a station keeps of the records that it wrote so far.
+#[derive(Drop)]
+pub(crate) struct Recorded {
+    // How the commands of cycles that were recorded ended.
+    pub(crate) tally: Counts,
+    // Whether the command that was recorded last, of a cycle or of the setup, was answered well; `false` before the first.
+    pub(crate) well: bool,
+    // Whether the command of a cycle that was recorded last, or one before it in the same attempt, ended in a way after which
+    // the text sends its chain again; `false` before the first. A command of the setup leaves it as it is.
+    pub(crate) listed: bool,
+    // When a command that was answered well was recorded last, by the clock for deadlines; 0 if none was; an earlier moment if
+    // the clock went back past it since.
+    pub(crate) fresh: u64,
+}
+
+impl Recorded {
+    // Nothing was recorded yet.
+    pub(crate) fn new() -> Recorded
+        ensures { result ≡ record { tally = nothing_yet; well = false; listed = false; fresh = 0 } }
+    {
+        Recorded {
+            tally: Counts::new(),
+            well: false,
+            listed: false,
+            fresh: 0,
+        }
+    }
+}
