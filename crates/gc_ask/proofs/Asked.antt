@@ -1,6 +1,5 @@
--- What was asked so far, command after command. Throughout, `done` are the commands asked so far, `given` the bytes that the
--- link gave, `left` those of them that weren't looked at yet, and `more` the bytes that come next. `a` and `b` are what the
--- link had taken at first and has taken now, `c` and `d` the same of the sink; a mark (`b'`, `d'`) stands for a step later.
+-- What was asked so far, command after command. Throughout, `done` are the commands asked so far, s says where the run is, `more`
+-- are the bytes that come next, and `new` is what is seen of both ends of the link and of the sink after one more command.
 use Rattle.std.proofs.Common.{◌≡◌, ℕ, ◌+◌, ◌<◌, Bool, true, ltb, List, [], ◌∷◌, ◌++◌, length, take, map, Option, Some, None, refl, sym, ap, ◌∙◌, subst, arith, append_assoc, append-nil}
 use Rattle.std.specs.Io.KnownBytes.{Appends}
 use Rattle.std.proofs.lemmas.Bool.{ltb-true}
@@ -16,10 +15,11 @@ use Rattle.gc_catalogue.specs.declared.call.Call.{Call}
 use Rattle.gc_client.specs.declared.settlement.Settlement
 use Rattle.gc_client.specs.Rule.{ById, Settlement, heard, fits, hears, settled_by_line, place_in}
 use Rattle.gc_client.specs.Settlements.{settlement_seen}
-use Rattle.gc_ask.specs.Asking.{awaited, idle, waiting_for, Reply, first_reply, settled_by, asked_from, asked, request_text, request_texts, lost_of, LinkEnd, IsNext, AsksAll, WritesPart}
+use Rattle.gc_ask.specs.Asking.{awaited, idle, waiting_for, Reply, first_reply, settled_by, asked_from, asked, request_text, request_texts, lost_of, LinkEnd, IsNext, AsksAll, LosesOne, WritesPart}
 use Rattle.gc_texts.specs.declared.commands.Command.{Command}
 use Rattle.gc_texts.specs.Settlements.{settlement_line, settlement_lines, lines_from, WrotePartOfSettlements}
-use Rattle.gc_ask.specs.Listening.{lines_completed, IsCut, Settles, StopsAt}
+use Rattle.gc_ask.specs.Looping.{SeenAtBoth, written_there}
+use Rattle.gc_ask.specs.Listening.{lines_completed, Heard, IsCut, Settles, StopsAt}
 use Rattle.gc_texts.proofs.SettlementLines.{lines_one}
 use Rattle.gc_ask.proofs.FirstReplies.{lines_completed-append, first_reply-at}
 
@@ -78,25 +78,46 @@ more_came given left more now looked seen rests = (
   rest-append [] given more ∙ ap (λ r. rest_behind r more) rests ∙ sym (rest-append now left more),
 )
 
--- the course of a run so far: the commands `done` were asked and settled by the bytes `given`, of which `left` weren't looked
--- at yet. `looked` are the lines looked at, and `now` is the rest of a line that the assembler keeps
-pub record Course (done : List Command) (given left : List ℕ) (kept : Kept) (client : ById Call) (link_old link_new sink_old sink_new : Option (List ℕ)) : Type 0 where
+-- where a run is: the bytes that the link gave (`given`), those of them that weren't looked at yet (`left`), what the assembler keeps,
+-- the client, and what is seen of both ends of the link and of the sink, at first and by now
+pub record RunState : Type 0 where
+  pub given : List ℕ
+  pub left : List ℕ
+  pub kept : Kept
+  pub client : ById Call
+  pub first : SeenAtBoth
+  pub latest : SeenAtBoth
+
+-- the course of a run so far: the commands `done` were asked, and settled by the bytes that the link gave. `looked` are the lines
+-- looked at, and `now` is the rest of a line that the assembler keeps
+pub record Course (done : List Command) (s : RunState) : Type 0 where
   pub now : List ℕ
   pub looked : List (List ℕ)
   pub settled : List (Settlement Call)
-  pub stands : StandsFor kept now
-  pub seen : lines given ≡ looked ++ lines_completed now left
-  pub rests : rest_of given ≡ rest_behind now left
+  pub stands : StandsFor s.kept now
+  pub seen : lines s.given ≡ looked ++ lines_completed now s.left
+  pub rests : rest_of s.given ≡ rest_behind now s.left
   pub count : length settled ≡ length done
   pub asks : (more : List Command) (later : List (List ℕ)) → asked_from 0 (done ++ more) (looked ++ later) ≡ settled ++ asked_from (length done) more later
-  pub client_is : client ≡ idle (length done)
-  pub link : Appends link_old link_new (all_of (request_texts 0 done))
-  pub sink : Appends sink_old sink_new (settlement_lines settled)
+  pub client_is : s.client ≡ idle (length done)
+  pub link : Appends s.first.client.taken s.latest.client.taken (all_of (request_texts 0 done))
+  pub sink : Appends s.first.sink.bytes s.latest.sink.bytes (settlement_lines settled)
+
+-- what the client's end has heard once the bytes `more` came: what `h` has, but that it was heard after the rest of a line that the
+-- assembler kept, and that its bytes are those that weren't looked at, and then `more`
+abbrev pub heard_after : {done : List Command} {s : RunState} → Course done s → (more : List ℕ) → Heard → Heard
+heard_after {s = s} at more h = record h { rest = at.now; bytes = s.left ++ more }
+
+-- where a run is once the bytes `more` came, the client's end has heard h, and `new` is seen of both ends and of the sink
+abbrev pub later_on : RunState → (more : List ℕ) → Heard → (new : SeenAtBoth) → RunState
+later_on s more h new =
+    record { given = s.given ++ more; left = h.left; kept = h.kept; client = h.client; first = s.first; latest = new }
 
 -- where the assembler keeps nothing, and the client is the one before request 0, `Course` is true with no commands asked and no
 -- bytes given
-pub course_start : (kept : Kept) (client : ById Call) (link sink : Option (List ℕ)) → StandsFor kept [] → client ≡ idle 0 → Course [] [] [] kept client link link sink sink
-course_start kept client link sink s is = record {
+pub course_start : (kept : Kept) (client : ById Call) (seen : SeenAtBoth) → StandsFor kept [] → client ≡ idle 0
+    → Course [] (record { given = []; left = []; kept = kept; client = client; first = seen; latest = seen })
+course_start kept client seen s is = record {
   now = [];
   looked = [];
   settled = [];
@@ -106,90 +127,82 @@ course_start kept client link sink s is = record {
   count = refl;
   asks = λ more later. refl;
   client_is = is;
-  link = Appends-nil link;
-  sink = Appends-nil sink;
+  link = Appends-nil seen.client.taken;
+  sink = Appends-nil seen.sink.bytes;
 }
 
 -- by all bytes that came, also by those that come next, the commands asked so far are settled as the course says
-pub asked_so : (done : List Command) (given left : List ℕ) (kept : Kept) (client : ById Call) (a b c d : Option (List ℕ)) (more : List ℕ)
-    (at : Course done given left kept client a b c d) → asked done (given ++ more) ≡ at.settled
-asked_so done given left kept client a b c d more at =
-    let came = lines_completed at.now (left ++ more) in
-    ap (λ xs. asked_from 0 xs (lines (given ++ more))) (sym (append-nil done)) ∙ ap (asked_from 0 (done ++ [])) (more_came given left more at.now at.looked at.seen at.rests).0
+pub asked_so : (done : List Command) (s : RunState) (more : List ℕ) (at : Course done s) → asked done (s.given ++ more) ≡ at.settled
+asked_so done s more at =
+    let came = lines_completed at.now (s.left ++ more) in
+    ap (λ xs. asked_from 0 xs (lines (s.given ++ more))) (sym (append-nil done)) ∙ ap (asked_from 0 (done ++ [])) (more_came s.given s.left more at.now at.looked at.seen at.rests).0
     ∙ at.asks [] came ∙ append-nil at.settled
 
 -- where `r` is the first reply to one more command, the bytes that came settle what the course says, then that command by
 -- `r`, and then the later ones by the lines after `r`; without a reply they settle what the course says, and no more
-asked_on : (done : List Command) (given left : List ℕ) (kept : Kept) (client : ById Call) (a b c d : Option (List ℕ)) (more : List ℕ)
-    (at : Course done given left kept client a b c d) (command : Command) (later : List Command) (r : Option Reply)
-    → first_reply (waiting_for (length done) command) (lines_completed at.now (left ++ more)) ≡ r
-    → asked (done ++ command ∷ later) (given ++ more) ≡ at.settled ++ settled_by (waiting_for (length done) command) (asked_from (length done + 1) later) r
-asked_on done given left kept client a b c d more at command later r is =
-    let came = lines_completed at.now (left ++ more) in
-    ap (asked_from 0 (done ++ command ∷ later)) (more_came given left more at.now at.looked at.seen at.rests).0
+asked_on : (done : List Command) (s : RunState) (more : List ℕ) (at : Course done s) (command : Command) (later : List Command) (r : Option Reply)
+    → first_reply (waiting_for (length done) command) (lines_completed at.now (s.left ++ more)) ≡ r
+    → asked (done ++ command ∷ later) (s.given ++ more) ≡ at.settled ++ settled_by (waiting_for (length done) command) (asked_from (length done + 1) later) r
+asked_on done s more at command later r is =
+    let came = lines_completed at.now (s.left ++ more) in
+    ap (asked_from 0 (done ++ command ∷ later)) (more_came s.given s.left more at.now at.looked at.seen at.rests).0
     ∙ at.asks (command ∷ later) came ∙ ap (λ x. at.settled ++ settled_by (waiting_for (length done) command) (asked_from (length done + 1) later) x) is
 
--- client `from`, with `rest` as the bytes of the line in flight, is given `bytes`, and a line of them settles its request
--- (`Settles`; `to` is the client then, and `left` the bytes after that line). That line is the first reply, and the lines of
--- `left` come after it
-first_is : (rest bytes left : List ℕ) (kept : Kept) (from to : ById Call) (settled : List (Settlement.Settlement Call))
-    (s : Settles from (record { rest = rest; bytes = bytes; left = left; kept = kept; client = to; settled = settled }))
-    → first_reply from (lines_completed rest bytes) ≡ Some (record { line = s.line; later = lines_completed [] left })
-first_is rest bytes left kept from to settled s = ap (first_reply from) s.seen ∙ first_reply-at from s.front s.line (lines_completed [] left) s.none s.fits
+-- a line that settles a request of the client `from` (`Settles`) is the first reply among the lines that were completed, and the lines
+-- of the bytes that are left come after it
+first_is : (from : ById Call) (h : Heard) (s : Settles from h)
+    → first_reply from (lines_completed h.rest h.bytes) ≡ Some (record { line = s.line; later = lines_completed [] h.left })
+first_is from h s = ap (first_reply from) s.seen ∙ first_reply-at from s.front s.line (lines_completed [] h.left) s.none s.fits
 
 -- where a line settles the request of a client that waits for request k alone (`Settles`), what was settled is that one request,
 -- by that line, and the client is then the one before request k + 1
-pub settled_is : (k : ℕ) (command : Command) (rest bytes left : List ℕ) (kept : Kept) (to : ById Call) (settled : List (Settlement.Settlement Call))
-    (s : Settles (waiting_for k command) (record { rest = rest; bytes = bytes; left = left; kept = kept; client = to; settled = settled }))
-    → (map settlement_seen settled ≡ settled_by_line (awaited command) s.line ∷ []) × (to ≡ idle (k + 1))
-settled_is k command rest bytes left kept to settled s =
+pub settled_is : (k : ℕ) (command : Command) (h : Heard) (s : Settles (waiting_for k command) h)
+    → (map settlement_seen h.settled ≡ settled_by_line (awaited command) s.line ∷ []) × (h.client ≡ idle (k + 1))
+settled_is k command h s =
     let one = hears_one k command s.line s.fits in
     (s.settles.seen ∙ one.0, s.client ∙ one.1)
 
 -- where a line of the bytes that came settles one more command (`Settles`), these bytes settle what the course says, and then
 -- this command by that line
-pub asked_with : (done : List Command) (given left : List ℕ) (kept : Kept) (client : ById Call) (a b c d : Option (List ℕ)) (more : List ℕ)
-    (at : Course done given left kept client a b c d) (command : Command)
-    (left' : List ℕ) (kept' : Kept) (to : ById Call) (settled : List (Settlement.Settlement Call))
-    (s : Settles (waiting_for (length done) command)
-    (record { rest = at.now; bytes = left ++ more; left = left'; kept = kept'; client = to; settled = settled }))
-    → asked (done ++ command ∷ []) (given ++ more) ≡ at.settled ++ settled_by_line (awaited command) s.line ∷ []
-asked_with done given left kept client a b c d more at command left' kept' to settled s =
-    let found = first_is at.now (left ++ more) left' kept' (waiting_for (length done) command) to settled s in
-    asked_on done given left kept client a b c d more at command [] (Some (record { line = s.line; later = lines_completed [] left' })) found
-    ∙ ap (λ zs. at.settled ++ (zs ++ [])) (hears_one (length done) command s.line s.fits).0
+pub asked_with : (done : List Command) (s : RunState) (more : List ℕ) (at : Course done s) (command : Command) (h : Heard)
+    (by : Settles (waiting_for (length done) command) (heard_after at more h))
+    → asked (done ++ command ∷ []) (s.given ++ more) ≡ at.settled ++ settled_by_line (awaited command) by.line ∷ []
+asked_with done s more at command h by =
+    asked_on done s more at command [] (Some (record { line = by.line; later = lines_completed [] h.left }))
+    (first_is (waiting_for (length done) command) (heard_after at more h) by)
+    ∙ ap (λ zs. at.settled ++ (zs ++ [])) (hears_one (length done) command by.line by.fits).0
 
 -- where `Course` is true of the commands `done`, one more command was sent, a line settles it (`Settles`), and the line of its
 -- settlement was written, `Course` is true of `done` and that command
-pub course_more : (done : List Command) (command : Command) (given left more left' : List ℕ) (kept kept' : Kept) (client to : ById Call)
-    (a b b' c d d' : Option (List ℕ)) (settled : List (Settlement.Settlement Call))
-    → (at : Course done given left kept client a b c d) → Settles (waiting_for (length done) command)
-    (record { rest = at.now; bytes = left ++ more; left = left'; kept = kept'; client = to; settled = settled })
-    → Appends b b' (request_text (length done) command) → Appends d d' (lines_from (length done) (map settlement_seen settled))
-    → Course (done ++ command ∷ []) (given ++ more) left' kept' to a b' c d'
-course_more done command given left more left' kept kept' client to a b b' c d d' settled at s sent told =
+pub course_more : (done : List Command) (command : Command) (s : RunState) (more : List ℕ) (h : Heard) (new : SeenAtBoth) (at : Course done s)
+    → Settles (waiting_for (length done) command) (heard_after at more h)
+    → Appends s.latest.client.taken new.client.taken (request_text (length done) command)
+    → Appends s.latest.sink.bytes new.sink.bytes (lines_from (length done) (map settlement_seen h.settled))
+    → Course (done ++ command ∷ []) (later_on s more h new)
+course_more done command s more h new at by sent told =
     let k = length done in
-    let is = settled_is k command _ _ _ _ _ _ s in
-    let next = settled_by_line (awaited command) s.line in
-    let front : List (List ℕ) = s.front ++ s.line ∷ [] in
-    let came = more_came given left more at.now at.looked at.seen at.rests in
+    let is = settled_is k command (heard_after at more h) by in
+    let next = settled_by_line (awaited command) by.line in
+    let front : List (List ℕ) = by.front ++ by.line ∷ [] in
+    let came = more_came s.given s.left more at.now at.looked at.seen at.rests in
     let place : k + 1 ≡ length (done ++ command ∷ []) = sym (length_push done command) in
     record {
       now = [];
       looked = at.looked ++ front;
       settled = at.settled ++ next ∷ [];
-      stands = s.stands;
-      seen = came.0 ∙ ap (λ zs. at.looked ++ zs) (s.seen ∙ sym (append_assoc s.front (s.line ∷ []) (lines_completed [] left'))) ∙ sym (append_assoc at.looked front (lines_completed [] left'));
-      rests = came.1 ∙ s.rests;
+      stands = by.stands;
+      seen = came.0 ∙ ap (λ zs. at.looked ++ zs) (by.seen ∙ sym (append_assoc by.front (by.line ∷ []) (lines_completed [] h.left)))
+          ∙ sym (append_assoc at.looked front (lines_completed [] h.left));
+      rests = came.1 ∙ by.rests;
       count = length_push at.settled next ∙ ap (λ n. n + 1) at.count ∙ place;
       asks = λ others later.
-          let found : first_reply (waiting_for k command) (front ++ later) ≡ Some (record { line = s.line; later = later }) =
-          ap (first_reply (waiting_for k command)) (append_assoc s.front (s.line ∷ []) later) ∙ first_reply-at (waiting_for k command) s.front s.line later s.none s.fits in
+          let found : first_reply (waiting_for k command) (front ++ later) ≡ Some (record { line = by.line; later = later }) =
+          ap (first_reply (waiting_for k command)) (append_assoc by.front (by.line ∷ []) later) ∙ first_reply-at (waiting_for k command) by.front by.line later by.none by.fits in
           ap (λ xs. asked_from 0 xs ((at.looked ++ front) ++ later)) (append_assoc done (command ∷ []) others)
           ∙ ap (asked_from 0 (done ++ command ∷ others)) (append_assoc at.looked front later)
           ∙ at.asks (command ∷ others) (front ++ later)
           ∙ ap (λ x. at.settled ++ settled_by (waiting_for k command) (asked_from (k + 1) others) x) found
-          ∙ ap (λ zs. at.settled ++ (zs ++ asked_from (k + 1) others later)) (hears_one k command s.line s.fits).0
+          ∙ ap (λ zs. at.settled ++ (zs ++ asked_from (k + 1) others later)) (hears_one k command by.line by.fits).0
           ∙ ap (λ n. at.settled ++ next ∷ asked_from n others later) place
           ∙ sym (append_assoc at.settled (next ∷ []) (asked_from (length (done ++ command ∷ [])) others later));
       client_is = is.1 ∙ ap idle place;
@@ -200,86 +213,91 @@ course_more done command given left more left' kept kept' client to a b b' c d d
 -- Ends.
 
 -- where `Course` is true of all commands, all were asked and settled, as `AsksAll` has it
-pub course_all : (commands : List Command) (given left : List ℕ) (kept : Kept) (client : ById Call) (a b c d : Option (List ℕ))
-    → Course commands given left kept client a b c d → AsksAll commands given (record { link_old = a; link_new = b; sink_old = c; sink_new = d })
-course_all commands given left kept client a b c d at =
-    let all : asked commands given ≡ at.settled = ap (asked commands) (sym (append-nil given)) ∙ asked_so commands given left kept client a b c d [] at in
+pub course_all : (commands : List Command) (s : RunState) → Course commands s → AsksAll commands s.given (written_there s.first s.latest)
+course_all commands s at =
+    let all : asked commands s.given ≡ at.settled = ap (asked commands) (sym (append-nil s.given)) ∙ asked_so commands s [] at in
     record {
       settled = ap length all ∙ at.count;
       sent = at.link;
       sink_took = Appends-is _ _ _ _ (ap settlement_lines (sym all)) at.sink;
     }
 
--- where `Course` is true of the commands `done`, the next command was sent, what came doesn't settle it if the link is remote,
--- and the line that says it is lost was written, asking stopped there (`StopsAt`)
-pub course_stops : (is_remote : Bool) (commands done later : List Command) (command : Command) (given left more : List ℕ) (kept : Kept)
-    (client : ById Call) (a b b' c d d' : Option (List ℕ)) → (at : Course done given left kept client a b c d) → commands ≡ done ++ command ∷ later
-    → (is_remote ≡ true → first_reply (waiting_for (length done) command) (lines_completed at.now (left ++ more)) ≡ None)
-    → Appends b b' (request_text (length done) command) → Appends d d' (lines_from (length done) (lost_of command ∷ []))
-    → StopsAt is_remote commands (given ++ more) (record { link_old = a; link_new = b'; sink_old = c; sink_new = d' })
-course_stops is_remote commands done later command given left more kept client a b b' c d d' at order none sent told =
-    let so : asked done (given ++ more) ≡ at.settled = asked_so done given left kept client a b c d more at in
+-- the commands are `done`, then `command`, and then `later`, and `Course` is true of `done`: `command` is the next to be asked
+pub record AtNext (commands : List Command) (s : RunState) : Type 0 where
+  pub done : List Command
+  pub command : Command
+  pub later : List Command
+  pub order : commands ≡ done ++ command ∷ later
+  pub course : Course done s
+
+-- where the line was written that says the next command is lost, that command is lost (`LosesOne`)
+abbrev course_loses : (commands : List Command) (s : RunState) (n : AtNext commands s) (more : List ℕ) (new : SeenAtBoth)
+    → Appends s.latest.sink.bytes new.sink.bytes (lines_from (length n.done) (lost_of n.command ∷ [])) → LosesOne commands (s.given ++ more) (written_there s.first new)
+course_loses commands s n more new told =
+    let at = n.course in
+    let so : asked n.done (s.given ++ more) ≡ at.settled = asked_so n.done s more at in
     record {
-      loops = record {
-        at = record {
-          earlier = done;
-          command = command;
-          later = later;
-          order = order;
-          settled = ap length so ∙ at.count;
-          sink_took = Appends-is _ _ _ _ (sym (lines_last at.settled (length done) (lost_of command) at.count)
-              ∙ ap (λ zs. settlement_lines (zs ++ lost_of command ∷ [])) (sym so)) (Appends-trans _ _ _ _ _ at.sink told);
-        };
-        sent = Appends-is _ _ _ _ (sym (all_texts_one done command)) (Appends-trans _ _ _ _ _ at.link sent);
-      };
-      none = λ is. ap (λ xs. asked xs (given ++ more)) order ∙ asked_on done given left kept client a b c d more at command later None (none is) ∙ append-nil at.settled ∙ sym so;
+      earlier = n.done;
+      command = n.command;
+      later = n.later;
+      order = n.order;
+      settled = ap length so ∙ at.count;
+      sink_took = Appends-is _ _ _ _ (sym (lines_last at.settled (length n.done) (lost_of n.command) at.count)
+          ∙ ap (λ zs. settlement_lines (zs ++ lost_of n.command ∷ [])) (sym so)) (Appends-trans _ _ _ _ _ at.sink told);
     }
 
--- where `Course` is true of the `count` commands `done`, the link took the first `bytes` bytes of the next command's request (if
--- the link is remote, `part` bytes, and not all), and the line that says the command is lost was written, asking was cut there
--- (`IsCut`)
-pub course_cut : (is_remote : Bool) (commands done later : List Command) (command : Command) (given left more : List ℕ) (kept : Kept) (client : ById Call)
-    (a b b' c d d' : Option (List ℕ)) (count part bytes : ℕ) → (at : Course done given left kept client a b c d) → (order : commands ≡ done ++ command ∷ later)
-    → (is : count ≡ length done) → (cut : is_remote ≡ true → (bytes ≡ part) × (part < length (request_text (length done) command)))
-    → (sent : Appends b b' (take bytes (request_text (length done) command))) → (told : Appends d d' (lines_from (length done) (lost_of command ∷ [])))
-    → IsCut is_remote commands (given ++ more) (record { link_old = a; link_new = b'; sink_old = c; sink_new = d' }) count part
-course_cut is_remote commands done later command given left more kept client a b b' c d d' count part bytes at order is cut sent told =
-    let so : asked done (given ++ more) ≡ at.settled = asked_so done given left kept client a b c d more at in
-    record {
-      loops = record {
-        at = record {
-          earlier = done;
-          command = command;
-          later = later;
-          order = order;
-          settled = ap length so ∙ at.count;
-          sink_took = Appends-is _ _ _ _ (sym (lines_last at.settled (length done) (lost_of command) at.count)
-              ∙ ap (λ zs. settlement_lines (zs ++ lost_of command ∷ [])) (sym so)) (Appends-trans _ _ _ _ _ at.sink told);
-        };
-        count_is = is;
-        bytes = bytes;
-        sent = Appends-is _ _ _ _ (ap (λ n. all_of (request_texts 0 done) ++ take bytes (request_text n command)) (sym is)) (Appends-trans _ _ _ _ _ at.link sent);
-      };
-      cut = subst (λ n. is_remote ≡ true → (bytes ≡ part) × (part < length (request_text n command))) (sym is) cut;
-    }
+-- where the next command was sent, what came doesn't settle it if the link is remote, and the line was written that says it is lost,
+-- asking stopped there (`StopsAt`)
+pub course_stops : (is_remote : Bool) (commands : List Command) (s : RunState) (n : AtNext commands s) (more : List ℕ) (new : SeenAtBoth)
+    → (is_remote ≡ true → first_reply (waiting_for (length n.done) n.command) (lines_completed n.course.now (s.left ++ more)) ≡ None)
+    → Appends s.latest.client.taken new.client.taken (request_text (length n.done) n.command)
+    → Appends s.latest.sink.bytes new.sink.bytes (lines_from (length n.done) (lost_of n.command ∷ []))
+    → StopsAt is_remote commands (s.given ++ more) (written_there s.first new)
+course_stops is_remote commands s n more new none sent told = record {
+  loops = record {
+    at = course_loses commands s n more new told;
+    sent = Appends-is _ _ _ _ (sym (all_texts_one n.done n.command)) (Appends-trans _ _ _ _ _ n.course.link sent);
+  };
+  none = λ is. ap (λ xs. asked xs (s.given ++ more)) n.order ∙ asked_on n.done s more n.course n.command n.later None (none is) ∙ append-nil n.course.settled
+      ∙ sym (asked_so n.done s more n.course);
+}
 
--- where `Course` is true of the commands `done`, the link took the first `bytes` bytes of the next command's request, the link's
--- use ended with `link` (`over`), and the sink failed as it took the line of the next settlement (`IsNext`), asking ended there
--- (`WritesPart`)
-pub course_sink_failed : (commands done later : List Command) (command : Command) (given left more : List ℕ) (kept : Kept) (client : ById Call)
-    (a b b' c d d' : Option (List ℕ)) (bytes : ℕ) (next : Settlement Call) (over : LinkEnd → Type 0) (link : LinkEnd) → (at : Course done given left kept client a b c d)
-    → (order : commands ≡ done ++ command ∷ later) → (ends : over link) → (is : asked done (given ++ more) ≡ at.settled → IsNext done command (given ++ more) next link)
-    → (sent : Appends b b' (take bytes (request_text (length done) command))) → (told : WrotePartOfSettlements (length done) (next ∷ []) d d')
-    → WritesPart commands (given ++ more) (record { link_old = a; link_new = b'; sink_old = c; sink_new = d' }) over
-course_sink_failed commands done later command given left more kept client a b b' c d d' bytes next over link at order ends is sent told =
-    let so : asked done (given ++ more) ≡ at.settled = asked_so done given left kept client a b c d more at in
+-- where the link took the first `bytes` bytes of the next command's request (if the link is remote, `part` bytes, and not all), and the
+-- line was written that says the command is lost, asking was cut there (`IsCut`), after `count` commands
+pub course_cut : (is_remote : Bool) (commands : List Command) (s : RunState) (n : AtNext commands s) (more : List ℕ) (new : SeenAtBoth)
+    (count part bytes : ℕ) → count ≡ length n.done → (is_remote ≡ true → (bytes ≡ part) × (part < length (request_text (length n.done) n.command)))
+    → Appends s.latest.client.taken new.client.taken (take bytes (request_text (length n.done) n.command))
+    → Appends s.latest.sink.bytes new.sink.bytes (lines_from (length n.done) (lost_of n.command ∷ []))
+    → IsCut is_remote commands (s.given ++ more) (written_there s.first new) count part
+course_cut is_remote commands s n more new count part bytes is cut sent told = record {
+  loops = record {
+    at = course_loses commands s n more new told;
+    count_is = is;
+    bytes = bytes;
+    sent = Appends-is _ _ _ _ (ap (λ k. all_of (request_texts 0 n.done) ++ take bytes (request_text k n.command)) (sym is)) (Appends-trans _ _ _ _ _ n.course.link sent);
+  };
+  cut = subst (λ k. is_remote ≡ true → (bytes ≡ part) × (part < length (request_text k n.command))) (sym is) cut;
+}
+
+-- where the link took the first `bytes` bytes of the next command's request, the link's use ended with `link` (`over`), and the sink
+-- failed as it took the line of the next settlement (`IsNext`), asking ended there (`WritesPart`)
+pub course_sink_failed : (commands : List Command) (s : RunState) (n : AtNext commands s) (more : List ℕ) (new : SeenAtBoth)
+    (bytes : ℕ) (next : Settlement Call) (over : LinkEnd → Type 0) (link : LinkEnd)
+    → over link → (asked n.done (s.given ++ more) ≡ n.course.settled → IsNext n.done n.command (s.given ++ more) next link)
+    → Appends s.latest.client.taken new.client.taken (take bytes (request_text (length n.done) n.command))
+    → WrotePartOfSettlements (length n.done) (next ∷ []) s.latest.sink.bytes new.sink.bytes
+    → WritesPart commands (s.given ++ more) (written_there s.first new) over
+course_sink_failed commands s n more new bytes next over link ends is sent told =
+    let done = n.done in
+    let at = n.course in
+    let so : asked done (s.given ++ more) ≡ at.settled = asked_so done s more at in
     let alone = alone_in told.earlier told.later told.next next told.order in
     let same : length done + length told.earlier ≡ length done = ap (λ (xs : List (Settlement Call)). length done + length xs) alone.0 ∙ omega arith in
     record {
       earlier = done;
-      command = command;
-      later = later;
-      order = order;
+      command = n.command;
+      later = n.later;
+      order = n.order;
       settled = ap length so ∙ at.count;
       bytes = bytes;
       sent = Appends-trans _ _ _ _ _ at.link sent;

@@ -9,7 +9,7 @@ use Rattle.gc_lines.specs.Answering.{Ports}
 use Rattle.gc_ask.specs.Asking.{EndsWith, LinkEnd, LinkEnds, Taken}
 use Rattle.gc_ask.specs.Links.{BothStep, Sends, StepEnds, no_ports, source_of}
 use Rattle.gc_ask.specs.Listening.{ReadEnds}
-use Rattle.gc_ask.specs.Looping.{BothEnd}
+use Rattle.gc_ask.specs.Looping.{BothEnd, SeenAtBoth}
 use Rattle.gc_texts.specs.declared.fault.RunFault.{RunFault}
 use Rattle.gc_texts.specs.declared.fault.RunFault.TheVariants.{Read, Write, TooManyReads, LinkClosed, Output}
 use Rattle.gc_texts.specs.WholeTexts.{Input}
@@ -121,15 +121,24 @@ link_step old mid new (Err other) g s = absurd s.ends
 sound_step : (old mid new : Ports) → Sound old mid → StepEnds mid new (Ok tt) → Sound old new
 sound_step old mid new g s = record { ends = link_step old mid new (Ok tt) g s; grows = omega (arith, g.grows, s.grows) }
 
--- two sound ends stay so by a step that went well
-pub sound_on : (c0 c c' i0 i i' : Ports) (x y : Bool) → Sound c0 c → Sound i0 i → EndsWith (BothStep c c' i i') x y (Ok tt) → Sound c0 c' × Sound i0 i'
-sound_on c0 c c' i0 i i' x y gc gi ends =
-    let both = both_ok c c' i i' ends.0 in (sound_step c0 c c' gc both.0, sound_step i0 i i' gi both.1)
+-- one step, with this result, took both ends of a link from what was seen of them before (`old`) to what is seen now (`new`)
+abbrev pub step_over : (old new : SeenAtBoth) → LinkEnd → Type 0
+step_over old new = BothStep old.client new.client old.instrument new.instrument
+
+-- two ends that were sound before a step that went well are sound after it
+pub sound_on : (first old new : SeenAtBoth) → Sound first.client old.client → Sound first.instrument old.instrument
+    → EndsWith (step_over old new) old.sink.failed new.sink.failed (Ok tt) → Sound first.client new.client × Sound first.instrument new.instrument
+sound_on first old new client instrument ends =
+    let both = both_ok old.client new.client old.instrument new.instrument ends.0 in
+    (sound_step first.client old.client new.client client both.0, sound_step first.instrument old.instrument new.instrument instrument both.1)
 
 -- where two ends were sound, and then made a step with this result, their whole use ended with this result
-pub both_end : (c0 c c' i0 i i' : Ports) (r : LinkEnd) → Sound c0 c → Sound i0 i → BothStep c c' i i' r → BothEnd c0 c' i0 i' r
-both_end c0 c c' i0 i i' r gc gi (inl s) = inl (link_step c0 c c' r gc s.0, link_step i0 i i' (Ok tt) gi s.1)
-both_end c0 c c' i0 i i' r gc gi (inr s) = inr (link_step c0 c c' (Ok tt) gc s.0, link_step i0 i i' r gi s.1)
+pub both_end : (first old new : SeenAtBoth) (r : LinkEnd) → Sound first.client old.client → Sound first.instrument old.instrument → step_over old new r
+    → BothEnd first.client new.client first.instrument new.instrument r
+both_end first old new r client instrument (inl s) =
+    inl (link_step first.client old.client new.client r client s.0, link_step first.instrument old.instrument new.instrument (Ok tt) instrument s.1)
+both_end first old new r client instrument (inr s) =
+    inr (link_step first.client old.client new.client (Ok tt) client s.0, link_step first.instrument old.instrument new.instrument r instrument s.1)
 
 -- where both ends are sound, their whole use ended well, as `BothEnd` has it
 pub both_sound : (c0 c i0 i : Ports) → Sound c0 c → Sound i0 i → BothEnd c0 c i0 i (Ok tt)

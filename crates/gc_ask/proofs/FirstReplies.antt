@@ -1,5 +1,5 @@
--- The first line that settles a request, over the bytes that a link gives piece by piece. `a`, `b` and `c` are the client
--- before and after, `rest` is what the assembler keeps of a line whose end hasn't come, and `left` what isn't looked at yet.
+-- The first line that settles a request, over the bytes that a link gives piece by piece. `rest` is the first part of a line
+-- whose end hasn't come. `from` is the client at first; `a`, `b` and `c` are the client before, between and after two pieces.
 use Rattle.std.proofs.Common.{◌≡◌, ℕ, ◌+◌, true, false, cond, List, [], ◌∷◌, ◌++◌, take, drop, map, Option, Some, None, refl, sym, ap, ◌∙◌, subst, append_assoc, append-nil}
 use Rattle.std.specs.List.{position, filter_map}
 use Rattle.std.specs.Option.{option_to_list}
@@ -17,7 +17,7 @@ use Rattle.gc_client.specs.declared.settlement.Settlement.{Settlement}
 use Rattle.gc_client.specs.Rule.{ById, heard, fits, hears}
 use Rattle.gc_client.specs.Settlements.{AreSettlements}
 use Rattle.gc_ask.specs.Asking.{first_reply}
-use Rattle.gc_ask.specs.Listening.{lines_completed, SettlesNothing, TakesFrame, IsQuiet, Settles}
+use Rattle.gc_ask.specs.Listening.{lines_completed, SettlesNothing, TakesFrame, IsQuiet, Heard, Settles}
 
 -- the lines among pieces of a stream that was cut at its line feeds
 abbrev lines_of : List (List ℕ) → List (List ℕ)
@@ -49,29 +49,27 @@ first_reply-at c front line later none fit = first_reply-none c front (line ∷ 
 -- Quiet pieces.
 
 -- where a piece settles nothing, and neither does the piece after it, the two together settle nothing
-pub quiet_then : (rest xs ys : List ℕ) (kept kept' : Kept) (a b c : ById Call) → IsQuiet rest xs kept a b
+pub quiet_then : {kept kept' : Kept} {a b c : ById Call} (rest xs ys : List ℕ) → IsQuiet rest xs kept a b
     → IsQuiet (rest_behind rest xs) ys kept' b c → IsQuiet rest (xs ++ ys) kept' a c
-quiet_then rest xs ys kept kept' a b c q r = record {
+quiet_then {kept' = kept'} {a = a} rest xs ys q r = record {
   none = ap (first_reply a) (lines_completed-append rest xs ys) ∙ first_reply-none a (lines_completed rest xs) (lines_completed (rest_behind rest xs) ys) q.none
       ∙ ap (λ x. first_reply x (lines_completed (rest_behind rest xs) ys)) (sym q.same) ∙ r.none;
   stands = subst (λ (zs : List ℕ). StandsFor kept' zs) (sym (rest-append rest xs ys)) r.stands;
   same = r.same ∙ q.same;
 }
 
--- where a piece settles nothing, and the piece after it settles a request, the two together settle that request
-pub settles_then : (rest xs ys left : List ℕ) (kept kept' : Kept) (a b c : ById Call) (settled : List (Settlement Call)) → IsQuiet rest xs kept a b
-    → Settles b (record { rest = rest_behind rest xs; bytes = ys; left = left; kept = kept'; client = c; settled = settled })
-    → Settles a (record { rest = rest; bytes = xs ++ ys; left = left; kept = kept'; client = c; settled = settled })
-settles_then rest xs ys left kept kept' a b c settled q s =
+-- where a piece settles nothing, and the bytes that were heard after it (h) settle a request, the two together settle that
+-- request
+pub settles_then : {kept : Kept} {a b : ById Call} (rest xs : List ℕ) (h : Heard) → IsQuiet rest xs kept a b
+    → Settles b (record h { rest = rest_behind rest xs }) → Settles a (record h { rest = rest; bytes = xs ++ h.bytes })
+settles_then {a = a} rest xs h q s =
     let front : List (List ℕ) = lines_completed rest xs in
-    let at : Settles a (record { rest = rest_behind rest xs; bytes = ys; left = left; kept = kept'; client = c; settled = settled }) =
-    subst (λ (x : ById Call). Settles x (record { rest = rest_behind rest xs; bytes = ys; left = left; kept = kept'; client = c; settled = settled })) q.same s
-    in
+    let at : Settles a (record h { rest = rest_behind rest xs }) = subst (λ (x : ById Call). Settles x (record h { rest = rest_behind rest xs })) q.same s in
     record {
       front = front ++ at.front;
       line = at.line;
-      seen = lines_completed-append rest xs ys ∙ ap (λ zs. front ++ zs) at.seen ∙ sym (append_assoc front at.front (at.line ∷ lines_completed [] left));
-      rests = rest-append rest xs ys ∙ at.rests;
+      seen = lines_completed-append rest xs h.bytes ∙ ap (λ zs. front ++ zs) at.seen ∙ sym (append_assoc front at.front (at.line ∷ lines_completed [] h.left));
+      rests = rest-append rest xs h.bytes ∙ at.rests;
       none = first_reply-none a front at.front q.none ∙ at.none;
       fits = at.fits;
       stands = at.stands;
@@ -81,22 +79,27 @@ settles_then rest xs ys left kept kept' a b c settled q s =
 
 -- A piece on the way.
 
--- a piece was looked at as far as `left`, and none of its lines so far, which are `front`, settled a request. `now` is what the
--- assembler keeps of a line whose end hasn't come
-pub record Passed (rest piece left : List ℕ) (kept : Kept) (from to : ById Call) : Type 0 where
+-- of the bytes that were heard (h), those before `h.left` were looked at, and none of their lines, which are `front`, settled a
+-- request. `now` is what the assembler keeps of a line whose end hasn't come
+pub record Passed (from : ById Call) (h : Heard) : Type 0 where
   pub now : List ℕ
   pub front : List (List ℕ)
-  pub stands : StandsFor kept now
-  pub seen : lines_completed rest piece ≡ front ++ lines_completed now left
-  pub rests : rest_behind rest piece ≡ rest_behind now left
+  pub stands : StandsFor h.kept now
+  pub seen : lines_completed h.rest h.bytes ≡ front ++ lines_completed now h.left
+  pub rests : rest_behind h.rest h.bytes ≡ rest_behind now h.left
   pub none : first_reply from front ≡ None
-  pub same : to ≡ from
+  pub same : h.client ≡ from
 
--- where a piece was passed to its end, so that nothing of it is left, it settled nothing
-pub passed_end : (rest piece : List ℕ) (kept : Kept) (a b : ById Call) → Passed rest piece [] kept a b → IsQuiet rest piece kept a b
-passed_end rest piece kept a b p = record {
-  none = ap (first_reply a) (p.seen ∙ append-nil p.front) ∙ p.none;
-  stands = subst (λ (zs : List ℕ). StandsFor kept zs) (sym p.rests) p.stands;
+-- what was heard, once `used` more bytes than in h were looked at. The rest and the bytes are those of h; what the assembler
+-- keeps, the client and the settlements are those of `next`
+abbrev pub used_up : (h next : Heard) → (used : ℕ) → Heard
+used_up h next used = record next { rest = h.rest; bytes = h.bytes; left = drop used h.left }
+
+-- where all bytes were passed, so that nothing of them is left, they settled nothing
+pub passed_end : (from : ById Call) (h : Heard) → Passed from (record h { left = [] }) → IsQuiet h.rest h.bytes h.kept from h.client
+passed_end from h p = record {
+  none = ap (first_reply from) (p.seen ∙ append-nil p.front) ∙ p.none;
+  stands = subst (λ (zs : List ℕ). StandsFor h.kept zs) (sym p.rests) p.stands;
   same = p.same;
 }
 
@@ -112,25 +115,24 @@ no_reply : (c : ById Call) (line : Option (List ℕ)) → SettlesNothing c line 
 no_reply c None q = refl
 no_reply c (Some line) q = rw q refl
 
--- where a piece was passed as far as `left` (`Passed`), and the line of the next frame, if it has one, settles nothing, the piece
--- was passed as far as that frame's end
-pub passed_on : (rest piece left : List ℕ) (used : ℕ) (frame : Frame) (kept kept' : Kept) (a b c : ById Call) → (p : Passed rest piece left kept a b)
-    → Takes p.now left used frame kept' → c ≡ b → SettlesNothing b (line_in frame)
-    → Passed rest piece (drop used left) kept' a c
-passed_on rest piece left used frame kept kept' a b c p t same nothing =
-    let later : List (List ℕ) = lines_completed t.now (drop used left) in
-    let next : lines_completed p.now left ≡ option_to_list (line_in frame) ++ later =
-    ap (λ fs. filter_map line_in fs) t.seen ∙ filter_map-append line_in (completed frame) (frames_behind t.now (drop used left))
+-- where the bytes before `h.left` were passed (`Passed`), and the line of the next frame, if it has one, settles nothing, the
+-- bytes were passed as far as that frame's end
+pub passed_on : (from : ById Call) (h next : Heard) (used : ℕ) (frame : Frame) → (p : Passed from h) → Takes p.now h.left used frame next.kept
+    → TakesFrame h.client next.client (line_in frame) next.settled false → Passed from (used_up h next used)
+passed_on from h next used frame p t taken =
+    let later : List (List ℕ) = lines_completed t.now (drop used h.left) in
+    let lines_now : lines_completed p.now h.left ≡ option_to_list (line_in frame) ++ later =
+    ap (λ fs. filter_map line_in fs) t.seen ∙ filter_map-append line_in (completed frame) (frames_behind t.now (drop used h.left))
     ∙ ap (λ zs. zs ++ later) (completed_lines frame) in
-    let silent : SettlesNothing a (line_in frame) = subst (λ (x : ById Call). SettlesNothing x (line_in frame)) p.same nothing in
+    let silent : SettlesNothing from (line_in frame) = subst (λ (x : ById Call). SettlesNothing x (line_in frame)) p.same taken.1 in
     record {
       now = t.now;
       front = p.front ++ option_to_list (line_in frame);
       stands = t.stands;
-      seen = p.seen ∙ ap (λ zs. p.front ++ zs) next ∙ sym (append_assoc p.front (option_to_list (line_in frame)) later);
+      seen = p.seen ∙ ap (λ zs. p.front ++ zs) lines_now ∙ sym (append_assoc p.front (option_to_list (line_in frame)) later);
       rests = p.rests ∙ t.rests;
-      none = first_reply-none a p.front (option_to_list (line_in frame)) p.none ∙ no_reply a (line_in frame) silent;
-      same = same ∙ p.same;
+      none = first_reply-none from p.front (option_to_list (line_in frame)) p.none ∙ no_reply from (line_in frame) silent;
+      same = taken.0 ∙ p.same;
     }
 
 -- `line` is the first line of `rest` and the bytes `left` after it: the first `used` bytes of `left` end it, and after it
@@ -170,16 +172,22 @@ takes_line rest left used frame line kept is more whole = elim (position is_line
   no_line : (o : Option (List ℕ)) → o ≡ None → o ≡ Some line → ⊥
   no_line o e f = (cc)
 
--- where a piece was passed as far as `left` (`Passed`), and the line of the next frame settles a request, the piece settles that
--- request (`Settles`); `used` and `frame` are what the assembler gave for `left`
-pub passed_settles : (rest piece left : List ℕ) (used : ℕ) (frame : Frame) (line : List ℕ) (kept kept' : Kept) (a b c : ById Call) (settled : List (Settlement Call))
-    → (p : Passed rest piece left kept a b) → (is : line_in frame ≡ Some line) → (more : position is_line_feed left ≡ None → frame ≡ More)
-    → (whole : (at : ℕ) → position is_line_feed left ≡ Some at → (used ≡ at + 1) × (frame ≡ frame_of (p.now ++ take at left)) × StandsFor kept' [])
-    → (fit : fits b (heard line) ≡ true) → (settles : AreSettlements settled (hears b line (heard line)).settlements)
-    → (client_is : c ≡ (hears b line (heard line)).client)
-    → Settles a (record { rest = rest; bytes = piece; left = drop used left; kept = kept'; client = c; settled = settled })
-passed_settles rest piece left used frame line kept kept' a b c settled p is more whole fit settles client =
-    let t = takes_line p.now left used frame line kept' is more whole in
+-- a frame that settled a request has a line, which fits; what was settled, and the client then, are by the client's rule for that
+-- line
+taken_line : (a b : ById Call) (o : Option (List ℕ)) (settled : List (Settlement Call)) → TakesFrame a b o settled true
+    → (line : List ℕ) × (o ≡ Some line) × (fits a (heard line) ≡ true) × AreSettlements settled (hears a line (heard line)).settlements × (b ≡ (hears a line (heard line)).client)
+taken_line a b None settled t = absurd t
+taken_line a b (Some line) settled t = (line, refl, t.0, t.1, t.2)
+
+-- where the bytes before `h.left` were passed (`Passed`), and the line of the next frame settles a request, the bytes settle that
+-- request (`Settles`); `used` and `frame` are what the assembler gave for `h.left`
+pub passed_settles : (from : ById Call) (h next : Heard) (used : ℕ) (frame : Frame) → (p : Passed from h)
+    → TakesFrame h.client next.client (line_in frame) next.settled true → (more : position is_line_feed h.left ≡ None → frame ≡ More)
+    → (whole : (at : ℕ) → position is_line_feed h.left ≡ Some at → (used ≡ at + 1) × (frame ≡ frame_of (p.now ++ take at h.left)) × StandsFor next.kept [])
+    → Settles from (used_up h next used)
+passed_settles from h next used frame p taken more whole =
+    let (line, is, fit, settles, client) = taken_line h.client next.client (line_in frame) next.settled taken in
+    let t = takes_line p.now h.left used frame line next.kept is more whole in
     record {
       front = p.front;
       line = line;
@@ -188,16 +196,9 @@ passed_settles rest piece left used frame line kept kept' a b c settled p is mor
       none = p.none;
       fits = subst (λ (x : ById Call). fits x (heard line) ≡ true) p.same fit;
       stands = t.stands;
-      settles = subst (λ (x : ById Call). AreSettlements settled (hears x line (heard line)).settlements) p.same settles;
-      client = subst (λ (x : ById Call). c ≡ (hears x line (heard line)).client) p.same client;
+      settles = subst (λ (x : ById Call). AreSettlements next.settled (hears x line (heard line)).settlements) p.same settles;
+      client = subst (λ (x : ById Call). next.client ≡ (hears x line (heard line)).client) p.same client;
     }
-
--- a frame that settled a request has a line, which fits; what was settled, and the client then, are by the client's rule for that
--- line
-pub taken_line : (a b : ById Call) (o : Option (List ℕ)) (settled : List (Settlement Call)) → TakesFrame a b o settled true
-    → (line : List ℕ) × (o ≡ Some line) × (fits a (heard line) ≡ true) × AreSettlements settled (hears a line (heard line)).settlements × (b ≡ (hears a line (heard line)).client)
-taken_line a b None settled t = absurd t
-taken_line a b (Some line) settled t = (line, refl, t.0, t.1, t.2)
 
 -- Reading on.
 
@@ -210,29 +211,27 @@ pub record Reading (rest start given ahead : List ℕ) (kept : Kept) (from to : 
   pub quiet : IsQuiet rest looked_at kept from to
 
 -- where all that was ahead settles nothing, and one more piece was read, `Reading` is true with that piece as what is ahead
-pub reading_more : (rest start given ahead piece : List ℕ) (kept kept' : Kept) (a b c : ById Call) → (r : Reading rest start given ahead kept a b)
+pub reading_more : {rest start given ahead : List ℕ} {kept kept' : Kept} {a b c : ById Call} (piece : List ℕ) → (r : Reading rest start given ahead kept a b)
     → IsQuiet (rest_behind rest r.looked_at) ahead kept' b c
     → Reading rest start (given ++ piece) piece kept' a c
-reading_more rest start given ahead piece kept kept' a b c r q = record {
+reading_more {rest = rest} {start = start} {given = given} {ahead = ahead} piece r q = record {
   looked_at = r.looked_at ++ ahead;
   order = sym (append_assoc start given piece) ∙ ap (λ zs. zs ++ piece) r.order;
-  quiet = quiet_then rest r.looked_at ahead kept kept' a b c r.quiet q;
+  quiet = quiet_then rest r.looked_at ahead r.quiet q;
 }
 
 -- where all that is ahead settles nothing either, no line of all bytes since the start is a first reply, and the client is as
 -- before
-pub reading_quiet : (rest start given ahead : List ℕ) (kept kept' : Kept) (a b c : ById Call)
-    → (r : Reading rest start given ahead kept a b) → IsQuiet (rest_behind rest r.looked_at) ahead kept' b c
+pub reading_quiet : {rest start given ahead : List ℕ} {kept kept' : Kept} {a b c : ById Call}
+    (r : Reading rest start given ahead kept a b) → IsQuiet (rest_behind rest r.looked_at) ahead kept' b c
     → (first_reply a (lines_completed rest (start ++ given)) ≡ None) × (c ≡ a)
-reading_quiet rest start given ahead kept kept' a b c r q =
-    let all = quiet_then rest r.looked_at ahead kept kept' a b c r.quiet q in
+reading_quiet {rest = rest} {ahead = ahead} {a = a} r q =
+    let all = quiet_then rest r.looked_at ahead r.quiet q in
     (ap (λ zs. first_reply a (lines_completed rest zs)) r.order ∙ all.none, all.same)
 
--- where the bytes that are ahead settle a request after those that were looked at, all bytes since the start settle it
-pub reading_settles : (rest start given ahead left : List ℕ) (kept kept' : Kept) (a b c : ById Call) (settled : List (Settlement Call))
-    → (r : Reading rest start given ahead kept a b) → Settles b (record
-    { rest = rest_behind rest r.looked_at; bytes = ahead; left = left; kept = kept'; client = c; settled = settled })
-    → Settles a (record { rest = rest; bytes = start ++ given; left = left; kept = kept'; client = c; settled = settled })
-reading_settles rest start given ahead left kept kept' a b c settled r s =
-    subst (λ (zs : List ℕ). Settles a (record { rest = rest; bytes = zs; left = left; kept = kept'; client = c; settled = settled })) (sym r.order)
-    (settles_then rest r.looked_at ahead left kept kept' a b c settled r.quiet s)
+-- where the bytes that are ahead, which h has heard, settle a request after those that were looked at, all bytes since the start
+-- settle it
+pub reading_settles : {rest start given : List ℕ} {kept : Kept} {a b : ById Call} (h : Heard) → (r : Reading rest start given h.bytes kept a b)
+    → Settles b (record h { rest = rest_behind rest r.looked_at }) → Settles a (record h { rest = rest; bytes = start ++ given })
+reading_settles {rest = rest} {a = a} h r s =
+    subst (λ (zs : List ℕ). Settles a (record h { rest = rest; bytes = zs })) (sym r.order) (settles_then rest r.looked_at h r.quiet s)

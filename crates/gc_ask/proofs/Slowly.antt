@@ -2,7 +2,6 @@
 use Rattle.std.proofs.Common.{◌≡◌, ℕ, List, [], ◌∷◌, ◌++◌, Some, None, true, false, refl, ap, ◌∙◌, append_assoc}
 use Rattle.gc_lines.specs.Answering.{AppendsAnswer}
 use Rattle.gc_lines.specs.Lines.{with_end}
-use Rattle.gc_lines.specs.declared.frame.Frame.{Frame}
 use Rattle.gc_lines.specs.declared.frame.Frame.TheVariants.{Line}
 use Rattle.gc_scenes.specs.Slow.{SlowState, HearsLine, HearsSometime}
 

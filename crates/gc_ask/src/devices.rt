@@ -56,10 +56,10 @@ pub fn serve_device<R: Files<File = File> + Clock, I: Simulates>(
 /// clock of an instrument whose replies take time. A device has one caller alone, who may be silent for as long as he likes,
 /// so `keeping.idle` is not used.
 ///
-/// Where the device can't be used at first for a reason with a name (`Unusable`), the call fails as
-/// `fault_of_reason` says, and nothing was written. A device that isn't there, that can't be opened, locked or set up for a
-/// reason without a name, or whose serving ended, with a fault or without, is looked for each second. One that can't be used by
-/// then for a reason with a name counts as a caller with the fault `Socket`.
+/// If the first attempt to open the device fails with an `Unusable`, the call returns the fault for it (`fault_of_reason`), and
+/// writes nothing. Later attempts are made with a second between them while the device is missing, or can't be opened, locked or
+/// set up for a reason that is no `Unusable`. After the end of each serving, with a fault or without, the next attempt comes a
+/// second later. A later attempt that fails with an `Unusable` counts as one caller with the fault `Socket`.
 pub fn keep_device<R: Files<File = File> + Clock, I: Simulates, E: Write>(
     rt: &R,
     path: &str,

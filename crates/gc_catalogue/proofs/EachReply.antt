@@ -1,7 +1,7 @@
 -- Each reply has a reading for each call: where both codes are 0, the parameters are read as an answer of the call, or there is a
 -- fault for which they can't be.
 use Rattle.std.proofs.Common.{◌≡◌, ℕ, List, [], ◌∷◌, refl, sym, ap, ◌∙◌, subst, ◌⊎◌, inl, inr}
-use Rattle.std.specs.Prelude.{pos}
+use Rattle.std.specs.Prelude.{Bool, ℤ, pos}
 use Rattle.std.proofs.lemmas.Bool.{cases_eq}
 use Rattle.gc_values.specs.Decimals.{zero}
 use Rattle.gc_values.specs.Item.{kind_of}
@@ -22,68 +22,43 @@ use Rattle.gc_catalogue.specs.declared.answer.Shape.{Shape}
 use Rattle.gc_catalogue.specs.declared.answer.Shape.TheVariants as shape
 use Rattle.gc_catalogue.specs.declared.call.Call.{Call}
 
--- the list vs is a first value, of kind k, and the values after it, of the kinds ks
+-- the value is the one that a decimal, a number, a truth value or bytes make, by this kind
+abbrev IsMade : Kind → Value → Type 0
+IsMade kind.Double v = (d : Decimal) × (value.Double d ≡ v)
+IsMade kind.Long v = (z : ℤ) × (value.Long z ≡ v)
+IsMade kind.Short v = (z : ℤ) × (value.Short z ≡ v)
+IsMade kind.Byte v = (n : ℕ) × (value.Byte n ≡ v)
+IsMade kind.Bool v = (b : Bool) × (value.Bool b ≡ v)
+IsMade kind.Text v = (bytes : List ℕ) × (value.Text bytes ≡ v)
+
+-- each value is made as its kind says
+is_made : (v : Value) → IsMade (kind_of v) v
+is_made (value.Double d) = (d, refl)
+is_made (value.Long z) = (z, refl)
+is_made (value.Short z) = (z, refl)
+is_made (value.Byte n) = (n, refl)
+is_made (value.Bool b) = (b, refl)
+is_made (value.Text bytes) = (bytes, refl)
+
+-- the list vs is a first value, which is made as the kind k says, and the values after it, of the kinds ks
 record FirstValue (k : Kind) (ks : List Kind) (vs : List Value) : Type 0 where
   first : Value
   behind : List Value
   is : first ∷ behind ≡ vs
-  kind : kind_of first ≡ k
+  made : IsMade k first
   kinds : kinds_of behind ≡ ks
 
--- a list of values whose kinds are k and then ks has a first value of kind k, and after it values of the kinds ks
+-- a list of values whose kinds are k and then ks has a first value, made as k says, and after it values of the kinds ks
 first_value : (k : Kind) (ks : List Kind) (vs : List Value) → kinds_of vs ≡ k ∷ ks → FirstValue k ks vs
 first_value k ks [] e = absurd (cc)
-first_value k ks (v ∷ vs) e = record { first = v; behind = vs; is = refl; kind = cc; kinds = cc }
+first_value k ks (v ∷ vs) e =
+    let same : kind_of v ≡ k = cc in
+    record { first = v; behind = vs; is = refl; made = subst (λ (j : Kind). IsMade j v) same (is_made v); kinds = cc }
 
 -- a list of values whose list of kinds is empty is empty
 none_left : (vs : List Value) → kinds_of vs ≡ [] → [] ≡ vs
 none_left [] e = refl
 none_left (v ∷ vs) e = absurd (cc)
-
--- a value of the kind `Double` is `Double` of a decimal
-a_double : (v : Value) → kind_of v ≡ kind.Double → (d : Decimal) × (value.Double d ≡ v)
-a_double (value.Double d) e = (d, refl)
-a_double (value.Long z) e = absurd (cc)
-a_double (value.Short z) e = absurd (cc)
-a_double (value.Byte n) e = absurd (cc)
-a_double (value.Bool b) e = absurd (cc)
-a_double (value.Text t) e = absurd (cc)
-
--- a value of the kind `Long` is `Long` of a whole number
-a_long : (v : Value) → kind_of v ≡ kind.Long → (z : _) × (value.Long z ≡ v)
-a_long (value.Double d) e = absurd (cc)
-a_long (value.Long z) e = (z, refl)
-a_long (value.Short z) e = absurd (cc)
-a_long (value.Byte n) e = absurd (cc)
-a_long (value.Bool b) e = absurd (cc)
-a_long (value.Text t) e = absurd (cc)
-
--- a value of the kind `Short` is `Short` of a whole number
-a_short : (v : Value) → kind_of v ≡ kind.Short → (z : _) × (value.Short z ≡ v)
-a_short (value.Double d) e = absurd (cc)
-a_short (value.Long z) e = absurd (cc)
-a_short (value.Short z) e = (z, refl)
-a_short (value.Byte n) e = absurd (cc)
-a_short (value.Bool b) e = absurd (cc)
-a_short (value.Text t) e = absurd (cc)
-
--- a value of the kind `Byte` is `Byte` of a number
-a_byte : (v : Value) → kind_of v ≡ kind.Byte → (n : ℕ) × (value.Byte n ≡ v)
-a_byte (value.Double d) e = absurd (cc)
-a_byte (value.Long z) e = absurd (cc)
-a_byte (value.Short z) e = absurd (cc)
-a_byte (value.Byte n) e = (n, refl)
-a_byte (value.Bool b) e = absurd (cc)
-a_byte (value.Text t) e = absurd (cc)
-
--- a value of the kind `Text` is `Text` of some bytes
-a_text : (v : Value) → kind_of v ≡ kind.Text → (t : List ℕ) × (value.Text t ≡ v)
-a_text (value.Double d) e = absurd (cc)
-a_text (value.Long z) e = absurd (cc)
-a_text (value.Short z) e = absurd (cc)
-a_text (value.Byte n) e = absurd (cc)
-a_text (value.Bool b) e = absurd (cc)
-a_text (value.Text t) e = (t, refl)
 
 -- there is an answer of this shape with these values
 abbrev HasAnswer : Shape → List Value → Type 0
@@ -96,16 +71,15 @@ record ShapeIsAnswered (s : Shape) : Type 0 where
   shape : (answer_fields some).shape ≡ s
   each : (vs : List Value) → kinds_of vs ≡ kinds_of (answer_fields some).values → HasAnswer s vs
 
--- where `make` gives each value of kind k, and `say` gives answers of the shape s with just the value that `make` gives, there is
--- an answer of that shape for each list of one value of that kind
-one_value_answer : {X : Type 0} (k : Kind) (make : X → Value) (say : X → Answer) (s : Shape)
-    → ((v : Value) → kind_of v ≡ k → (x : X) × (make x ≡ v))
-    → ((x : X) → (answer_fields (say x)).shape ≡ s) → ((x : X) → (answer_fields (say x)).values ≡ make x ∷ []) → (vs : List Value)
-    → kinds_of vs ≡ k ∷ [] → HasAnswer s vs
-one_value_answer k make say s is shape values vs e =
+-- where `make` gives each value that is made as the kind k says, and each value that it gives is all of an answer of the shape s,
+-- there is an answer of that shape for each list of one value of that kind
+one_value_answer : {X : Type 0} (k : Kind) (make : X → Value) (s : Shape) → ((v : Value) → IsMade k v → (x : X) × (make x ≡ v))
+    → ((x : X) → HasAnswer s (make x ∷ [])) → (vs : List Value) → kinds_of vs ≡ k ∷ [] → HasAnswer s vs
+one_value_answer k make s is says vs e =
     let p = first_value k [] vs e in
-    let x = is p.first p.kind in
-    (say x.0, shape x.0, values x.0 ∙ ap (λ v. v ∷ []) x.1 ∙ ap (λ ws. p.first ∷ ws) (none_left p.behind p.kinds) ∙ p.is)
+    let x = is p.first p.made in
+    let a = says x.0 in
+    (a.0, a.1, a.2 ∙ ap (λ v. v ∷ []) x.1 ∙ ap (λ ws. p.first ∷ ws) (none_left p.behind p.kinds) ∙ p.is)
 
 -- `ShapeIsAnswered` holds of every shape
 shape_is_answered : (s : Shape) → ShapeIsAnswered s
@@ -113,32 +87,27 @@ shape_is_answered shape.Nothing = record { some = answer.Nothing; shape = refl; 
 shape_is_answered shape.Short = record {
   some = answer.Short (pos 0);
   shape = refl;
-  each = one_value_answer kind.Short (λ z. value.Short z) (λ z. answer.Short z) shape.Short a_short
-      (λ z. refl) (λ z. refl);
+  each = one_value_answer kind.Short (λ (z : ℤ). value.Short z) shape.Short (λ v made. made) (λ z. (answer.Short z, refl, refl));
 }
 shape_is_answered shape.Long = record {
   some = answer.Long (pos 0);
   shape = refl;
-  each = one_value_answer kind.Long (λ z. value.Long z) (λ z. answer.Long z) shape.Long a_long
-      (λ z. refl) (λ z. refl);
+  each = one_value_answer kind.Long (λ (z : ℤ). value.Long z) shape.Long (λ v made. made) (λ z. (answer.Long z, refl, refl));
 }
 shape_is_answered shape.Name = record {
   some = answer.Name [];
   shape = refl;
-  each = one_value_answer kind.Text (λ t. value.Text t) (λ t. answer.Name t) shape.Name a_text
-      (λ t. refl) (λ t. refl);
+  each = one_value_answer kind.Text (λ (t : List ℕ). value.Text t) shape.Name (λ v made. made) (λ t. (answer.Name t, refl, refl));
 }
 shape_is_answered shape.Temperature = record {
   some = answer.Temperature zero;
   shape = refl;
-  each = one_value_answer kind.Double (λ d. value.Double d) (λ d. answer.Temperature d) shape.Temperature a_double
-      (λ d. refl) (λ d. refl);
+  each = one_value_answer kind.Double (λ (d : Decimal). value.Double d) shape.Temperature (λ v made. made) (λ d. (answer.Temperature d, refl, refl));
 }
 shape_is_answered shape.Height = record {
   some = answer.Height zero;
   shape = refl;
-  each = one_value_answer kind.Double (λ d. value.Double d) (λ d. answer.Height d) shape.Height a_double
-      (λ d. refl) (λ d. refl);
+  each = one_value_answer kind.Double (λ (d : Decimal). value.Double d) shape.Height (λ v made. made) (λ d. (answer.Height d, refl, refl));
 }
 shape_is_answered shape.Version = record { some = answer.Version (pos 0) (pos 0) (pos 0); shape = refl; each = version } where
   -- each list of three Shorts is the values of an answer of the shape `Version`
@@ -147,9 +116,9 @@ shape_is_answered shape.Version = record { some = answer.Version (pos 0) (pos 0)
       let p = first_value kind.Short (kind.Short ∷ kind.Short ∷ []) vs e in
       let q = first_value kind.Short (kind.Short ∷ []) p.behind p.kinds in
       let r = first_value kind.Short [] q.behind q.kinds in
-      let a = a_short p.first p.kind in
-      let b = a_short q.first q.kind in
-      let c = a_short r.first r.kind in
+      let a = p.made in
+      let b = q.made in
+      let c = r.made in
       (answer.Version a.0 b.0 c.0, refl, cc (a.1, b.1, c.1, none_left r.behind r.kinds, r.is, q.is, p.is))
 shape_is_answered shape.Date = record { some = answer.Date (record { year = pos 0; month = 0; day = 0; hour = 0; minute = 0; second = 0 }); shape = refl; each = date } where
   -- each list of a Short and five Bytes is the values of an answer of the shape `Date`
@@ -161,12 +130,12 @@ shape_is_answered shape.Date = record { some = answer.Date (record { year = pos 
       let s = first_value kind.Byte (kind.Byte ∷ kind.Byte ∷ []) r.behind r.kinds in
       let t = first_value kind.Byte (kind.Byte ∷ []) s.behind s.kinds in
       let u = first_value kind.Byte [] t.behind t.kinds in
-      let a = a_short p.first p.kind in
-      let b = a_byte q.first q.kind in
-      let c = a_byte r.first r.kind in
-      let d = a_byte s.first s.kind in
-      let m = a_byte t.first t.kind in
-      let n = a_byte u.first u.kind in (
+      let a = p.made in
+      let b = q.made in
+      let c = r.made in
+      let d = s.made in
+      let m = t.made in
+      let n = u.made in (
         answer.Date (record { year = a.0; month = b.0; day = c.0; hour = d.0; minute = m.0; second = n.0 }),
         refl,
         cc (a.1, b.1, c.1, d.1, m.1, n.1, none_left u.behind u.kinds, u.is, t.is, s.is, r.is, q.is, p.is),
@@ -179,10 +148,10 @@ shape_is_answered shape.Place = record { some = answer.Place (record { e0 = zero
       let q = first_value kind.Double (kind.Double ∷ kind.Double ∷ []) p.behind p.kinds in
       let r = first_value kind.Double (kind.Double ∷ []) q.behind q.kinds in
       let s = first_value kind.Double [] r.behind r.kinds in
-      let a = a_double p.first p.kind in
-      let b = a_double q.first q.kind in
-      let c = a_double r.first r.kind in
-      let d = a_double s.first s.kind in (
+      let a = p.made in
+      let b = q.made in
+      let c = r.made in
+      let d = s.made in (
         answer.Place (record { e0 = a.0; n0 = b.0; h0 = c.0; hi = d.0 }),
         refl,
         cc (a.1, b.1, c.1, d.1, none_left s.behind s.kinds, s.is, r.is, q.is, p.is),
@@ -193,8 +162,8 @@ shape_is_answered shape.Angles = record { some = answer.Angles zero zero; shape 
   angles vs e =
       let p = first_value kind.Double (kind.Double ∷ []) vs e in
       let q = first_value kind.Double [] p.behind p.kinds in
-      let a = a_double p.first p.kind in
-      let b = a_double q.first q.kind in
+      let a = p.made in
+      let b = q.made in
       (answer.Angles a.0 b.0, refl, cc (a.1, b.1, none_left q.behind q.kinds, q.is, p.is))
 shape_is_answered shape.Measured = record { some = answer.Measured zero zero zero; shape = refl; each = measured } where
   -- each list of three Doubles is the values of an answer of the shape `Measured`
@@ -203,9 +172,9 @@ shape_is_answered shape.Measured = record { some = answer.Measured zero zero zer
       let p = first_value kind.Double (kind.Double ∷ kind.Double ∷ []) vs e in
       let q = first_value kind.Double (kind.Double ∷ []) p.behind p.kinds in
       let r = first_value kind.Double [] q.behind q.kinds in
-      let a = a_double p.first p.kind in
-      let b = a_double q.first q.kind in
-      let c = a_double r.first r.kind in
+      let a = p.made in
+      let b = q.made in
+      let c = r.made in
       (answer.Measured a.0 b.0 c.0, refl, cc (a.1, b.1, c.1, none_left r.behind r.kinds, r.is, q.is, p.is))
 shape_is_answered shape.MeasuredMode = record { some = answer.MeasuredMode zero zero zero (pos 0); shape = refl; each = with_mode } where
   -- each list of three Doubles and a Long is the values of an answer of the shape `MeasuredMode`
@@ -215,10 +184,10 @@ shape_is_answered shape.MeasuredMode = record { some = answer.MeasuredMode zero 
       let q = first_value kind.Double (kind.Double ∷ kind.Long ∷ []) p.behind p.kinds in
       let r = first_value kind.Double (kind.Long ∷ []) q.behind q.kinds in
       let s = first_value kind.Long [] r.behind r.kinds in
-      let a = a_double p.first p.kind in
-      let b = a_double q.first q.kind in
-      let c = a_double r.first r.kind in
-      let m = a_long s.first s.kind in
+      let a = p.made in
+      let b = q.made in
+      let c = r.made in
+      let m = s.made in
       (answer.MeasuredMode a.0 b.0 c.0 m.0, refl, cc (a.1, b.1, c.1, m.1, none_left s.behind s.kinds, s.is, r.is, q.is, p.is))
 
 -- parameters are read as an answer of the call, or are unreadable for some reason

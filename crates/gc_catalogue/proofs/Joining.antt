@@ -60,15 +60,19 @@ comma_list head vs begun old new start is cut =
     ∙ sym (append_assoc head (behind_commas vs) (44 ∷ [])) in
     cut ∙ ap (λ bytes. take (length bytes - 1) bytes) all ∙ without_last (head ++ behind_commas vs) 44
 
+-- `new` is `old` without the comma at its end, if one is there
+pub record IsWithoutComma (old new : List ℕ) : Type 0 where
+  pub comma : (front : List ℕ) → old ≡ front ++ 44 ∷ [] → new ≡ front
+  pub other : ((front : List ℕ) → old ≢ front ++ 44 ∷ []) → new ≡ old
+
 -- where `old` is a head, a colon and then values, each before a comma, and `new` is `old` without a comma at its end, if one is
 -- there, `new` is the head, the colon and the values joined by commas
-colon_list : (head : List ℕ) (vs : List Value) (old new : List ℕ) → old ≡ (head ++ 58 ∷ []) ++ before_commas vs
-    → ((front : List ℕ) → old ≡ front ++ 44 ∷ [] → new ≡ front) → (((front : List ℕ) → old ≢ front ++ 44 ∷ []) → new ≡ old)
+colon_list : (head : List ℕ) (vs : List Value) (old new : List ℕ) → old ≡ (head ++ 58 ∷ []) ++ before_commas vs → IsWithoutComma old new
     → new ≡ (head ++ 58 ∷ []) ++ params_of vs
-colon_list head [] old new is comma other =
-    other (λ front e. let same : 58 ≡ 44 = (same_from_push head front 58 44 (sym (append-nil (head ++ 58 ∷ [])) ∙ sym is ∙ e)).1 in omega (arith, same)) ∙ is
-colon_list head (v ∷ vs) old new is comma other =
-    comma ((head ++ 58 ∷ []) ++ params_of (v ∷ vs)) (is ∙ ap (λ bytes. (head ++ 58 ∷ []) ++ bytes) (before-params v vs) ∙ sym (append_assoc (head ++ 58 ∷ []) (params_of (v ∷ vs)) (44 ∷ [])))
+colon_list head [] old new is without =
+    without.other (λ front e. let same : 58 ≡ 44 = (same_from_push head front 58 44 (sym (append-nil (head ++ 58 ∷ [])) ∙ sym is ∙ e)).1 in omega (arith, same)) ∙ is
+colon_list head (v ∷ vs) old new is without =
+    without.comma ((head ++ 58 ∷ []) ++ params_of (v ∷ vs)) (is ∙ ap (λ bytes. (head ++ 58 ∷ []) ++ bytes) (before-params v vs) ∙ sym (append_assoc (head ++ 58 ∷ []) (params_of (v ∷ vs)) (44 ∷ [])))
 
 -- a request without parameters is its signature, number and id, and a colon
 bare_head : (rpc : ℕ) (id : Option ℕ)
@@ -78,15 +82,14 @@ bare_head rpc id = simp append_assoc
 -- where `old` is `front`, a request without parameters, and then values, each before a comma, and `new` is `old` without a comma
 -- at its end, if one is there, `new` is `front` and then the request with these values as its parameters
 pub request_ends : (front : List ℕ) (rpc : ℕ) (id : Option ℕ) (vs : List Value) (old new : List ℕ)
-    → old ≡ front ++ (request_text (record { rpc = rpc; id = id; params = [] }) ++ before_commas vs)
-    → ((list : List ℕ) → old ≡ list ++ 44 ∷ [] → new ≡ list)
-    → (((list : List ℕ) → old ≢ list ++ 44 ∷ []) → new ≡ old) → new ≡ front ++ request_text (record { rpc = rpc; id = id; params = params_of vs })
-request_ends front rpc id vs old new is comma other =
+    → old ≡ front ++ (request_text (record { rpc = rpc; id = id; params = [] }) ++ before_commas vs) → IsWithoutComma old new
+    → new ≡ front ++ request_text (record { rpc = rpc; id = id; params = params_of vs })
+request_ends front rpc id vs old new is without =
     let head : List ℕ = front ++ (request_signature ++ (decimal rpc ++ id_text id)) in
     let start : front ++ (request_text (record { rpc = rpc; id = id; params = [] }) ++ before_commas vs) ≡ (head ++ 58 ∷ []) ++ before_commas vs =
     ap (λ bytes. front ++ (bytes ++ before_commas vs)) (bare_head rpc id) ∙ simp append_assoc in
     let end : (head ++ 58 ∷ []) ++ params_of vs ≡ front ++ request_text (record { rpc = rpc; id = id; params = params_of vs }) = simp append_assoc in
-    colon_list head vs old new (is ∙ start) comma other ∙ end
+    colon_list head vs old new (is ∙ start) without ∙ end
 
 -- a reply is the same reply without parameters, and after that the parameters' text
 pub reply_text-params : (rc_com : ℕ) (id : Option ℕ) (rc : ℕ) (params : List ℕ)

@@ -1,8 +1,10 @@
 -- Lines that are written read back.
-use Rattle.std.specs.Prelude.{◌≡◌, ◌<◌, ℕ, List, [], ◌∷◌, Option, Some, None, IfSome, Result, Ok, refl}
+use Rattle.std.specs.Prelude.{◌≡◌, ◌<◌, ℕ, List, [], ◌∷◌, Option, Some, None, Result, Ok, refl}
+use Rattle.std.specs.Option.{ForSome}
 use Rattle.std.proofs.Common.{◌∙◌, ap, arith, lit<}
 use Rattle.gc_lines.proofs.Written.{request_back, reply_back}
 use Rattle.gc_lines.specs.declared.fault.LineFault.{LineFault}
+use Rattle.gc_lines.specs.Headers.{IsIdInRange}
 use Rattle.gc_lines.specs.Requests.{RequestFields}
 use Rattle.gc_lines.specs.Readers.{request_at}
 use Rattle.gc_values.specs.declared.value.Value.{Value}
@@ -75,7 +77,7 @@ refusal_again call id rc places i some fits = record {
   is_reading = (refl, (λ e. omega arith), refl);
 }
 
--- where each number i that makes the id `Some i` is below 8, `IfSome` says of the id that it is below 8
-pub some_id : (id : Option ℕ) → ((i : ℕ) → id ≡ Some i → i < 8) → IfSome id (λ i. i < 8)
+-- an id that is below 8 where there is one, by `ForSome`, is in range
+pub some_id : (id : Option ℕ) → ForSome id (λ i. i < 8) → IsIdInRange id
 some_id None h = tt
 some_id (Some i) h = h i refl

@@ -15,7 +15,7 @@ use Rattle.gc_catalogue.specs.declared.raw.RawFault.{RawFault}
 use Rattle.gc_catalogue.specs.declared.raw.RawFault.TheVariants.{InTable, NotPlain, TooLong, OpenQuote, TooMany}
 use Rattle.gc_catalogue.specs.Raws.{AreFewItems, IsItemsRefusal, IsRawCall, IsRawReading, IsRawRefusal}
 
--- parameters of at most 16 items have their double quotes in pairs
+-- parameters of at most 16 items have an even number of double quotes
 pub few_closed : (params : List ℕ) → AreFewItems params → quotes params % 2 ≡ 0
 few_closed params few = params_even params few.0 few.1
 
@@ -46,7 +46,8 @@ by_count params items is = elim (cases_lt 16 (length items)) [
   | inr few ↦ inl (items, is, few)
 ]
 
--- parameters that can't be read as a list of no values are at most 16 items, or there is a fault for which they aren't
+-- parameters that have a fault as a list of no values (`IsListFault`) are at most 16 items, or there is a fault for which they
+-- aren't
 by_fault : (params : List ℕ) (e : ValueFault) → IsListFault [] params e → AreFewItems params ⊎ ((f : ValueFault) × IsItemsRefusal params f)
 by_fault params e (open_quote is odd) = inr (fault.OpenQuote, inl (refl, odd))
 by_fault params e (faulty_items items is faulty) = by_count params items is

@@ -55,7 +55,7 @@ pub record IsAnswer (call : Call) (params : List ℕ) (answer : Answer) : Type 0
 abbrev pub IsUnreadable : Call → List ℕ → ValueFault → Type 0
 IsUnreadable call params e = (answer : Answer) × IsAnswerOf call answer × IsListFault (kinds_of (answer_fields answer).values) params e
 
--- the answer's numbers are in the ranges of their types, and its text is one that a string can have
+-- the answer's numbers are in the ranges of their types, and its text, if it has one, is one that a string can have
 abbrev pub IsFittingAnswer : Answer → Type 0
 IsFittingAnswer answer = AreValues (answer_fields answer).values
 

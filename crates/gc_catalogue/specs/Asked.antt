@@ -43,8 +43,8 @@ abbrev pub IsAskedReading : Asked → ReplyFields → Reading → Type 0
 IsAskedReading (Table call) reply reading = IsReading call reply reading
 IsAskedReading (Raw raw) reply reading = IsRawReading reply reading
 
--- what is asked is allowed: a call's numbers are in the ranges of their types, and a procedure that isn't in the table may be asked for
--- with its parameters (`IsRawCall`)
+-- what is asked is allowed: a call's numbers are in the ranges of their types, and a procedure that isn't in the table may be
+-- asked for with its parameters (`IsRawCall`)
 abbrev pub IsAskedFitting : Asked → Type 0
 IsAskedFitting (Table call) = IsFitting call
 IsAskedFitting (Raw raw) = IsRawCall raw.rpc (raw_params raw)

@@ -1,5 +1,6 @@
 -- What is claimed of the definitions of what is asked, apart from any call of a function: this project's own.
-use Rattle.std.specs.Prelude.{◌≡◌, ◌<◌, ◌≤◌, ℕ, List, Option, IfSome, Ok, length}
+use Rattle.std.specs.Prelude.{◌≡◌, ◌≤◌, ℕ, List, Option, Ok, length}
+use Rattle.gc_lines.specs.Headers.{IsIdInRange}
 use Rattle.gc_lines.specs.Lines.{IsPlain}
 use Rattle.gc_lines.specs.Replies.{ReplyFields}
 use Rattle.gc_lines.specs.Readers.{request_at}
@@ -9,8 +10,8 @@ use Rattle.gc_catalogue.specs.declared.raw.RawCall.{RawCall}
 use Rattle.gc_catalogue.specs.Asked.{asked_line, asked_request, raw_line, IsAsked, IsAskedFitting, IsAskedReading}
 use Rattle.gc_catalogue.specs.Calls.{IsNoProcedure}
 
--- the request line of a procedure that isn't in the table has at most 512 bytes, none of which is CR or LF, and no procedure of the table
--- has its number
+-- the request line of a procedure that isn't in the table has at most 512 bytes, none of which is CR or LF, and no procedure of
+-- the table has its number
 pub record FitsALine (id : Option ℕ) (raw : RawCall) : Type 0 where
   pub plain : IsPlain (raw_line id raw)
   pub short : length (raw_line id raw) ≤ 512
@@ -18,16 +19,16 @@ pub record FitsALine (id : Option ℕ) (raw : RawCall) : Type 0 where
 
 -- `FitsALine` for each procedure that isn't in the table, with each id below 8 or without one
 abbrev pub RawLinesFit : Type 0
-RawLinesFit = (id : Option ℕ) (raw : RawCall) → IfSome id (λ n. n < 8) → FitsALine id raw
+RawLinesFit = (id : Option ℕ) (raw : RawCall) → IsIdInRange id → FitsALine id raw
 
 -- the number and the parameters of a request ask for at most one thing
 abbrev pub OneAsked : Type 0
 OneAsked = (rpc : ℕ) (params : List ℕ) (a b : Asked) → IsAsked rpc params a → IsAsked rpc params b → a ≡ b
 
--- two requests for what is allowed (`IsAskedFitting`) with the same line, each with an id below 8 or without one, ask for the same thing,
--- and have the same id
+-- two requests for what is allowed (`IsAskedFitting`) with the same line, each with an id below 8 or without one, ask for the
+-- same thing, and have the same id
 abbrev pub OneAskedForALine : Type 0
-OneAskedForALine = (i j : Option ℕ) (a b : Asked) → IfSome i (λ n. n < 8) → IfSome j (λ n. n < 8) → IsAskedFitting a → IsAskedFitting b
+OneAskedForALine = (i j : Option ℕ) (a b : Asked) → IsIdInRange i → IsIdInRange j → IsAskedFitting a → IsAskedFitting b
     → asked_line i a ≡ asked_line j b → (i ≡ j) × (a ≡ b)
 
 -- the line of what is asked reads as the request for it, whose number and parameters ask for just that
@@ -35,9 +36,10 @@ pub record ReadsBackAsked (id : Option ℕ) (asked : Asked) : Type 0 where
   pub line : request_at (asked_line id asked) ≡ Ok (asked_request id asked)
   pub is_asked : IsAsked (asked_request id asked).rpc (asked_request id asked).params asked
 
--- the request line of whatever is asked and allowed (`IsAskedFitting`), with an id below 8 or without one, reads back as what was asked
+-- the request line of whatever is asked and allowed (`IsAskedFitting`), with an id below 8 or without one, reads back as what was
+-- asked
 abbrev pub AskedReadBack : Type 0
-AskedReadBack = (id : Option ℕ) (asked : Asked) → IfSome id (λ n. n < 8) → IsAskedFitting asked → ReadsBackAsked id asked
+AskedReadBack = (id : Option ℕ) (asked : Asked) → IsIdInRange id → IsAskedFitting asked → ReadsBackAsked id asked
 
 -- a reply has at most one reading for what was asked
 abbrev pub OneAskedReading : Type 0

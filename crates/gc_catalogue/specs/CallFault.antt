@@ -4,7 +4,7 @@ use Rattle.gc_values.specs.ValueFault.{fault_number, fault_text}
 use Rattle.gc_catalogue.specs.declared.fault.CallFault.{CallFault}
 use Rattle.gc_catalogue.specs.declared.fault.CallFault.TheVariants.{Unknown, Parameters}
 
--- the number of each fault by itself: one number for all faults of parameters
+-- the number of a fault: 21 where no procedure has the request's number, and 22 for every fault of parameters
 abbrev pub call_fault_number : CallFault → ℕ
 call_fault_number Unknown = 21
 call_fault_number (Parameters e) = 22

@@ -98,8 +98,8 @@ pub record IsCall (rpc : ℕ) (params : List ℕ) (call : Call) : Type 0 where
   pub number : (call_fields call).number ≡ rpc
   pub values : AreParams params (call_fields call).values
 
--- the fault for which the number and the parameters are no call's: no procedure has the number, or the parameters can't be read as those
--- of the procedure with the number
+-- the fault for which the number and the parameters are no call's: no procedure has the number, or the parameters can't be read
+-- as those of the procedure with the number
 abbrev pub IsRefusal : (rpc : ℕ) → (params : List ℕ) → CallFault → Type 0
 IsRefusal rpc params Unknown = IsNoProcedure rpc
 IsRefusal rpc params (Parameters e) =

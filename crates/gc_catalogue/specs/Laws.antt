@@ -1,5 +1,6 @@
 -- What is claimed of the definitions themselves, apart from any call of a function: this project's own.
-use Rattle.std.specs.Prelude.{◌≡◌, ◌≢◌, ◌<◌, ℕ, List, [], ◌∷◌, Option, IfSome, Ok}
+use Rattle.std.specs.Prelude.{◌≡◌, ◌≢◌, ◌<◌, ℕ, List, [], ◌∷◌, Option, Ok}
+use Rattle.gc_lines.specs.Headers.{IsIdInRange}
 use Rattle.gc_lines.specs.Replies.{ReplyFields}
 use Rattle.gc_lines.specs.Readers.{reply_at, request_at}
 use Rattle.gc_values.specs.Decimals.{fraction}
@@ -23,7 +24,8 @@ pub record HaveOneSignature (c d : Call) : Type 0 where
   pub kinds : kinds_of (call_fields c).values ≡ kinds_of (call_fields d).values
   pub answer : (call_fields c).answer ≡ (call_fields d).answer
 
--- no two procedures share a number: calls with the same number have one signature, and if their values agree too, they are the same call
+-- no two procedures share a number: calls with the same number have one signature, and if their values agree too, they are the
+-- same call
 pub record NumbersDiffer : Type 0 where
   pub alike : (c d : Call) → (call_fields c).number ≡ (call_fields d).number → HaveOneSignature c d
   pub same : (c d : Call) → (call_fields c).number ≡ (call_fields d).number → (call_fields c).values ≡ (call_fields d).values → c ≡ d
@@ -33,7 +35,8 @@ abbrev pub IsShown : (places : ℕ) → (v shown : Value) → Type 0
 IsShown places (value.Double d) (value.Double shown) = IsRounded (fraction d) places shown.digits shown.scale
 IsShown places v shown = v ≡ shown
 
--- `shown` are the values as they are written, one for one (`IsShown`): each double rounded to the places, and any other value unchanged
+-- `shown` are the values as they are written, one for one (`IsShown`): each double rounded to the places, and any other value
+-- unchanged
 abbrev pub AreShown : (places : ℕ) → (values shown : List Value) → Type 0
 AreShown places [] [] = Unit {0}
 AreShown places [] (shown ∷ rest) = ⊥
@@ -46,10 +49,10 @@ DoublesAreRounded = (places : ℕ) (answer : Answer)
     → ((answer_fields (rounded_answer places answer)).shape ≡ (answer_fields answer).shape)
     × AreShown places (answer_fields answer).values (answer_fields (rounded_answer places answer)).values
 
--- two calls with values in range and with the same request line, each with an id below 8 or without one, are the same call, and have the
--- same id
+-- two calls with values in range and with the same request line, each with an id below 8 or without one, are the same call, and
+-- have the same id
 abbrev pub OneCallForALine : Type 0
-OneCallForALine = (i j : Option ℕ) (c d : Call) → IfSome i (λ n. n < 8) → IfSome j (λ n. n < 8) → IsFitting c → IsFitting d
+OneCallForALine = (i j : Option ℕ) (c d : Call) → IsIdInRange i → IsIdInRange j → IsFitting c → IsFitting d
     → request_line i c ≡ request_line j d → (i ≡ j) × (c ≡ d)
 
 -- the number and the parameters of a request are those of at most one call, and have at most one refusal; if they are those of a
@@ -74,7 +77,7 @@ pub record ReadsBackCall (id : Option ℕ) (call : Call) : Type 0 where
 
 -- the line of each call with values in range, with an id below 8 or without one, reads back as that call
 abbrev pub CallsReadBack : Type 0
-CallsReadBack = (id : Option ℕ) (call : Call) → IfSome id (λ n. n < 8) → IsFitting call → ReadsBackCall id call
+CallsReadBack = (id : Option ℕ) (call : Call) → IsIdInRange id → IsFitting call → ReadsBackCall id call
 
 -- the line of a reply with this id, return code and answer, whose doubles are rounded to the places, reads as that reply, which
 -- has this reading for the call
@@ -82,8 +85,8 @@ pub record ReadsBackAnswer (call : Call) (id rc : ℕ) (answer : Answer) (places
   pub line : reply_at (reply_line id rc answer places) ≡ Ok (reply_of id rc answer places)
   pub is_reading : IsReading call (reply_of id rc answer places) reading
 
--- if the return code is 0, the reply line with this answer reads back, for each call of which it is an answer, as the answer with its
--- doubles rounded
+-- if the return code is 0, the reply line with this answer reads back, for each call of which it is an answer, as the answer with
+-- its doubles rounded
 abbrev pub ReadsBackValue : (id rc : ℕ) → Answer → (places : ℕ) → Type 0
 ReadsBackValue id rc answer places =
     (call : Call) → rc ≡ 0 → IsAnswerOf call answer → ReadsBackAnswer call id rc answer places (reading.Value (rounded_answer places answer))
@@ -92,8 +95,9 @@ ReadsBackValue id rc answer places =
 abbrev pub ReadsBackRefusal : (id rc : ℕ) → Answer → (places : ℕ) → Type 0
 ReadsBackRefusal id rc answer places = (call : Call) → rc ≢ 0 → ReadsBackAnswer call id rc answer places (reading.Refused rc)
 
--- with an id below 8, the line of a call's answer with values in range and the return code 0 reads back as the answer with its doubles
--- rounded (`value`), and the line of the answer `Nothing` and another return code, below 65536, as the refusal with that code (`refused`)
+-- with an id below 8, the line of a call's answer with values in range and the return code 0 reads back as the answer with its
+-- doubles rounded (`value`), and the line of the answer `Nothing` and another return code, below 65536, as the refusal with that
+-- code (`refused`)
 pub record AnswersReadBack : Type 0 where
   pub value : (call : Call) (id : ℕ) (answer : Answer) (places : ℕ) → id < 8 → IsAnswerOf call answer → IsFittingAnswer answer
       → ReadsBackAnswer call id 0 answer places (reading.Value (rounded_answer places answer))

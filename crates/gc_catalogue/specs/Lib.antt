@@ -6,6 +6,7 @@ pub mod CallFault
 pub mod Calls
 pub mod Laws
 pub mod Lists
+pub mod Moments
 pub mod Names
 pub mod RawProps
 pub mod RawTexts

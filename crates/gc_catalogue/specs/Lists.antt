@@ -32,12 +32,12 @@ shown (Some places) v = v
 abbrev pub shown_values : (places : Option ℕ) → List Value → List Value
 shown_values places vs = map (λ v. shown places v) vs
 
--- parameters were taken one by one, which led from `old` to `new`: if `new` reads as the empty list of values, `old` reads as
--- these values, by the relation `reads` of the trait `Parameters`
+-- by the relation `reads`, `old` reads as these values if `new` reads as the empty list of values. That is so where taking the
+-- values one by one leads from `old` to `new`; `reads` and `fails` are those of the trait `Parameters`
 abbrev pub ReadsAll : {P : Type 0} → (reads : P → List Value → Type 0) → (old new : P) → (values : List Value) → Type 0
 ReadsAll reads old new values = reads new [] → reads old values
 
--- parameters of the kinds of these values were taken one by one, which led from `old` to `new`: each fault of `new`, if no more are to be
--- taken, is a fault of `old` with all these kinds to be taken, by the relation `fails` of the trait `Parameters`
+-- by the relation `fails`, each fault of `new` with no kinds to be taken is a fault of `old` with the kinds of these values to be
+-- taken. That is so where taking parameters of these kinds one by one leads from `old` to `new`
 abbrev pub FailsAll : {P : Type 0} → (fails : P → List Kind → ValueFault → Type 0) → (old new : P) → (values : List Value) → Type 0
 FailsAll fails old new values = (e : ValueFault) → fails new [] e → fails old (kinds_of values) e

@@ -1,5 +1,5 @@
--- Procedures that aren't in the table: which numbers and parameters may be asked for, why others may not, and what a reply says. The
--- lines' form is the manual's; these rules are this project's own.
+-- Procedures that aren't in the table: which numbers and parameters may be asked for, why others may not, and what a reply says.
+-- The lines' form is the manual's; these rules are this project's own.
 use Rattle.std.specs.Prelude.{◌≡◌, ◌≢◌, ◌⊎◌, ◌<◌, ◌≤◌, ◌%◌, ℕ, List, length, Some, Result, Err}
 use Rattle.gc_lines.specs.Lines.{IsPlain}
 use Rattle.gc_lines.specs.Replies.{ReplyFields}
@@ -26,8 +26,9 @@ AreFewItems params = (items : List (List ℕ)) × IsParams params items × (leng
 abbrev pub IsItemsRefusal : List ℕ → ValueFault → Type 0
 IsItemsRefusal params e = ((e ≡ fault.OpenQuote) × HasOpenQuote params) ⊎ ((e ≡ fault.TooMany) × AreTooMany params)
 
--- this number may be asked for with these parameters: it is at most 65535, no procedure of the table has it, the parameters have neither CR
--- nor LF, the request's line has at most 512 bytes with an id, the number of double quotes is even, and there are at most 16 items
+-- this number may be asked for with these parameters: it is at most 65535, no procedure of the table has it, the parameters have
+-- neither CR nor LF, the request's line has at most 512 bytes with an id, the number of double quotes is even, and there are at
+-- most 16 items
 pub record IsRawCall (rpc : ℕ) (params : List ℕ) : Type 0 where
   pub bound : rpc < 65536
   pub no_procedure : IsNoProcedure rpc
@@ -36,8 +37,8 @@ pub record IsRawCall (rpc : ℕ) (params : List ℕ) : Type 0 where
   pub closed : quotes params % 2 ≡ 0
   pub few : (items : List (List ℕ)) → IsParams params items → length items ≤ 16
 
--- the fault for which a number and parameters may not be asked for as they are: the first that holds, in this order. Numbers above 65535,
--- which no request can carry, have no fault of their own
+-- the fault for which a number and parameters may not be asked for as they are: the first that holds, in this order. Numbers
+-- above 65535, which no request can carry, have no fault of their own
 abbrev pub IsRawRefusal : ℕ → List ℕ → RawFault → Type 0
 IsRawRefusal rpc params InTable = IsProcedure rpc
 IsRawRefusal rpc params NotPlain = IsNoProcedure rpc × (¬ IsPlain params)

@@ -12,7 +12,8 @@ use Rattle.gc_catalogue.specs.Lists.{params_of}
 abbrev pub request_of : Option ℕ → Call → RequestFields
 request_of id call = record { rpc = (call_fields call).number; id = id; params = params_of (call_fields call).values }
 
--- the fields of a reply with the communication code 0, an id, a return code and an answer, whose doubles are rounded to the places
+-- the fields of a reply with the communication code 0, an id, a return code and an answer, whose doubles are rounded to the
+-- places
 abbrev pub reply_of : (id rc : ℕ) → Answer → (places : ℕ) → ReplyFields
 reply_of id rc answer places = record {
   rc_com = 0;

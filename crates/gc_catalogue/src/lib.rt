@@ -21,7 +21,7 @@ mod writing;
 pub use answer::{Answer, Reading};
 pub use asked::{Asked, decode_asked, decode_asked_into, encode_asked, encode_asked_onto};
 pub use asking::Asking;
-pub use calendar::is_leap;
+pub use calendar::{is_leap, month_days};
 pub use call::{Call, DateTime, Station};
 pub use fault::CallFault;
 pub use names::procedure_name;

@@ -1,7 +1,8 @@
 -- Ids and places of the requests that wait, as numbers: `next` is the client's next id, and `waiting` how many requests wait.
-use Rattle.std.proofs.Common.{◌≡◌, ℕ, ◌<◌, ◌≤◌, List, length, Some, IfSome, Result, Ok, Err, refl, sym, subst, ap, ◌∙◌, arith}
+use Rattle.std.proofs.Common.{◌≡◌, ℕ, ◌<◌, ◌≤◌, List, length, Option, Some, Result, Ok, Err, refl, sym, subst, ap, ◌∙◌, arith}
 use Rattle.std.proofs.lemmas.Bool.{lt-ltb, ltb-true}
 use Rattle.gc_lines.specs.declared.fault.LineFault.{LineFault}
+use Rattle.gc_lines.specs.Headers.{IsIdInRange}
 use Rattle.gc_lines.specs.Replies.{ReplyFields, IsReply}
 use Rattle.gc_lines.specs.Readers.{reply_at}
 use Rattle.gc_lines.proofs.Replies.{reply_found, reply_again}
@@ -64,4 +65,4 @@ heard_by_grammar line =
 pub heard_digit : (line : List ℕ) (id : ℕ) → heard line ≡ Some id → id < 8
 heard_digit line id e =
     let reply = (heard_by_grammar line).only id e in
-    subst (λ o. IfSome o (λ n. n < 8)) reply.2 reply.1.is_id
+    subst (λ (o : Option ℕ). IsIdInRange o) reply.2 reply.1.is_id

@@ -1,12 +1,11 @@
 -- For the loops that look for the earliest deadline and count the requests that haven't timed out: what one more request adds to
 -- the deadlines seen so far.
-use Rattle.std.proofs.Common.{◌≡◌, ℕ, suc, ◌+◌, true, false, not, List, [], ◌∷◌, ◌++◌, map, filter, take, Some, refl, ap, ◌∙◌, arith}
+use Rattle.std.proofs.Common.{◌≡◌, ℕ, suc, ◌+◌, true, false, not, List, [], ◌∷◌, ◌++◌, take, Some, refl, ap, ◌∙◌, arith}
 use Rattle.std.specs.Prelude.{slice_get}
-use Rattle.std.proofs.lemmas.List.{map-append, append-nil}
-use Rattle.std.proofs.lemmas.List.Elements.{filter-append}
+use Rattle.std.proofs.lemmas.List.{append-nil}
 use Rattle.gc_client.specs.declared.pending.Pending.{Pending}
 use Rattle.gc_client.specs.Rule.{deadlines}
-use Rattle.gc_client.proofs.Lists.{take_turn}
+use Rattle.gc_client.proofs.Lists.{next_chosen}
 
 -- One turn of the loop: it looks at the request p, at place k of the requests ws that wait.
 module _ {Q : Type 0} (k : ℕ) (ws : List (Pending Q)) (p : Pending Q) (here : slice_get ws k ≡ Some p) where
@@ -14,9 +13,7 @@ module _ {Q : Type 0} (k : ℕ) (ws : List (Pending Q)) (p : Pending Q) (here : 
   next_deadlines : deadlines (take (k + 1) ws) ≡ deadlines (take k ws) ++ deadlines (p ∷ [])
   next_deadlines =
       let n : k + 1 ≡ suc k = omega arith in
-      ap (λ m. deadlines (take m ws)) n ∙ ap deadlines (take_turn ws k p here)
-      ∙ ap (map (λ p. p.deadline)) (filter-append (λ p. not p.given_up) (take k ws) (p ∷ []))
-      ∙ map-append (λ p. p.deadline) (filter (λ p. not p.given_up) (take k ws)) (filter (λ p. not p.given_up) (p ∷ []))
+      ap (λ m. deadlines (take m ws)) n ∙ next_chosen (λ (q : Pending Q). q.deadline) (λ q. not q.given_up) ws k p here
 
   -- where the request at place k hasn't timed out, the deadlines of the first k + 1 have its deadline at their end
   pub one_more_deadline : not p.given_up ≡ true → deadlines (take (k + 1) ws) ≡ deadlines (take k ws) ++ p.deadline ∷ []

@@ -1,14 +1,13 @@
 -- For the loop that times out requests at a moment, which looks at one request after the other. Here `ws` are the requests that
 -- waited at the start, and `qs` what the loop has made of them so far: those that it has looked at have timed out if their
 -- deadlines were reached.
-use Rattle.std.proofs.Common.{◌≡◌, ℕ, zero, suc, ◌+◌, ◌<◌, ◌≤◌, Bool, true, false, ◌||◌, ◌&&◌, not, List, [], ◌∷◌, ◌++◌, map, filter, take, drop, Some, leb, refl, sym, ◌∙◌, ap, ap₂, subst, arith}
+use Rattle.std.proofs.Common.{◌≡◌, ℕ, zero, suc, ◌+◌, ◌<◌, ◌≤◌, Bool, true, false, ◌||◌, ◌&&◌, not, List, [], ◌∷◌, ◌++◌, map, take, drop, Some, leb, refl, sym, ◌∙◌, ap, ap₂, subst, arith}
 use Rattle.std.specs.Prelude.{slice_get, nat_le}
 use Rattle.std.proofs.lemmas.Bool.{le-leb, lt-leb, and_right}
-use Rattle.std.proofs.lemmas.List.{map-append, append-nil}
-use Rattle.std.proofs.lemmas.List.Elements.{filter-append}
+use Rattle.std.proofs.lemmas.List.{append-nil}
 use Rattle.gc_client.specs.declared.pending.Pending.{Pending}
 use Rattle.gc_client.specs.Rule.{expired, is_expiring, expiring, given_up_at}
-use Rattle.gc_client.proofs.Lists.{take_turn, drop_turn}
+use Rattle.gc_client.proofs.Lists.{next_chosen, drop_turn}
 
 -- the requests that wait once the loop has looked at the first k of them: these have timed out if their deadlines were reached
 abbrev pub expired_up_to : {Q : Type 0} → (now k : ℕ) → (ws : List (Pending Q)) → List (Pending Q)
@@ -59,10 +58,7 @@ expired_one_more now (suc k) (w ∷ ws) p e = ap (λ qs. expired now w ∷ qs) (
 -- one at place k if it times out
 next_expiring : {Q : Type 0} (now k : ℕ) (ws : List (Pending Q)) (p : Pending Q) → slice_get ws k ≡ Some p
     → expiring now (take (suc k) ws) ≡ expiring now (take k ws) ++ expiring now (p ∷ [])
-next_expiring now k ws p e =
-    ap (expiring now) (take_turn ws k p e)
-    ∙ ap (map (λ p. p.target)) (filter-append (is_expiring now) (take k ws) (p ∷ []))
-    ∙ map-append (λ p. p.target) (filter (is_expiring now) (take k ws)) (filter (is_expiring now) (p ∷ []))
+next_expiring {Q} now k ws p e = next_chosen (λ (q : Pending Q). q.target) (is_expiring now) ws k p e
 
 -- One turn of the loop: it has looked at the first k requests, and looks at the request p at place k.
 module _ {Q : Type 0} (now k : ℕ) (ws qs : List (Pending Q)) (p : Pending Q) (done : qs ≡ expired_up_to now k ws) (here : slice_get qs k ≡ Some p) where

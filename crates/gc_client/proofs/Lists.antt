@@ -1,18 +1,29 @@
 -- Lists in loops: what is true of the first k elements, or of those from place k on, one element further.
-use Rattle.std.proofs.Common.{◌≡◌, ℕ, zero, suc, ◌+◌, List, [], ◌∷◌, ◌++◌, take, drop, Option, Some, None, sym, ◌∙◌, ap, arith}
+use Rattle.std.proofs.Common.{◌≡◌, ℕ, zero, suc, ◌+◌, Bool, List, [], ◌∷◌, ◌++◌, map, filter, take, drop, get_or, Option, Some, None, sym, ◌∙◌, ap, arith}
 use Rattle.std.specs.Prelude.{slice_get, IsSome}
+use Rattle.std.proofs.lemmas.List.{map-append, take_more, drop_more}
+use Rattle.std.proofs.lemmas.List.Elements.{filter-append}
+use Rattle.std.proofs.lemmas.Option.{slice_get_within, get_or_from_slice_get}
 
 -- the first k + 1 elements are the first k, and the one at place k
 pub take_turn : {A : Type 0} (xs : List A) (k : ℕ) (x : A) → slice_get xs k ≡ Some x → take (suc k) xs ≡ take k xs ++ x ∷ []
-take_turn [] k x e = cc
-take_turn (y ∷ xs) zero x e = let same : y ≡ x = cc in ap (λ z. z ∷ []) same
-take_turn (y ∷ xs) (suc k) x e = ap (λ zs. y ∷ zs) (take_turn xs k x e)
+take_turn xs k x e =
+    let next : suc k ≡ k + 1 = omega arith in
+    ap (λ n. take n xs) next ∙ take_more xs k x (slice_get_within xs k x e) ∙ ap (λ y. take k xs ++ y ∷ []) (get_or_from_slice_get xs k x x e)
+
+-- what f makes of those of the first k + 1 elements that pass a test is what it makes of those of the first k, and of the one at
+-- place k if that passes
+pub next_chosen : {A B : Type 0} (f : A → B) (test : A → Bool) (xs : List A) (k : ℕ) (x : A) → slice_get xs k ≡ Some x
+    → map f (filter test (take (suc k) xs)) ≡ map f (filter test (take k xs)) ++ map f (filter test (x ∷ []))
+next_chosen f test xs k x e =
+    ap (λ ys. map f (filter test ys)) (take_turn xs k x e) ∙ ap (map f) (filter-append test (take k xs) (x ∷ []))
+    ∙ map-append f (filter test (take k xs)) (filter test (x ∷ []))
 
 -- the elements from place k on are the one at place k and those after it
 pub drop_turn : {A : Type 0} (xs : List A) (k : ℕ) (x : A) → slice_get xs k ≡ Some x → drop k xs ≡ x ∷ drop (suc k) xs
-drop_turn [] k x e = cc
-drop_turn (y ∷ xs) zero x e = let same : y ≡ x = cc in ap (λ z. z ∷ xs) same
-drop_turn (y ∷ xs) (suc k) x e = drop_turn xs k x e
+drop_turn xs k x e =
+    let next : k + 1 ≡ suc k = omega arith in
+    drop_more xs k x (slice_get_within xs k x e) ∙ ap (λ n. get_or xs k x ∷ drop n xs) next ∙ ap (λ y. y ∷ drop (suc k) xs) (get_or_from_slice_get xs k x x e)
 
 -- the first of the elements from place k on is at place k
 pub head_of_drop : {A : Type 0} (xs : List A) (k : ℕ) (x : A) (rest : List A) → drop k xs ≡ x ∷ rest → slice_get xs k ≡ Some x

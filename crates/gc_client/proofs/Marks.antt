@@ -1,7 +1,7 @@
 -- Marking the request at a place as timed out is a write at that place.
-use Rattle.std.proofs.Common.{◌≡◌, ℕ, zero, suc, ◌<◌, ◌≤◌, List, [], ◌∷◌, length, get_or, set, Some, None, true, refl, sym, ap, arith}
+use Rattle.std.proofs.Common.{◌≡◌, ℕ, zero, suc, ◌<◌, ◌≤◌, List, [], ◌∷◌, length, get_or, set, Some, None, true, refl, sym, ap, ◌∙◌, arith}
 use Rattle.std.specs.Prelude.{slice_get}
-use Rattle.std.proofs.lemmas.Option.{none-some}
+use Rattle.std.proofs.lemmas.Option.{none-some, slice_get_within, get_or_from_slice_get}
 use Rattle.gc_client.specs.declared.pending.Pending.{Pending}
 use Rattle.gc_client.specs.Rule.{given_up_at}
 
@@ -19,9 +19,8 @@ set_is_given_up (p ∷ ps) (suc k) d lt = ap (λ qs. p ∷ qs) (set_is_given_up 
 -- where p is the request at place k, writing p, marked, over place k makes the requests that `given_up_at k` makes
 pub set_some_is_given_up : {Q : Type 0} (ps : List (Pending Q)) (k : ℕ) (p : Pending Q) → slice_get ps k ≡ Some p
     → set ps k (marked_timed_out p) ≡ given_up_at k ps
-set_some_is_given_up [] k p e = cc
-set_some_is_given_up (q ∷ ps) zero p e = let same : p ≡ q = cc in ap (λ x. marked_timed_out x ∷ ps) same
-set_some_is_given_up (q ∷ ps) (suc k) p e = ap (λ qs. q ∷ qs) (set_some_is_given_up ps k p e)
+set_some_is_given_up ps k p e =
+    ap (λ q. set ps k (marked_timed_out q)) (sym (get_or_from_slice_get ps k p p e)) ∙ set_is_given_up ps k p (slice_get_within ps k p e)
 
 -- a place at which no request was read is past the last request
 pub none_is_past : {Q : Type 0} (ps : List (Pending Q)) (k : ℕ) → slice_get ps k ≡ None → length ps ≤ k

@@ -1,5 +1,5 @@
 -- For the loop that settles requests as lost: what one more settlement adds to those made so far.
-use Rattle.std.proofs.Common.{◌≡◌, ℕ, zero, suc, ◌+◌, ◌<◌, List, [], ◌∷◌, ◌++◌, length, map, take, drop, set, All, Some, sym, subst, ◌∙◌, ap, ap₂, arith}
+use Rattle.std.proofs.Common.{◌≡◌, ℕ, zero, suc, ◌+◌, ◌<◌, List, [], ◌∷◌, ◌++◌, length, map, take, drop, set, Some, sym, subst, ◌∙◌, ap, ap₂, arith}
 use Rattle.std.specs.Prelude.{slice_get}
 use Rattle.std.proofs.lemmas.List.{map-append, take_more_set}
 use Rattle.std.proofs.lemmas.List.Elements.{All-append}
@@ -7,11 +7,11 @@ use Rattle.gc_client.specs.declared.pending.Pending.{Pending}
 use Rattle.gc_client.specs.declared.settlement.Settlement.{Settlement}
 use Rattle.gc_client.specs.Rule.{lost}
 use Rattle.gc_client.specs.Rule
-use Rattle.gc_client.specs.Settlements.{Says, settlement_seen, IsReadBy, IsSettledBy, AreSettledBy}
+use Rattle.gc_client.specs.Settlements.{Says, settlement_seen, IsReadBy, AreReadBy, IsSettledBy, AreSettledBy}
 use Rattle.gc_client.proofs.Lists.{take_turn, head_of_drop}
 
 -- where the outcome of a settlement is read by `says`, so are the outcomes of the list of this settlement alone
-well_read_one : {Q : Type 0} (says : Says Q) (s : Settlement Q) → IsReadBy says s.call s.outcome → All (λ s. IsReadBy says s.call s.outcome) (s ∷ [])
+well_read_one : {Q : Type 0} (says : Says Q) (s : Settlement Q) → IsReadBy says s.call s.outcome → AreReadBy says (s ∷ [])
 well_read_one says s read zero d lt = read
 well_read_one says s read (suc k) d lt = absurd (omega arith)
 

@@ -1,5 +1,5 @@
--- What a client does with a line, this project's own: the line settles requests, is a stray, or is no reply by the manual's chapter on
--- the ASCII protocol.
+-- What a client does with a line, this project's own: the line settles requests, is a stray, or is no reply by the manual's
+-- chapter on the ASCII protocol.
 use Rattle.std.specs.Prelude.{◌≡◌, ℕ, true, false, List, [], map, take, IsOk, Err}
 use Rattle.gc_lines.specs.Readers.{reply_at}
 use Rattle.gc_client.specs.declared.pending.Pending.{Pending}
@@ -32,8 +32,8 @@ HearsAs old line (Settled settlements) new = fits old (heard line) ≡ true
 HearsAs old line Stray new = IsOk (reply_at line) × (fits old (heard line) ≡ false) × (new ≡ old)
 HearsAs old line (Unread fault) new = (reply_at line ≡ Err fault) × (new ≡ old)
 
--- these settlements are those that the rule makes of the line in the client `old`. By the relation `says` an answer's reading is that of
--- its line
+-- these settlements are those that the rule makes of the line in the client `old`. By the relation `says` an answer's reading is
+-- that of its line
 abbrev pub AreSettledByLine : {Q : Type 0} → Says Q → ById Q → (line : List ℕ) → List (Settlement Q) → Type 0
 AreSettledByLine says old line settlements = AreSettledBy says settlements (hears old line (heard line)).settlements
 
@@ -62,6 +62,7 @@ AreSettledAt says old line k settlements = AreSettledBy says settlements (id_set
 abbrev pub IsAfterSettling : {Q : Type 0} → (old : Windowed Q) → (line : List ℕ) → (k : ℕ) → (new : Windowed Q) → Type 0
 IsAfterSettling old line k new = new ≡ record old { ids = (id_settled old.ids line k true).client }
 
--- the first `count` settlements are those of the first `count` requests as lost; `says` is the relation of replies and their readings
+-- the first `count` settlements are those of the first `count` requests as lost; `says` is the relation of replies and their
+-- readings
 abbrev pub AreFirstLost : {Q : Type 0} → Says Q → (count : ℕ) → List (Pending Q) → List (Settlement Q) → Type 0
 AreFirstLost says count requests settlements = AreSettledBy says (take count settlements) (map lost (take count requests))

@@ -21,13 +21,14 @@ pub record IsWithinLimits {Q : Type 0} (c : ById Q) : Type 0 where
 abbrev pub Waits : {Q : Type 0} → ById Q → (id : ℕ) → Type 0
 Waits c id = (k : ℕ) × (k < length c.waiting) × (id_of c k ≡ id)
 
--- after a send the new request, at the last place, has the id that was next, and each other request has the id that it had. `next` and
--- `waiting` are the next id and the number of requests that wait, before the send
+-- after a send the new request, at the last place, has the id that was next, and each other request has the id that it had.
+-- `next` and `waiting` are the next id and the number of requests that wait, before the send
 pub record SendKeepsIds (next waiting : ℕ) : Type 0 where
   pub own : id_at ((next + 1) % IDS) (waiting + 1) waiting ≡ next
   pub others : (k : ℕ) → k < waiting → id_at ((next + 1) % IDS) (waiting + 1) k ≡ id_at next waiting k
 
--- once the first `count` of `waiting` requests are settled, each other one has the id that it had, at a place nearer the front by `count`
+-- once the first `count` of `waiting` requests are settled, each other one has the id that it had, at a place nearer the front by
+-- `count`
 abbrev pub SettlingKeepsIds : (next waiting : ℕ) → Type 0
 SettlingKeepsIds next waiting = (count k : ℕ) → count + k < waiting → id_at next (waiting - count) k ≡ id_at next waiting (count + k)
 

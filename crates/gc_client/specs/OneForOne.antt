@@ -1,5 +1,5 @@
--- One for one, this project's own: whatever the origin of the lines, the requests that a client settled, and after them those that wait,
--- are the requests that were sent, in order, each once.
+-- One for one, this project's own: whatever the origin of the lines, the requests that a client settled, and after them those
+-- that wait, are the requests that were sent, in order, each once.
 use Rattle.std.specs.Prelude.{◌≡◌, ℕ, List, [], ◌∷◌, ◌++◌, map, Option, Some, None}
 use Rattle.gc_client.specs.declared.pending.Pending.{Pending}
 use Rattle.gc_client.specs.Rule.{Settlement, Settled, Sending, ById, fresh, sends, heard, hears, expires, restarts}

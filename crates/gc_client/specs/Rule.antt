@@ -128,8 +128,8 @@ heard line = id_in (reply_at line)
 
 -- The rule.
 
--- what a send gives, by whether the window is full: if it is (true), none, which is a refusal, and else the request's id and the client
--- after the send
+-- what a send gives, by whether the window is full: if it is (true), none, which is a refusal, and else the request's id and the
+-- client after the send
 abbrev pub id_send : {Q : Type 0} → ById Q → (target : ℕ) → Q → (deadline : ℕ) → (full : Bool) → Option (Sending (ById Q))
 id_send c target call deadline true = None
 id_send c target call deadline false =

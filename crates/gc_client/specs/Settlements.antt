@@ -1,5 +1,5 @@
--- How the code's settlements correspond to those of the client's rule: this project's own. A line is read by the manual's chapter on the
--- ASCII protocol.
+-- How the code's settlements correspond to those of the client's rule: this project's own. A line is read by the manual's chapter
+-- on the ASCII protocol.
 use Rattle.std.specs.Prelude.{◌≡◌, ℕ, List, map, All, ⊤}
 use Rattle.gc_lines.specs.Replies.{ReplyFields, IsReply}
 use Rattle.gc_catalogue.specs.declared.call.Call.{Call}

@@ -11,7 +11,8 @@ pub record IsReplyWithId (line : List ℕ) : Type 0 where
   pub is_reply : IsReply line reply
   pub has_id : reply.id ≡ Some id
 
--- whether the client takes an id from a line, as it does from each reply with an id (`ours` of the law `foreign_lines_are_silent`)
+-- whether the client takes an id from a line, as it does from each reply with an id (`ours` of the law
+-- `foreign_lines_are_silent`)
 abbrev pub is_ours : List ℕ → Bool
 is_ours line = is_some (heard line)
 

@@ -1,10 +1,12 @@
 -- What a judge writes of frames, one after the other, is the lines of their verdicts. A frame is ended where a line feed has
 -- ended it. Throughout, s, t and u are states of the judge, which count the frames so far, and a and b what the sink had taken
 -- before and has taken after.
-use Rattle.std.proofs.Common.{◌≡◌, ℕ, ◌+◌, ◌-◌, ◌<◌, ◌≤◌, ◌^◌, min, Bool, true, false, cond, List, [], ◌∷◌, ◌++◌, length, take, map, Option, Some, Result, Ok, Err, refl, sym, ap, ◌∙◌, subst, arith, append_assoc, length-append}
+use Rattle.std.proofs.Common.{◌≡◌, ℕ, ◌+◌, ◌-◌, ◌<◌, ◌≤◌, ◌^◌, min, true, false, cond, List, [], ◌∷◌, ◌++◌, length, take, map, Option, Some, Result, Ok, Err, refl, sym, ap, ◌∙◌, subst, arith, append_assoc, length-append}
+use Rattle.std.specs.Prelude.{nat_lt}
+use Rattle.std.proofs.lemmas.Bool.{cond_both}
 use Rattle.std.proofs.lemmas.List.{length-map}
 use Rattle.std.specs.Option.{option_to_list}
-use Rattle.gc_lines.specs.Answering.{Ports, AnswersInOrder, AnswersAll, AnswersPart, AnswersFrames, EndsBecause}
+use Rattle.gc_lines.specs.Answering.{Ports, AnswersInOrder, AnswersAll, AnswersPart, AnswersFrames, EndsBecause, progress}
 use Rattle.gc_lines.specs.Frames.{frames, frame_of, pieces_behind, is_line_feed, ends_in_return}
 use Rattle.gc_lines.specs.declared.frame.Frame.{Frame}
 use Rattle.gc_lines.specs.declared.frame.Frame.TheVariants.{Line, Cleared, Overlong, More}
@@ -13,7 +15,7 @@ use Rattle.gc_lines.specs.declared.served.ServeFault.{ServeFault}
 use Rattle.gc_lines.specs.declared.served.ServeFault.TheVariants.{Read, Write, TooManyReads}
 use Rattle.gc_lines.proofs.InOrder.{in_order_then, in_order_one}
 use Rattle.gc_engines.specs.Verdicts.{IsVerdict, AreVerdicts, verdict_line, verdict_lines_from, AreLinesOf}
-use Rattle.gc_engines.specs.Checking.{JudgesFrame, ChecksAll, ChecksPart, Checks}
+use Rattle.gc_engines.specs.Checking.{WritesVerdictOn, JudgesFrame, ChecksAll, ChecksPart, Checks}
 use Rattle.gc_engines.specs.declared.check.Judge.{Judge}
 use Rattle.gc_engines.specs.declared.verdict.Verdict.{Verdict}
 
@@ -25,20 +27,16 @@ AreEnded (Cleared ∷ later) = AreEnded later
 AreEnded (Overlong ∷ later) = AreEnded later
 AreEnded (More ∷ later) = ⊥
 
--- the frame of a piece is cleared, overlong or `line`, by two tests; where the later frames are ended, so are this one and they,
--- if that holds with `line` in front
-ended_piece : (a b : Bool) (line : Frame) (later : List Frame) → (AreEnded later → AreEnded (line ∷ later)) → AreEnded later
-    → AreEnded (cond a (cond b Overlong line) Cleared ∷ later)
-unfolding AreEnded
-ended_piece true true line later is h = h
-ended_piece true false line later is h = is h
-ended_piece false b line later is h = h
-
 -- the frames of pieces that line feeds ended are ended
 ended_pieces : (parts : List (List ℕ)) → AreEnded (map frame_of parts)
 unfolding AreEnded
 ended_pieces [] = tt
-ended_pieces (part ∷ later) = ended_piece (ends_in_return part) _ (Line (record { items = take (length part - 1) part })) (map frame_of later) (λ h. h) (ended_pieces later)
+ended_pieces (part ∷ later) =
+    let others = ended_pieces later in
+    let line : Frame = Line (record { items = take (length part - 1) part }) in
+    let long = nat_lt 512 (length part - 1) in
+    cond_both (ends_in_return part) (cond long Overlong line) Cleared (λ frame. AreEnded (frame ∷ map frame_of later))
+    (λ _. cond_both long Overlong line (λ frame. AreEnded (frame ∷ map frame_of later)) (λ _. others) (λ _. others)) (λ _. others)
 
 -- where all frames of two lists are ended, so are those of the first
 ended_front : (xs ys : List Frame) → AreEnded (xs ++ ys) → AreEnded xs
@@ -67,18 +65,19 @@ record Judged (n : ℕ) (seen : List Frame) (texts : List (List ℕ)) : Type 0 w
   are : AreVerdicts seen verdicts
   numbered : texts ≡ verdict_lines_from (n + 1) verdicts
 
--- where n + 1 is below 2^64, frame n + 1 was judged, so that its verdict's line was written and the count grew by one, and the
--- later frames are `Judged` from n + 1 on, this frame and they are `Judged` from n on
-judged_next : (s u : Judge) (frame : Frame) (later : List Frame) (v : Verdict) (text : Option (List ℕ)) (rest texts : List (List ℕ)) (n : ℕ) → (at : s.frames ≡ n)
-    → (few : n + 1 < 2 ^ 64) → (is : IsVerdict frame v) → (counts : u.frames ≡ min (s.frames + 1) (2 ^ 64 - 1)) → (told : text ≡ Some (verdict_line u.frames v))
-    → (are : texts ≡ option_to_list text ++ rest) → (next : u.frames ≡ n + 1 → Judged (n + 1) later rest) → Judged n (frame ∷ later) texts
-judged_next s u frame later v text rest texts n at few is counts told are next =
+-- where n + 1 is below 2^64, the judge had counted n frames and wrote the verdict on the next (`WritesVerdictOn`), and `rest` are
+-- the lines of the verdicts on the later frames, from the count n + 1 on (`Judged`), the written text and `rest` are those of
+-- this frame and the later ones, from the count n on
+judged_next : (s u : Judge) (frame : Frame) (later : List Frame) (text : Option (List ℕ)) (rest : List (List ℕ)) (n : ℕ) → s.frames ≡ n → n + 1 < 2 ^ 64
+    → WritesVerdictOn s frame u text → (u.frames ≡ n + 1 → Judged (n + 1) later rest) → Judged n (frame ∷ later) (option_to_list text ++ rest)
+judged_next s u frame later text rest n at few (v, is, counts, told) next =
     let more : u.frames ≡ n + 1 = omega (arith, at, few, counts) in
     let k = next more in
     record {
       verdicts = v ∷ k.verdicts;
       are = (is, k.are);
-      numbered = are ∙ ap (λ (o : Option (List ℕ)). option_to_list o ++ rest) told ∙ ap (λ (m : ℕ). verdict_line m v ∷ rest) more ∙ ap (λ (ts : List (List ℕ)). verdict_line (n + 1) v ∷ ts) k.numbered;
+      numbered = ap (λ (o : Option (List ℕ)). option_to_list o ++ rest) told ∙ ap (λ (m : ℕ). verdict_line m v ∷ rest) more
+          ∙ ap (λ (ts : List (List ℕ)). verdict_line (n + 1) v ∷ ts) k.numbered;
     }
 
 -- ended frames that were judged in order, from the count n on, got the lines of their verdicts, as long as 64 bits can count them
@@ -86,12 +85,12 @@ judged : (s t : Judge) (seen : List Frame) (texts : List (List ℕ)) (n : ℕ) �
     → AnswersInOrder Judge JudgesFrame s seen t texts → Judged n seen texts
 unfolding AreEnded
 judged s t [] texts n at few ended h = record { verdicts = []; are = tt; numbered = h.1 }
-judged s t (Line line ∷ later) texts n at few ended h = judged_next s h.0 (Line line) later h.3.0 h.1 h.2 texts n at
-    (omega (arith, few)) h.3.1 h.3.2 h.3.3 h.5 (λ more. judged h.0 t later h.2 (n + 1) more (omega (arith, few)) ended h.4)
-judged s t (Cleared ∷ later) texts n at few ended h = judged_next s h.0 Cleared later h.3.0 h.1 h.2 texts n at (omega (arith, few)) h.3.1 h.3.2 h.3.3 h.5
-    (λ more. judged h.0 t later h.2 (n + 1) more (omega (arith, few)) ended h.4)
-judged s t (Overlong ∷ later) texts n at few ended h = judged_next s h.0 Overlong later h.3.0 h.1 h.2 texts n at (omega (arith, few)) h.3.1 h.3.2 h.3.3 h.5
-    (λ more. judged h.0 t later h.2 (n + 1) more (omega (arith, few)) ended h.4)
+judged s t (Line line ∷ later) texts n at few ended h = subst (Judged n (Line line ∷ later)) (sym h.5)
+    (judged_next s h.0 (Line line) later h.1 h.2 n at (omega (arith, few)) h.3 (λ more. judged h.0 t later h.2 (n + 1) more (omega (arith, few)) ended h.4))
+judged s t (Cleared ∷ later) texts n at few ended h = subst (Judged n (Cleared ∷ later)) (sym h.5)
+    (judged_next s h.0 Cleared later h.1 h.2 n at (omega (arith, few)) h.3 (λ more. judged h.0 t later h.2 (n + 1) more (omega (arith, few)) ended h.4))
+judged s t (Overlong ∷ later) texts n at few ended h = subst (Judged n (Overlong ∷ later)) (sym h.5)
+    (judged_next s h.0 Overlong later h.1 h.2 n at (omega (arith, few)) h.3 (λ more. judged h.0 t later h.2 (n + 1) more (omega (arith, few)) ended h.4))
 judged s t (More ∷ later) texts n at few ended h = absurd ended
 
 -- ended frames that were judged from the first on got the lines of their verdicts, if they are fewer than 2 ^ 64
@@ -101,39 +100,40 @@ lines_of s t seen texts at few ended h =
     let k = judged s t seen texts 0 at (omega (arith, few)) ended h in
     record { verdicts = k.verdicts; are = k.are; numbered = k.numbered }
 
--- where all frames of fewer than 2 ^ 64 bytes were judged from the first on, and the lines of their verdicts went out, the
--- check is as `ChecksAll` has it
-all_checked : (s t : Judge) (given : List ℕ) (a b : Option (List ℕ)) (count : ℕ) → s.frames ≡ 0 → length given < 2 ^ 64
-    → AnswersAll JudgesFrame s t (frames given) a b 0 count → ChecksAll given a b count
-all_checked s t given a b count at few all = record {
-  lines = all.texts;
-  are = lines_of s t (frames given) all.texts at (omega (arith, few, few_frames given)) (ended_pieces (pieces_behind [] given)) all.answers;
-  counts = omega (arith, all.counts);
-  took = all.took;
-}
+-- a judge that has counted no frame gets fewer than 2 ^ 64 bytes. a and b are what the sink had taken before and after, and
+-- `count` is how many lines of verdicts went out whole
+module _
+    (s t : Judge) (given : List ℕ) (a b : Option (List ℕ)) (count : ℕ) (at : s.frames ≡ 0) (few : length given < 2 ^ 64) where
+  -- where all frames were judged, and the lines of their verdicts went out, the check is as `ChecksAll` has it
+  all_checked : AnswersAll JudgesFrame (progress s a 0) (progress t b count) (frames given) → ChecksAll given a b count
+  all_checked all = record {
+    lines = all.texts;
+    are = lines_of s t (frames given) all.texts at (omega (arith, few, few_frames given)) (ended_pieces (pieces_behind [] given)) all.answers;
+    counts = omega (arith, all.counts);
+    took = all.took;
+  }
 
--- where the first frames of fewer than 2 ^ 64 bytes were judged from the first on, and the lines of their verdicts went out, but
--- of the last line only a front that isn't all of it, the check is as `ChecksPart` has it
-part_checked : (s t : Judge) (given : List ℕ) (a b : Option (List ℕ)) (count bytes : ℕ) → s.frames ≡ 0 → length given < 2 ^ 64
-    → AnswersPart JudgesFrame s t (frames given) a b 0 count bytes → ChecksPart given a b count bytes
-part_checked s t given a b count bytes at few part =
-    let seen = part.earlier ++ part.frame ∷ [] in
-    let order : frames given ≡ seen ++ part.later = part.order ∙ sym (append_assoc part.earlier (part.frame ∷ []) part.later) in
-    let ended : AreEnded seen = ended_front seen part.later (subst (λ (fs : List Frame). AreEnded fs) order (ended_pieces (pieces_behind [] given))) in
-    let fewer : length seen < 2 ^ 64 = omega (arith, few, few_frames given, ap (λ (fs : List Frame). length fs) order, length-append seen part.later) in
-    record {
-      seen = seen;
-      later = part.later;
-      order = order;
-      whole = part.texts;
-      line = part.text;
-      are = lines_of s t seen (part.texts ++ part.text ∷ []) at fewer ended
-          (in_order_then JudgesFrame s part.state t part.earlier (part.frame ∷ []) part.texts (part.text ∷ []) part.answers
-          (in_order_one JudgesFrame part.state t part.frame (Some part.text) part.gives));
-      counts = omega (arith, part.counts);
-      not_all = part.not_all;
-      took = part.took;
-    }
+  -- where the first frames were judged, and the lines of their verdicts went out, but of the last line only a front that isn't all
+  -- of it, the check is as `ChecksPart` has it
+  part_checked : (bytes : ℕ) → AnswersPart JudgesFrame (progress s a 0) (progress t b count) (frames given) bytes → ChecksPart given a b count bytes
+  part_checked bytes part =
+      let seen = part.earlier ++ part.frame ∷ [] in
+      let order : frames given ≡ seen ++ part.later = part.order ∙ sym (append_assoc part.earlier (part.frame ∷ []) part.later) in
+      let ended : AreEnded seen = ended_front seen part.later (subst (λ (fs : List Frame). AreEnded fs) order (ended_pieces (pieces_behind [] given))) in
+      let fewer : length seen < 2 ^ 64 = omega (arith, few, few_frames given, ap (λ (fs : List Frame). length fs) order, length-append seen part.later) in
+      record {
+        seen = seen;
+        later = part.later;
+        order = order;
+        whole = part.texts;
+        line = part.text;
+        are = lines_of s t seen (part.texts ++ part.text ∷ []) at fewer ended
+            (in_order_then JudgesFrame s part.state t part.earlier (part.frame ∷ []) part.texts (part.text ∷ []) part.answers
+            (in_order_one JudgesFrame part.state t part.frame (Some part.text) part.gives));
+        counts = omega (arith, part.counts);
+        not_all = part.not_all;
+        took = part.took;
+      }
 
 -- where the frames of fewer than 2 ^ 64 bytes were judged from the first on, what went out of their verdicts' lines, by the
 -- result, is what `Checks` says
@@ -141,7 +141,7 @@ pub checked : (s t : Judge) (given : List ℕ) (a b : Option (List ℕ)) (r : Re
     → AnswersFrames JudgesFrame s t (frames given) a b r → Checks given a b r
 checked s t given a b (Ok served) at few h = all_checked s t given a b served.replies at few h
 checked s t given a b (Err (Read n)) at few h = all_checked s t given a b n at few h
-checked s t given a b (Err (Write n bytes)) at few h = part_checked s t given a b n bytes at few h
+checked s t given a b (Err (Write n bytes)) at few h = part_checked s t given a b n at few bytes h
 checked s t given a b (Err (TooManyReads n)) at few h = all_checked s t given a b n at few h
 
 -- no more reads were answered than are allowed

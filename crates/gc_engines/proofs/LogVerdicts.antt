@@ -2,8 +2,9 @@
 -- pieces that come after it. `WritesVerdicts`: the verdicts on the lines that end in a piece went out. `WritesVerdictsInPart`:
 -- only a front of them did. `KeepsLine`: what is kept of the bytes since the last line feed. a, b and c are what the sink had
 -- taken at three moments, in order, and n, m and k how many verdicts had gone out by then.
-use Rattle.std.proofs.Common.{◌≡◌, ℕ, ◌+◌, ◌*◌, ◌<◌, ◌≤◌, get_or, Bool, true, false, cond, List, [], ◌∷◌, ◌++◌, length, take, drop, Option, refl, sym, ap, subst, ◌∙◌, arith, append_assoc, append-nil, length-append}
+use Rattle.std.proofs.Common.{◌≡◌, ℕ, ◌+◌, ◌*◌, ◌<◌, ◌≤◌, get_or, true, List, [], ◌∷◌, ◌++◌, length, take, drop, Option, sym, ap, subst, ◌∙◌, arith, append_assoc, append-nil, length-append}
 use Rattle.std.specs.Io.KnownBytes.{Appends, Consumes}
+use Rattle.std.proofs.lemmas.Bool.{cond-true}
 use Rattle.std.proofs.lemmas.List.{take_more, take-append-drop}
 use Rattle.std.proofs.KnownBytes.{Appends-trans, Consumes-trans}
 use Rattle.gc_lines.specs.Answering.{all_of}
@@ -12,22 +13,17 @@ use Rattle.gc_lines.specs.Ports.{TakesFront}
 use Rattle.gc_lines.proofs.Cutting.{pieces-append, rest-append}
 use Rattle.gc_lines.proofs.InOrder.{all_of-append}
 use Rattle.gc_lines.proofs.Known.{Appends-is}
+use Rattle.gc_texts.proofs.TextLines.{AreItems-append}
 use Rattle.gc_engines.specs.LogChecking.{IsLogVerdict, AreLogVerdicts, KeepsLine, WritesVerdicts, WritesVerdictsInPart}
 use Rattle.gc_engines.specs.declared.check_log.PartialLine.{PartialLine}
-
--- where the texts `ts` are the verdicts on the lines `ls`, and `us` those on `ms`, `ts ++ us` are those on `ls ++ ms`
-log_verdicts_append : (ls ms ts us : List (List ℕ)) → AreLogVerdicts ls ts → AreLogVerdicts ms us → AreLogVerdicts (ls ++ ms) (ts ++ us)
-log_verdicts_append [] ms [] us h k = k
-log_verdicts_append [] ms (t ∷ ts) us h k = absurd h
-log_verdicts_append (l ∷ ls) ms [] us h k = absurd h
-log_verdicts_append (l ∷ ls) ms (t ∷ ts) us h k = (h.0, log_verdicts_append ls ms ts us h.1 k)
 
 -- where `WritesVerdicts` is true of p, and then of q after it, it is true of `p ++ q`
 pub verdicts_then : (rest p q : List ℕ) (a b c : Option (List ℕ)) (n m k : ℕ) → WritesVerdicts rest p a b n m
     → WritesVerdicts (rest_behind rest p) q b c m k → WritesVerdicts rest (p ++ q) a c n k
 verdicts_then rest p q a b c n m k one next = record {
   texts = one.texts ++ next.texts;
-  are = subst (λ ls. AreLogVerdicts ls (one.texts ++ next.texts)) (sym (pieces-append rest p q)) (log_verdicts_append _ _ _ _ one.are next.are);
+  are = subst (λ ls. AreLogVerdicts ls (one.texts ++ next.texts)) (sym (pieces-append rest p q))
+      (AreItems-append IsLogVerdict (pieces_behind rest p) (pieces_behind (rest_behind rest p) q) one.texts next.texts one.are next.are);
   took = Appends-is a c (all_of one.texts ++ all_of next.texts) (all_of (one.texts ++ next.texts)) (sym (all_of-append one.texts next.texts)) (Appends-trans a b c _ _ one.took next.took);
   counts = omega (arith, one.counts, next.counts, length-append one.texts next.texts);
 }
@@ -41,7 +37,8 @@ part_then rest p q a b c n m k bytes one next = record {
   order = pieces-append rest p q ∙ ap (λ ls. pieces_behind rest p ++ ls) next.order ∙ sym (append_assoc (pieces_behind rest p) next.seen next.later);
   whole = one.texts ++ next.whole;
   line = next.line;
-  are = subst (AreLogVerdicts (pieces_behind rest p ++ next.seen)) (sym (append_assoc one.texts next.whole (next.line ∷ []))) (log_verdicts_append _ _ _ _ one.are next.are);
+  are = subst (AreLogVerdicts (pieces_behind rest p ++ next.seen)) (sym (append_assoc one.texts next.whole (next.line ∷ [])))
+      (AreItems-append IsLogVerdict (pieces_behind rest p) next.seen one.texts (next.whole ++ next.line ∷ []) one.are next.are);
   counts = omega (arith, one.counts, next.counts, length-append one.texts next.whole);
   not_all = next.not_all;
   took = Appends-is a c _ _
@@ -64,42 +61,40 @@ part_before rest p q a b n k bytes one = record {
   took = one.took;
 }
 
--- a line feed ends the line that came so far, and leaves nothing
-pieces_one : (rest : List ℕ) (b : ℕ) (feed : Bool) → feed ≡ true → (cond feed (rest ∷ []) [] ≡ rest ∷ []) × (cond feed [] (rest ++ b ∷ []) ≡ [])
-pieces_one rest b true feeds = (refl, refl)
-pieces_one rest b false feeds = let bad : false ≡ true = feeds in cc
+-- the byte b is a line feed, and `text` is the verdict on the line that it ends. a and c are what the sink had taken before and
+-- after, and n is how many verdicts had gone out before
+module _
+    (rest : List ℕ) (b : ℕ) (a c : Option (List ℕ)) (n : ℕ) (text : List ℕ) (feeds : is_line_feed b ≡ true) (verdict : IsLogVerdict rest text) where
+  -- the byte ends the line that came so far
+  ends : pieces_behind rest (b ∷ []) ≡ rest ∷ []
+  ends = cond-true (is_line_feed b) (rest ∷ []) [] feeds
 
--- where a line feed came, and the verdict on the line that it ends went out, `WritesVerdicts` is true of this one byte, and
--- nothing is kept of the next line
-pub byte_verdict : (rest : List ℕ) (b : ℕ) (a c : Option (List ℕ)) (n m : ℕ) (kept : PartialLine) (text : List ℕ) → (feeds : is_line_feed b ≡ true)
-    → (keeps : KeepsLine kept []) → (verdict : IsLogVerdict rest text) → (took : Appends a c text) → (more : m ≡ n + 1)
-    → KeepsLine kept (rest_behind rest (b ∷ [])) × WritesVerdicts rest (b ∷ []) a c n m
-byte_verdict rest b a c n m kept text feeds keeps verdict took more =
-    let both = pieces_one rest b (is_line_feed b) feeds in (
-      subst (KeepsLine kept) (sym both.1) keeps,
-      record {
-        texts = text ∷ [];
-        are = subst (λ ls. AreLogVerdicts ls (text ∷ [])) (sym both.0) (verdict, tt);
-        took = Appends-is a c text _ (sym (append-nil text)) took;
-        counts = omega (arith, more);
-      },
-    )
+  -- where the verdict went out, `WritesVerdicts` is true of this one byte, and nothing is kept of the next line
+  pub byte_verdict : (m : ℕ) (kept : PartialLine) → KeepsLine kept [] → Appends a c text → m ≡ n + 1
+      → KeepsLine kept (rest_behind rest (b ∷ [])) × WritesVerdicts rest (b ∷ []) a c n m
+  byte_verdict m kept keeps took more = (
+    subst (KeepsLine kept) (sym (cond-true (is_line_feed b) [] (rest ++ b ∷ []) feeds)) keeps,
+    record {
+      texts = text ∷ [];
+      are = subst (λ ls. AreLogVerdicts ls (text ∷ [])) (sym ends) (verdict, tt);
+      took = Appends-is a c text _ (sym (append-nil text)) took;
+      counts = omega (arith, more);
+    },
+  )
 
--- where a line feed came, and only a front of the verdict on the line that it ends went out, `WritesVerdictsInPart` is true of
--- this one byte
-pub byte_part : (rest : List ℕ) (b : ℕ) (a c : Option (List ℕ)) (n bytes : ℕ) (text : List ℕ) → is_line_feed b ≡ true → IsLogVerdict rest text
-    → TakesFront a c bytes text → WritesVerdictsInPart rest (b ∷ []) a c n n bytes
-byte_part rest b a c n bytes text feeds verdict took = record {
-  seen = rest ∷ [];
-  later = [];
-  order = (pieces_one rest b (is_line_feed b) feeds).0;
-  whole = [];
-  line = text;
-  are = (verdict, tt);
-  counts = omega arith;
-  not_all = took.0;
-  took = took.1;
-}
+  -- where only a front of the verdict went out, `WritesVerdictsInPart` is true of this one byte
+  pub byte_part : (bytes : ℕ) → TakesFront a c bytes text → WritesVerdictsInPart rest (b ∷ []) a c n n bytes
+  byte_part bytes took = record {
+    seen = rest ∷ [];
+    later = [];
+    order = ends;
+    whole = [];
+    line = text;
+    are = (verdict, tt);
+    counts = omega arith;
+    not_all = took.0;
+    took = took.1;
+  }
 
 -- the first i + 1 bytes of a piece are the first i and the next, and a piece is these and then the rest
 pub piece_more : (bs : List ℕ) (i : ℕ) → i < length bs

@@ -132,44 +132,24 @@ abbrev sent : ℕ → Call → ℕ → Option (ℕ × Call × ℕ)
 sent t c m = Some (t, c, m)
 
 -- requests with one target, one call and one deadline are one
-some_three : (t u : ℕ) (c d : Call) (m n : ℕ) → (t ≡ u) × (c ≡ d) × (m ≡ n) → sent t c m ≡ sent u d n
-some_three t u c d m n h = rw (h.0, h.1, h.2) refl
+same_request : (t u : ℕ) (c d : Call) (m n : ℕ) → (t ≡ u) × (c ≡ d) × (m ≡ n) → sent t c m ≡ sent u d n
+same_request t u c d m n h = rw (h.0, h.1, h.2) refl
 
 -- a line sends one request at most
 one_send : (line : List ℕ) (t u : ℕ) (c d : Call) (m n : ℕ) → IsSend line t c m → IsSend line u d n → sent t c m ≡ sent u d n
 one_send line t u c d m n x y =
     let rests : x.rest ≡ y.rest = append_cancel_left (codes "send ") x.rest y.rest (sym x.line_is ∙ y.line_is) in
-    some_three t u c d m n (one_requested y.rest t u c d m n (subst (λ (r : List ℕ). IsRequested r t c m) rests x.requested) y.requested)
+    same_request t u c d m n (one_requested y.rest t u c d m n (subst (λ (r : List ℕ). IsRequested r t c m) rests x.requested) y.requested)
 
 -- an event that isn't a send sends nothing
 sends_nothing : (e : Event) (k : ℕ) → kind e ≡ k + 1 → sends e ≡ None
 sends_nothing (Send target call deadline) k h = absurd (omega (arith, h))
-sends_nothing UpDeliver k h = refl
-sends_nothing (UpLose n) k h = refl
-sends_nothing (UpRepeat n) k h = refl
-sends_nothing DownDeliver k h = refl
-sends_nothing (DownLose n) k h = refl
-sends_nothing (DownRepeat n) k h = refl
-sends_nothing (Expire moment) k h = refl
-sends_nothing RestartClient k h = refl
-sends_nothing RestartInstrument k h = refl
-sends_nothing (UpBytes n) k h = refl
-sends_nothing (DownBytes n) k h = refl
+sends_nothing e k h = refl
 
 -- an event of a `send` line, if it is a send, sends what the line says
 sends_this : (line : List ℕ) (t : ℕ) (c : Call) (m : ℕ) (e : Event) → IsSend line t c m → IsEvent line e → 0 ≡ kind e → sent t c m ≡ sends e
 sends_this line t c m (Send u d n) x y h = one_send line t u c d m n x y
-sends_this line t c m UpDeliver x y h = absurd (omega (arith, h))
-sends_this line t c m (UpLose n) x y h = absurd (omega (arith, h))
-sends_this line t c m (UpRepeat n) x y h = absurd (omega (arith, h))
-sends_this line t c m DownDeliver x y h = absurd (omega (arith, h))
-sends_this line t c m (DownLose n) x y h = absurd (omega (arith, h))
-sends_this line t c m (DownRepeat n) x y h = absurd (omega (arith, h))
-sends_this line t c m (Expire moment) x y h = absurd (omega (arith, h))
-sends_this line t c m RestartClient x y h = absurd (omega (arith, h))
-sends_this line t c m RestartInstrument x y h = absurd (omega (arith, h))
-sends_this line t c m (UpBytes n) x y h = absurd (omega (arith, h))
-sends_this line t c m (DownBytes n) x y h = absurd (omega (arith, h))
+sends_this line t c m e x y h = absurd (omega (arith, h))
 
 -- two events of one line and one kind send the same
 one_sent : (line : List ℕ) (a b : Event) → IsEvent line a → IsEvent line b → kind a ≡ kind b → sends a ≡ sends b

@@ -1,5 +1,5 @@
 -- A frame has one verdict at most, and a stream one list of verdicts' lines.
-use Rattle.std.proofs.Common.{◌≡◌, ℕ, List, [], ◌∷◌, Result, Ok, Err, drop, slice_index, arith, refl, sym, ap, ◌∙◌, subst}
+use Rattle.std.proofs.Common.{◌≡◌, ℕ, List, ◌∷◌, Result, Ok, Err, drop, slice_index, arith, sym, ap, ◌∙◌, subst}
 use Rattle.gc_lines.specs.Frames.{frames}
 use Rattle.gc_lines.specs.Readers.{request_at, reply_at}
 use Rattle.gc_lines.specs.Replies.{ReplyFields, IsReply}
@@ -11,8 +11,9 @@ use Rattle.gc_lines.proofs.Requests.{one_request, request_again, request_bad}
 use Rattle.gc_lines.proofs.Replies.{one_reply, reply_again, reply_bad}
 use Rattle.gc_catalogue.proofs.CallLaws.{one_refusal, no_refusal}
 use Rattle.gc_catalogue.specs.declared.fault.CallFault.{CallFault}
+use Rattle.gc_texts.proofs.OneReading.{one_list}
 use Rattle.gc_engines.specs.Laws.{OneVerdict}
-use Rattle.gc_engines.specs.Verdicts.{IsRequestVerdict, reads, refuses, BeginsAsReply, IsLineVerdict, request, reply, no_reply, no_request, IsVerdict, AreVerdicts, AreVerdictLines, verdict_lines_from}
+use Rattle.gc_engines.specs.Verdicts.{IsRequestVerdict, reads, refuses, BeginsAsReply, IsLineVerdict, request, reply, no_reply, no_request, IsVerdict, AreVerdictLines, verdict_lines_from}
 use Rattle.gc_engines.specs.declared.verdict.Verdict.{Verdict}
 use Rattle.gc_engines.specs.declared.verdict.Verdict.TheVariants as verdict
 
@@ -72,20 +73,10 @@ one_of_frame Cleared v w says tells = says ∙ sym tells
 one_of_frame Overlong v w says tells = says ∙ sym tells
 one_of_frame More v w says tells = absurd says
 
--- frames have one list of verdicts at most
-one_of_frames : (seen : List Frame) (vs ws : List Verdict) → AreVerdicts seen vs → AreVerdicts seen ws → vs ≡ ws
-one_of_frames [] [] [] says tells = refl
-one_of_frames [] [] (w ∷ ws) says tells = absurd tells
-one_of_frames [] (v ∷ vs) ws says tells = absurd says
-one_of_frames (frame ∷ later) [] ws says tells = absurd says
-one_of_frames (frame ∷ later) (v ∷ vs) [] says tells = absurd tells
-one_of_frames (frame ∷ later) (v ∷ vs) (w ∷ ws) says tells =
-    ap (λ (x : Verdict). x ∷ vs) (one_of_frame frame v w says.0 tells.0) ∙ ap (λ (xs : List Verdict). w ∷ xs) (one_of_frames later vs ws says.1 tells.1)
-
 -- a stream has one list of verdicts' lines at most
 one_of_stream : (bytes : List ℕ) (xs ys : List (List ℕ)) → AreVerdictLines bytes xs → AreVerdictLines bytes ys → xs ≡ ys
 one_of_stream bytes xs ys says tells =
-    says.numbered ∙ ap (λ (vs : List Verdict). verdict_lines_from 1 vs) (one_of_frames (frames bytes) says.verdicts tells.verdicts says.are tells.are) ∙ sym tells.numbered
+    says.numbered ∙ ap (λ (vs : List Verdict). verdict_lines_from 1 vs) (one_list IsVerdict one_of_frame (frames bytes) says.verdicts tells.verdicts says.are tells.are) ∙ sym tells.numbered
 
 -- the law: a frame has one verdict at most, and a stream one list of verdicts' lines
 pub one_verdict : OneVerdict

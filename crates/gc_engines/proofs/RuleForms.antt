@@ -30,37 +30,52 @@ scripts rpc rc params call None number bytes made long = λ a other same with_is
     omega (arith, subst (λ (x : List ℕ). length x ≤ 490) one short, long)
 scripts rpc rc params call (Some s) number bytes made long = (made.0 ∙ number, made.2, (call, made.1, number, bytes))
 
+-- the line is `answer` with this procedure's number, this return code and these parameters
+pub record HasAnswer (line params : List ℕ) (rpc rc : ℕ) : Type 0 where
+  pub word : Begins (codes "answer") line
+  pub rpc_is : IsNumber (second_word line) rpc 65535
+  pub rc_is : IsNumber (before 44 (after_two_words line)) rc 65535
+  pub params_is : params ≡ behind 44 (after_two_words line)
+
 -- where a line is `answer` with this procedure, this return code and these parameters, and r is the reply made of them, r is
 -- what the line is read as
-pub answer_is : (line params : List ℕ) (rpc rc : ℕ) (r : Option Scripted) → (word : Begins (codes "answer") line)
-    → (rpc_is : IsNumber (second_word line) rpc 65535) → (rc_is : IsNumber (before 44 (after_two_words line)) rc 65535)
-    → (params_is : params ≡ behind 44 (after_two_words line)) → Scripts rpc rc params r
+pub answer_is : (line params : List ℕ) (rpc rc : ℕ) (r : Option Scripted) → HasAnswer line params rpc rc → Scripts rpc rc params r
     → MatchOption r ((a : Scripted) → IsAnswer line a → ⊥) (λ a. IsAnswer line a)
-answer_is line params rpc rc None word rpc_is rc_is params_is none = λ a h.
-    let same : a.rpc ≡ rpc = one_number (second_word line) a.rpc rpc 65535 h.rpc rpc_is in
-    none a h.call same h.with_is (h.number ∙ same) (h.params ∙ sym params_is)
-answer_is line params rpc rc (Some a) word rpc_is rc_is params_is made = record {
-  word = word;
-  rpc = subst (λ (n : ℕ). IsNumber (second_word line) n 65535) (sym made.0) rpc_is;
-  rc = subst (λ (n : ℕ). IsNumber (before 44 (after_two_words line)) n 65535) (sym made.1) rc_is;
+answer_is line params rpc rc None has none = λ a h.
+    let same : a.rpc ≡ rpc = one_number (second_word line) a.rpc rpc 65535 h.rpc has.rpc_is in
+    none a h.call same h.with_is (h.number ∙ same) (h.params ∙ sym has.params_is)
+answer_is line params rpc rc (Some a) has made = record {
+  word = has.word;
+  rpc = subst (λ (n : ℕ). IsNumber (second_word line) n 65535) (sym made.0) has.rpc_is;
+  rc = subst (λ (n : ℕ). IsNumber (before 44 (after_two_words line)) n 65535) (sym made.1) has.rc_is;
   call = made.2.0;
   with_is = made.2.1;
   number = made.2.2 ∙ sym made.0;
-  params = made.2.3 ∙ params_is;
+  params = made.2.3 ∙ has.params_is;
 }
 
+-- the line has none of the forms of a scene with rules
+pub record HasNoForm (line : List ℕ) : Type 0 where
+  pub serial : (n : ℤ) → IsSerial line n → ⊥
+  pub name : (bytes : List ℕ) → IsName line bytes → ⊥
+  pub target : (t : Target) → IsTarget line t → ⊥
+  pub fault : (f : Fault) → IsFault line f → ⊥
+  pub answer : (a : Scripted) → IsAnswer line a → ⊥
+  pub blocked : (b : Blocked) → IsBlocked line b → ⊥
+  pub drift : (d : Drift) → IsDrift line d → ⊥
+  pub noise : (n : Noise) → IsNoise line n → ⊥
+  pub way : (w : Way) → line ≡ way_line w → ⊥
+  pub repeats : line ≡ codes "repeats no" → ⊥
+
 -- a line that has none of the ten forms is no line of a scene with rules
-pub no_rule : (line : List ℕ) → (no_serial : (n : ℤ) → IsSerial line n → ⊥) → (no_name : (bytes : List ℕ) → IsName line bytes → ⊥)
-    → (no_target : (t : Target) → IsTarget line t → ⊥) → (no_fault : (f : Fault) → IsFault line f → ⊥) → (no_answer : (a : Scripted) → IsAnswer line a → ⊥)
-    → (no_blocked : (b : Blocked) → IsBlocked line b → ⊥) → (no_drift : (d : Drift) → IsDrift line d → ⊥) → (no_noise : (n : Noise) → IsNoise line n → ⊥)
-    → (no_way : (w : Way) → line ≡ way_line w → ⊥) → (no_repeats : line ≡ codes "repeats no" → ⊥) → (rule : RuleLine) → IsRuleLine line rule → ⊥
-no_rule line s n t f a b d x w r (says.Serial m) h = s m h
-no_rule line s n t f a b d x w r (says.Name bytes) h = n bytes h
-no_rule line s n t f a b d x w r (says.Target u) h = t u h
-no_rule line s n t f a b d x w r (says.Fault g) h = f g h
-no_rule line s n t f a b d x w r (says.Answer g) h = a g h
-no_rule line s n t f a b d x w r (says.Blocked g) h = b g h
-no_rule line s n t f a b d x w r (says.Drift g) h = d g h
-no_rule line s n t f a b d x w r (says.Noise g) h = x g h
-no_rule line s n t f a b d x w r (says.Behave g) h = w g h
-no_rule line s n t f a b d x w r says.NoRepeats h = r h
+pub no_rule : (line : List ℕ) → HasNoForm line → (rule : RuleLine) → IsRuleLine line rule → ⊥
+no_rule line none (says.Serial n) h = none.serial n h
+no_rule line none (says.Name bytes) h = none.name bytes h
+no_rule line none (says.Target t) h = none.target t h
+no_rule line none (says.Fault f) h = none.fault f h
+no_rule line none (says.Answer a) h = none.answer a h
+no_rule line none (says.Blocked b) h = none.blocked b h
+no_rule line none (says.Drift d) h = none.drift d h
+no_rule line none (says.Noise n) h = none.noise n h
+no_rule line none (says.Behave w) h = none.way w h
+no_rule line none says.NoRepeats h = none.repeats h

@@ -2,7 +2,6 @@
 use Rattle.std.proofs.Common.{◌≡◌, arith, ℕ, ℤ, List, ◌∷◌, ◌++◌, get_or, length, Option, Some, None, ap, subst, sym, ◌∙◌, codes}
 use Rattle.std.specs.Prelude.{MatchOption, filter}
 use Rattle.std.proofs.lemmas.List.{append_cancel_left}
-use Rattle.gc_values.specs.Spelling.{Spells}
 use Rattle.gc_values.specs.Whole.{NamesWhole}
 use Rattle.gc_values.specs.declared.decimal.Decimal.{Decimal}
 use Rattle.gc_values.proofs.DecimalLaws.{spells_unique}
@@ -11,7 +10,8 @@ use Rattle.gc_instrument.specs.State.{State}
 use Rattle.gc_instrument.specs.declared.target.Target.{Target}
 use Rattle.gc_texts.specs.Cuts.{Cuts}
 use Rattle.gc_texts.specs.LineForms.{IsText, is_kept, text_lines}
-use Rattle.gc_texts.proofs.Cutting.{cut_found, one_front}
+use Rattle.gc_texts.specs.Nears.{IsDouble}
+use Rattle.gc_texts.proofs.Cutting.{read_alike, cut_found, one_front}
 use Rattle.gc_texts.proofs.OneReading.{one_list}
 use Rattle.gc_engines.specs.Scenes.{IsSerial, IsTargetWords, IsTarget, IsSceneLine, IsScene, IsOverfullScene, scene_opening, targets_of}
 use Rattle.gc_engines.specs.declared.scene_line.SceneLine.{SceneLine}
@@ -23,9 +23,9 @@ use Rattle.std.proofs.lemmas.Option.{same_Some}
 pub target_is : (line rest : List ℕ) (o : Option Target) → line ≡ codes "target " ++ rest
     → MatchOption o ((t : Target) → IsTargetWords rest t → ⊥) (λ t. IsTargetWords rest t)
     → MatchOption o ((t : Target) → IsTarget line t → ⊥) (λ t. IsTarget line t)
-target_is line rest None e none =
-    λ t found. none t (subst (λ (ws : List ℕ). IsTargetWords ws t) (append_cancel_left (codes "target ") found.words rest (sym found.line_is ∙ e)) found.words_say)
-target_is line rest (Some t) e said = record { words = rest; line_is = e; words_say = said }
+target_is line rest o e =
+    read_alike (IsTargetWords rest) (IsTarget line) o (λ t said. record { words = rest; line_is = e; words_say = said })
+    (λ t found. subst (λ (ws : List ℕ). IsTargetWords ws t) (append_cancel_left (codes "target ") found.words rest (sym found.line_is ∙ e)) found.words_say)
 
 -- the parts of a text `HZ V DISTANCE`, three decimals with a space between two of them
 module _ (words : List ℕ) (t : Target) (p : IsTargetWords words t) where
@@ -48,19 +48,19 @@ module _ (words : List ℕ) (t : Target) (p : IsTargetWords words t) where
   no_second_space hz rest v cut next = let bad : None ≡ Some p.distance_text = (second_cut hz rest v None cut next).1 in cc
 
   -- what stands before the first space is a decimal
-  pub has_hz : (hz rest : List ℕ) → Cuts 32 words hz (Some rest) → ((d : Decimal) → Spells hz d.digits d.scale → ⊥) → ⊥
-  has_hz hz rest cut none = none t.hz (subst (λ (x : List ℕ). Spells x t.hz.digits t.hz.scale) (sym (first_cut hz (Some rest) cut).0) p.hz_is)
+  pub has_hz : (hz rest : List ℕ) → Cuts 32 words hz (Some rest) → ((d : Decimal) → IsDouble hz d → ⊥) → ⊥
+  has_hz hz rest cut none = none t.hz (subst (λ (x : List ℕ). IsDouble x t.hz) (sym (first_cut hz (Some rest) cut).0) p.hz_is)
 
   -- what stands between the spaces is a decimal
   pub has_v : (hz rest v : List ℕ) (behind : Option (List ℕ)) → Cuts 32 words hz (Some rest) → Cuts 32 rest v behind
-      → ((d : Decimal) → Spells v d.digits d.scale → ⊥) → ⊥
-  has_v hz rest v behind cut next none = none t.v (subst (λ (x : List ℕ). Spells x t.v.digits t.v.scale) (sym (second_cut hz rest v behind cut next).0) p.v_is)
+      → ((d : Decimal) → IsDouble v d → ⊥) → ⊥
+  has_v hz rest v behind cut next none = none t.v (subst (λ (x : List ℕ). IsDouble x t.v) (sym (second_cut hz rest v behind cut next).0) p.v_is)
 
   -- what stands after the second space is a decimal
   pub has_distance : (hz rest v distance : List ℕ) → Cuts 32 words hz (Some rest) → Cuts 32 rest v (Some distance)
-      → ((d : Decimal) → Spells distance d.digits d.scale → ⊥) → ⊥
+      → ((d : Decimal) → IsDouble distance d → ⊥) → ⊥
   has_distance hz rest v distance cut next none =
-      none t.distance (subst (λ (x : List ℕ). Spells x t.distance.digits t.distance.scale) (sym (same_Some distance p.distance_text (second_cut hz rest v (Some distance) cut next).1)) p.distance_is)
+      none t.distance (subst (λ (x : List ℕ). IsDouble x t.distance) (sym (same_Some distance p.distance_text (second_cut hz rest v (Some distance) cut next).1)) p.distance_is)
 
 -- the first byte of a line that says this: the first letter of `serial`, `name` or `target`
 abbrev head : SceneLine → ℕ
@@ -85,9 +85,9 @@ one_target_of_words words t u p q =
     let first = one_front 32 p.hz_text q.hz_text (p.v_text ++ 32 ∷ p.distance_text) (q.v_text ++ 32 ∷ q.distance_text) (sym p.words_are ∙ q.words_are) p.hz_lacks q.hz_lacks in
     let second = one_front 32 p.v_text q.v_text p.distance_text q.distance_text first.1 p.v_lacks q.v_lacks in
     same_target t u
-    (spells_unique q.hz_text t.hz u.hz (subst (λ (x : List ℕ). Spells x t.hz.digits t.hz.scale) first.0 p.hz_is) q.hz_is)
-    (spells_unique q.v_text t.v u.v (subst (λ (x : List ℕ). Spells x t.v.digits t.v.scale) second.0 p.v_is) q.v_is)
-    (spells_unique q.distance_text t.distance u.distance (subst (λ (x : List ℕ). Spells x t.distance.digits t.distance.scale) second.1 p.distance_is) q.distance_is)
+    (spells_unique q.hz_text t.hz u.hz (subst (λ (x : List ℕ). IsDouble x t.hz) first.0 p.hz_is) q.hz_is)
+    (spells_unique q.v_text t.v u.v (subst (λ (x : List ℕ). IsDouble x t.v) second.0 p.v_is) q.v_is)
+    (spells_unique q.distance_text t.distance u.distance (subst (λ (x : List ℕ). IsDouble x t.distance) second.1 p.distance_is) q.distance_is)
 
 -- a line says one serial number at most
 one_serial : (line : List ℕ) (m n : ℤ) → IsSerial line m → IsSerial line n → m ≡ n

@@ -49,9 +49,14 @@ pub record IsChecking (old new : Ports) (most : ℕ) (result : Result Served Ser
   -- why it ended, and what that says of the ports, as `HasEnded` has it
   pub ended : HasEnded old new most result
 
--- one step of the judge: of a frame it writes the line of its verdict, numbered by a count that grows as far as 64 bits go; of
--- a frame that no line feed has ended it writes nothing. It serves the proofs of a check, and no promise speaks of it
-abbrev pub JudgesFrame : (before : Judge) → Frame → (after : Judge) → Option (List ℕ) → Type 0
-JudgesFrame before More after text = (after ≡ before) × (text ≡ None)
-JudgesFrame before frame after text =
+-- the judge counts one frame more than before, as far as 64 bits go, and `text` is the line of the verdict on that frame, which
+-- begins with the new count
+abbrev pub WritesVerdictOn : (before : Judge) → Frame → (after : Judge) → (text : Option (List ℕ)) → Type 0
+WritesVerdictOn before frame after text =
     (v : Verdict) × IsVerdict frame v × (after.frames ≡ min (before.frames + 1) (2 ^ 64 - 1)) × (text ≡ Some (verdict_line after.frames v))
+
+-- one step of the judge: of a frame it writes the line of the verdict (`WritesVerdictOn`); of a frame that no line feed has
+-- ended it writes nothing, and it doesn't count that frame. It serves the proofs of a check, and no promise speaks of it
+abbrev pub JudgesFrame : (before : Judge) → Frame → (after : Judge) → (text : Option (List ℕ)) → Type 0
+JudgesFrame before More after text = (after ≡ before) × (text ≡ None)
+JudgesFrame before frame after text = WritesVerdictOn before frame after text

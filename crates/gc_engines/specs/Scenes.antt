@@ -1,12 +1,12 @@
 -- A scene's text, and the instrument that it sets up: this project's own.
 use Rattle.std.specs.Prelude.{◌≡◌, ℕ, ℤ, ◌<◌, ◌≤◌, List, [], ◌∷◌, ◌++◌, length, codes}
-use Rattle.gc_values.specs.Spelling.{Spells}
 use Rattle.gc_values.specs.Text as text
 use Rattle.gc_values.specs.Whole.{NamesWhole, FitsLong}
 use Rattle.gc_instrument.specs.State.{State, opening, simulator_opening}
 use Rattle.gc_instrument.specs.declared.target.Target.{Target}
 use Rattle.gc_texts.specs.Cuts.{Lacks}
 use Rattle.gc_texts.specs.LineForms.{IsText, TextFault}
+use Rattle.gc_texts.specs.Nears.{IsDouble}
 use Rattle.gc_texts.specs.declared.fault.RunFault.{RunFault}
 use Rattle.gc_texts.specs.declared.fault.RunFault.TheVariants.{SceneFull}
 use Rattle.gc_texts.specs.declared.text.TheConstants.{TEXT_LIMIT}
@@ -33,9 +33,9 @@ pub record IsTargetWords (words : List ℕ) (target : Target) : Type 0 where
   pub words_are : words ≡ hz_text ++ 32 ∷ (v_text ++ 32 ∷ distance_text)
   pub hz_lacks : Lacks 32 hz_text
   pub v_lacks : Lacks 32 v_text
-  pub hz_is : Spells hz_text target.hz.digits target.hz.scale
-  pub v_is : Spells v_text target.v.digits target.v.scale
-  pub distance_is : Spells distance_text target.distance.digits target.distance.scale
+  pub hz_is : IsDouble hz_text target.hz
+  pub v_is : IsDouble v_text target.v
+  pub distance_is : IsDouble distance_text target.distance
 
 -- the line is `target HZ V DISTANCE`: a target's angles in radians and its slope distance in metres
 pub record IsTarget (line : List ℕ) (target : Target) : Type 0 where

@@ -72,7 +72,7 @@ IsSchedule text events = IsText IsEvent text events
 abbrev pub IsFirstFaulty : (text : List ℕ) → (n : ℕ) → Type 0
 IsFirstFaulty text n = FirstFaulty IsEvent text n
 
--- some line has the form of an event, and no line before it is faulty: the reading comes to that line, and may want memory
--- there
+-- the text has a line that isn't skipped and has the form of an event, and no faulty line before it: a reader comes to such a
+-- line, and memory may be refused there
 abbrev pub ReachesASoundEvent : List ℕ → Type 0
 ReachesASoundEvent text = ReachesASoundLine IsEvent text

@@ -1,8 +1,10 @@
 -- What a check says of each frame of a stream: this project's own.
 use Rattle.std.specs.Prelude.{◌≡◌, ℕ, ◌+◌, List, [], ◌∷◌, ◌++◌, codes}
 use Rattle.std.specs.Fmt.{decimal}
+use Rattle.std.specs.List.{AllZip}
 use Rattle.gc_lines.specs.Faults.{fault_number}
 use Rattle.gc_lines.specs.Frames.{frames}
+use Rattle.gc_lines.specs.Headers.{PastSignature}
 use Rattle.gc_lines.specs.Replies.{ReplyFields, IsReply, FirstBadOfReply, reply_signature}
 use Rattle.gc_lines.specs.Requests.{RequestFields, IsRequest, FirstBadOfRequest}
 use Rattle.gc_lines.specs.declared.fault.LineFault.{LineFault}
@@ -24,7 +26,7 @@ pub data IsRequestVerdict (q : RequestFields) (v : Verdict) : Type 0 where
 
 -- the line begins as a reply does: with `%R1P,`
 abbrev pub BeginsAsReply : List ℕ → Type 0
-BeginsAsReply line = (rest : List ℕ) × (line ≡ reply_signature ++ rest)
+BeginsAsReply line = (rest : List ℕ) × PastSignature reply_signature line rest
 
 -- the verdict on a line
 pub data IsLineVerdict (line : List ℕ) (v : Verdict) : Type 0 where
@@ -46,10 +48,7 @@ IsVerdict More v = ⊥
 
 -- these verdicts are on these frames, one for one
 abbrev pub AreVerdicts : List Frame → List Verdict → Type 0
-AreVerdicts [] [] = Unit {0}
-AreVerdicts [] (v ∷ vs) = ⊥
-AreVerdicts (frame ∷ later) [] = ⊥
-AreVerdicts (frame ∷ later) (v ∷ vs) = IsVerdict frame v × AreVerdicts later vs
+AreVerdicts seen verdicts = AllZip IsVerdict seen verdicts
 
 -- a verdict as it is printed, a fault by its number
 abbrev pub verdict_text : Verdict → List ℕ

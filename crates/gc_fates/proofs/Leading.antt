@@ -3,10 +3,8 @@ use Rattle.std.proofs.Common.{◌≡◌, ℕ, ◌+◌, ◌<◌, ◌≤◌, List,
 use Rattle.gc_texts.specs.Cuts.{Cuts}
 use Rattle.gc_texts.specs.LineForms.{text_lines, without_cr, line_at}
 use Rattle.gc_texts.proofs.TextLines.{lines_left, much_left, lines-cut}
-use Rattle.gc_fates.specs.Rules.{no_rules, Leads, LeadAll, IsRuleFault, IsFirstFaultyRule, without_comment}
-use Rattle.gc_fates.specs.Spaced.{IsBlank}
+use Rattle.gc_fates.specs.Rules.{no_rules, Leads, LeadAll}
 use Rattle.gc_fates.specs.declared.rules.Rules.{Rules}
-use Rattle.gc_fates.specs.declared.rule.RuleFault.{RuleFault}
 
 -- where lines lead from `old` to `mid`, and one more line from `mid` to `new`, all of them lead from `old` to `new`
 lead_more : (old mid new : Rules) (lines : List (List ℕ)) (line : List ℕ)
@@ -23,7 +21,7 @@ pub record Comes (text : List ℕ) (left : Option (List ℕ)) (number : ℕ) (ru
   pub few : number + much_left left ≤ length text + 1
   pub lead : LeadAll no_rules read rules
 
--- what follows the first line of what is left, `rest`, is less than what is left, `now`, by `much_left`
+-- where an unread text `now` is cut at its first line feed, what follows that, `rest`, is less than `now`, as `much_left` counts
 pub left_falls : (now front : List ℕ) (rest : Option (List ℕ)) → Cuts 10 now front rest → much_left rest < much_left (Some now)
 left_falls now front None cut = omega arith
 left_falls now front (Some rest) cut =
@@ -51,19 +49,3 @@ comes_on text now front rest number rules new c cut leads =
       few = omega (arith, c.few, less);
       lead = lead_more no_rules rules new c.read (line_at now 1) c.lead leads;
     }
-
--- where the reading has come to a line that has a fault, and that isn't blank without its comment, it is the first faulty line
-pub first_faulty : (text now front : List ℕ) (rest : Option (List ℕ)) (number : ℕ) (rules : Rules) (fault : RuleFault)
-    → Comes text (Some now) number rules → Cuts 10 now front rest
-    → IsRuleFault rules (line_at now 1) fault → (IsBlank (without_comment (line_at now 1)) → ⊥) → IsFirstFaultyRule text (number + 1) fault
-first_faulty text now front rest number rules fault c cut is worded = record {
-  front = c.read;
-  line = line_at now 1;
-  rest = lines_left rest;
-  lines_are = c.lines_are ∙ ap (λ ls. c.read ++ ls) (next_lines now front rest cut);
-  place = ap (λ n. n + 1) c.count;
-  rules = rules;
-  before = c.lead;
-  worded = worded;
-  fault_is = is;
-}

@@ -1,5 +1,5 @@
 -- Which words are percentages. A word is cut at its first point (byte 46) in one way, so that it is one percentage at most.
-use Rattle.std.proofs.Common.{◌≡◌, ℕ, ◌<◌, ◌≤◌, ◌+◌, ◌*◌, List, length, inl, inr, Option, None, Some, refl, ap, sym, subst, ◌∙◌, arith}
+use Rattle.std.proofs.Common.{◌≡◌, ℕ, ◌<◌, ◌+◌, ◌*◌, List, length, inl, inr, Option, None, Some, refl, ap, sym, subst, ◌∙◌, arith}
 use Rattle.gc_fates.specs.Shares.{IsShare, IsParts, IsPlaces, AreThousandths}
 use Rattle.gc_texts.specs.Cuts.{Cuts}
 use Rattle.gc_texts.specs.Procedures.{IsNumber}
@@ -20,12 +20,14 @@ parts_at word whole places n cut is =
     let both = one_cut word is.0 whole is.1 places is.2 cut in
     subst (λ w. IsParts w places n) both.0 (subst (λ p. IsParts is.0 p n) both.1 is.3)
 
--- where what is before a word's point, or all of a word without one, is no whole number of at most 100, the word is no percentage
+-- where what is before a word's point, or all of a word without one (`whole`), is no number of at most 100, it and what follows
+-- the point are no percentage (`IsParts`)
 pub no_whole : (whole : List ℕ) (places : Option (List ℕ)) (n : ℕ) → ((m : ℕ) → IsNumber whole m 100 → ⊥) → IsParts whole places n → ⊥
 no_whole whole None n none is = none is.0 is.1
 no_whole whole (Some places) n none is = none is.0 is.2
 
--- where a word has a point, but not one to three digits after it, the word is no percentage
+-- where what follows a word's point (`digits`) isn't one to three digits (`IsPlaces`), it and what is before the
+-- point are no percentage (`IsParts`)
 pub no_thousandths : (whole : List ℕ) (places : Option (List ℕ)) (digits : List ℕ) (n : ℕ)
     → places ≡ Some digits → ((m : ℕ) → IsPlaces digits m → ⊥) → IsParts whole places n → ⊥
 no_thousandths whole places digits n cut none is =
@@ -49,7 +51,8 @@ one_places digits m n x y =
     let same : x.0 ≡ y.0 = one_number digits x.0 y.0 999 x.1 y.1 in
     one_count (length digits) y.0 m n (subst (λ k. AreThousandths (length digits) k m) same x.2) y.2
 
--- where the number before the point and the thousandths after it are together more than 100 percent, the word is no percentage
+-- where the number before a word's point and the thousandths after it are together more than 100 percent, they are no percentage
+-- of at most 100 (`IsParts`)
 pub too_much : (whole : List ℕ) (places : Option (List ℕ)) (digits : List ℕ) (w t n : ℕ)
     → (cut : places ≡ Some digits) → (number : IsNumber whole w 100)
     → (are : IsPlaces digits t) → (above : 100000 < w * 1000 + t) → (is : IsParts whole places n) → ⊥

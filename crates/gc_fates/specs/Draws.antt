@@ -1,6 +1,6 @@
 -- What a seed draws for each line: outputs of splitmix64, each found by its place, so that what is drawn for a line depends on
 -- nothing but the seed, the direction and the line's number. This project's own.
-use Rattle.std.specs.Prelude.{◌≡◌, ℕ, ◌+◌, ◌*◌, ◌-◌, ◌/◌, ◌%◌, ◌^◌, ◌<◌, Bool, nat_lt}
+use Rattle.std.specs.Prelude.{ℕ, ◌+◌, ◌*◌, ◌-◌, ◌/◌, ◌%◌, ◌^◌, Bool, nat_lt}
 use Rattle.rand_xoshiro.specs.SplitMix64.{mix_u64}
 use Rattle.gc_fates.specs.declared.draw.Direction.{Direction}
 use Rattle.gc_fates.specs.declared.draw.Direction.TheVariants.{Up, Down}

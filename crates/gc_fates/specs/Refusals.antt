@@ -1,5 +1,5 @@
 -- Why a text has no rules: this project's own.
-use Rattle.std.specs.Prelude.{◌≡◌, ℕ, ◌<◌, ◌≤◌, List, length}
+use Rattle.std.specs.Prelude.{ℕ, ◌<◌, ◌≤◌, List, length}
 use Rattle.gc_texts.specs.declared.text.TheConstants.{TEXT_LIMIT}
 use Rattle.gc_fates.specs.Rules.{IsFirstFaultyRule}
 use Rattle.gc_fates.specs.declared.reading.Refusal.{Refusal}

@@ -1,14 +1,13 @@
 -- The rules of a text together: this project's own.
-use Rattle.std.specs.Prelude.{◌≡◌, ℕ, ◌+◌, ◌<◌, ◌≤◌, ◌⊎◌, List, [], ◌∷◌, ◌++◌, length, get_or, slice_set, Option, None, Some}
+use Rattle.std.specs.Prelude.{◌≡◌, ℕ, ◌+◌, ◌⊎◌, List, [], ◌∷◌, ◌++◌, length, get_or, slice_set, Option, None, Some}
 use Rattle.gc_texts.specs.Cuts.{before}
 use Rattle.gc_texts.specs.LineForms.{text_lines}
-use Rattle.gc_texts.specs.declared.text.TheConstants.{TEXT_LIMIT}
 use Rattle.gc_fates.specs.RuleForms.{place_of, IsRule, IsNoRule}
 use Rattle.gc_fates.specs.Spaced.{IsBlank}
 use Rattle.gc_fates.specs.declared.chance.Chance.{Chance}
 use Rattle.gc_fates.specs.declared.rules.Rules.{Rules}
 use Rattle.gc_fates.specs.declared.rule.RuleFault.{RuleFault}
-use Rattle.gc_fates.specs.declared.rule.RuleFault.TheVariants.{NoWord, Form, Again}
+use Rattle.gc_fates.specs.declared.rule.RuleFault.TheVariants.{Again}
 use Rattle.gc_fates.specs.declared.rule.Rule.{Rule}
 use Rattle.gc_fates.specs.declared.rule.Word.{Word}
 

@@ -1,13 +1,14 @@
 //! Words of a line, before each of which any number of spaces may be. A space is byte 32.
 
 ghost use Rattle.std.specs.Prelude.{◌≡◌, [], length, ◌≤◌, IsTrue, ◌↔◌};
-ghost use Rattle.gc_fates.specs.Spaced.{without_leading_spaces, first_word, other_words, IsBlank};
+ghost use Rattle.gc_fates.specs.Spaced.{first_word, other_words, IsBlank};
+ghost use Rattle.gc_values.specs.Pieces.{without_front_spaces};
 
 use gc_texts::{before, behind};
 
 // The text without the spaces at its beginning.
 fn without_leading_spaces(text: &[u8]) -> &[u8]
-    ensures { result.now ≡ without_leading_spaces text.now }
+    ensures { result.now ≡ without_front_spaces text.now }
 {
     let mut left = text;
     while let Some(rest) = left.strip_prefix(b" ") {

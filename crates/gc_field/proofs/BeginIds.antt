@@ -2,8 +2,8 @@
 -- synchronization is the list of the ids of its null procedures. The client asks them one after the other, each until it is
 -- answered.
 use Rattle.std.specs.Prelude.{◌≡◌, ℕ, zero, suc, ◌+◌, ◌%◌, nat_eq, Bool, true, false, List, [], ◌∷◌, ◌++◌, map, Option, Some, None}
+use Rattle.std.specs.List.{AllByRecursion}
 use Rattle.gc_client.specs.Beginning.{IsSubsequence, left_by_one}
-use Rattle.gc_world.specs.Order.{Each}
 use Rattle.gc_field.specs.World.{without, doubled}
 
 -- The line.
@@ -97,7 +97,7 @@ moved (m ∷ ms) s = moved ms (moves s m)
 -- each element and each one after it have the relation
 abbrev pub Pairs : {A : Type 0} → (A → A → Type 0) → List A → Type 0
 Pairs R [] = Unit {0}
-Pairs R (x ∷ xs) = Each (R x) xs × Pairs R xs
+Pairs R (x ∷ xs) = AllByRecursion (R x) xs × Pairs R xs
 
 -- no id is in the list twice
 abbrev pub AllDiffer : List ℕ → Type 0
@@ -118,20 +118,20 @@ last z (i ∷ ids) = last i ids
 -- first, don't contain the word
 pub record Begins (word : List ℕ) (s : Model) : Type 0 where
   pub left : s.left ≡ word
-  pub up : Each (λ x. x.old ≡ true) s.up
-  pub down : Each (λ x. x.old ≡ true) s.down
+  pub up : AllByRecursion (λ x. x.old ≡ true) s.up
+  pub down : AllByRecursion (λ x. x.old ≡ true) s.down
   pub absent : IsSubsequence word (ids_of s.down ++ ids_of s.up) → ⊥
 
 -- a synchronization that ended cleanly: nothing old is in flight, and all that is in flight has this id; so has what
 -- the instrument retains, if it retains anything
 pub record IsClean (id : ℕ) (s : Model) : Type 0 where
-  pub up : Each (λ x. (x.old ≡ false) × (x.id ≡ id)) s.up
-  pub down : Each (λ x. (x.old ≡ false) × (x.id ≡ id)) s.down
+  pub up : AllByRecursion (λ x. (x.old ≡ false) × (x.id ≡ id)) s.up
+  pub down : AllByRecursion (λ x. (x.old ≡ false) × (x.id ≡ id)) s.down
   pub kept : (i : ℕ) → s.kept ≡ Some i → i ≡ id
 
 -- The word.
 
--- n ids from i on, upward modulo 8: what a run that measures may have in flight
+-- n ids from i on, upward modulo 8: those of n requests that are sent one after the other
 abbrev pub upward : (i n : ℕ) → List ℕ
 upward i zero = []
 upward i (suc n) = i % 8 ∷ upward (i + 1) n

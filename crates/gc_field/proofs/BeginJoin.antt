@@ -1,8 +1,9 @@
 -- A synchronization over lines of bytes is one over their ids: any turns of the former are some moves of the latter. `Shows`
 -- says that the state of the one over ids is that of the one over lines.
 use Rattle.std.proofs.Common.{◌≡◌, ℕ, ◌<◌, ◌⊎◌, inl, inr, Bool, true, false, List, [], ◌∷◌, ◌++◌, map, Option, Some, None, refl, sym, ◌∙◌, ap, subst, arith}
+use mathlib.Core.List.{map-map}
 use mathlib.Core.Path.{ap₂}
-use Rattle.std.specs.List.{filter_map, cons_option}
+use Rattle.std.specs.List.{filter_map, cons_option, AllByRecursion}
 use Rattle.std.proofs.lemmas.Bool.{ne_eqb, true≢false}
 use Rattle.std.proofs.lemmas.List.{map-append}
 use Rattle.gc_catalogue.specs.Asked.{is_of_table}
@@ -13,20 +14,20 @@ use Rattle.gc_client.specs.Beginning.{IsSubsequence, the_word, is_answered, left
 use Rattle.gc_client.specs.Rule as rule
 use Rattle.gc_instrument.specs.Replying.{Handed}
 use Rattle.gc_instrument.specs.State.{KeptReply}
-use Rattle.gc_world.specs.Order.{Each}
 use Rattle.gc_field.specs.World.{Ends, Request, without, doubled}
 use Rattle.std.proofs.lemmas.Option.{same_Some, none-some}
-use Rattle.gc_world.proofs.Rows.{each_append, each_without, each_doubled}
+use Rattle.gc_world.proofs.Rows.{each_without, each_doubled}
 use Rattle.gc_field.specs.Begin.{InFlight, IsWellFormed, AreTurns, Model, Turn, Asks, Comes, Foreign, Reaches, Up_lose, Up_repeat, Down_lose, Down_repeat, Anew, Changes, UnderWay, begins, leaves, ids_under_way, asks, comes, reaches, turns, turned}
 use Rattle.gc_field.specs.Begun.{HasBegunCleanly, eighth}
 use Rattle.gc_field.specs.Instrument.{IsAnInstrument}
 use Rattle.gc_field.proofs.BeginIds as ids
-use Rattle.gc_field.proofs.BeginIds.{IdSent, Begins, IsClean, aged, begun_anew, ids_of, moved}
+use Rattle.gc_field.proofs.BeginIds.{IdSent, IsClean, aged, begun_anew, ids_of, moved}
 use Rattle.gc_field.proofs.BeginKilled.{begins_anew, behind_one, under_way}
-use Rattle.gc_field.proofs.BeginLists.{each_to_map}
-use Rattle.gc_lines.proofs.Lists.{all_front}
+use Rattle.gc_field.proofs.BeginLists.{each_map}
+use Rattle.gc_lines.proofs.Lists.{all_front, all_append}
 use Rattle.gc_field.proofs.BeginSound.{the_word_begins_cleanly}
 use Rattle.gc_field.proofs.KeptReplies.{IsOwnOrNone}
+use Rattle.gc_field.proofs.Once.{still_retained}
 use Rattle.gc_world.proofs.Handing.{kept_id}
 use Rattle.gc_world.proofs.Queues.{without_map, doubled_map}
 
@@ -39,7 +40,7 @@ id_or (Some id) = id
 
 -- all these ids are below 8
 abbrev pub IsSmall : List ℕ → Type 0
-IsSmall word = Each (λ i. i < 8) word
+IsSmall word = AllByRecursion (λ i. i < 8) word
 
 -- the id of a request in flight, and whether it is old
 abbrev mark_up : InFlight Request → IdSent
@@ -63,8 +64,8 @@ pub small_left : (left : List ℕ) (o : Option ℕ) → IsSmall left → IsSmall
 small_left [] o h = tt
 small_left (asked ∷ rest) o h = small_if (is_answered (asked ∷ rest) o) asked rest h
 
--- where the ids left are below 8, a line in which the id `o` is read, or none, leaves of them what the synchronization over ids
--- leaves of them for that id, or for 8 if there is none
+-- where the ids left are below 8, a line leaves the same ids by the client's rule (`left_by`) as in the synchronization over ids, in
+-- which a line without an id counts as one with the id 8
 same_left : (left : List ℕ) (o : Option ℕ) → IsSmall left → ids.heard left (id_or o) ≡ left_by left o
 same_left [] o h = refl
 same_left (asked ∷ rest) (Some id) h = refl
@@ -90,7 +91,7 @@ module _ {State : Type 0} (ends : Ends State) (Good : State → Type 0) (kept : 
     pub left : p.left ≡ s.left
     pub keeps : (k : KeptReply) → kept s.state ≡ Some k → p.kept ≡ Some k.id
     pub good : Good s.state
-    pub known : Each IsNullIfOwn s.up
+    pub known : AllByRecursion IsNullIfOwn s.up
     pub small : IsSmall s.left
 
   -- `Shows` is preserved if the client asks
@@ -104,7 +105,7 @@ module _ {State : Type 0} (ends : Ends State) (Good : State → Type 0) (kept : 
         left = g.left;
         keeps = g.keeps;
         good = g.good;
-        known = each_append IsNullIfOwn s.up (new ∷ []) g.known (((subst IsSmall e g.small).0, (λ o. refl)), tt);
+        known = all_append IsNullIfOwn s.up (new ∷ []) g.known (((subst IsSmall e g.small).0, (λ o. refl)), tt);
         small = g.small;
       }
 
@@ -154,7 +155,7 @@ module _ {State : Type 0} (ends : Ends State) (Good : State → Type 0) (kept : 
       → q.down ≡ p.down ++ mark_up x ∷ [] → q.left ≡ p.left
       → ((k : KeptReply) → kept (ends.handed s.state x.line.id x.line.call).state ≡ Some k → q.kept ≡ Some k.id) → Shows (reaches ends s (x ∷ rest)) q
   shows_reached s p q x rest e g up down left keeps =
-      let known = subst (Each IsNullIfOwn) e g.known in
+      let known = subst (AllByRecursion IsNullIfOwn) e g.known in
       let small : x.line.id < 8 = known.0.0 in
       let hd : Handed State = ends.handed s.state x.line.id x.line.call in
       let reply : InFlight (List ℕ) = record { old = x.old; line = hd.reply } in
@@ -177,7 +178,7 @@ module _ {State : Type 0} (ends : Ends State) (Good : State → Type 0) (kept : 
       → Shows (reaches ends s q) (ids.reaches p (map mark_up q)) ⊎ Shows (reaches ends s q) (ids.passes p (map mark_up q))
   shows_reaches s p [] e g = inl g
   shows_reaches s p (x ∷ rest) e g =
-      let known = subst (Each IsNullIfOwn) e g.known in
+      let known = subst (AllByRecursion IsNullIfOwn) e g.known in
       let hd : Handed State = ends.handed s.state x.line.id x.line.call in
       elim (is.keeps s.state x.line.id x.line.call g.good known.0.0) [
         | inl own ↦ inl (shows_reached s p (ids.reaches p (map mark_up (x ∷ rest))) x rest e g refl refl refl (λ k f. kept_behind (kept hd.state) x.line.id hd.reply k own f))
@@ -186,7 +187,7 @@ module _ {State : Type 0} (ends : Ends State) (Good : State → Type 0) (kept : 
       ]
 
   -- `Shows` is preserved if the requests in flight change alike in both, to some that are `IsNullIfOwn`
-  shows_up : (s : Model State) (p : ids.Model) (up : List (InFlight Request)) (ups : List IdSent) → ups ≡ map mark_up up → Each IsNullIfOwn up → Shows s p
+  shows_up : (s : Model State) (p : ids.Model) (up : List (InFlight Request)) (ups : List IdSent) → ups ≡ map mark_up up → AllByRecursion IsNullIfOwn up → Shows s p
       → Shows (record s { up = up }) (record p { up = ups })
   shows_up s p up ups e known g = record { up = e; down = g.down; left = g.left; keeps = g.keeps; good = g.good; known = known; small = g.small }
 
@@ -195,16 +196,18 @@ module _ {State : Type 0} (ends : Ends State) (Good : State → Type 0) (kept : 
       → Shows (record s { down = down }) (record p { down = downs })
   shows_down s p down downs e g = record { up = g.up; down = e; left = g.left; keeps = g.keeps; good = g.good; known = g.known; small = g.small }
 
-  -- if `o` is the id of the reply k that was retained, if one was, and what is retained afterwards (`after`) is the same or
-  -- nothing, `o` is the id of what is retained afterwards, if anything is
-  still_kept : (k after : Option KeptReply) (o : Option ℕ) → (after ≡ None) ⊎ (after ≡ k) → ((r : KeptReply) → k ≡ Some r → o ≡ Some r.id) → (r : KeptReply) → after ≡ Some r → o ≡ Some r.id
-  still_kept k after o (inl none) f r e = absurd (none-some r (sym none ∙ e))
-  still_kept k after o (inr same) f r e = f r (sym same ∙ e)
-
   -- `Shows` is preserved if the instrument's state changes to a good one, in which it retains the same, or nothing
   shows_state : (s : Model State) (p : ids.Model) (state : State) → Good state → (kept state ≡ None) ⊎ (kept state ≡ kept s.state) → Shows s p → Shows (record s { state = state }) p
   shows_state s p state good same g =
-      record { up = g.up; down = g.down; left = g.left; keeps = still_kept (kept s.state) (kept state) p.kept same g.keeps; good = good; known = g.known; small = g.small }
+      record {
+        up = g.up;
+        down = g.down;
+        left = g.left;
+        keeps = still_retained (λ (r : KeptReply). p.kept ≡ Some r.id) (kept s.state) (kept state) same g.keeps;
+        good = good;
+        known = g.known;
+        small = g.small;
+      }
 
   -- from p on, some moves over ids lead to a state that shows s
   abbrev IsShown : Model State → ids.Model → Type 0
@@ -259,18 +262,15 @@ module _ {State : Type 0} (ends : Ends State) (Good : State → Type 0) (kept : 
 
   -- to reduce requests to their ids and make these old is the same as to make the requests old and then reduce them
   up_marks : (xs : List Request) → aged (map (λ x. record { id = x.id; old = true }) xs) ≡ map mark_up (map (λ x. record { old = true; line = x }) xs)
-  up_marks [] = refl
-  up_marks (x ∷ xs) = ap (λ l. record { id = x.id; old = true } ∷ l) (up_marks xs)
+  up_marks xs = map-map _ _ xs ∙ sym (map-map mark_up _ xs)
 
   -- to reduce replies to their ids and make these old is the same as to make the replies old and then reduce them
   down_marks : (xs : List (List ℕ)) → aged (map (λ x. record { id = id_or (rule.heard x); old = true }) xs) ≡ map mark_down (map (λ x. record { old = true; line = x }) xs)
-  down_marks [] = refl
-  down_marks (x ∷ xs) = ap (λ l. record { id = id_or (rule.heard x); old = true } ∷ l) (down_marks xs)
+  down_marks xs = map-map _ _ xs ∙ sym (map-map mark_down _ xs)
 
   -- requests from before, with ids below 8, are `IsNullIfOwn`
-  known_old : (xs : List Request) → Each (λ x. x.id < 8) xs → Each IsNullIfOwn (map (λ x. record { old = true; line = x }) xs)
-  known_old [] h = tt
-  known_old (x ∷ xs) h = ((h.0, (λ o. absurd (true≢false o))), known_old xs h.1)
+  known_old : (xs : List Request) → AllByRecursion (λ x. x.id < 8) xs → AllByRecursion IsNullIfOwn (map (λ x. record { old = true; line = x }) xs)
+  known_old xs h = each_map (λ (x : Request). x.id < 8) IsNullIfOwn (λ x. record { old = true; line = x }) (λ x small. (small, λ o. absurd (true≢false o))) xs h
 
   -- `Shows` holds at the start of a synchronization over what is `IsWellFormed`
   shows_begins : (u : UnderWay State) → IsWellFormed Good u → Shows (begins u) (begun_anew the_word (marks u))
@@ -288,8 +288,7 @@ module _ {State : Type 0} (ends : Ends State) (Good : State → Type 0) (kept : 
 
   -- the ids of the marks of requests are the requests' ids
   ids_up : (xs : List Request) → ids_of (map (λ x. record { id = x.id; old = true }) xs) ≡ map (λ x. x.id) xs
-  ids_up [] = refl
-  ids_up (x ∷ xs) = ap (λ l. x.id ∷ l) (ids_up xs)
+  ids_up xs = map-map _ _ xs
 
   -- `ids` are the ids of some lines, with 8 for a line without one; `others` are the ids that these lines have. If each word of
   -- ids below 8 that `ids` contain is contained in `others`, the same holds with one line more before them, whose id, if any, is
@@ -347,8 +346,7 @@ module _ {State : Type 0} (ends : Ends State) (Good : State → Type 0) (kept : 
 
   -- the ids of the requests that a synchronization leaves are those of their marks
   up_left : (xs : List (InFlight Request)) → map (λ x. x.id) (map (λ x. x.line) xs) ≡ ids_of (map mark_up xs)
-  up_left [] = refl
-  up_left (x ∷ xs) = ap (λ l. x.line.id ∷ l) (up_left xs)
+  up_left xs = map-map _ _ xs ∙ sym (map-map _ mark_up xs)
 
   -- where `Shows` holds of s and p, a word that is in the ids of what s leaves in flight is in the ids in flight in p
   left_marks : (s : Model State) (p : ids.Model) (word : List ℕ) → Shows s p → IsSubsequence word (ids_under_way (leaves s)) → IsSubsequence word (under_way p)
@@ -370,20 +368,21 @@ module _ {State : Type 0} (ends : Ends State) (Good : State → Type 0) (kept : 
 
   -- requests in flight that are `IsNullIfOwn`, and by their marks not old and of id 7, are copies of the eighth null procedure,
   -- and not old
-  up_is_clean : (xs : List (InFlight Request)) → Each IsNullIfOwn xs → Each (λ x. (x.old ≡ false) × (x.id ≡ 7)) (map mark_up xs) → Each (λ x. (x.old ≡ false) × (x.line ≡ eighth)) xs
+  up_is_clean : (xs : List (InFlight Request)) → AllByRecursion IsNullIfOwn xs → AllByRecursion (λ x. (x.old ≡ false) × (x.id ≡ 7)) (map mark_up xs)
+      → AllByRecursion (λ x. (x.old ≡ false) × (x.line ≡ eighth)) xs
   up_is_clean [] k h = tt
   up_is_clean (x ∷ xs) k h = ((h.0.0, request_is x.line h.0.1 (k.0.1 h.0.0)), up_is_clean xs k.1 h.1)
 
   -- replies in flight that are by their marks not old and of id 7 are not old, and read as replies with id 7
-  down_is_clean : (xs : List (InFlight (List ℕ))) → Each (λ x. (x.old ≡ false) × (x.id ≡ 7)) (map mark_down xs) → Each (λ x. (x.old ≡ false) × (rule.heard x.line ≡ Some 7)) xs
+  down_is_clean : (xs : List (InFlight (List ℕ))) → AllByRecursion (λ x. (x.old ≡ false) × (x.id ≡ 7)) (map mark_down xs) → AllByRecursion (λ x. (x.old ≡ false) × (rule.heard x.line ≡ Some 7)) xs
   down_is_clean [] h = tt
   down_is_clean (x ∷ xs) h = ((h.0.0, heard_seven (rule.heard x.line) h.0.1), down_is_clean xs h.1)
 
   -- where `Shows` holds of s and p, and the synchronization over ids ended cleanly in p, that over lines ended cleanly in s
   clean : (s : Model State) (p : ids.Model) → Shows s p → IsClean 7 p → HasBegunCleanly kept s
   clean s p g c = record {
-    up = up_is_clean s.up g.known (subst (Each (λ x. (x.old ≡ false) × (x.id ≡ 7))) g.up c.up);
-    down = down_is_clean s.down (subst (Each (λ x. (x.old ≡ false) × (x.id ≡ 7))) g.down c.down);
+    up = up_is_clean s.up g.known (subst (AllByRecursion (λ x. (x.old ≡ false) × (x.id ≡ 7))) g.up c.up);
+    down = down_is_clean s.down (subst (AllByRecursion (λ x. (x.old ≡ false) × (x.id ≡ 7))) g.down c.down);
     keeps = λ k e. c.kept k.id (g.keeps k e);
   }
 
@@ -402,12 +401,10 @@ module _ {State : Type 0} (ends : Ends State) (Good : State → Type 0) (kept : 
   pub left_lines : (u : UnderWay State) (ts : List (Turn State)) → IsWellFormed Good u → AreTurns ends Good kept ts (begins u) → IsWellFormed Good (leaves (turned ends ts (begins u)))
   left_lines u ts lines possible =
       let r = shown ts (begins u) (begun_anew the_word (marks u)) possible (shows_begins u lines) in
-      record { ids = each_to_map (λ x. x.id < 8) (λ x. x.line) (turned ends ts (begins u)).up (only (turned ends ts (begins u)).up r.1.known); good = r.1.good }
-    where
-      -- requests that are `IsNullIfOwn` have ids below 8
-      only : (xs : List (InFlight Request)) → Each IsNullIfOwn xs → Each (λ x. x.line.id < 8) xs
-      only [] h = tt
-      only (x ∷ xs) h = (h.0.0, only xs h.1)
+      record {
+        ids = each_map IsNullIfOwn (λ (x : Request). x.id < 8) (λ (x : InFlight Request). x.line) (λ x known. known.0) (turned ends ts (begins u)).up r.1.known;
+        good = r.1.good;
+      }
 
   -- where what is in flight at the start of a synchronization is `IsWellFormed`, its ids don't contain the front a, b, `more` of
   -- the word, and the turns are possible: the ids that the synchronization leaves, killed or not, don't contain that front with

@@ -3,19 +3,21 @@
 -- synchronization, and `left` those of the word that aren't answered yet; old lines are from before it, own ones are its own.
 -- `IsTrying` is the invariant.
 use Rattle.std.proofs.Common.{◌≡◌, ℕ, zero, ◌⊎◌, inl, inr, Bool, true, false, List, [], ◌∷◌, ◌++◌, nat_eq, refl, sym, ◌∙◌, ap, subst, append-nil, append_assoc}
+use Rattle.std.specs.List.{AllByRecursion}
+use mathlib.Core.List.{map-map}
+use mathlib.Core.Path.{ap₂}
 use Rattle.std.proofs.lemmas.Bool.{eqb-true, false≢true}
 use Rattle.std.proofs.lemmas.List.{map-append}
 use Rattle.gc_client.specs.Beginning.{left_by_one, IsSubsequence, the_word}
 use Rattle.gc_field.proofs.BeginIds.{IdSent, Model, Move, heard, moved, aged, begun_anew, Pairs, AllDiffer, Begins, ids_of}
-use Rattle.gc_world.specs.Order.{Each}
 use Rattle.gc_field.specs.World.{without, doubled}
-use Rattle.gc_lines.proofs.Lists.{all_behind}
-use Rattle.gc_field.proofs.BeginLists.{each_both, each_to_map, pairs_front, pairs_back}
+use Rattle.gc_lines.proofs.Lists.{all_behind, all_append, all_on}
+use Rattle.gc_field.proofs.BeginLists.{each_all, each_both, each_map, each_to_map, pairs_front, pairs_back}
 use Rattle.gc_field.proofs.BeginWords.{HasNoMoreWords, subword_front, subword_each, word_differs}
 use Rattle.gc_field.proofs.BeginMoves.{Lasts, holds_moved}
 use Rattle.gc_field.proofs.BeginLines.{IsLine, IsOld, IsOwn, KeepsOwn, HasNone, KeepsTheId, OwnIdsFit, old_if, olds, olds_all, olds_push, has_without, has_doubled, line_without, line_doubled, line_asked, line_came}
 use Rattle.gc_field.proofs.BeginSound.{sound_at_start}
-use Rattle.gc_world.proofs.Rows.{each_more, each_append, each_without, each_doubled}
+use Rattle.gc_world.proofs.Rows.{each_without, each_doubled}
 
 -- The invariant of one synchronization.
 
@@ -36,7 +38,7 @@ IsOneOfTwo p left i = (i ≡ p) ⊎ IsAsked i left
 
 -- once an own reply answered: all that is in flight is of this synchronization, and has two ids at most
 abbrev pub IsOver : List ℕ → List IdSent → Type 0
-IsOver left line = (p : ℕ) × Each (λ x. IsOwn x × IsOneOfTwo p left x.id) line
+IsOver left line = (p : ℕ) × AllByRecursion (λ x. IsOwn x × IsOneOfTwo p left x.id) line
 
 -- the invariant of a synchronization that may be killed: `IsLine` holds; the ids `done` of the word are answered; and either only
 -- old replies have answered yet, or an own one has, and no old line is in flight any more
@@ -60,7 +62,7 @@ module _ (z : ℕ) (word first : List ℕ) where
   -- `IsTrying` is preserved if the line becomes `other`, where `IsLine` holds of `other`, the old ids contain no more words then
   -- (`HasNoMoreWords`), and each line is own and `IsOneOfTwo` then, if each was before
   trying_line : (left : List ℕ) (line other : List IdSent) → IsLine z left other → HasNoMoreWords (olds other) (olds line)
-      → ((p : ℕ) → Each (λ x. IsOwn x × IsOneOfTwo p left x.id) line → Each (λ x. IsOwn x × IsOneOfTwo p left x.id) other)
+      → ((p : ℕ) → AllByRecursion (λ x. IsOwn x × IsOneOfTwo p left x.id) line → AllByRecursion (λ x. IsOwn x × IsOneOfTwo p left x.id) other)
       → IsTrying z word first left line → IsTrying z word first left other
   trying_line left line other sound has each h =
       record {
@@ -89,7 +91,7 @@ module _ (z : ℕ) (word first : List ℕ) where
   trying_asked id later line h =
       let new : IdSent = record { id = id; old = false } in
       trying_line (id ∷ later) line (line ++ new ∷ []) (line_asked z id later line h.sound) (λ v d s. subst (λ ids. IsSubsequence v ids) (olds_push id line) s)
-      (λ p g. each_append (λ x. IsOwn x × IsOneOfTwo p (id ∷ later) x.id) line (new ∷ []) g ((refl, inr refl), tt)) h
+      (λ p g. all_append (λ x. IsOwn x × IsOneOfTwo p (id ∷ later) x.id) line (new ∷ []) g ((refl, inr refl), tt)) h
 
   -- a reply comes, and is the answer
 
@@ -155,21 +157,17 @@ fronts (d ∷ done) left (a ∷ front) c tail e =
     let same : d ≡ a = cc in
     let rest : done ++ left ≡ front ++ c ∷ tail = cc in
     elim (fronts done left front c tail rest) [
-      | inl h ↦ inl (h.0, (let all : d ∷ done ≡ a ∷ (front ++ h.0) = cons_is d a done (front ++ h.0) same h.1 in all))
+      | inl h ↦ inl (h.0, ap₂ (λ (x : ℕ) (xs : List ℕ). x ∷ xs) same h.1)
       | inr h ↦ inr h
     ]
-  where
-    -- lists with equal first elements and equal rests are equal
-    cons_is : (d a : ℕ) (xs ys : List ℕ) → d ≡ a → xs ≡ ys → d ∷ xs ≡ a ∷ ys
-    cons_is d a xs ys e f = cc
 
 -- ids that don't have the last id c of a word don't contain the word
-own_has_no : (front : List ℕ) (c : ℕ) (ids : List ℕ) → Each (λ i. c ≡ i → ⊥) ids → IsSubsequence (front ++ c ∷ []) ids → ⊥
+own_has_no : (front : List ℕ) (c : ℕ) (ids : List ℕ) → AllByRecursion (λ i. c ≡ i → ⊥) ids → IsSubsequence (front ++ c ∷ []) ids → ⊥
 own_has_no front c ids h s = (all_behind (λ i. c ≡ i → ⊥) front (c ∷ []) (subword_each (λ i. c ≡ i → ⊥) (front ++ c ∷ []) ids h s)).0 refl
 
 -- where no old line is after an own one, a word that is in the ids of lines, and whose last id, c, no own line has, is in the ids
 -- of the old lines
-in_old : (xs : List IdSent) (front : List ℕ) (c : ℕ) → Pairs KeepsOwn xs → Each (λ x. IsOwn x → c ≡ x.id → ⊥) xs
+in_old : (xs : List IdSent) (front : List ℕ) (c : ℕ) → Pairs KeepsOwn xs → AllByRecursion (λ x. IsOwn x → c ≡ x.id → ⊥) xs
     → IsSubsequence (front ++ c ∷ []) (ids_of xs) → IsSubsequence (front ++ c ∷ []) (olds xs)
 in_old [] front c before none s = s
 in_old (x ∷ xs) front c before none s = chosen x.old refl (λ f. in_old xs f c before.1 none.1) front s where
@@ -204,10 +202,10 @@ not_three p left a b c ab ac bc (inr x) (inl y) (inr z) = ac (same_asked left a 
 -- where each line in flight is own and has an id that is `IsOneOfTwo`, the ids in flight don't contain a word of three or more
 -- ids that differ
 over_short : (p : ℕ) (left word : List ℕ) (line : List IdSent) (a b c : ℕ) → AllDiffer (a ∷ b ∷ c ∷ word)
-    → Each (λ x. IsOwn x × IsOneOfTwo p left x.id) line → IsSubsequence (a ∷ b ∷ c ∷ word) (ids_of line) → ⊥
+    → AllByRecursion (λ x. IsOwn x × IsOneOfTwo p left x.id) line → IsSubsequence (a ∷ b ∷ c ∷ word) (ids_of line) → ⊥
 over_short p left word line a b c d h s =
     let near = subword_each (IsOneOfTwo p left) (a ∷ b ∷ c ∷ word) (ids_of line)
-    (each_to_map (IsOneOfTwo p left) (λ (x : IdSent). x.id) line (each_more (λ x. IsOwn x × IsOneOfTwo p left x.id) (λ x. IsOneOfTwo p left x.id) (λ x g. g.1) line h)) s in
+    (each_map (λ (x : IdSent). IsOwn x × IsOneOfTwo p left x.id) (IsOneOfTwo p left) (λ (x : IdSent). x.id) (λ x g. g.1) line h) s in
     not_three p left a b c d.0.0 d.0.1.0 d.1.0.0 near.0 near.1.0 near.1.1.0
 
 -- where `IsTrying` holds of what is in flight, and no id is in the word twice: if the ids at the start (`first`) didn't contain
@@ -238,13 +236,13 @@ no_longer z word first left line a b more c tail e d none h s =
     front_differs = pairs_front (λ i j. i ≡ j → ⊥) (a ∷ b ∷ (more ++ c ∷ [])) tail (subst AllDiffer (e ∙ sym (ap (λ l. a ∷ b ∷ l) (append_assoc more (c ∷ []) tail))) d)
 
     -- where c isn't answered yet, and isn't the first id left, no own line has it
-    own_none : (asked : ℕ) (between : List ℕ) → left ≡ asked ∷ (between ++ c ∷ tail) → Each (λ x. IsOwn x → c ≡ x.id → ⊥) line
+    own_none : (asked : ℕ) (between : List ℕ) → left ≡ asked ∷ (between ++ c ∷ tail) → AllByRecursion (λ x. IsOwn x → c ≡ x.id → ⊥) line
     own_none asked between f =
-        each_more (HasNone (between ++ c ∷ tail)) (λ x. IsOwn x → c ≡ x.id → ⊥) (λ x g o. (all_behind (λ i. i ≡ x.id → ⊥) between (c ∷ tail) (g o)).0) line
+        all_on (HasNone (between ++ c ∷ tail)) (λ x. IsOwn x → c ≡ x.id → ⊥) line (λ x g o. (all_behind (λ i. i ≡ x.id → ⊥) between (c ∷ tail) (g o)).0)
         (subst (λ l. OwnIdsFit z l line) f h.sound.own).0
 
     -- the front with c has a third id, so it isn't in the ids of lines that have two ids at most
-    third : (more : List ℕ) → AllDiffer (a ∷ b ∷ (more ++ c ∷ [])) → IsSubsequence (a ∷ b ∷ (more ++ c ∷ [])) (ids_of line) → (p : ℕ) → Each (λ x. IsOwn x × IsOneOfTwo p left x.id) line → ⊥
+    third : (more : List ℕ) → AllDiffer (a ∷ b ∷ (more ++ c ∷ [])) → IsSubsequence (a ∷ b ∷ (more ++ c ∷ [])) (ids_of line) → (p : ℕ) → AllByRecursion (λ x. IsOwn x × IsOneOfTwo p left x.id) line → ⊥
     third [] d s p g = over_short p left [] line a b c d g s
     third (m ∷ more) d s p g = over_short p left (more ++ c ∷ []) line a b m d g s
 
@@ -252,13 +250,11 @@ no_longer z word first left line a b more c tail e d none h s =
 
 -- requests or replies that are made old (`aged`) have the same ids as before
 ids_aged : (xs : List IdSent) → ids_of (aged xs) ≡ ids_of xs
-ids_aged [] = refl
-ids_aged (x ∷ xs) = ap (λ l. x.id ∷ l) (ids_aged xs)
+ids_aged xs = map-map _ _ xs
 
 -- all requests or replies that are made old (`aged`) are old
-all_aged : (xs : List IdSent) → Each IsOld (aged xs)
-all_aged [] = tt
-all_aged (x ∷ xs) = (refl, all_aged xs)
+all_aged : (xs : List IdSent) → AllByRecursion IsOld (aged xs)
+all_aged xs = each_to_map IsOld (λ (x : IdSent). record { id = x.id; old = true }) xs (each_all (λ (x : IdSent). true ≡ true) (λ x. refl) xs)
 
 -- the ids in flight, those of replies first
 abbrev pub under_way : Model → List ℕ

@@ -2,14 +2,15 @@
 -- comes. A line, be it a request or a reply, is old if it is from before this synchronization, and else own. `left` has the ids
 -- of the word that aren't answered yet, and z is the word's last id. `IsLine` is the invariant.
 use Rattle.std.proofs.Common.{◌≡◌, ℕ, zero, suc, inl, Bool, true, false, List, [], ◌∷◌, ◌++◌, nat_eq, refl, sym, ◌∙◌, ap, subst}
+use Rattle.std.specs.List.{AllByRecursion}
 use Rattle.std.proofs.lemmas.Bool.{eqb-true, true≢false, false≢true}
+use Rattle.gc_lines.proofs.Lists.{all_append, all_on}
 use Rattle.gc_client.specs.Beginning.{left_by_one, IsSubsequence}
 use Rattle.gc_field.proofs.BeginIds.{IdSent, heard, Pairs, AllDiffer, ids_of, last}
-use Rattle.gc_world.specs.Order.{Each}
 use Rattle.gc_field.specs.World.{without, doubled}
 use Rattle.gc_field.proofs.BeginLists.{pairs_without, pairs_doubled, pairs_push, pairs_of_each}
 use Rattle.gc_field.proofs.BeginWords.{HasNoMoreWords, has_behind, has_twice, subword_more, cons_not_nil}
-use Rattle.gc_world.proofs.Rows.{each_more, each_append, each_without, each_doubled}
+use Rattle.gc_world.proofs.Rows.{each_without, each_doubled}
 
 -- The invariant.
 
@@ -37,7 +38,7 @@ KeepsOwn x y = IsOwn x → IsOwn y
 
 -- if x is own, it has none of these ids
 abbrev pub HasNone : List ℕ → IdSent → Type 0
-HasNone ids x = IsOwn x → Each (λ i. i ≡ x.id → ⊥) ids
+HasNone ids x = IsOwn x → AllByRecursion (λ i. i ≡ x.id → ⊥) ids
 
 -- if x is own and has the id `asked`, y, which is after it, has that id, too
 abbrev pub KeepsTheId : (asked : ℕ) (x y : IdSent) → Type 0
@@ -46,8 +47,8 @@ KeepsTheId asked x y = IsOwn x → x.id ≡ asked → y.id ≡ asked
 -- what holds of the own lines. If no id is left, each has the last id of the word. Else none has one of the ids `later`, and
 -- after a line with the id `asked` each line has that id
 abbrev pub OwnIdsFit : ℕ → List ℕ → List IdSent → Type 0
-OwnIdsFit z [] line = Each (λ x. IsOwn x → x.id ≡ z) line
-OwnIdsFit z (asked ∷ later) line = Each (HasNone later) line × Pairs (KeepsTheId asked) line
+OwnIdsFit z [] line = AllByRecursion (λ x. IsOwn x → x.id ≡ z) line
+OwnIdsFit z (asked ∷ later) line = AllByRecursion (HasNone later) line × Pairs (KeepsTheId asked) line
 
 -- the invariant of all that is in flight, replies first: the ids that are left differ, and the last of them, if any is left, is
 -- z; each own line is behind the old ones; and the own lines are as `OwnIdsFit` says
@@ -72,12 +73,12 @@ own_if true i ids e = absurd (cons_not_nil i ids e)
 own_if false i ids e = (refl, e)
 
 -- own lines have no old ids
-pub olds_none : (xs : List IdSent) → Each IsOwn xs → olds xs ≡ []
+pub olds_none : (xs : List IdSent) → AllByRecursion IsOwn xs → olds xs ≡ []
 olds_none [] h = refl
 olds_none (x ∷ xs) h = none_if x.old x.id (olds xs) h.0 (olds_none xs h.1)
 
 -- if there are no old ids, each line is own
-pub each_own : (xs : List IdSent) → olds xs ≡ [] → Each IsOwn xs
+pub each_own : (xs : List IdSent) → olds xs ≡ [] → AllByRecursion IsOwn xs
 each_own [] e = tt
 each_own (x ∷ xs) e = let h = own_if x.old x.id (olds xs) e in (h.0, each_own xs h.1)
 
@@ -87,7 +88,7 @@ all_if true i ids others e f = ap (λ l. i ∷ l) f
 all_if false i ids others e f = absurd (false≢true e)
 
 -- if all lines are old, the old ids are those of all lines
-pub olds_all : (xs ys : List IdSent) → Each IsOld xs → Each IsOld ys → olds (xs ++ ys) ≡ ids_of xs ++ ids_of ys
+pub olds_all : (xs ys : List IdSent) → AllByRecursion IsOld xs → AllByRecursion IsOld ys → olds (xs ++ ys) ≡ ids_of xs ++ ids_of ys
 olds_all [] [] h g = refl
 olds_all [] (y ∷ ys) h g = all_if y.old y.id (olds ys) (ids_of ys) g.0 (olds_all [] ys tt g.1)
 olds_all (x ∷ xs) ys h g = all_if x.old x.id (olds (xs ++ ys)) (ids_of xs ++ ids_of ys) h.0 (olds_all xs ys h.1 g)
@@ -170,7 +171,7 @@ line_asked z asked later line h =
       ordered = pairs_push KeepsOwn new (λ x o. refl) line h.ordered;
       clear = λ s. olds_push asked line ∙ h.clear (subst (λ l. IsSubsequence (asked ∷ later) l) (olds_push asked line) s);
       own = (
-        each_append (HasNone later) line (new ∷ []) h.own.0 ((λ o. each_more (λ i. asked ≡ i → ⊥) (λ i. i ≡ asked → ⊥) (λ i f e. f (sym e)) later h.differ.0), tt),
+        all_append (HasNone later) line (new ∷ []) h.own.0 ((λ o. all_on (λ i. asked ≡ i → ⊥) (λ i. i ≡ asked → ⊥) later (λ i f e. f (sym e)) h.differ.0), tt),
         pairs_push (KeepsTheId asked) new (λ x o e. refl) line h.own.1,
       );
     }
@@ -200,20 +201,11 @@ ends_behind z asked (i ∷ later) e = e
 -- and the lines after x
 own_answered : (z asked : ℕ) (later : List ℕ) (x : IdSent) (rest : List IdSent) → IsLine z (asked ∷ later) (x ∷ rest) → x.id ≡ asked → OwnIdsFit z later rest
 own_answered z asked [] x rest h e =
-    each_more (KeepsTheId asked x) (λ y. IsOwn y → y.id ≡ z) (λ y f o. f (is_own z asked x rest h e) e ∙ h.ends) rest h.own.1.0
+    all_on (KeepsTheId asked x) (λ y. IsOwn y → y.id ≡ z) rest (λ y f o. f (is_own z asked x rest h e) e ∙ h.ends) h.own.1.0
 own_answered z asked (i ∷ later) x rest h e = (
-  each_more (HasNone (i ∷ later)) (HasNone later) (λ y f o. (f o).1) rest h.own.0.1,
+  all_on (HasNone (i ∷ later)) (HasNone later) rest (λ y f o. (f o).1) h.own.0.1,
   pairs_of_each (HasNone (i ∷ later)) (KeepsTheId i) (λ y w f o g. absurd ((f o).0 (sym g))) rest h.own.0.1,
 )
-
--- where `IsLine` holds, and the front line, x, has the first id that is left, the old ids after x contain the ids left after that
--- one only if there is no old line after x
-clear_answered : (z asked : ℕ) (later : List ℕ) (x : IdSent) (rest : List IdSent) → IsLine z (asked ∷ later) (x ∷ rest) → x.id ≡ asked → IsSubsequence later (olds rest) → olds rest ≡ []
-clear_answered z asked later x rest h e s = chosen x.old refl where
-  -- the lemma above, by whether the reply is old (`b`)
-  chosen : (b : Bool) → x.old ≡ b → olds rest ≡ []
-  chosen true o = absurd (no_old x.old x.id asked (olds rest) later o e h.clear s)
-  chosen false o = olds_none rest (each_more (KeepsOwn x) IsOwn (λ y f. f o) rest h.ordered.0)
 
 -- `IsLine` is preserved if a reply answers
 line_answered : (z asked : ℕ) (later : List ℕ) (x : IdSent) (rest : List IdSent) → IsLine z (asked ∷ later) (x ∷ rest) → x.id ≡ asked → IsLine z later rest
@@ -222,9 +214,15 @@ line_answered z asked later x rest h e =
       differ = h.differ.1;
       ends = ends_behind z asked later h.ends;
       ordered = h.ordered.1;
-      clear = clear_answered z asked later x rest h e;
+      clear = clear x.old refl;
       own = own_answered z asked later x rest h e;
     }
+  where
+    -- whether the front line, x, is old (`b`) or not: the old ids after x contain the ids of `later` only if there is no old line
+    -- after x
+    clear : (b : Bool) → x.old ≡ b → IsSubsequence later (olds rest) → olds rest ≡ []
+    clear true o s = absurd (no_old x.old x.id asked (olds rest) later o e h.clear s)
+    clear false o s = olds_none rest (all_on (KeepsOwn x) IsOwn rest (λ y f. f o) h.ordered.0)
 
 -- `IsLine` is preserved if a reply comes
 pub line_came : (z : ℕ) (left : List ℕ) (x : IdSent) (rest : List IdSent) → IsLine z left (x ∷ rest) → IsLine z (heard left x.id) rest

@@ -2,20 +2,29 @@
 -- comes twice in one of two queues is so in the whole line, the one queue and then the other. `Pairs R` says R of each element
 -- and each one after it; `without k` is the loss of element k, and `doubled k` its repeat.
 use Rattle.std.proofs.Common.{◌≡◌, ℕ, zero, suc, ◌⊎◌, inl, inr, List, [], ◌∷◌, ◌++◌, map, refl, ap}
-use Rattle.gc_lines.proofs.Lists.{all_front, all_behind}
+use Rattle.std.specs.List.{AllByRecursion}
+use Rattle.gc_lines.proofs.Lists.{all_front, all_behind, all_append}
 use Rattle.gc_field.proofs.BeginIds.{Pairs}
-use Rattle.gc_world.specs.Order.{Each}
 use Rattle.gc_field.specs.World.{without, doubled}
-use Rattle.gc_world.proofs.Rows.{each_append, each_without, each_doubled}
+use Rattle.gc_world.proofs.Rows.{each_without, each_doubled}
+
+-- where Q of an element x implies P of f x, and each element of a list has Q, each element of the mapped list has P
+pub each_map : {A B : Type 0} (Q : A → Type 0) (P : B → Type 0) (f : A → B) → ((x : A) → Q x → P (f x)) → (xs : List A) → AllByRecursion Q xs → AllByRecursion P (map f xs)
+each_map Q P f g [] h = tt
+each_map Q P f g (x ∷ xs) h = (g x h.0, each_map Q P f g xs h.1)
 
 -- where P holds of f x for each element x of a list, P holds of each element of the mapped list
-pub each_to_map : {A B : Type 0} (P : B → Type 0) (f : A → B) (xs : List A) → Each (λ x. P (f x)) xs → Each P (map f xs)
-each_to_map P f [] h = tt
-each_to_map P f (x ∷ xs) h = (h.0, each_to_map P f xs h.1)
+pub each_to_map : {A B : Type 0} (P : B → Type 0) (f : A → B) (xs : List A) → AllByRecursion (λ x. P (f x)) xs → AllByRecursion P (map f xs)
+each_to_map P f xs h = each_map (λ x. P (f x)) P f (λ x p. p) xs h
+
+-- what holds of every value holds of each element of a list
+pub each_all : {A : Type 0} (P : A → Type 0) → ((x : A) → P x) → (xs : List A) → AllByRecursion P xs
+each_all P f [] = tt
+each_all P f (x ∷ xs) = (f x, each_all P f xs)
 
 module _ {A : Type 0} where
   -- where P and Q imply R, and each element has both, each has R
-  pub each_both : (P Q R : A → Type 0) → ((x : A) → P x → Q x → R x) → (xs : List A) → Each P xs → Each Q xs → Each R xs
+  pub each_both : (P Q R : A → Type 0) → ((x : A) → P x → Q x → R x) → (xs : List A) → AllByRecursion P xs → AllByRecursion Q xs → AllByRecursion R xs
   each_both P Q R f [] h g = tt
   each_both P Q R f (x ∷ xs) h g = (f x h.0 g.0, each_both P Q R f xs h.1 g.1)
 
@@ -34,7 +43,7 @@ module _ {A : Type 0} where
   -- `Pairs` is preserved if an element is added at the end to which every one has the relation
   pub pairs_push : (R : A → A → Type 0) (y : A) → ((x : A) → R x y) → (xs : List A) → Pairs R xs → Pairs R (xs ++ y ∷ [])
   pairs_push R y f [] h = (tt, tt)
-  pairs_push R y f (x ∷ xs) h = (each_append (R x) xs (y ∷ []) h.0 (f x, tt), pairs_push R y f xs h.1)
+  pairs_push R y f (x ∷ xs) h = (all_append (R x) xs (y ∷ []) h.0 (f x, tt), pairs_push R y f xs h.1)
 
   -- `Pairs` of a joined list holds of its front
   pub pairs_front : (R : A → A → Type 0) (xs ys : List A) → Pairs R (xs ++ ys) → Pairs R xs
@@ -47,18 +56,14 @@ module _ {A : Type 0} where
   pairs_back R (x ∷ xs) ys h = pairs_back R xs ys h.1
 
   -- where `Pairs` holds, each element before y has the relation to y
-  pub pairs_before : (R : A → A → Type 0) (xs : List A) (y : A) (ys : List A) → Pairs R (xs ++ y ∷ ys) → Each (λ x. R x y) xs
+  pub pairs_before : (R : A → A → Type 0) (xs : List A) (y : A) (ys : List A) → Pairs R (xs ++ y ∷ ys) → AllByRecursion (λ x. R x y) xs
   pairs_before R [] y ys h = tt
   pairs_before R (x ∷ xs) y ys h = ((all_behind (R x) xs (y ∷ ys) h.0).0, pairs_before R xs y ys h.1)
 
   -- if all elements satisfy P, and whatever satisfies P has the relation to everything, `Pairs` holds
-  pub pairs_of_each : (P : A → Type 0) (R : A → A → Type 0) → ((x y : A) → P x → R x y) → (xs : List A) → Each P xs → Pairs R xs
+  pub pairs_of_each : (P : A → Type 0) (R : A → A → Type 0) → ((x y : A) → P x → R x y) → (xs : List A) → AllByRecursion P xs → Pairs R xs
   pairs_of_each P R f [] h = tt
-  pairs_of_each P R f (x ∷ xs) h = (every xs, pairs_of_each P R f xs h.1) where
-    -- x has the relation to every element
-    every : (ys : List A) → Each (R x) ys
-    every [] = tt
-    every (y ∷ ys) = (f x y h.0, every ys)
+  pairs_of_each P R f (x ∷ xs) h = (each_all (R x) (λ y. f x y h.0) xs, pairs_of_each P R f xs h.1)
 
   -- what is lost from the back queue is lost from the line, the two queues one after the other
   pub lost_back : (k : ℕ) (xs ys : List A) → (j : ℕ) × (xs ++ without k ys ≡ without j (xs ++ ys))

@@ -27,15 +27,19 @@ module _ (I : List ℕ → List IdSent → Type 0) (lasts : Lasts I) where
       (subst (λ q. I (id ∷ later) q) (append_assoc s.down s.up (new ∷ []))
       (lasts.asked id later (s.down ++ s.up) (subst (λ l. I l (s.down ++ s.up)) e h)))
 
+  -- the front request, x, may count as the last reply: that is the same line
+  as_reply : (s : Model) (x : IdSent) (rest : List IdSent) → s.up ≡ x ∷ rest → Holds s → I s.left ((s.down ++ x ∷ []) ++ rest)
+  as_reply s x rest e h = subst (λ q. I s.left q) (sym (append_assoc s.down (x ∷ []) rest)) (subst (λ q. I s.left (s.down ++ q)) e h)
+
   -- `Holds` is preserved if a request reaches the instrument
   holds_reaches : (s : Model) (up : List IdSent) → s.up ≡ up → Holds s → Holds (reaches s up)
   holds_reaches s [] e h = h
-  holds_reaches s (x ∷ rest) e h = subst (λ q. I s.left q) (sym (append_assoc s.down (x ∷ []) rest)) (subst (λ q. I s.left (s.down ++ q)) e h)
+  holds_reaches s (x ∷ rest) e h = as_reply s x rest e h
 
   -- `Holds` is preserved by `Pass`
   holds_passes : (s : Model) (up : List IdSent) → s.up ≡ up → Holds s → Holds (passes s up)
   holds_passes s [] e h = h
-  holds_passes s (x ∷ rest) e h = subst (λ q. I s.left q) (sym (append_assoc s.down (x ∷ []) rest)) (subst (λ q. I s.left (s.down ++ q)) e h)
+  holds_passes s (x ∷ rest) e h = as_reply s x rest e h
 
   -- `Holds` is preserved if a reply comes
   holds_comes : (s : Model) (down : List IdSent) → s.down ≡ down → Holds s → Holds (comes s down)

@@ -1,35 +1,30 @@
 -- A whole synchronization: the invariant of its line (`IsLine`) holds through each move, and so does what is known of the id of
 -- the reply that the instrument retains (`KeptIdFits`). `IsSound` is both.
-use Rattle.std.proofs.Common.{◌≡◌, ℕ, Bool, true, false, List, [], ◌∷◌, ◌++◌, Option, Some, None, nat_eq, refl, sym, ◌∙◌, subst}
+use Rattle.std.proofs.Common.{◌≡◌, ℕ, Bool, true, false, List, [], ◌∷◌, ◌++◌, Option, Some, None, IfSome, nat_eq, refl, sym, ◌∙◌, subst}
+use Rattle.std.specs.List.{AllByRecursion}
 use Rattle.std.proofs.lemmas.Bool.{eqb-true, false≢true}
 use Rattle.gc_client.specs.Beginning.{left_by_one, IsSubsequence, the_word}
 use Rattle.gc_field.proofs.BeginIds.{IdSent, Model, Move, Ask, Reach, Pass, Come, Up_lose, Up_repeat, Down_lose, Down_repeat, Anew, heard, asks, reaches, kept_past, passes, comes, moves, moved, AllDiffer, ids_of, last, Begins, IsClean}
-use Rattle.gc_world.specs.Order.{Each}
 use Rattle.gc_field.specs.World.{without, doubled}
-use Rattle.gc_field.proofs.BeginLists.{each_both, pairs_before, pairs_of_each}
-use Rattle.gc_lines.proofs.Lists.{all_front, all_behind}
+use Rattle.gc_field.proofs.BeginLists.{each_all, each_both, pairs_before, pairs_of_each}
+use Rattle.gc_lines.proofs.Lists.{all_front, all_behind, all_append, all_on}
 use Rattle.gc_field.proofs.BeginMoves.{Lasts, holds_moves}
 use Rattle.gc_field.proofs.BeginWords.{word_differs}
 use Rattle.gc_field.proofs.BeginLines.{IsLine, IsOld, IsOwn, KeepsOwn, HasNone, KeepsTheId, OwnIdsFit, olds_all, each_own, line_without, line_doubled, line_asked, line_came, is_own}
-use Rattle.gc_world.proofs.Rows.{each_more, each_append, each_without, each_doubled}
+use Rattle.gc_world.proofs.Rows.{each_without, each_doubled}
 
 -- The invariant.
 
--- what is retained has this id, if anything is retained
-abbrev pub IsFor : ℕ → Option ℕ → Type 0
-IsFor id None = Unit {0}
-IsFor id (Some i) = i ≡ id
-
 -- if this is an own reply with this id, what is retained has that id
 abbrev pub KeepsIf : ℕ → Option ℕ → IdSent → Type 0
-KeepsIf asked kept x = IsOwn x → x.id ≡ asked → IsFor asked kept
+KeepsIf asked kept x = IsOwn x → x.id ≡ asked → IfSome kept (λ i. i ≡ asked)
 
 -- what is known of the id `kept` of the reply that the instrument retains, if it retains one. If no id of the word is left, that
 -- id is z, the word's last. Else, as soon as a reply of this synchronization with the first id that is left, `asked`, is in
 -- flight (`down`), that id is `asked`
 abbrev pub KeptIdFits : ℕ → List ℕ → List IdSent → Option ℕ → Type 0
-KeptIdFits z [] down kept = IsFor z kept
-KeptIdFits z (asked ∷ later) down kept = Each (KeepsIf asked kept) down
+KeptIdFits z [] down kept = IfSome kept (λ i. i ≡ z)
+KeptIdFits z (asked ∷ later) down kept = AllByRecursion (KeepsIf asked kept) down
 
 -- what holds of a state of a synchronization, where z is the word's last id: of the line, and of what is retained
 pub record IsSound (z : ℕ) (s : Model) : Type 0 where
@@ -51,11 +46,7 @@ keeps_doubled z (asked ∷ later) k down kept h = each_doubled (KeepsIf asked ke
 -- `KeptIdFits` holds if nothing is retained
 keeps_nothing : (z : ℕ) (left : List ℕ) (down : List IdSent) → KeptIdFits z left down None
 keeps_nothing z [] down = tt
-keeps_nothing z (asked ∷ later) down = every down where
-  -- `KeepsIf` holds of each reply if nothing is retained
-  every : (xs : List IdSent) → Each (KeepsIf asked None) xs
-  every [] = tt
-  every (x ∷ xs) = ((λ o e. tt), every xs)
+keeps_nothing z (asked ∷ later) down = each_all (KeepsIf asked None) (λ x o e. tt) down
 
 -- where `IsLine` holds, `KeptIdFits` holds with the id of the front request, x, as the one that is retained: if an own reply has
 -- the first id that is left, so has x; and if no id is left, x has the word's last id
@@ -68,14 +59,14 @@ keeps_reached z (asked ∷ later) down x rest h = pairs_before (KeepsTheId asked
 -- `KeptIdFits` is preserved if the reply to a request, x, is sent, whose id is the one that is retained
 keeps_replied : (z : ℕ) (left : List ℕ) (down : List IdSent) (x : IdSent) → KeptIdFits z left down (Some x.id) → KeptIdFits z left (down ++ x ∷ []) (Some x.id)
 keeps_replied z [] down x h = h
-keeps_replied z (asked ∷ later) down x h = each_append (KeepsIf asked (Some x.id)) down (x ∷ []) h ((λ o e. e), tt)
+keeps_replied z (asked ∷ later) down x h = all_append (KeepsIf asked (Some x.id)) down (x ∷ []) h ((λ o e. e), tt)
 
 -- where `IsLine` holds, `KeptIdFits` is preserved if the front reply, x, comes and answers
 keeps_answered : (z asked : ℕ) (later : List ℕ) (x : IdSent) (rest up : List IdSent) (kept : Option ℕ) → IsLine z (asked ∷ later) (x ∷ (rest ++ up))
     → x.id ≡ asked → KeptIdFits z (asked ∷ later) (x ∷ rest) kept → KeptIdFits z later rest kept
-keeps_answered z asked [] x rest up kept h e k = subst (λ i. IsFor i kept) h.ends (k.0 (is_own z asked x (rest ++ up) h e) e)
+keeps_answered z asked [] x rest up kept h e k = subst (λ id. IfSome kept (λ i. i ≡ id)) h.ends (k.0 (is_own z asked x (rest ++ up) h e) e)
 keeps_answered z asked (i ∷ later) x rest up kept h e k =
-    each_more (HasNone (i ∷ later)) (KeepsIf i kept) (λ y f o g. absurd ((f o).0 (sym g))) rest (all_front (HasNone (i ∷ later)) rest up h.own.0.1)
+    all_on (HasNone (i ∷ later)) (KeepsIf i kept) rest (λ y f o g. absurd ((f o).0 (sym g))) (all_front (HasNone (i ∷ later)) rest up h.own.0.1)
 
 -- where `IsLine` holds, `KeptIdFits` is preserved if the front reply, x, is heard: it holds of the ids that are left then, and of
 -- the replies after x
@@ -111,7 +102,7 @@ not_both x old own = false≢true (sym own ∙ old)
 -- `KeptIdFits` is preserved if the reply to an old request is sent, and what is retained stays
 keeps_old : (z : ℕ) (left : List ℕ) (down : List IdSent) (x : IdSent) (kept : Option ℕ) → IsOld x → KeptIdFits z left down kept → KeptIdFits z left (down ++ x ∷ []) kept
 keeps_old z [] down x kept old h = h
-keeps_old z (asked ∷ later) down x kept old h = each_append (KeepsIf asked kept) down (x ∷ []) h ((λ own e. absurd (not_both x old own)), tt)
+keeps_old z (asked ∷ later) down x kept old h = all_append (KeepsIf asked kept) down (x ∷ []) h ((λ own e. absurd (not_both x old own)), tt)
 
 -- where `IsSound` holds of a state, `KeptIdFits` still does after `Pass`
 keeps_passes : (z : ℕ) (s : Model) (up : List IdSent) → s.up ≡ up → IsSound z s → KeptIdFits z (passes s up).left (passes s up).down (passes s up).kept
@@ -157,24 +148,24 @@ last_of_last z [] = refl
 last_of_last z (i ∷ word) = refl
 
 -- `OwnIdsFit` holds at the start, if all lines in flight are old
-own_at_start : (z : ℕ) (word : List ℕ) (line : List IdSent) → Each IsOld line → OwnIdsFit z word line
-own_at_start z [] line h = each_more IsOld (λ x. IsOwn x → x.id ≡ z) (λ x old own. absurd (not_both x old own)) line h
+own_at_start : (z : ℕ) (word : List ℕ) (line : List IdSent) → AllByRecursion IsOld line → OwnIdsFit z word line
+own_at_start z [] line h = all_on IsOld (λ x. IsOwn x → x.id ≡ z) line (λ x old own. absurd (not_both x old own)) h
 own_at_start z (asked ∷ later) line h = (
-  each_more IsOld (HasNone later) (λ x old own. absurd (not_both x old own)) line h,
+  all_on IsOld (HasNone later) line (λ x old own. absurd (not_both x old own)) h,
   pairs_of_each IsOld (KeepsTheId asked) (λ x y old own e. absurd (not_both x old own)) line h,
 )
 
 -- `KeptIdFits` holds at the start, if the word isn't empty and all replies in flight are old
-keeps_at_start : (z : ℕ) (word : List ℕ) (down : List IdSent) (kept : Option ℕ) → (word ≡ [] → ⊥) → Each IsOld down → KeptIdFits z word down kept
+keeps_at_start : (z : ℕ) (word : List ℕ) (down : List IdSent) (kept : Option ℕ) → (word ≡ [] → ⊥) → AllByRecursion IsOld down → KeptIdFits z word down kept
 keeps_at_start z [] down kept some h = absurd (some refl)
-keeps_at_start z (asked ∷ later) down kept some h = each_more IsOld (KeepsIf asked kept) (λ x old own e. absurd (not_both x old own)) down h
+keeps_at_start z (asked ∷ later) down kept some h = all_on IsOld (KeepsIf asked kept) down (λ x old own e. absurd (not_both x old own)) h
 
 -- `IsSound` holds at the start of a synchronization (`Begins`), if no id is in the word twice
 pub sound_at_start : (word : List ℕ) (s : Model) → AllDiffer word → Begins word s → IsSound (last 0 word) s
 sound_at_start word s differ h =
     let z : ℕ = last 0 word in
     let line : List IdSent = s.down ++ s.up in
-    let old : Each IsOld line = each_append IsOld s.down s.up h.down h.up in
+    let old : AllByRecursion IsOld line = all_append IsOld s.down s.up h.down h.up in
     let starts : IsLine z word line =
     record {
       differ = differ;
@@ -196,13 +187,13 @@ clean_if : (z : ℕ) (s : Model) (left : List ℕ) → s.left ≡ left → left 
 clean_if z s left e f h =
     let done : s.left ≡ [] = e ∙ f in
     let line : IsLine z [] (s.down ++ s.up) = subst (λ l. IsLine z l (s.down ++ s.up)) done h.line in
-    let keeps : IsFor z s.kept = subst (λ l. KeptIdFits z l s.down s.kept) done h.keeps in
-    let each : Each (λ x. (x.old ≡ false) × (x.id ≡ z)) (s.down ++ s.up) =
+    let keeps : IfSome s.kept (λ i. i ≡ z) = subst (λ l. KeptIdFits z l s.down s.kept) done h.keeps in
+    let each : AllByRecursion (λ x. (x.old ≡ false) × (x.id ≡ z)) (s.down ++ s.up) =
     each_both IsOwn (λ x. IsOwn x → x.id ≡ z) (λ x. (x.old ≡ false) × (x.id ≡ z)) (λ x o f. (o, f o)) (s.down ++ s.up) (each_own (s.down ++ s.up) (line.clear tt)) line.own in
     record {
       up = all_behind (λ x. (x.old ≡ false) × (x.id ≡ z)) s.down s.up each;
       down = all_front (λ x. (x.old ≡ false) × (x.id ≡ z)) s.down s.up each;
-      kept = λ i e. subst (λ k. IsFor z k) e keeps;
+      kept = λ i e. subst (λ k. IfSome k (λ i. i ≡ z)) e keeps;
     }
 
 -- if no id is in the word twice, the ids in flight at the start of a synchronization don't contain the word (`Begins`), and no id

@@ -1,11 +1,12 @@
 -- When a list of ids contains a word as a subsequence ("the word is in the ids"). If it doesn't, it doesn't either once ids are
 -- lost; nor once an id is repeated directly after itself, if no id is in the word twice.
 use Rattle.std.proofs.Common.{◌≡◌, ℕ, zero, suc, ◌+◌, ◌-◌, ◌%◌, ◌<◌, ◌≤◌, inl, inr, Bool, true, false, List, [], ◌∷◌, ◌++◌, nat_eq, cond, refl, sym, ◌∙◌, subst, arith, map}
+use Rattle.std.specs.List.{AllByRecursion}
 use mathlib.Core.Path.{ap₂}
 use Rattle.std.proofs.lemmas.Bool.{eq-eqb, eqb-true, eqb-false, false≢true}
 use Rattle.gc_client.specs.Beginning.{left_by_one, IsSubsequence, the_word}
 use Rattle.gc_field.proofs.BeginIds.{heard, AllDiffer, upward}
-use Rattle.gc_world.specs.Order.{Each, Rising}
+use Rattle.gc_world.specs.Order.{Rising}
 use Rattle.gc_world.proofs.Rows.{rising_lower}
 
 -- a list with an element isn't empty
@@ -33,7 +34,7 @@ subword_front (w ∷ word) more (i ∷ ids) (inl h) = inl (h.0, subword_front wo
 subword_front (w ∷ word) more (i ∷ ids) (inr h) = inr (subword_front (w ∷ word) more ids h)
 
 -- what holds of each of these ids holds of each id of a word that is in them
-pub subword_each : (P : ℕ → Type 0) (word ids : List ℕ) → Each P ids → IsSubsequence word ids → Each P word
+pub subword_each : (P : ℕ → Type 0) (word ids : List ℕ) → AllByRecursion P ids → IsSubsequence word ids → AllByRecursion P word
 subword_each P [] ids h s = tt
 subword_each P (w ∷ word) [] h s = absurd s
 subword_each P (w ∷ word) (i ∷ ids) h (inl s) = (subst P (sym s.0) h.0, subword_each P word ids h.1 s.1)
@@ -79,7 +80,7 @@ new_if i j rest true t e = absurd (false≢true e)
 new_if i j rest false t e = ((λ same. false≢true (sym t ∙ eq-eqb i j same)), e)
 
 -- an id that isn't among these ids by `is_new` differs from each of them
-new_differs : (i : ℕ) (ids : List ℕ) → is_new i ids ≡ true → Each (λ j. i ≡ j → ⊥) ids
+new_differs : (i : ℕ) (ids : List ℕ) → is_new i ids ≡ true → AllByRecursion (λ j. i ≡ j → ⊥) ids
 new_differs i [] e = tt
 new_differs i (j ∷ ids) e = let h = new_if i j (is_new i ids) (nat_eq i j) refl e in (h.0, new_differs i ids h.1)
 
@@ -145,13 +146,13 @@ has_nothing others [] d h = tt
 has_nothing others (w ∷ word) d h = absurd h
 
 -- if a equals b, numbers below a are below b
-each_below : (a b : ℕ) (ns : List ℕ) → a ≡ b → Each (λ m. m < a) ns → Each (λ m. m < b) ns
-each_below a b ns e h = subst (λ c. Each (λ m. m < c) ns) e h
+each_below : (a b : ℕ) (ns : List ℕ) → a ≡ b → AllByRecursion (λ m. m < a) ns → AllByRecursion (λ m. m < b) ns
+each_below a b ns e h = subst (λ c. AllByRecursion (λ m. m < c) ns) e h
 
 -- each word without an id twice that is in the ids of the numbers `ns`, which never fall from a on and are below a + k, is in
 -- the k ids upward from a
 abbrev AreUpward : (a k : ℕ) (ns : List ℕ) → Type 0
-AreUpward a k ns = Rising (a + 1) ns → Each (λ m. m < a + k) ns → HasNoMoreWords (ids_at ns) (upward a k)
+AreUpward a k ns = Rising (a + 1) ns → AllByRecursion (λ m. m < a + k) ns → HasNoMoreWords (ids_at ns) (upward a k)
 
 -- where `AreUpward` of a + 1 and k holds of m and `ns`, `AreUpward` of a and k + 1 is preserved if m is put before `ns`, whether
 -- m is a (`b`) or above it
@@ -183,16 +184,16 @@ upward_round : (n a b : ℕ) → a % 8 ≡ b % 8 → upward a n ≡ upward b n
 upward_round zero a b e = refl
 upward_round (suc n) a b e = ap₂ (λ i ids. i ∷ ids) e (upward_round n (a + 1) (b + 1) (omega (arith, e)))
 
--- where `low` is above 0: numbers that never fall, of the eight consecutive ones from `low` - 1 on, as a run that measures has in
--- flight, don't contain 6 5 4 modulo 8
-pub three_within : (low : ℕ) (ns : List ℕ) → 0 < low → Rising low ns → Each (λ n. n < low + 7) ns → IsSubsequence (6 ∷ 5 ∷ 4 ∷ []) (map (λ n. n % 8) ns) → ⊥
+-- where `low` is above 0: numbers that never fall, of the eight consecutive ones from `low` - 1 on, as a run that has
+-- synchronized has in flight, don't contain 6 5 4 modulo 8
+pub three_within : (low : ℕ) (ns : List ℕ) → 0 < low → Rising low ns → AllByRecursion (λ n. n < low + 7) ns → IsSubsequence (6 ∷ 5 ∷ 4 ∷ []) (ids_at ns) → ⊥
 three_within low ns some h below s =
     let a : ℕ = low - 1 in
     let first : low ≡ a + 1 = omega (arith, some) in
     let within = are_upward 8 a ns (subst (λ l. Rising l ns) first h) (each_below (low + 7) (a + 8) ns (omega (arith, first)) below) (6 ∷ 5 ∷ 4 ∷ []) (all_differ (6 ∷ 5 ∷ 4 ∷ []) refl) s in
     three_upward (a % 8) (omega arith) (subst (λ ids. IsSubsequence (6 ∷ 5 ∷ 4 ∷ []) ids) (upward_round 8 a (a % 8) (omega arith)) within)
 
--- where `low` is above 0: numbers that never fall, of the eight consecutive ones from `low` - 1 on, as a run that measures has in
--- flight, don't contain the word modulo 8
-pub none_within : (low : ℕ) (ns : List ℕ) → 0 < low → Rising low ns → Each (λ n. n < low + 7) ns → IsSubsequence the_word (map (λ n. n % 8) ns) → ⊥
-none_within low ns some h below s = three_within low ns some h below (subword_front (6 ∷ 5 ∷ 4 ∷ []) (3 ∷ 2 ∷ 1 ∷ 0 ∷ 7 ∷ []) (map (λ n. n % 8) ns) s)
+-- where `low` is above 0: numbers that never fall, of the eight consecutive ones from `low` - 1 on, as a run that has
+-- synchronized has in flight, don't contain the word modulo 8
+pub none_within : (low : ℕ) (ns : List ℕ) → 0 < low → Rising low ns → AllByRecursion (λ n. n < low + 7) ns → IsSubsequence the_word (ids_at ns) → ⊥
+none_within low ns some h below s = three_within low ns some h below (subword_front (6 ∷ 5 ∷ 4 ∷ []) (3 ∷ 2 ∷ 1 ∷ 0 ∷ 7 ∷ []) (ids_at ns) s)

@@ -14,7 +14,7 @@ use Rattle.gc_station.proofs.Going.{runs-append}
 use Rattle.gc_station.specs.Model.{Runs, after_all, opening}
 use Rattle.gc_links.specs.Acts.{Told}
 use Rattle.gc_field.specs.Begin.{begins}
-use Rattle.gc_field.specs.BeginsAnew.{IsAnsweredAnew, acts, acts_anew, answer, commands, from, given_up, left_by_first, moves, moves_anew, plan, later_replies, runs, scope, seventh_reply, turns}
+use Rattle.gc_field.specs.BeginsAnew.{IsAnsweredAnew, acts, acts_anew, answer, commands, from, given_up, left_by_first, moves, moves_anew, plan, later_replies, runs, scope, seven_unanswered, seventh_reply, turns}
 use Rattle.gc_field.specs.Begun.{WasMadeOn}
 use Rattle.gc_field.specs.CountingChain.{at_start, null_replies, counting, first_reply}
 use Rattle.gc_field.specs.Field.{seen}
@@ -45,16 +45,16 @@ unfolding is_elsewhere header_at reply_at digits
 shown_anew = refl
 
 -- the acts until the station resynchronizes are a run
-given_up_runs : Runs plan commands (opening plan scope) given_up
+runs_until_given_up : Runs plan commands (opening plan scope) given_up
 unfolding is_elsewhere header_at reply_at digits
-given_up_runs =
-    runs-append plan commands (opening plan scope) (begun_with null_replies []) (drop 27 given_up) (opens_counting 7 commands scope.reads)
+runs_until_given_up =
+    runs-append plan commands (opening plan scope) (begun_with null_replies []) seven_unanswered (opens_counting 7 commands scope.reads)
     (tt, (refl, (tt, (refl, (tt, (refl, (tt, (refl, (tt, (refl, (tt, (refl, (tt, (refl, (tt, (tt, tt))))))))))))))))
 
 -- the acts from there on, in which the station resynchronizes, are a run from the model that the acts before them leave
-anew_runs : Runs plan commands (after_all plan commands (opening plan scope) given_up) acts_anew
+runs_anew : Runs plan commands (after_all plan commands (opening plan scope) given_up) acts_anew
 unfolding is_elsewhere header_at reply_at digits
-anew_runs =
+runs_anew =
     runs-append plan commands (after_all plan commands (opening plan scope) given_up) (take 9 acts_anew) (drop 9 acts_anew)
     (tt, (refl, (tt, (tt, (tt, (refl, (tt, (tt, (tt, tt)))))))))
     (refl, (tt, (tt, (refl, (tt, (tt, (refl, (tt, (tt, (refl, (tt, (tt, (refl, (tt, (tt, (refl, (tt, (tt, (refl, (tt, (tt, (refl, tt))))))))))))))))))))))
@@ -77,7 +77,7 @@ answered_anew =
       instrument = counted.instrument;
       field =
           record {
-            runs = runs-append plan commands (opening plan scope) given_up acts_anew given_up_runs anew_runs;
+            runs = runs-append plan commands (opening plan scope) given_up acts_anew runs_until_given_up runs_anew;
             lines = record { ids = tt; good = tt };
             none = λ h. h;
             shown = subst (AreShownAs counting at_start runs) (sym parts_are) (shown_are, refl, (shown_anew, refl, (refl, refl, tt)));

@@ -1,6 +1,7 @@
 -- After a clean synchronization any possible moves are faithful. The eight null procedures count as requests 0 to 7, which are
 -- settled, and what is in flight belongs to the last of them.
 use Rattle.std.proofs.Common.{◌≡◌, ℕ, ◌+◌, ◌<◌, ◌≤◌, inl, inr, Bool, true, List, [], ◌∷◌, ◌++◌, map, length, Option, Some, None, refl, sym, ◌∙◌, ap, subst, arith, append_assoc}
+use Rattle.std.specs.List.{AllByRecursion}
 use Rattle.std.specs.Prelude.{slice_get}
 use Rattle.std.proofs.lemmas.Option.{none-some}
 use Rattle.gc_catalogue.specs.declared.asked.Asked.{Asked}
@@ -13,7 +14,7 @@ use Rattle.gc_client.proofs.OneForOne.{one_for_one}
 use Rattle.gc_instrument.specs.State.{KeptReply}
 use Rattle.gc_world.specs.Clients.{ByNumber, by_ids, by_numbers}
 use Rattle.gc_world.specs.Exchange.{IsExchange}
-use Rattle.gc_world.specs.Order.{Each, Rising, numbers}
+use Rattle.gc_world.specs.Order.{Rising, numbers}
 use Rattle.gc_world.specs.Record.{IsReplyTo}
 use Rattle.gc_field.specs.World.{Ends, Numbered, Request, Wire, World, written}
 use Rattle.gc_world.proofs.Booked.{has_at}
@@ -26,10 +27,11 @@ use Rattle.gc_field.specs.Begun.{IsBehindTheTable, IsClean, IsFaithful, IsSafe, 
 use Rattle.gc_field.specs.Field.{Move, Sends, ArePossible, AsksOnly, moved, seen}
 use Rattle.gc_field.specs.Instrument.{IsAnInstrument, IsAnInstrumentFor, all_known}
 use Rattle.gc_field.specs.Once.{ActsOnce, IsInOrder}
+use Rattle.gc_field.proofs.BeginLists.{each_map}
 use Rattle.gc_field.proofs.Fresh.{AllBut, AnyLine, EachOne, AllExcepted, asks_all, near_the_table, renewed}
 use Rattle.gc_field.proofs.Instruments.{alike_is, exchange_of}
-use Rattle.gc_field.proofs.Moving.{Both, both_all, first_reply, IsOwnSettlement, IsVouchedFor, RepliesHave, replies_have_later, vouched_for, whole_all, made_here}
-use Rattle.gc_field.proofs.Possible.{moved_append, possible_behind, possible_front}
+use Rattle.gc_field.proofs.Moving.{Both, both_all, first_reply, IsOwnSettlement, IsVouchedFor, RepliesHave, replies_have_later, vouched_for, trusted_all, made_here}
+use Rattle.gc_field.proofs.Possible.{front_possible, later_possible, moved_append}
 use Rattle.gc_field.proofs.Seen.{same_all}
 use Rattle.gc_field.proofs.KeptReplies.{KeptIs}
 use Rattle.gc_field.proofs.NearTable.{IsNear}
@@ -95,9 +97,8 @@ module _ {Line : Type 0} where
   rising_up (x ∷ xs) = (omega arith, rising_up xs)
 
   -- where Q of a line implies P of the line with the number 7, and each line has Q, each has P with that number
-  pub each_last : (P : Numbered Line → Type 0) (Q : Line → Type 0) → ((x : Line) → Q x → P (record { number = 7; line = x })) → (xs : List Line) → Each Q xs → Each P (of_last xs)
-  each_last P Q f [] h = tt
-  each_last P Q f (x ∷ xs) h = (f x h.0, each_last P Q f xs h.1)
+  pub each_last : (P : Numbered Line → Type 0) (Q : Line → Type 0) → ((x : Line) → Q x → P (record { number = 7; line = x })) → (xs : List Line) → AllByRecursion Q xs → AllByRecursion P (of_last xs)
+  each_last P Q f xs h = each_map Q P (λ x. record { number = 7; line = x }) f xs h
 
 -- where the lines of two lists all have number 7, the numbers of one list followed by those of the other never fall, from 7 on
 rising_both : {A B : Type 0} (xs : List A) (ys : List B) → Rising 8 (numbers (of_last xs) ++ numbers (of_last ys))
@@ -106,8 +107,8 @@ rising_both (x ∷ xs) ys = (omega arith, rising_both xs ys)
 
 module _ {State : Type 0} (ends : Ends State) (Good : State → Type 0) (kept : State → Option KeptReply) (keeper : IsAnInstrument ends Good kept) (width : ℕ) (narrow : width ≤ 7) where
   -- what the proofs of the world ask of an instrument, which this one meets
-  abbrev pub ex : IsExchange ends Good
-  ex = exchange_of ends Good kept keeper
+  abbrev pub exchange : IsExchange ends Good
+  exchange = exchange_of ends Good kept keeper
 
   -- what was sent: the null procedures, and then what the client sent
   pub sent_is : (u : UnderWay State) (ms : List (Move State)) → ArePossible ends Good kept (by_ids width ends) ms (ids_begun u)
@@ -136,7 +137,7 @@ module _ {State : Type 0} (ends : Ends State) (Good : State → Type 0) (kept : 
         }
 
     -- after a clean synchronization the world of the client that knows ids and that of the client that is given numbers agree
-    pub both_begun : Both width narrow ends Good ex kept (ids_begun u) (numbers_begun u)
+    pub both_begun : Both width narrow ends Good exchange kept (ids_begun u) (numbers_begun u)
     both_begun = record { agree = record { wire = refl; client = record { window = refl; next = refl } }; sound = sound_begun }
 
     -- the eighth null procedure is among the requests of a synchronization, with the number 7
@@ -202,17 +203,17 @@ module _ {State : Type 0} (ends : Ends State) (Good : State → Type 0) (kept : 
     own_if_all_known knows is null ms p asks =
         let M : ℕ → Asked → List ℕ → Type 0 = λ n call line. WasMadeOn width ends u ms n call line in
         let E : ℕ → Type 0 = λ n. n < 8 in
-        let on = made_here width narrow ends Good ex kept (ids_begun u) (numbers_begun u) both_begun ms p in
+        let on = made_here width narrow ends Good exchange kept (ids_begun u) (numbers_begun u) both_begun ms p in
         let start = vouched_begun knows is E (λ n l. l) (Unit {0}) M (inl (tt, omega arith, (null, (null, (null, (null, (null, (null, (null, (null, tt)))))))))) in
-        vouched_for width narrow knows ends Good ex kept is 8 E (Unit {0}) M (moved ends (by_numbers width) ms (numbers_begun u))
-        (whole_all width narrow knows ends Good ex kept is 8 E (Unit {0}) M ms (ids_begun u) (numbers_begun u) both_begun p (λ all. asks) on start)
+        vouched_for width narrow knows ends Good exchange kept is 8 E (Unit {0}) M (moved ends (by_numbers width) ms (numbers_begun u))
+        (trusted_all width narrow knows ends Good exchange kept is 8 E (Unit {0}) M ms (ids_begun u) (numbers_begun u) both_begun p (λ all. asks) on start)
 
-    -- the world of numbers that possible moves leave is `AllExcepted`
+    -- `AllExcepted` holds of the world of the client that is given numbers after possible moves
     all_excepted : (ms : List (Move State)) → ArePossible ends Good kept (by_ids width ends) ms (ids_begun u)
         → AllExcepted width narrow ends Good kept keeper 8 (moved ends (by_numbers width) ms (numbers_begun u))
     all_excepted ms p =
-        whole_all width narrow is_of_table ends Good ex kept keeper 8 EachOne ⊥ AnyLine ms (ids_begun u) (numbers_begun u) both_begun p (λ never. absurd never) (replies_have_any ms (numbers_begun u))
-        (vouched_begun is_of_table keeper EachOne (λ n l. tt) ⊥ AnyLine (inr (λ n. inl tt)))
+        trusted_all width narrow is_of_table ends Good exchange kept keeper 8 EachOne ⊥ AnyLine ms (ids_begun u) (numbers_begun u) both_begun p (λ never. absurd never)
+        (replies_have_any ms (numbers_begun u)) (vouched_begun is_of_table keeper EachOne (λ n l. tt) ⊥ AnyLine (inr (λ n. inl tt)))
 
     -- `IsVouchedFor` holds after possible moves with all requests excepted but one, m, that was sent after the table
     -- (`WentOutBehindTheTable`)
@@ -221,24 +222,23 @@ module _ {State : Type 0} (ends : Ends State) (Good : State → Type 0) (kept : 
     behind_own ms p m h =
         let M : ℕ → Asked → List ℕ → Type 0 = λ n call line. WasMadeOn width ends u ms n call line in
         let rest = Sends h.target h.call h.deadline ∷ h.later in
-        let whole = subst (λ l. ArePossible ends Good kept (by_ids width ends) l (ids_begun u)) h.split p in
-        let before = possible_front width ends Good kept h.front rest (ids_begun u) whole in
+        let before = front_possible width ends Good kept ms h.front rest (ids_begun u) h.split p in
         let a = moved ends (by_ids width ends) h.front (ids_begun u) in
         let b = moved ends (by_numbers width) h.front (numbers_begun u) in
-        let both = both_all width narrow ends Good ex kept h.front (ids_begun u) (numbers_begun u) before both_begun in
+        let both = both_all width narrow ends Good exchange kept h.front (ids_begun u) (numbers_begun u) before both_begun in
         let same : a.wire ≡ b.wire = both.agree.wire in
         let size : length b.wire.sent ≡ m = sym (ap (λ (w : Wire State). length w.sent) same) ∙ h.number in
         let none = all_excepted h.front before in
         let near = near_the_table width narrow ends Good kept keeper 8 m b none (omega arith) size (subst (λ (w : Wire State). IsBehindTheTable w) same h.behind_table) in
         let one = renewed width narrow ends Good kept keeper 8 M m b both.sound none size near in
-        let made = made_here width narrow ends Good ex kept (ids_begun u) (numbers_begun u) both_begun ms p in
+        let made = made_here width narrow ends Good exchange kept (ids_begun u) (numbers_begun u) both_begun ms p in
         let on = replies_have_later width ends M h.front rest (numbers_begun u) (subst (λ l. RepliesHave width ends M l (numbers_begun u)) h.split made) in
-        let last = whole_all width narrow is_of_table ends Good ex kept keeper 8 (AllBut m) ⊥ M rest a b both
-        (possible_behind width ends Good kept h.front rest (ids_begun u) whole) (λ never. absurd never) on one in
+        let last = trusted_all width narrow is_of_table ends Good exchange kept keeper 8 (AllBut m) ⊥ M rest a b both
+        (later_possible width ends Good kept ms h.front rest (ids_begun u) h.split p) (λ never. absurd never) on one in
         let there : moved ends (by_numbers width) ms (numbers_begun u) ≡ moved ends (by_numbers width) rest b =
         ap (λ l. moved ends (by_numbers width) l (numbers_begun u)) h.split ∙ moved_append ends (by_numbers width) h.front rest (numbers_begun u) in
         subst (λ (w : World (ByNumber Asked) State). IsVouchedFor ends Good kept (AllBut m) M w.wire) (sym there)
-        (vouched_for width narrow is_of_table ends Good ex kept keeper 8 (AllBut m) ⊥ M (moved ends (by_numbers width) rest b) last)
+        (vouched_for width narrow is_of_table ends Good exchange kept keeper 8 (AllBut m) ⊥ M (moved ends (by_numbers width) rest b) last)
 
     -- after possible moves the settlement of a request from number 8 on that is `IsSafe` is its own
     safe_own : (ms : List (Move State)) → ArePossible ends Good kept (by_ids width ends) ms (ids_begun u) → (m : ℕ) (s : Settlement Asked) → 8 ≤ m → IsSafe width ends u Good kept ms m
@@ -253,7 +253,7 @@ module _ {State : Type 0} (ends : Ends State) (Good : State → Type 0) (kept : 
     faithful ms p =
         let a = moved ends (by_ids width ends) ms (ids_begun u) in
         let b = moved ends (by_numbers width) ms (numbers_begun u) in
-        let both = both_all width narrow ends Good ex kept ms (ids_begun u) (numbers_begun u) p both_begun in
+        let both = both_all width narrow ends Good exchange kept ms (ids_begun u) (numbers_begun u) p both_begun in
         let same : a.wire ≡ b.wire = both.agree.wire in
         let one = same_all width ends keeper.hears Good kept ms course_after_nulls (ids_begun u) p (record { sent = refl; settled = refl; client = refl }) in
         let x = course width course_after_nulls (seen ms) in
@@ -267,7 +267,7 @@ module _ {State : Type 0} (ends : Ends State) (Good : State → Type 0) (kept : 
         ∙ ap (λ l. map of_sent nulls ++ l) (one_for_one width (seen ms)) ∙ sym from.sent ∙ one.sent in
         let pairs = settled.one_for_one a.wire.settled a.client.waiting a.wire.sent parts in
         let M : ℕ → Asked → List ℕ → Type 0 = λ n call line. WasMadeOn width ends u ms n call line in
-        let all = vouched_for width narrow is_of_table ends Good ex kept keeper 8 EachOne ⊥ AnyLine b (all_excepted ms p) in
+        let all = vouched_for width narrow is_of_table ends Good exchange kept keeper 8 EachOne ⊥ AnyLine b (all_excepted ms p) in
         let own : (m : ℕ) (s : Settlement Asked) → 8 ≤ m → IsSafe width ends u Good kept ms m → slice_get a.wire.settled m ≡ Some s → IsOwnSettlement ends Good M a.wire m s =
         λ m s ge safe e. subst (λ (w : Wire State). IsOwnSettlement ends Good M w m s) (sym same)
         (safe_own ms p m s ge safe (subst (λ (w : Wire State). slice_get w.settled m ≡ Some s) same e)) in
@@ -290,5 +290,5 @@ module _ {State : Type 0} (ends : Ends State) (Good : State → Type 0) (kept : 
               (v.0, subst (λ call. M m call v.0) (sym (pairs.same m s v.1.request e v.1.found).1) v.1.on);
           once = λ keeps k. subst (λ (w : Wire State). ActsOnce keeps w.sent w.executed w.starts) (sym same) (all.once keeps k);
           agrees = same;
-          first_reply = λ n line rest e le. first_reply width narrow ends Good ex kept a b n line rest both e le;
+          first_reply = λ n line rest e le. first_reply width narrow ends Good exchange kept a b n line rest both e le;
         }

@@ -3,18 +3,18 @@
 -- list of the ids of a synchronization's eight null procedures: 6 down to 0, and then 7.
 use Rattle.std.proofs.Common.{◌≡◌, ℕ, ◌+◌, ◌-◌, ◌%◌, ◌<◌, ◌≤◌, Bool, true, false, List, [], ◌∷◌, ◌++◌, length, map, Option, Some, refl, sym, ◌∙◌, ap, subst, arith, ltb, eqb}
 use mathlib.Core.Path.{ap₂}
-use Rattle.std.specs.List.{filter_map, cons_option}
+use Rattle.std.specs.List.{filter_map, cons_option, AllByRecursion}
 use Rattle.std.proofs.lemmas.Bool.{ltb-false}
 use Rattle.std.proofs.lemmas.List.{map-append}
+use Rattle.gc_lines.proofs.Lists.{all_on}
 use Rattle.gc_catalogue.specs.declared.asked.Asked.{Asked}
 use Rattle.gc_client.specs.Beginning.{IsSubsequence, the_word}
 use Rattle.gc_client.specs.Rule as rule
-use Rattle.gc_client.specs.Rule.{ById, Sending}
+use Rattle.gc_client.specs.Rule.{ById}
 use Rattle.gc_instrument.specs.State.{KeptReply}
 use Rattle.gc_world.specs.Clients.{ByNumber, by_ids, by_numbers, number_reply, number_send}
-use Rattle.gc_world.specs.Order.{Each, numbers}
-use Rattle.gc_field.specs.World.{Ends, Numbered, Request, Step, Send, Up_deliver, Up_lose, Up_repeat, Down_deliver, Down_lose, Down_repeat, Expire, Restart_client, Restart_instrument, Nothing, Wire, World, happens, down_delivered, requested}
-use Rattle.gc_world.proofs.Rows.{each_more}
+use Rattle.gc_world.specs.Order.{numbers}
+use Rattle.gc_field.specs.World.{Ends, Numbered, Request, Step, Wire, World, happens, down_delivered, requested}
 use Rattle.gc_world.proofs.Sound.{IsComing, IsGoing, Sound, all_sent}
 use Rattle.gc_field.specs.Begin.{UnderWay, ids_under_way}
 use Rattle.gc_field.specs.Beginnings.{HasRisingIds, on_line}
@@ -22,7 +22,9 @@ use Rattle.gc_field.specs.Begun.{IsClean, behind, ids_begun, numbers_begun}
 use Rattle.gc_field.specs.Field.{Move, Sends, Tells, Comes, Foreign, OnLine, Anew, Changes, Joins, IsLineStep, ArePossible, moved}
 use Rattle.gc_field.specs.Instrument.{IsAnInstrument}
 use Rattle.gc_field.proofs.BeginWords.{none_within, three_within, ids_at}
-use Rattle.gc_field.proofs.BegunFaithful.{both_begun, ex}
+use Rattle.gc_field.proofs.BeginLists.{each_map}
+use Rattle.gc_field.proofs.BegunFaithful.{both_begun, exchange}
+use Rattle.gc_field.proofs.LineSteps.{same_over_line}
 use Rattle.gc_field.proofs.Moving.{both_all}
 
 -- Rising ids contain neither the word nor its first three ids.
@@ -43,7 +45,7 @@ pub record IsBased (c : ByNumber Asked) : Type 0 where
   pub count : 8 ≤ c.count
 
 module _ {State : Type 0} (width : ℕ) (ends : Ends State) where
-  -- the client of a world of numbers is `IsBased`
+  -- the client of this world, which is given the numbers, is `IsBased`
   abbrev Based : World (ByNumber Asked) State → Type 0
   Based w = IsBased w.client
 
@@ -64,17 +66,7 @@ module _ {State : Type 0} (width : ℕ) (ends : Ends State) where
 
   -- a step of the line preserves `Based`
   based_line : (w : World (ByNumber Asked) State) (step : Step) → IsLineStep step → Based w → Based (happens ends (by_numbers width) w step)
-  based_line w (Send target call deadline) p h = absurd p
-  based_line w Up_deliver p h = h
-  based_line w (Up_lose k) p h = h
-  based_line w (Up_repeat k) p h = h
-  based_line w Down_deliver p h = absurd p
-  based_line w (Down_lose k) p h = h
-  based_line w (Down_repeat k) p h = h
-  based_line w (Expire now) p h = absurd p
-  based_line w Restart_client p h = absurd p
-  based_line w Restart_instrument p h = absurd p
-  based_line w Nothing p h = h
+  based_line w step p h = subst IsBased (sym (same_over_line ends (by_numbers width) w step p).client) h
 
   module _ (Good : State → Type 0) (kept : State → Option KeptReply) where
     -- moves that are possible for the client that knows ids preserve `Based`
@@ -93,7 +85,7 @@ module _ {State : Type 0} (width : ℕ) (ends : Ends State) where
 -- Its ids.
 
 -- where the client never restarted (`since` is 0), the ids of the requests in flight are their numbers modulo 8
-ids_up : (since total : ℕ) (xs : List (Numbered Request)) → since ≡ 0 → Each (IsGoing since total) xs → map (λ x. x.id) (map (λ x. x.line) xs) ≡ ids_at (numbers xs)
+ids_up : (since total : ℕ) (xs : List (Numbered Request)) → since ≡ 0 → AllByRecursion (IsGoing since total) xs → map (λ x. x.id) (map (λ x. x.line) xs) ≡ ids_at (numbers xs)
 ids_up since total [] e h = refl
 ids_up since total (x ∷ xs) e h =
     let plain : x.number - since ≡ x.number = omega (arith, e) in
@@ -101,7 +93,8 @@ ids_up since total (x ∷ xs) e h =
 
 module _ {State : Type 0} (width : ℕ) (ends : Ends State) (Good : State → Type 0) (same_heard : (line : List ℕ) → ends.heard line ≡ rule.heard line) where
   -- where the client never restarted (`since` is 0), the ids of the replies in flight are their numbers modulo 8
-  ids_down : (since total : ℕ) (xs : List (Numbered (List ℕ))) → since ≡ 0 → Each (IsComing width ends Good since total) xs → filter_map rule.heard (map (λ x. x.line) xs) ≡ ids_at (numbers xs)
+  ids_down : (since total : ℕ) (xs : List (Numbered (List ℕ))) → since ≡ 0 → AllByRecursion (IsComing width ends Good since total) xs
+      → filter_map rule.heard (map (λ x. x.line) xs) ≡ ids_at (numbers xs)
   ids_down since total [] e h = refl
   ids_down since total (x ∷ xs) e h =
       let plain : x.number - since ≡ x.number = omega (arith, e) in
@@ -117,7 +110,7 @@ module _ {State : Type 0} (width : ℕ) (ends : Ends State) (Good : State → Ty
         some = (let low = base.count in omega (arith, low));
         rising = s.order;
         few =
-            each_more (λ n. n < total) (λ n. n < c.count + 7) (λ n l. omega (arith, l, s.few, narrow)) (numbers w.down ++ numbers w.up)
+            all_on (λ n. n < total) (λ n. n < c.count + 7) (numbers w.down ++ numbers w.up) (λ n l. omega (arith, l, s.few, narrow))
             (all_sent width ends Good c.since total w.down w.up s.coming s.going);
         ids = ap₂ (λ xs ys. xs ++ ys) (ids_down c.since total w.down base.since s.coming) (ids_up c.since total w.up base.since s.going)
             ∙ sym (map-append (λ n. n % 8) (numbers w.down) (numbers w.up));
@@ -129,20 +122,21 @@ module _ {State : Type 0} (ends : Ends State) (Good : State → Type 0) (kept : 
       → ArePossible ends Good kept (by_ids width ends) ms (ids_begun u) → HasRisingIds (on_line (behind width ends u ms).wire)
   runs_leave_rising_ids u clean ms p =
       let b = moved ends (by_numbers width) ms (numbers_begun u) in
-      let both = both_all width narrow ends Good (ex ends Good kept is width narrow) kept ms (ids_begun u) (numbers_begun u) p (both_begun ends Good kept is width narrow u clean) in
+      let both = both_all width narrow ends Good (exchange ends Good kept is width narrow) kept ms (ids_begun u) (numbers_begun u) p (both_begun ends Good kept is width narrow u clean) in
       subst (λ (w : Wire State). HasRisingIds (on_line w)) (sym both.agree.wire)
       (are_rising width ends Good is.hears b.client b.wire narrow (based_all width ends Good kept ms (ids_begun u) (numbers_begun u) p (record { since = refl; count = omega arith })) both.sound)
 
   -- possible moves that follow a clean synchronization leave a good state, and requests with ids below 8
   pub runs_leave_good : (u : UnderWay State) → IsClean Good kept u → (ms : List (Move State))
       → ArePossible ends Good kept (by_ids width ends) ms (ids_begun u)
-      → Good (behind width ends u ms).wire.state × Each (λ x. x.id < 8) (map (λ x. x.line) (behind width ends u ms).wire.up)
+      → Good (behind width ends u ms).wire.state × AllByRecursion (λ x. x.id < 8) (map (λ x. x.line) (behind width ends u ms).wire.up)
   runs_leave_good u clean ms p =
-      let both = both_all width narrow ends Good (ex ends Good kept is width narrow) kept ms (ids_begun u) (numbers_begun u) p (both_begun ends Good kept is width narrow u clean) in
-      subst (λ (w : Wire State). Good w.state × Each (λ x. x.id < 8) (map (λ x. x.line) w.up)) (sym both.agree.wire)
+      let both = both_all width narrow ends Good (exchange ends Good kept is width narrow) kept ms (ids_begun u) (numbers_begun u) p (both_begun ends Good kept is width narrow u clean) in
+      subst (λ (w : Wire State). Good w.state × AllByRecursion (λ x. x.id < 8) (map (λ x. x.line) w.up)) (sym both.agree.wire)
       (both.sound.good, small _ _ (moved ends (by_numbers width) ms (numbers_begun u)).wire.up both.sound.going)
     where
       -- requests in flight in a sound world have ids below 8
-      small : (since total : ℕ) (xs : List (Numbered Request)) → Each (IsGoing since total) xs → Each (λ x. x.id < 8) (map (λ x. x.line) xs)
-      small since total [] h = tt
-      small since total (x ∷ xs) h = ((let id = h.0.id in omega (arith, id)), small since total xs h.1)
+      small : (since total : ℕ) (xs : List (Numbered Request)) → AllByRecursion (IsGoing since total) xs → AllByRecursion (λ x. x.id < 8) (map (λ x. x.line) xs)
+      small since total xs h =
+          each_map (IsGoing since total) (λ (x : Request). x.id < 8) (λ (x : Numbered Request). x.line)
+          (λ x going. let id = going.id in let below : x.line.id < 8 = omega (arith, id) in below) xs h

@@ -1,16 +1,17 @@
 -- One run after the other: each that is killed while it synchronizes makes the front of the word that may be in flight longer
 -- by one id at most. The *word* is the list of the ids of a synchronization's eight null procedures: 6 down to 0, and then 7.
 use Rattle.std.proofs.Common.{◌≡◌, ℕ, suc, ◌+◌, ◌≤◌, false, List, [], ◌∷◌, ◌++◌, length, map, Option, Some, refl, sym, ◌∙◌, ap, subst, arith, append_assoc}
+use Rattle.std.specs.List.{AllByRecursion}
 use Rattle.gc_client.specs.Beginning.{IsSubsequence, the_word}
 use Rattle.gc_client.specs.Rule.{heard}
 use Rattle.gc_instrument.specs.State.{KeptReply}
-use Rattle.gc_world.specs.Order.{Each}
 use Rattle.gc_field.specs.World.{Ends, Request}
 use Rattle.gc_field.specs.Begin.{InFlight, IsWellFormed, AreTurns, Model, UnderWay, begins, ids_under_way, leaves}
 use Rattle.gc_field.specs.Beginnings.{AreFewKilled, AreOwn, AreRuns, ArePossibleIf, IsOwnIf, HasRisingIds, Run, killed_if, left_by_run, left_if, on_line, after_turns}
 use Rattle.gc_field.specs.Begun.{HasBegunCleanly, IsClean, behind, eighth}
 use Rattle.gc_field.specs.Instrument.{IsAnInstrument}
 use Rattle.gc_field.proofs.BeginJoin.{begins_cleanly, left_absent, left_lines}
+use Rattle.gc_field.proofs.BeginLists.{each_map}
 use Rattle.gc_field.proofs.BeginWords.{subword_front}
 use Rattle.gc_field.proofs.BegunFaithful.{faithful}
 use Rattle.gc_field.proofs.BegunRising.{rising_lack_three, runs_leave_rising_ids, runs_leave_good}
@@ -32,20 +33,16 @@ short_rising u h = record { more = 4 ∷ []; tail = 3 ∷ 2 ∷ 1 ∷ 0 ∷ 7 �
 pub short_word : {State : Type 0} (n : ℕ) (u : UnderWay State) → IsShort n u → IsSubsequence the_word (ids_under_way u) → ⊥
 short_word n u h s = h.none (subword_front (6 ∷ 5 ∷ h.more) h.tail (ids_under_way u) (subst (λ w. IsSubsequence w (ids_under_way u)) h.split s))
 
+module _ {Line : Type 0} (P : Line → Type 0) where
+  -- where no line in flight is old, and P holds of each, P holds of the lines without their marks
+  lines_have : (xs : List (InFlight Line)) → AllByRecursion (λ x. (x.old ≡ false) × P x.line) xs → AllByRecursion P (map (λ x. x.line) xs)
+  lines_have xs h = each_map (λ (x : InFlight Line). (x.old ≡ false) × P x.line) P (λ x. x.line) (λ x both. both.1) xs h
+
 module _ {State : Type 0} (ends : Ends State) (Good : State → Type 0) (kept : State → Option KeptReply) (is : IsAnInstrument ends Good kept) (width : ℕ) (narrow : width ≤ 7) where
-  -- the requests that a clean synchronization leaves are copies of the eighth null procedure
-  up_is_eighth : (xs : List (InFlight Request)) → Each (λ x. (x.old ≡ false) × (x.line ≡ eighth)) xs → Each (λ x. x ≡ eighth) (map (λ x. x.line) xs)
-  up_is_eighth [] h = tt
-  up_is_eighth (x ∷ xs) h = (h.0.1, up_is_eighth xs h.1)
-
-  -- the replies that a clean synchronization leaves are replies to the eighth null procedure
-  down_is_eighth : (xs : List (InFlight (List ℕ))) → Each (λ x. (x.old ≡ false) × (heard x.line ≡ Some 7)) xs → Each (λ line. heard line ≡ Some 7) (map (λ x. x.line) xs)
-  down_is_eighth [] h = tt
-  down_is_eighth (x ∷ xs) h = (h.0.1, down_is_eighth xs h.1)
-
   -- what a clean synchronization leaves is `IsClean`
   pub clean_lines : (s : Model State) → Good s.state → HasBegunCleanly kept s → IsClean Good kept (leaves s)
-  clean_lines s good h = record { good = good; up = up_is_eighth s.up h.up; down = down_is_eighth s.down h.down; keeps = h.keeps }
+  clean_lines s good h =
+      record { good = good; up = lines_have (λ (x : Request). x ≡ eighth) s.up h.up; down = lines_have (λ (line : List ℕ). heard line ≡ Some 7) s.down h.down; keeps = h.keeps }
 
   -- where what is in flight is `IsShort` for n killed runs, fewer than five, and one more run is killed while it synchronizes,
   -- what that run leaves is `IsShort` for n + 1

@@ -2,8 +2,10 @@
 -- synchronized: what is in flight then, and its moves. `Did` says of two wires, an earlier and a later one, what was executed
 -- between them; `Goes` says it, too, and that the later wire is `IsConsistent` as the earlier one was.
 use Rattle.std.proofs.Common.{◌≡◌, ℕ, ◌+◌, ◌≤◌, Bool, true, false, cond, List, [], ◌∷◌, ◌++◌, length, Option, Some, None, refl, sym, ◌∙◌, ap, subst, arith, append_assoc, append-nil, ltb}
+use Rattle.std.specs.List.{AllByRecursion}
 use Rattle.std.specs.Prelude.{slice_get}
 use Rattle.std.proofs.lemmas.List.{length-append}
+use Rattle.gc_lines.proofs.Lists.{all_append, all_on}
 use Rattle.gc_catalogue.specs.declared.asked.Asked.{Asked}
 use Rattle.gc_catalogue.specs.declared.asked.Asked.TheVariants.{Table}
 use Rattle.gc_catalogue.specs.declared.call.Call.TheVariants.{NullProc}
@@ -12,10 +14,9 @@ use Rattle.gc_client.specs.Rule.{ById, Sending, sends}
 use Rattle.gc_instrument.specs.Replying.{Handed}
 use Rattle.gc_instrument.specs.State.{KeptReply}
 use Rattle.gc_world.specs.Clients.{by_ids}
-use Rattle.gc_world.specs.Order.{Each}
 use Rattle.gc_field.specs.World.{Ends, Request, Sent, Numbered, Step, Send, Up_deliver, Up_lose, Up_repeat, Down_deliver, Down_lose, Down_repeat, Expire, Restart_client, Restart_instrument, Nothing, World, Wire, without, doubled, replied, up_delivered, with_up, with_down, started, requested, down_delivered, happens}
 use Rattle.gc_world.proofs.Places.{get_more, get_push}
-use Rattle.gc_world.proofs.Rows.{each_append, each_more, each_without, each_doubled}
+use Rattle.gc_world.proofs.Rows.{each_without, each_doubled}
 use Rattle.gc_field.specs.Begin.{UnderWay}
 use Rattle.gc_field.specs.Begun.{IsClean, eighth, ids_begun, nulls}
 use Rattle.gc_field.specs.Field.{Move, Sends, Tells, Comes, Foreign, OnLine, Anew, Changes, Joins, IsLineStep, moves, moved, ArePossible}
@@ -83,9 +84,9 @@ sent_among_more : (sent more : List Sent) (x : Numbered Request) → WasSent sen
 sent_among_more sent more x h = (h.0, get_more sent more x.number h.0 h.1, h.2)
 
 -- if each start had at most as many executions before it as there are in all (`xs`), the same holds when more follow (`ys`)
-begun_more : (xs ys starts : List ℕ) → Each (λ s. s ≤ length xs) starts → Each (λ s. s ≤ length (xs ++ ys)) starts
+begun_more : (xs ys starts : List ℕ) → AllByRecursion (λ s. s ≤ length xs) starts → AllByRecursion (λ s. s ≤ length (xs ++ ys)) starts
 begun_more xs ys starts h = let size : length (xs ++ ys) ≡ length xs + length ys = length-append xs ys in
-    each_more (λ s. s ≤ length xs) (λ s. s ≤ length (xs ++ ys)) (λ s l. omega (arith, l, size)) starts h
+    all_on (λ s. s ≤ length xs) (λ s. s ≤ length (xs ++ ys)) starts (λ s l. omega (arith, l, size)) h
 
 module _ {State : Type 0} (ends : Ends State) where
   -- what happened between two wires: the requests `more` were sent; those with these numbers, which asked for these calls, were
@@ -137,8 +138,8 @@ module _ {State : Type 0} (ends : Ends State) where
   -- each request in flight is one that was sent, with its call; and no start had more executions before it than there are in
   -- all
   pub record IsConsistent (w : Wire State) : Type 0 where
-    pub known : Each (WasSent w.sent) w.up
-    pub begun : Each (λ s. s ≤ length w.executed) w.starts
+    pub known : AllByRecursion (WasSent w.sent) w.up
+    pub begun : AllByRecursion (λ s. s ≤ length w.executed) w.starts
 
   -- what happened between two wires, and that the second one is `IsConsistent`, too
   record Goes (v w : Wire State) (quiet still : Type 0) : Type 0 where
@@ -148,20 +149,20 @@ module _ {State : Type 0} (ends : Ends State) where
   -- where v is `IsConsistent`, the lines in flight alone changed, and each request in flight then was sent, `Goes` holds: nothing
   -- was executed
   goes_same : (v w : Wire State) (quiet still : Type 0) → w.executed ≡ v.executed → w.sent ≡ v.sent → w.starts ≡ v.starts → w.state ≡ v.state
-      → Each (WasSent v.sent) w.up → IsConsistent v → Goes v w quiet still
+      → AllByRecursion (WasSent v.sent) w.up → IsConsistent v → Goes v w quiet still
   goes_same v w quiet still executed sent starts state known k = record {
     did = did_same v w quiet still executed sent starts state;
     stands = record {
-      known = subst (λ l. Each (WasSent l) w.up) (sym sent) known;
-      begun = subst (λ l. Each (λ s. s ≤ length l) w.starts) (sym executed) (subst (λ l. Each (λ s. s ≤ length v.executed) l) (sym starts) k.begun);
+      known = subst (λ l. AllByRecursion (WasSent l) w.up) (sym sent) known;
+      begun = subst (λ l. AllByRecursion (λ s. s ≤ length l) w.starts) (sym executed) (subst (λ l. AllByRecursion (λ s. s ≤ length v.executed) l) (sym starts) k.begun);
     };
   }
 
   -- the front request reaches the instrument
   module _ (v : Wire State) (x : Numbered Request) (rest : List (Numbered Request)) (quiet still : Type 0) (q : v.up ≡ x ∷ rest) (k : IsConsistent v) where
     -- the front request, and those after it, were sent
-    front_was_sent : WasSent v.sent x × Each (WasSent v.sent) rest
-    front_was_sent = subst (λ l. Each (WasSent v.sent) l) q k.known
+    front_was_sent : WasSent v.sent x × AllByRecursion (WasSent v.sent) rest
+    front_was_sent = subst (λ l. AllByRecursion (WasSent v.sent) l) q k.known
 
     -- if the instrument is handed the front request, and executes it (`b`) or sends a line again, `Goes` holds
     reached_by : (hd : Handed State) (b : Bool) → hd.executed ≡ b → (hd.executed ≡ true → IsMadeBy ends v.state (x.line.call ∷ []) hd.state)
@@ -180,14 +181,14 @@ module _ {State : Type 0} (ends : Ends State) where
             starts = λ q. refl;
             state = λ s. new e;
           };
-          stands = record { known = front_was_sent.1; begun = subst (λ l. Each (λ s. s ≤ length l) v.starts) (sym acted) (begun_more v.executed (x.number ∷ []) v.starts k.begun) };
+          stands = record { known = front_was_sent.1; begun = subst (λ l. AllByRecursion (λ s. s ≤ length l) v.starts) (sym acted) (begun_more v.executed (x.number ∷ []) v.starts k.begun) };
         }
     reached_by hd false e new same =
         let w = replied v x.number rest hd in
         let acted : w.executed ≡ v.executed = ap (λ b. cond b (v.executed ++ x.number ∷ []) v.executed) e in
         record {
           did = did_none v w quiet still [] acted (sym (append-nil v.sent)) (λ q. refl) (λ s. same e);
-          stands = record { known = front_was_sent.1; begun = subst (λ l. Each (λ s. s ≤ length l) v.starts) (sym acted) k.begun };
+          stands = record { known = front_was_sent.1; begun = subst (λ l. AllByRecursion (λ s. s ≤ length l) v.starts) (sym acted) k.begun };
         }
 
     -- if the front request reaches the instrument, `Goes` holds
@@ -202,7 +203,7 @@ module _ {State : Type 0} (ends : Ends State) where
   goes_up v quiet still (x ∷ rest) e k = reached v x rest quiet still e k
 
   -- where v is `IsConsistent`, and the requests in flight change to others that were sent, or (`b` is false) stay, `Goes` holds
-  goes_with_up : (v : Wire State) (quiet still : Type 0) (up : List (Numbered Request)) (b : Bool) → Each (WasSent v.sent) up → IsConsistent v → Goes v (with_up v up b) quiet still
+  goes_with_up : (v : Wire State) (quiet still : Type 0) (up : List (Numbered Request)) (b : Bool) → AllByRecursion (WasSent v.sent) up → IsConsistent v → Goes v (with_up v up b) quiet still
   goes_with_up v quiet still up true known k = goes_same v _ quiet still refl refl refl refl known k
   goes_with_up v quiet still up false known k = goes_same v _ quiet still refl refl refl refl k.known k
 
@@ -226,7 +227,7 @@ module _ {State : Type 0} (ends : Ends State) where
       record {
         did = did_none v _ quiet still (r ∷ []) refl refl (λ q. refl) (λ s. made_none ends v.state v.state refl);
         stands = record {
-          known = each_append (WasSent (v.sent ++ r ∷ [])) v.up _ (each_more _ _ (sent_among_more v.sent (r ∷ [])) v.up k.known) ((r, get_push v.sent r, refl), tt);
+          known = all_append (WasSent (v.sent ++ r ∷ [])) v.up _ (all_on _ _ v.up (sent_among_more v.sent (r ∷ [])) k.known) ((r, get_push v.sent r, refl), tt);
           begun = k.begun;
         };
       }
@@ -274,7 +275,7 @@ module _ {State : Type 0} (ends : Ends State) where
   goes_anew : (v : Wire State) → IsConsistent v → Goes v (started ends v true) ⊥ ⊥
   goes_anew v k = record {
     did = did_none v (started ends v true) ⊥ ⊥ [] refl (sym (append-nil v.sent)) (λ e. absurd e) (λ e. absurd e);
-    stands = record { known = k.known; begun = each_append (λ s. s ≤ length v.executed) v.starts (length v.executed ∷ []) k.begun (omega arith, tt) };
+    stands = record { known = k.known; begun = all_append (λ s. s ≤ length v.executed) v.starts (length v.executed ∷ []) k.begun (omega arith, tt) };
   }
 
   -- where v is `IsConsistent`, and the instrument's state changes by itself, `Goes` holds: the interval isn't still

@@ -1,5 +1,5 @@
 -- A run of a chain that points the telescope, in the field, computed.
-use Rattle.std.proofs.Common.{◌≡◌, zero, suc, true, [], ◌∷◌, refl, sym, ap, subst, arith, None}
+use Rattle.std.proofs.Common.{◌≡◌, zero, suc, true, [], ◌∷◌, refl, sym, ap, subst, arith}
 use Rattle.std.specs.Prelude.{take, drop}
 use Rattle.std.specs.Fmt.{digits}
 use Rattle.gc_lines.specs.Readers.{header_at, reply_at}
@@ -44,7 +44,7 @@ parts_are : parts_of plan commands (opening plan scope) acts ≡ one_part (asked
 unfolding is_elsewhere header_at reply_at digits rounded
 parts_are = refl
 
--- what the line does while the station synchronizes shows the null procedures and these replies
+-- what happens while the station synchronizes shows the null procedures and these replies
 pub shown_are : shown ends eight_answered (begins at_start) ≡ asked_each replies
 unfolding is_elsewhere header_at reply_at handed exec digits rounded
 shown_are = refl

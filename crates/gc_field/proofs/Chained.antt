@@ -25,24 +25,23 @@ use Rattle.gc_station.specs.Model.{Runs, opening}
 use Rattle.gc_station.proofs.Booking.{of_length}
 use Rattle.gc_station.proofs.Lists.{all_at, get_more, all_on, cons_head, cons_tail}
 use Rattle.gc_station.proofs.OnePart.{runs_front}
-use Rattle.gc_world.specs.Clients.{by_ids}
 use Rattle.gc_field.specs.World.{Ends, Up_deliver}
-use Rattle.std.proofs.lemmas.Option.{same_Some, none-some, slice_get_within}
+use Rattle.std.proofs.lemmas.Option.{same_Some, slice_get_within}
 use Rattle.gc_field.specs.Begin.{AreTurns, UnderWay, begins, leaves, turned}
 use Rattle.gc_field.specs.Begin.{Model as SyncModel}
 use Rattle.gc_field.specs.Beginnings.{ArePossibleIf, AreRuns, Run, after_turns, left_by_run}
 use Rattle.gc_field.specs.Begun.{IsSafe, WasMadeOn, behind, ids_begun}
 use Rattle.gc_field.specs.Chains.{AreExecutedInChain, IsChainedTo, IsExecutedInChain}
-use Rattle.gc_field.specs.Field.{Move, Sends, Tells, Comes, Foreign, OnLine, Anew, Changes, Joins, ArePossible, seen}
+use Rattle.gc_field.specs.Field.{Move, Sends, Tells, Comes, Foreign, OnLine, Anew, Changes, Joins, seen}
 use Rattle.gc_field.specs.Instrument.{IsAnInstrument}
 use Rattle.gc_field.specs.Laws.{asked}
 use Rattle.gc_station.specs.Links.{AreChained, IsBefore, IsAnsweredEarlier, ChainsStay, MarksGoOn, RecordsStay, parts}
 use Rattle.gc_field.specs.Runs.{IsInField, IsItsOwn, IsOwnAnswer, AreSentAs, own_sent, own_settled, world}
 use Rattle.gc_field.specs.Shown.{AreShownAs, Stretch, shown, stretches}
 use Rattle.gc_field.proofs.InTime.{clean_of, front_nil}
-use Rattle.gc_field.proofs.Possible.{possible_front}
-use Rattle.gc_field.proofs.Among.{get_drop}
-use Rattle.gc_field.proofs.Joining.{AllFit, Fits, all_fitting, run_faithful, safe_at, safe_in}
+use Rattle.gc_field.proofs.Possible.{front_possible}
+use Rattle.gc_field.proofs.Among.{get_drop, zip_at}
+use Rattle.gc_field.proofs.Joining.{Fits, IsSafePart, all_fitting, run_faithful, safe_in}
 use Rattle.gc_field.proofs.Ordered.{executed_behind, in_front_at}
 use Rattle.gc_station.proofs.PartFronts.{IsFront, front_parts, front_last}
 use Rattle.gc_field.proofs.PartFronts.{AreWhole, LastIsMarked, last_marked, whole_parts}
@@ -108,7 +107,7 @@ module _ {State : Type 0} (ends : Ends State) (Good : State → Type 0) (kept : 
   -- the front of possible moves is possible
   possible_cut : (left : List ℕ) (s : SyncModel State) (ms front later : List (Move State)) → ms ≡ front ++ later → ArePossibleIf 7 ends Good kept left s ms
       → ArePossibleIf 7 ends Good kept left s front
-  possible_cut [] s ms front later e p = possible_front 7 ends Good kept front later (ids_begun (leaves s)) (subst (λ l. ArePossible ends Good kept (by_ids 7 ends) l (ids_begun (leaves s))) e p)
+  possible_cut [] s ms front later e p = front_possible 7 ends Good kept ms front later (ids_begun (leaves s)) e p
   possible_cut (asked ∷ rest) s ms front later e p = front_nil front later (sym p ∙ e)
 
   -- possible runs that show the parts `ps`, the first ones of a longer run with the runs `rs`: the stretch of the last one is a
@@ -180,25 +179,11 @@ module _ {State : Type 0} (ends : Ends State) (Good : State → Type 0) (kept : 
 
 -- What is at a place.
 
--- where parts and stretches fit, one for one, the part and the stretch at one place fit
-fit_at : {State : Type 0} (ends : Ends State) (Good : State → Type 0) (kept : State → Option KeptReply) (is : IsAnInstrument ends Good kept) (ps : List Part)
-    (ss : List (Stretch State)) (i : ℕ) (p : Part) (s : Stretch State) → AllFit ends Good kept is ps ss → slice_get ps i ≡ Some p → slice_get ss i ≡ Some s
-    → Fits ends Good kept is p s
-fit_at ends Good kept is [] ss i p s h e f = absurd (none-some p e)
-fit_at ends Good kept is (q ∷ ps) [] i p s h e f = absurd h
-fit_at ends Good kept is (q ∷ ps) (t ∷ ss) zero p s h e f = subst (λ x. Fits ends Good kept is x s) (same_Some q p e) (subst (λ x. Fits ends Good kept is q x) (same_Some t s f) h.0)
-fit_at ends Good kept is (q ∷ ps) (t ∷ ss) (suc i) p s h e f = fit_at ends Good kept is ps ss i p s h.1 e f
-
 -- where the requests of stretches are those of their parts (`AreSentAs`), the requests of the stretch at place i are those of the
 -- part at place i (`MarksAsk`)
 pub sent_at : {State : Type 0} (ends : Ends State) (commands : List Task) (ps : List Part) (ss : List (Stretch State)) (i : ℕ) (p : Part) (s : Stretch State)
     → AreSentAs ends commands ps ss → slice_get ps i ≡ Some p → slice_get ss i ≡ Some s → MarksAsk commands p.marks (map asked (own_sent ends s))
-sent_at ends commands [] ss i p s h e f = absurd (none-some p e)
-sent_at ends commands (q ∷ ps) [] i p s h e f = absurd h
-sent_at ends commands (q ∷ ps) (t ∷ ss) zero p s h e f =
-    subst (λ (x : Part). MarksAsk commands x.marks (map asked (own_sent ends s))) (same_Some q p e)
-    (subst (λ (x : Stretch _). MarksAsk commands q.marks (map asked (own_sent ends x))) (same_Some t s f) h.0)
-sent_at ends commands (q ∷ ps) (t ∷ ss) (suc i) p s h e f = sent_at ends commands ps ss i p s h.1 e f
+sent_at ends commands ps ss i p s h e f = zip_at (λ (q : Part) (t : Stretch _). MarksAsk commands q.marks (map asked (own_sent ends t))) ps ss i p s h e f
 
 -- Pairs of numbers: a cycle and a place in it, or a part of the run and a request in it.
 
@@ -241,11 +226,12 @@ module _ {State : Type 0} (ends : Ends State) (Good : State → Type 0) (kept : 
   own_place : (acts : List Act) → Runs plan commands (opening plan scope) acts
       → (i m : ℕ) (part : Part) (expected : Expected) (r : Record) (ss : List (Stretch State)) (line : List ℕ) → slice_get (parts plan commands scope acts) i ≡ Some part
       → slice_get part.marks m ≡ Some (Some (mark_of expected r)) → 0 < r.cycle → (u : IsItsOwn ends Good kept commands (parts plan commands scope acts) ss r line)
-      → (u.k ≡ i) × (u.m ≡ m)
+      → (u.of.k ≡ i) × (u.of.m ≡ m)
   own_place acts runs i m part expected r ss line of_parts mark many u =
-      same_place u.k i u.m m
-      (λ l. not_itself r.cycle r.place (go_on plan commands scope acts runs u.k i u.m m u.part part (mark_of u.expected r) (mark_of expected r) u.of_parts of_parts u.mark mark l many many))
-      (λ l. not_itself r.cycle r.place (go_on plan commands scope acts runs i u.k m u.m part u.part (mark_of expected r) (mark_of u.expected r) of_parts u.of_parts mark u.mark l many many))
+      let q = u.of in
+      same_place q.k i q.m m
+      (λ l. not_itself r.cycle r.place (go_on plan commands scope acts runs q.k i q.m m q.part part (mark_of q.expected r) (mark_of expected r) q.of_parts of_parts q.mark mark l many many))
+      (λ l. not_itself r.cycle r.place (go_on plan commands scope acts runs i q.k m q.m part q.part (mark_of expected r) (mark_of q.expected r) of_parts q.of_parts mark q.mark l many many))
 
   -- if the last part of the first acts (`before`) of a run in the field has a request, these acts are a run in the field, too,
   -- with its last stretch cut short (`CutRuns`)
@@ -273,26 +259,26 @@ module _ {State : Type 0} (ends : Ends State) (Good : State → Type 0) (kept : 
       let o = all_at (IsOwnAnswer ends Good kept commands (parts plan commands scope before) ss)
       (state_after plan commands scope before).records back.its.k back.its.answer f.own back.its.among back.its.good.line (ap line_of back.its.good.answered) in
       let at = own_place before h.runs i back.m first back.expected back.its.answer ss back.its.good.line of_first back.mark (subst (λ c. 0 < c) (sym back.its.own_cycle) many) o in
-      let of_ss : slice_get ss i ≡ Some o.stretch = subst (λ k. slice_get ss k ≡ Some o.stretch) at.0 o.of_stretches in
-      let size : length first.marks ≡ length (own_sent ends o.stretch) =
-      of_length commands first.marks (map asked (own_sent ends o.stretch))
-      (sent_at ends commands (parts plan commands scope before) ss i first o.stretch f.sent of_first of_ss) ∙ length-map (own_sent ends o.stretch) asked in (
-        o.stretch,
+      let of_ss : slice_get ss i ≡ Some o.of.stretch = subst (λ k. slice_get ss k ≡ Some o.of.stretch) at.0 o.of.of_stretches in
+      let size : length first.marks ≡ length (own_sent ends o.of.stretch) =
+      of_length commands first.marks (map asked (own_sent ends o.of.stretch))
+      (sent_at ends commands (parts plan commands scope before) ss i first o.of.stretch f.sent of_first of_ss) ∙ length-map (own_sent ends o.of.stretch) asked in (
+        o.of.stretch,
         of_ss,
         sym size ∙ count,
-        subst (λ m. slice_get (own_settled ends o.stretch) m ≡ Some
+        subst (λ m. slice_get (own_settled ends o.of.stretch) m ≡ Some
             (record { target = back.its.answer.command.target; call = back.its.answer.command.call; outcome = Answered back.its.good.line })) at.1 o.settled,
       )
 
   -- if the answer of record b is its own, and its part and its stretch fit, the line was made on executing the record's call
-  made_its : (ps : List Part) (ss : List (Stretch State)) (b : Record) (line : List ℕ) (o : IsItsOwn ends Good kept commands ps ss b line) → Fits ends Good kept is o.part o.stretch
-      → WasMadeOn 7 ends o.stretch.from o.stretch.moves (8 + o.m) b.command.call line
+  made_its : (ps : List Part) (ss : List (Stretch State)) (b : Record) (line : List ℕ) (o : IsItsOwn ends Good kept commands ps ss b line) → Fits ends Good kept is o.of.part o.of.stretch
+      → WasMadeOn 7 ends o.of.stretch.from o.of.stretch.moves (8 + o.of.m) b.command.call line
   made_its ps ss b line o fit =
       let x : Settlement Asked = record { target = b.command.target; call = b.command.call; outcome = Answered line } in
-      let w = (world ends o.stretch).wire in
-      let right : b.command.call ≡ call_at o.task (part.sent_at b) = (fit.faithful.one_for_one.same (8 + o.m) x o.request (get_drop 8 o.m w.settled x o.settled)
-      (get_drop 8 o.m w.sent o.request o.sent)).1 ∙ ap (λ (z : Wanted Asked). z.call) o.asks in
-      subst (λ call. WasMadeOn 7 ends o.stretch.from o.stretch.moves (8 + o.m) call line) (sym right) o.made_on
+      let w = (world ends o.of.stretch).wire in
+      let right : b.command.call ≡ call_at o.of.task (part.sent_at b) = (fit.faithful.one_for_one.same (8 + o.of.m) x o.request (get_drop 8 o.of.m w.settled x o.settled)
+      (get_drop 8 o.of.m w.sent o.request o.sent)).1 ∙ ap (λ (z : Wanted Asked). z.call) o.asks in
+      subst (λ call. WasMadeOn 7 ends o.of.stretch.from o.of.stretch.moves (8 + o.of.m) call line) (sym right) o.made_on
 
   -- if the answer of record b, of a cycle, is its own, `IsChainedTo` holds for each place a that isn't of the setup and from
   -- which the commands up to that of b are chained: the command at place a was executed before that of b
@@ -301,33 +287,34 @@ module _ {State : Type 0} (ends : Ends State) (Good : State → Type 0) (kept : 
       → 0 < b.cycle → plan.setup ≤ a → a < b.place → AreChained commands a b.place
       → IsChainedTo ends Good kept scope.reads commands (parts plan commands scope acts) (stretches ends v rs) (state_after plan commands scope acts).records a b line
   chained_to acts v rs h b line u a many low less chained =
+      let q = u.of in
       let ss = stretches ends v rs in
-      let sent = stay plan commands scope acts h.runs u.k u.m u.part (mark_of u.expected b) u.of_parts u.mark many in
+      let sent = stay plan commands scope acts h.runs q.k q.m q.part (mark_of q.expected b) q.of_parts q.mark many in
       let back = sent.chain a low less chained in
-      let marked = last_marked (parts plan commands scope sent.before) u.k back.m sent.first (Some (mark_of back.expected back.its.answer)) sent.last sent.of_parts back.mark in
+      let marked = last_marked (parts plan commands scope sent.before) q.k back.m sent.so_far (Some (mark_of back.expected back.its.answer)) sent.last sent.of_parts back.mark in
       let cut = in_front_of acts sent.before sent.rest v rs sent.order marked h in
-      let there = settled_there sent.before v cut.0.runs cut.1 u.k u.m b.cycle a sent.first sent.of_parts sent.count back many in
-      let c = cut.0.last u.k there.0 u.stretch sent.last there.1 u.of_stretches in
-      let fit = fit_at ends Good kept is (parts plan commands scope acts) ss u.k u.part u.stretch (all_fitting ends Good kept is plan commands scope acts v rs h).0 u.of_parts u.of_stretches in
+      let there = settled_there sent.before v cut.0.runs cut.1 q.k q.m b.cycle a sent.so_far sent.of_parts sent.count back many in
+      let c = cut.0.last q.k there.0 q.stretch sent.last there.1 q.of_stretches in
+      let fit = zip_at (Fits ends Good kept is) (parts plan commands scope acts) ss q.k q.part q.stretch (all_fitting ends Good kept is plan commands scope acts v rs h).0 q.of_parts q.of_stretches in
       let x : Settlement Asked = record { target = back.its.answer.command.target; call = back.its.answer.command.call; outcome = Answered back.its.good.line } in
-      let w = (behind 7 ends u.stretch.from c.front).wire in
+      let w = (behind 7 ends q.stretch.from c.front).wire in
       let settled : slice_get (drop 8 w.settled) back.m ≡ Some x = subst (λ (t : Stretch State). slice_get (own_settled ends t) back.m ≡ Some x) c.is there.3 in
-      let size : length (drop 8 w.sent) ≡ u.m = subst (λ (t : Stretch State). length (own_sent ends t) ≡ u.m) c.is there.2 in
+      let size : length (drop 8 w.sent) ≡ q.m = subst (λ (t : Stretch State). length (own_sent ends t) ≡ q.m) c.is there.2 in
       let dropped : length (drop 8 w.sent) ≡ length w.sent - 8 = length-drop 8 w.sent in
       let beyond : 8 ≤ 8 + back.m = omega arith in
       let made = made_its (parts plan commands scope acts) ss b line u fit in
-      let clean = clean_of ends Good kept is u.stretch fit.sound made.front made.later (OnLine Up_deliver) made.split in
+      let clean = clean_of ends Good kept is q.stretch fit.sound made.front made.later (OnLine Up_deliver) made.split in
       let front : IsFront (parts plan commands scope sent.before) (parts plan commands scope acts) =
       subst (λ l. IsFront (parts plan commands scope sent.before) (parts plan commands scope l)) (sym sent.order) (front_parts plan commands (opening plan scope) sent.before sent.rest) in
-      let more = front_last (parts plan commands scope sent.before) (parts plan commands scope acts) u.k sent.first u.part front sent.last sent.of_parts u.of_parts in
-      let mark_a : slice_get u.part.marks back.m ≡ Some (Some (mark_of back.expected back.its.answer)) =
-      ap (λ (p : Part). slice_get p.marks back.m) more.1 ∙ get_more sent.first.marks more.0.marks back.m (Some (mark_of back.expected back.its.answer)) back.mark in
-      let small : back.m < length sent.first.marks = slice_get_within sent.first.marks back.m (Some (mark_of back.expected back.its.answer)) back.mark in
+      let more = front_last (parts plan commands scope sent.before) (parts plan commands scope acts) q.k sent.so_far q.part front sent.last sent.of_parts q.of_parts in
+      let mark_a : slice_get q.part.marks back.m ≡ Some (Some (mark_of back.expected back.its.answer)) =
+      ap (λ (p : Part). slice_get p.marks back.m) more.1 ∙ get_more sent.so_far.marks more.0.marks back.m (Some (mark_of back.expected back.its.answer)) back.mark in
+      let small : back.m < length sent.so_far.marks = slice_get_within sent.so_far.marks back.m (Some (mark_of back.expected back.its.answer)) back.mark in
       let grown = records_stay plan commands scope sent.before sent.rest in
       let same_cycle : back.its.answer.cycle ≡ b.cycle = back.its.own_cycle in
-      let safe : IsSafe 7 ends u.stretch.from Good kept c.front (8 + back.m) =
+      let safe : IsSafe 7 ends q.stretch.from Good kept c.front (8 + back.m) =
       subst (λ (t : Stretch State). IsSafe 7 ends t.from Good kept t.moves (8 + back.m)) c.is
-      (safe_at ends Good kept is (parts plan commands scope sent.before) (stretches ends v cut.0.runs) u.k sent.first there.0
+      (zip_at (IsSafePart ends Good kept is) (parts plan commands scope sent.before) (stretches ends v cut.0.runs) q.k sent.so_far there.0
       (safe_in ends Good kept is plan commands scope sent.before v cut.0.runs cut.1) sent.of_parts there.1 back.m (mark_of back.expected back.its.answer) back.mark) in
       record {
         earlier = record {
@@ -339,30 +326,30 @@ module _ {State : Type 0} (ends : Ends State) (Good : State → Type 0) (kept : 
           own_place = back.its.own_place;
           good = back.its.good;
         };
-        i = u.k;
-        part = u.part;
-        stretch = u.stretch;
-        of_parts = u.of_parts;
-        of_stretches = u.of_stretches;
+        i = q.k;
+        part = q.part;
+        stretch = q.stretch;
+        of_parts = q.of_parts;
+        of_stretches = q.of_stretches;
         m = back.m;
-        n = u.m;
+        n = q.m;
         goes_on = omega (arith, small, sent.count);
         expected_a = back.expected;
-        expected_b = u.expected;
+        expected_b = q.expected;
         mark_a = mark_a;
-        mark_b = u.mark;
+        mark_b = q.mark;
         between = λ k mark above under at.
-            let there : slice_get (sent.first.marks ++ more.0.marks) k ≡ Some (Some mark) = ap (λ (p : Part). slice_get p.marks k) (sym more.1) ∙ at in
-            let its : 0 < mark.cycle = back.of_cycles k mark above (in_front_at sent.first.marks more.0.marks k (Some mark) (omega (arith, under, sent.count)) there) in
+            let there : slice_get (sent.so_far.marks ++ more.0.marks) k ≡ Some (Some mark) = ap (λ (p : Part). slice_get p.marks k) (sym more.1) ∙ at in
+            let its : 0 < mark.cycle = back.of_cycles k mark above (in_front_at sent.so_far.marks more.0.marks k (Some mark) (omega (arith, under, sent.count)) there) in
             let own : 0 < back.its.answer.cycle = subst (λ c. 0 < c) (sym same_cycle) many in
             let first =
-            go_on plan commands scope acts h.runs u.k u.k back.m k u.part u.part (mark_of back.expected back.its.answer) mark u.of_parts u.of_parts mark_a at (inr (refl, above)) own its in
+            go_on plan commands scope acts h.runs q.k q.k back.m k q.part q.part (mark_of back.expected back.its.answer) mark q.of_parts q.of_parts mark_a at (inr (refl, above)) own its in
             let last =
-            go_on plan commands scope acts h.runs u.k u.k k u.m u.part u.part mark (mark_of u.expected b) u.of_parts u.of_parts at u.mark (inr (refl, under)) its many in
+            go_on plan commands scope acts h.runs q.k q.k k q.m q.part q.part mark (mark_of q.expected b) q.of_parts q.of_parts at q.mark (inr (refl, under)) its many in
             let it = within back.its.answer.cycle back.its.answer.place mark.cycle mark.place b.cycle b.place first last same_cycle in
             (it.0, subst (λ p. p < mark.place) back.its.own_place it.1, it.2);
         executed =
-            executed_behind ends Good kept is u.stretch clean fit.sound.possible c.front c.later c.order (8 + back.m) (8 + u.m) x back.its.good.line beyond safe
+            executed_behind ends Good kept is q.stretch clean fit.sound.possible c.front c.later c.order (8 + back.m) (8 + q.m) x back.its.good.line beyond safe
             (get_drop 8 back.m w.settled x settled) refl (omega (arith, size, dropped)) b.command.call line made;
       }
 

@@ -1,48 +1,34 @@
 -- A run of a chain over an instrument that counts, computed.
-use Rattle.std.proofs.Common.{◌≡◌, ℕ, suc, ◌<◌, inl, inr, true, false, cond, List, Option, Some, None, [], ◌∷◌, refl, sym, ◌∙◌, ap, subst}
+use Rattle.std.proofs.Common.{◌≡◌, ℕ, suc, inl, inr, true, false, cond, List, Option, Some, None, [], ◌∷◌, refl, sym, ◌∙◌, ap, subst}
 use Rattle.std.proofs.lemmas.Bool.{eq-eqb, true≢false}
 use Rattle.std.specs.Prelude.{take, drop}
 use Rattle.std.specs.Fmt.{digits}
 use Rattle.gc_lines.specs.Readers.{header_at, reply_at}
-use Rattle.gc_catalogue.specs.declared.answer.Reading.{Reading}
 use Rattle.gc_catalogue.specs.declared.asked.Asked.{Asked}
 use Rattle.gc_client.specs.declared.window.TheConstants.{WINDOW}
-use Rattle.gc_client.specs.Rule.{heard}
 use Rattle.gc_instrument.specs.State.{KeptReply}
 use Rattle.gc_texts.specs.Nears.{is_elsewhere}
-use Rattle.gc_texts.specs.declared.tasks.Task.{Task}
 use Rattle.std.proofs.lemmas.Option.{same_Some}
 use Rattle.gc_field.specs.ChainWitness.{commands, points, reads_all, scope}
 use Rattle.gc_field.specs.Chains.{HasEffect}
-use Rattle.gc_field.specs.CountingChain.{Counter, IsCountedInField, acts, bare, at_start, null_replies, counted_or, counting, counts, first_reply, kept_by, moves, runs, stretch, third_reply}
+use Rattle.gc_field.specs.CountingChain.{Counter, IsCountedInField, acts, bare, at_start, null_replies, counted_or, counting, counts, first_reply, kept_by, moves, once_counted, runs, stretch, third_reply}
 use Rattle.gc_field.specs.Instrument.{IsAnInstrument, KeepsItsReply, AnyState, all_known}
 use Rattle.gc_field.specs.Begun.{WasMadeOn}
 use Rattle.gc_field.specs.Needed.{Keeper, held, kept, giving}
 use Rattle.gc_field.proofs.ChainWitness.{all_chained}
-use Rattle.gc_field.proofs.Needed.{kept_own, reads_giving}
+use Rattle.gc_field.proofs.Needed.{else_keeps, else_reads, else_repeats}
 use Rattle.gc_station.specs.Parts.{parts_of}
 use Rattle.gc_station.proofs.Going.{runs-append}
-use Rattle.gc_station.specs.Model.{Runs, opening}
+use Rattle.gc_station.specs.Model.{opening}
 use Rattle.gc_field.specs.Field.{seen}
 use Rattle.gc_field.specs.Shown.{AreShownAs, shown}
 use Rattle.gc_field.specs.Begin.{begins}
-use Rattle.gc_field.specs.Witness.{begun_with, eight_answered, plan, plan_of}
-use Rattle.gc_field.proofs.Witness.{asked_each, one_part, units}
-
--- each reply of the counting instrument to a request with an id below 8 reads as one with that id
-reads : (s : Counter) (id : ℕ) (o : Option ℕ) → id < 8 → heard (counted_or s id o).reply ≡ Some id
-reads s id (Some n) small = reads_giving id n small
-reads s id None small = reads_giving id (suc s.count) small
-
--- a line that is sent without executing the request is the one that is kept, for the request's id
-repeats : (s : Counter) (id : ℕ) (o : Option ℕ) → held s.keeps id ≡ o → (counted_or s id o).executed ≡ false → kept_by s ≡ Some (record { id = id; line = (counted_or s id o).reply })
-repeats s id (Some n) e not = kept_own s.keeps id n e
-repeats s id None e not = absurd (true≢false not)
+use Rattle.gc_field.specs.Witness.{eight_answered, plan}
+use Rattle.gc_field.proofs.Witness.{OpensWith, asked_each, one_part, units}
 
 -- the reply to a request is kept after it, with the request's id
 reply_is_kept : (s : Counter) (id : ℕ) (o : Option ℕ) → held s.keeps id ≡ o → kept_by (counted_or s id o).state ≡ Some (record { id = id; line = (counted_or s id o).reply })
-reply_is_kept s id (Some n) e = kept_own s.keeps id n e
-reply_is_kept s id None e = refl
+reply_is_kept s id o e = else_keeps (once_counted s id) (suc s.count) id (λ (c : Counter). c.keeps) s o e refl
 
 -- if a number is kept with this id, it can't be that none is held for the id
 none_held : (x : ℕ × ℕ) (id : ℕ) → x.0 ≡ id → held (Some x) id ≡ None → ⊥
@@ -69,8 +55,8 @@ counting_is : IsAnInstrument counting AnyState kept_by
 counting_is =
     record {
       hears = λ line. refl;
-      replies = λ s id call good small. reads s id (held s.keeps id) small;
-      repeats = λ s id call good small not. repeats s id (held s.keeps id) refl not;
+      replies = λ s id call good small. else_reads (once_counted s id) (suc s.count) id s (held s.keeps id) small;
+      repeats = λ s id call good small not. else_repeats (once_counted s id) (suc s.count) id (λ (c : Counter). c.keeps) s (held s.keeps id) refl not;
       keeps = λ s id call good small. inl (inr (reply_is_kept s id (held s.keeps id) refl));
       starts = λ s good. inl refl;
       stays_good = λ s id call good small. tt;
@@ -94,11 +80,8 @@ effect =
       alike = λ s t call e. ap (λ (c : Counter). record { count = suc c.count; keeps = None }) e;
     }
 
--- the acts by which a connection is made and cleared, and all eight null procedures are answered by the counting instrument, are
--- a run, whatever is to be asked
-pub opens_counting :
-    (width : ℕ) (tasks : List Task) (reads : Asked → List ℕ → Reading)
-    → Runs (plan_of width) tasks (opening (plan_of width) (record { turns = 100; reads = reads })) (begun_with null_replies [])
+-- `OpensWith` holds of the counting instrument's replies to all eight null procedures
+pub opens_counting : OpensWith null_replies
 unfolding is_elsewhere header_at reply_at digits
 opens_counting width tasks reads =
     (tt, (refl, (tt, (refl, (tt, (tt, (refl, (tt, (tt, (refl, (tt, (tt, (refl, (tt, (tt, (refl, (tt, (tt, (refl, (tt, (tt, (refl, (tt, (tt, (refl, (tt, (tt, tt)))))))))))))))))))))))))))
@@ -119,7 +102,7 @@ parts_are : parts_of plan commands (opening plan scope) acts ≡ one_part (asked
 unfolding is_elsewhere header_at reply_at digits
 parts_are = refl
 
--- what the line does while the station synchronizes shows these turns
+-- what happens while the station synchronizes shows these turns
 pub shown_are : shown counting eight_answered (begins at_start) ≡ asked_each null_replies
 unfolding is_elsewhere header_at reply_at digits
 shown_are = refl

@@ -1,13 +1,12 @@
 -- A run over an instrument that retains no reply, computed.
-use Rattle.std.proofs.Common.{◌≡◌, true, false, Some, [], ◌∷◌, refl, sym, ap, subst, lit<, ℕ}
+use Rattle.std.proofs.Common.{◌≡◌, [], ◌∷◌, refl, sym, subst, lit<, ℕ}
 use Rattle.std.specs.Prelude.{take, drop}
 use Rattle.std.specs.Fmt.{decimal, digits}
 use Rattle.gc_lines.specs.Readers.{header_at, reply_at}
-use Rattle.gc_lines.proofs.Written.{reply_back}
+use Rattle.gc_world.proofs.Handing.{reply_heard}
 use Rattle.gc_catalogue.specs.declared.asked.Asked.TheVariants.{Raw}
 use Rattle.gc_catalogue.specs.declared.raw.RawCall.{RawCall}
 use Rattle.gc_client.specs.declared.window.TheConstants.{WINDOW}
-use Rattle.gc_client.specs.Rule.{id_in}
 use Rattle.gc_field.specs.Instrument.{IsAnInstrument, AnyState, nothing}
 use Rattle.gc_field.specs.Begin.{begins, leaves, none_under_way, turned}
 use Rattle.gc_field.specs.Begun.{WasMadeOn}
@@ -24,10 +23,7 @@ use Rattle.gc_field.proofs.Instruments.{keeps_none}
 
 -- `drifting` is an instrument
 drifting_is : IsAnInstrument drifting AnyState nothing
-drifting_is =
-    keeps_none ℕ drifting (λ line. refl)
-    (λ s id call small. ap id_in (reply_back (record { rc_com = 0; id = Some id; rc = 0; params = decimal s }) (record { rc_com = lit< tt; id = small; rc = lit< tt })))
-    (λ s id call. refl)
+drifting_is = keeps_none ℕ drifting (λ line. refl) (λ s id call small. reply_heard 0 id 0 (decimal s) (lit< tt) small (lit< tt)) (λ s id call. refl)
 
 module _ (raw : RawCall) where
   -- the answer was made on executing the second command's request
@@ -41,7 +37,7 @@ module _ (raw : RawCall) where
   unfolding is_elsewhere header_at reply_at digits
   parts_are = refl
 
-  -- what the line does while the station synchronizes shows these turns
+  -- what happens while the station synchronizes shows these turns
   shown_are : shown drifting turns (begins (none_under_way 5)) ≡ part.Asks ∷ part.Asks ∷ asked_each null_replies
   unfolding is_elsewhere header_at reply_at digits
   shown_are = refl

@@ -4,11 +4,10 @@ use Rattle.gc_catalogue.specs.Asked.{is_of_table}
 use Rattle.std.proofs.Common.{◌≡◌, ℕ, ◌<◌, ◌≤◌, Some, false, List, Option, sym, ◌∙◌, ap, subst, arith, map, ◌++◌}
 use Rattle.gc_catalogue.specs.declared.asked.Asked.{Asked}
 use Rattle.gc_client.specs.OneForOne.{begun, course, of_settled, of_pending}
-use Rattle.gc_client.specs.Rule.{Settlement, heard}
+use Rattle.gc_client.specs.Rule.{Settlement}
 use Rattle.gc_client.proofs.OneForOne.{one_for_one}
 use Rattle.gc_world.specs.Clients.{by_ids, by_numbers, ids_open, numbers_open}
 use Rattle.gc_instrument.specs.State.{KeptReply}
-use Rattle.gc_world.specs.Exchange.{IsExchange}
 use Rattle.gc_world.specs.Record.{IsReplyTo}
 use Rattle.gc_field.specs.World.{Ends, Wire}
 use Rattle.gc_world.proofs.Booked.{has_at}
@@ -22,21 +21,17 @@ use Rattle.gc_field.proofs.Moving.{both_all, both_open, first_reply, IsOwnSettle
 use Rattle.gc_field.proofs.Instruments.{exchange_of}
 use Rattle.gc_field.proofs.Seen.{same_all, same_open}
 
-module _ {State : Type 0} (ends : Ends State) (same_heard : (line : List ℕ) → ends.heard line ≡ heard line) (Good : State → Type 0)
-    (kept : State → Option KeptReply) (keeper : IsAnInstrument ends Good kept) (width : ℕ) (narrow : width ≤ 7) where
-  -- what the proofs of the world ask of an instrument, which this one meets
-  abbrev ex : IsExchange ends Good
-  ex = exchange_of ends Good kept keeper
-
+module _ {State : Type 0} (ends : Ends State) (Good : State → Type 0) (kept : State → Option KeptReply) (keeper : IsAnInstrument ends Good kept) (width : ℕ) (narrow : width ≤ 7) where
   -- possible moves from a good state on are faithful, if their requests are calls of the table, and the first is sent alone
   pub faithful : (state : State) → Good state → (ms : List (Move State)) → ArePossible ends Good kept (by_ids width ends) ms (ids_open state) → AsksTheTable ms
       → IsFirstAlone false ms → IsFaithfulUnsynchronized width ends state ms Good kept
   faithful state good ms p table l =
+      let ex = exchange_of ends Good kept keeper in
       let a = moved ends (by_ids width ends) ms (ids_open state) in
       let b = moved ends (by_numbers width) ms (numbers_open state) in
       let both = both_all width narrow ends Good ex kept ms (ids_open state) (numbers_open state) p (both_open width narrow ends Good ex kept state good) in
       let same : a.wire ≡ b.wire = both.agree.wire in
-      let one = same_all width ends same_heard Good kept ms begun (ids_open state) p (same_open width ends same_heard Good kept state) in
+      let one = same_all width ends keeper.hears Good kept ms begun (ids_open state) p (same_open width ends keeper.hears Good kept state) in
       let x = course width begun (seen ms) in
       let parts : map of_settled a.wire.settled ++ map of_pending a.client.waiting ≡ map of_sent a.wire.sent =
       ap (λ l. map of_settled l ++ map of_pending a.client.waiting) (sym one.settled)

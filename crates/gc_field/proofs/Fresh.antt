@@ -12,7 +12,7 @@ use Rattle.gc_world.proofs.Sound.{Sound}
 use Rattle.gc_field.specs.Begun.{IsBehindTheTable, IsByReply}
 use Rattle.gc_field.specs.Field.{Move, Sends, Tells, Comes, Foreign, OnLine, Anew, Changes, Joins, AsksOnly}
 use Rattle.gc_field.specs.Instrument.{IsAnInstrument, all_known}
-use Rattle.gc_field.proofs.Answered.{HoldsOfOutcome, all_so_get, all_so_below}
+use Rattle.gc_field.proofs.Answered.{HoldsOfOutcome, holds_get, holds_below}
 use Rattle.gc_field.proofs.BeginLists.{each_both}
 use Rattle.gc_field.proofs.Once.{known_not}
 use Rattle.gc_field.proofs.KeptReplies.{IsDealt, kept_below}
@@ -34,11 +34,11 @@ asks_all (Joins line ∷ ms) = asks_all ms
 abbrev pub AllBut : (m n : ℕ) → Type 0
 AllBut m n = n ≡ m → ⊥
 
--- each request
+-- this holds of each request
 abbrev pub EachOne : ℕ → Type 0
 EachOne n = Unit {0}
 
--- each line, of each request
+-- this holds of each line, as the reply to any request
 abbrev pub AnyLine : ℕ → Asked → List ℕ → Type 0
 AnyLine n call line = Unit {0}
 
@@ -74,7 +74,7 @@ module _ {State : Type 0} (width : ℕ) (narrow : width ≤ 7) (ends : Ends Stat
         near = inr (λ n. is_near n near);
         coming =
             each_both (λ (x : Numbered (List ℕ)). x.number < t.top) (λ x. P x.number x.line) (λ x. Q x.number x.line) (λ x l p. f x.number x.line l p) v.down t.below t.coming;
-        answers = all_so_below P Q t.top f 0 v.settled (omega (arith, s.booked, t.counted)) t.answers;
+        answers = holds_below P Q t.top f 0 v.settled (omega (arith, s.booked, t.counted)) t.answers;
         order = t.order;
         once = t.once;
       }
@@ -104,7 +104,7 @@ module _ {State : Type 0} (width : ℕ) (narrow : width ≤ 7) (ends : Ends Stat
         | inr e ↦ (
             let P : ℕ → List ℕ → Type 0 = λ n line. Vouched width narrow is_of_table ends Good kept keeper low EachOne ⊥ AnyLine w.wire.sent w.wire.executed w.wire.made t.table n line in
             let i : 0 + is.0 ≡ is.0 = omega arith in
-            let so : HoldsOfOutcome P is.0 e.1.outcome = subst (λ k. HoldsOfOutcome P k e.1.outcome) i (all_so_get P 0 w.wire.settled is.0 e.1 t.answers e.4) in
+            let so : HoldsOfOutcome P is.0 e.1.outcome = subst (λ k. HoldsOfOutcome P k e.1.outcome) i (holds_get P 0 w.wire.settled is.0 e.1 t.answers e.4) in
             let dealt : IsDealt is_of_table w.wire.sent t.table is.0 = given_by_reply P (IsDealt is_of_table w.wire.sent t.table is.0) is.0 e.1.outcome (λ line p. p.0) e.5 so in
             elim dealt [
               | inl le ↦ omega (arith, le, size, is.2)

@@ -37,7 +37,8 @@ use Rattle.gc_instrument.proofs.HeardFrames.{lines_of}
 use Rattle.gc_field.specs.Fronts.{request_bytes, IsWholeOrNothing}
 use Rattle.gc_station.proofs.Lists.{all_append, all_drop, all_on}
 use Rattle.std.proofs.Math.Bool.{and-false}
-use Rattle.std.proofs.lemmas.List.{take-append-le}
+use Rattle.gc_lines.proofs.Lists.{all_front}
+use Rattle.std.proofs.lemmas.List.{take-append-drop, take-append-le}
 use Rattle.std.proofs.Math.Seq.{take-append-add}
 
 -- Bytes above the sign that begins a request.
@@ -48,9 +49,7 @@ AreAbove bytes = AllByRecursion (λ b. 37 < b) bytes
 
 -- what holds of all bytes holds of the first k
 pub all_take : (P : ℕ → Type 0) (k : ℕ) (xs : List ℕ) → AllByRecursion P xs → AllByRecursion P (take k xs)
-all_take P zero xs h = tt
-all_take P (suc k) [] h = tt
-all_take P (suc k) (x ∷ xs) h = (h.0, all_take P k xs h.1)
+all_take P k xs h = all_front P (take k xs) (drop k xs) (subst (AllByRecursion P) (sym (take-append-drop k xs)) h)
 
 -- bytes that are digits, by `AreDigits`, are above the sign with which each request begins
 above_digits : (ds : List ℕ) → AreDigits ds → AreAbove ds

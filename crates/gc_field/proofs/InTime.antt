@@ -1,6 +1,7 @@
 -- The first reply to a request that comes while the request isn't settled settles it. A *stretch* is a run once it has
 -- synchronized: what is in flight then, and its moves.
 use Rattle.std.proofs.Common.{◌≡◌, ◌⊎◌, inl, inr, ℕ, zero, suc, ◌+◌, ◌-◌, ◌<◌, ◌≤◌, Bool, true, false, List, [], ◌∷◌, ◌++◌, length, map, nat_eq, Option, Some, refl, sym, ◌∙◌, ap, subst, arith, append_assoc, length-drop}
+use Rattle.std.specs.List.{AllByRecursion}
 use Rattle.std.specs.Prelude.{slice_get}
 use Rattle.std.proofs.lemmas.Bool.{ne_eqb}
 use Rattle.std.proofs.lemmas.List.{length-append, length-map}
@@ -13,7 +14,6 @@ use Rattle.gc_instrument.specs.State.{KeptReply}
 use Rattle.gc_station.specs.Parts.{client_after}
 use Rattle.gc_station.proofs.Booking.{settled_by, settled_append, course_settled}
 use Rattle.gc_world.specs.Clients.{by_ids, by_numbers}
-use Rattle.gc_world.specs.Order.{Each}
 use Rattle.gc_field.specs.World.{Ends, Numbered, Wire, World, requested}
 use Rattle.gc_world.proofs.Sound.{IsComing}
 use Rattle.gc_field.specs.Begin.{UnderWay}
@@ -24,7 +24,7 @@ use Rattle.gc_field.specs.Laws.{asked}
 use Rattle.gc_field.specs.Runs.{IsFaithfulThroughout, IsInTime, times_out, world}
 use Rattle.gc_field.specs.Shown.{Stretch}
 use Rattle.gc_field.proofs.Instruments.{exchange_of}
-use Rattle.gc_field.proofs.Possible.{moved_append, possible_front, possible_behind}
+use Rattle.gc_field.proofs.Possible.{front_possible, later_possible, moved_append}
 use Rattle.gc_field.proofs.Waits.{Waits, after_is, after_moves, waits_all}
 use Rattle.gc_field.proofs.Moving.{both_all}
 use Rattle.gc_field.proofs.BegunFaithful.{both_begun, faithful}
@@ -52,12 +52,6 @@ met_at k line [] low = absurd (omega (arith, low))
 met_at zero line (p ∷ ps) low = (p, refl, refl)
 met_at (suc k) line (p ∷ ps) low = met_at k line ps (omega (arith, low))
 
--- what is at place k of the second of three lists is at place length xs + k of the three joined
-get_between : (xs ys zs : List (Settlement Asked)) (n k : ℕ) (x : Settlement Asked) → n ≡ length xs + k → slice_get ys k ≡ Some x → slice_get ((xs ++ ys) ++ zs) n ≡ Some x
-get_between [] ys zs n k x e got = let same : k ≡ n = omega (arith, e) in subst (λ i. slice_get (ys ++ zs) i ≡ Some x) same (get_more ys zs k x got)
-get_between (a ∷ xs) ys zs zero k x e got = absurd (omega (arith, e))
-get_between (a ∷ xs) ys zs (suc n) k x e got = get_between xs ys zs n k x (omega (arith, e)) got
-
 -- a list that has an element, x, between a front and later elements isn't empty
 pub not_nil : {A : Type 0} (xs front later : List A) (x : A) → xs ≡ [] → xs ≡ front ++ x ∷ later → ⊥
 not_nil xs [] later x e f = cons_not_nil x later (sym f ∙ e)
@@ -72,11 +66,6 @@ module _ {State : Type 0} (ends : Ends State) (Good : State → Type 0) (kept : 
   -- possible moves after a clean synchronization are faithful
   pub clean_faithful : (u : UnderWay State) → IsClean Good kept u → (ms : List (Move State)) → ArePossible ends Good kept (by_ids 7 ends) ms (ids_begun u) → IsFaithful 7 ends u ms Good kept
   clean_faithful u clean ms p = faithful ends Good kept is 7 (omega arith) u clean ms p
-
-  -- the front of possible moves of a stretch is possible
-  pub front_of : (u : UnderWay State) (ms front later : List (Move State)) → ms ≡ front ++ later → ArePossible ends Good kept (by_ids 7 ends) ms (ids_begun u)
-      → ArePossible ends Good kept (by_ids 7 ends) front (ids_begun u)
-  front_of u ms front later e p = possible_front 7 ends Good kept front later (ids_begun u) (subst (λ xs. ArePossible ends Good kept (by_ids 7 ends) xs (ids_begun u)) e p)
 
   -- a stretch has synchronized cleanly, or nothing happens in it; and its moves are possible
   pub record IsSoundStretch (s : Stretch State) : Type 0 where
@@ -95,7 +84,7 @@ module _ {State : Type 0} (ends : Ends State) (Good : State → Type 0) (kept : 
   pub throughout : (s : Stretch State) → IsSoundStretch s → IsFaithfulThroughout ends Good kept s
   throughout s sound front later e =
       elim sound.clean [
-        | inl clean ↦ clean_faithful s.from clean front (front_of s.from s.moves front later e sound.possible)
+        | inl clean ↦ clean_faithful s.from clean front (front_possible 7 ends Good kept s.moves front later (ids_begun s.from) e sound.possible)
         | inr none ↦ subst (λ ms. IsFaithful 7 ends s.from ms Good kept) (sym (front_nil front later (sym none ∙ e))) (faithful_none ends Good kept s.from)
       ]
 
@@ -105,7 +94,7 @@ module _ {State : Type 0} (ends : Ends State) (Good : State → Type 0) (kept : 
       → (more : List (Settlement Asked)) × ((behind 7 ends u ms).wire.settled ≡ (behind 7 ends u front).wire.settled ++ more)
   settled_more u clean ms front later e p =
       let whole = clean_faithful u clean ms p in
-      let part = clean_faithful u clean front (front_of u ms front later e p) in
+      let part = clean_faithful u clean front (front_possible 7 ends Good kept ms front later (ids_begun u) e p) in
       let own = (course 7 begun (seen front)).settlements in
       let more = settled_by (client_after begun.client (seen front)) (seen later) in
       let grown : (course 7 begun (seen ms)).settlements ≡ own ++ more =
@@ -127,7 +116,7 @@ module _ {State : Type 0} (ends : Ends State) (Good : State → Type 0) (kept : 
       let both = both_all 7 (omega arith) ends Good (exchange_of ends Good kept is) kept front (ids_begun u) (numbers_begun u) possible (both_begun ends Good kept is 7 (omega arith) u clean) in
       let same : a.wire ≡ b.wire = both.agree.wire in
       let down : b.wire.down ≡ record { number = n; line = line } ∷ rest = sym (ap (λ (w : Wire State). w.down) same) ∙ e in
-      let coming = subst (λ l. Each (IsComing 7 ends Good b.client.since (length b.client.requests)) l) down both.sound.coming in
+      let coming = subst (λ l. AllByRecursion (IsComing 7 ends Good b.client.since (length b.client.requests)) l) down both.sound.coming in
       let size : length a.wire.settled ≡ b.client.count = ap (λ (w : Wire State). length w.settled) same ∙ both.sound.booked in
       let waits : length a.client.waiting ≡ length b.client.requests - b.client.count =
       ap (λ (l : List (Pending Asked)). length l) both.agree.client.window ∙ length-drop b.client.count b.client.requests in
@@ -147,14 +136,17 @@ module _ {State : Type 0} (ends : Ends State) (Good : State → Type 0) (kept : 
       let w = behind 7 ends s.from front in
       let k = n - length w.wire.settled in
       let split : s.moves ≡ (front ++ Comes line ∷ []) ++ later = e ∙ sym (append_assoc front (Comes line ∷ []) later) in
-      let f = clean_faithful s.from clean front (front_of s.from s.moves front (Comes line ∷ later) e possible) in
-      let p = met_at k line w.client.waiting (below_sent s.from clean front (front_of s.from s.moves front (Comes line ∷ later) e possible) line n rest down le) in
+      let before = front_possible 7 ends Good kept s.moves front (Comes line ∷ later) (ids_begun s.from) e possible in
+      let f = clean_faithful s.from clean front before in
+      let p = met_at k line w.client.waiting (below_sent s.from clean front before line n rest down le) in
       let more = settled_more s.from clean s.moves (front ++ Comes line ∷ []) later split possible in
       let here : (behind 7 ends s.from (front ++ Comes line ∷ [])).wire.settled ≡ w.wire.settled ++ settle k line w.client.waiting =
       ap (λ (v : World (ById Asked) State). v.wire.settled) (moved_append ends (by_ids 7 ends) front (Comes line ∷ []) (ids_begun s.from)) ∙ f.first_reply n line rest down le in (
         p.0,
         p.1,
-        ap (λ l. slice_get l n) (more.1 ∙ ap (λ l. l ++ more.0) here) ∙ get_between w.wire.settled (settle k line w.client.waiting) more.0 n k (settled_by_line p.0 line) (omega (arith, le)) p.2,
+        ap (λ l. slice_get l n) (more.1 ∙ ap (λ l. l ++ more.0) here)
+            ∙ get_more (w.wire.settled ++ settle k line w.client.waiting) more.0 n (settled_by_line p.0 line)
+            (get_behind w.wire.settled (settle k line w.client.waiting) n k (omega (arith, le)) ∙ p.2),
       )
 
   -- if the settlements and what waits are the requests that were sent, one for one, there are as many of both together as of
@@ -191,9 +183,11 @@ module _ {State : Type 0} (ends : Ends State) (Good : State → Type 0) (kept : 
       let w = behind 7 ends s.from before in
       let n = length w.wire.sent in
       let split : s.moves ≡ before ++ (Sends target call deadline ∷ (between ++ Comes line ∷ later)) = e ∙ append_assoc before (Sends target call deadline ∷ between) (Comes line ∷ later) in
-      let f = clean_faithful s.from clean before (front_of s.from s.moves before (Sends target call deadline ∷ (between ++ Comes line ∷ later)) split all_possible) in
+      let sent = Sends target call deadline ∷ (between ++ Comes line ∷ later) in
+      let f = clean_faithful s.from clean before (front_possible 7 ends Good kept s.moves before sent (ids_begun s.from) split all_possible) in
       let m = meets s clean all_possible front later line n rest e down le in
-      let possible = possible_behind 7 ends Good kept before (Sends target call deadline ∷ between) (ids_begun s.from) (front_of s.from s.moves front (Comes line ∷ later) e all_possible) in
+      let possible = later_possible 7 ends Good kept front before (Sends target call deadline ∷ between) (ids_begun s.from) refl
+      (front_possible 7 ends Good kept s.moves front (Comes line ∷ later) (ids_begun s.from) e all_possible) in
       let p = pending_of target call deadline in
       let waits : Waits (behind 7 ends s.from front) n (after_moves p between) =
       subst (λ (v : World (ById Asked) State). Waits v n (after_moves p between)) (sym (moved_append ends (by_ids 7 ends) before (Sends target call deadline ∷ between) (ids_begun s.from)))

@@ -2,7 +2,6 @@
 -- no reply.
 use Rattle.std.proofs.Common.{◌≡◌, ◌⊎◌, ℕ, ◌<◌, inl, inr, true, false, List, [], Option, Some, None, cond, refl, sym, ◌∙◌, ap, subst, lit<}
 use Rattle.std.proofs.lemmas.Bool.{eq-eqb, true≢false}
-use Rattle.gc_lines.proofs.Written.{reply_back}
 use Rattle.gc_lines.proofs.Requests.{request_found}
 use Rattle.gc_catalogue.proofs.AskedRules.{asked_again}
 use Rattle.gc_catalogue.specs.Asked.{asked_line, asked_request, is_of_table}
@@ -11,7 +10,7 @@ use Rattle.gc_catalogue.specs.declared.raw.RawCall.{RawCall}
 use Rattle.gc_catalogue.specs.declared.asked.Asked.{Asked}
 use Rattle.gc_catalogue.specs.declared.asked.Asked.TheVariants.{Table, Raw}
 use Rattle.gc_catalogue.specs.declared.call.Call.{Call}
-use Rattle.gc_client.specs.Rule.{id_in, heard}
+use Rattle.gc_client.specs.Rule.{heard}
 use Rattle.gc_instrument.specs.Replying as calls
 use Rattle.gc_instrument.specs.Replying.{Handed, IsReplied, answers, kept_line, refusal_line, refuses}
 use Rattle.gc_instrument.specs.State.{State, KeptReply, IsFittingState}
@@ -19,7 +18,7 @@ use Rattle.gc_instrument.proofs.Answering.{handed_again, handed_new}
 use Rattle.gc_field.specs.Simulator.{ends, handed}
 use Rattle.gc_world.specs.Exchange.{IsExchange}
 use Rattle.gc_field.specs.World.{Ends}
-use Rattle.gc_world.proofs.Handing.{exchange, kept_own}
+use Rattle.gc_world.proofs.Handing.{exchange, kept_own, reply_heard}
 use Rattle.gc_field.specs.Instrument.{IsAnInstrument, IsAnInstrumentFor, KeepingNothingSuffices, KeepsItsOwn, TreatsRawsAlike, all_known}
 use Rattle.gc_field.specs.Laws.{SimulatorIsAnInstrument, kept_of}
 
@@ -69,8 +68,7 @@ retains_reply s id call (Some line) e =
 -- in a state that fits, the simulator's reply to a request with an id below 8 reads as one with that id
 asked_reads : (s : State) (id : ℕ) (asked : Asked) → IsFittingState s → id < 8 → heard (handed s id asked).reply ≡ Some id
 asked_reads s id (Table call) good small = exchange.reads s id call good small
-asked_reads s id (Raw raw) good small =
-    ap id_in (reply_back (record { rc_com = 3081; id = Some id; rc = 0; params = [] }) (record { rc_com = lit< tt; id = small; rc = lit< tt }))
+asked_reads s id (Raw raw) good small = reply_heard 3081 id 0 [] (lit< tt) small (lit< tt)
 
 -- a line that the simulator sends without executing the request is the one that it retains, for the request's id
 asked_repeats : (s : State) (id : ℕ) (asked : Asked) → (handed s id asked).executed ≡ false → s.kept ≡ Some (record { id = id; line = (handed s id asked).reply })

@@ -1,15 +1,15 @@
 -- A run of a station and what happens on its line, joined: each part of the run, from one synchronization to the next, goes
 -- with a stretch of the line, and each answer that is recorded was made in one of the stretches. The *marks* of a part say for
 -- which command each of its requests is, in order.
-use Rattle.std.proofs.Common.{◌≡◌, inl, inr, ℕ, zero, suc, ◌<◌, ◌+◌, ◌≤◌, Bool, true, false, List, [], ◌∷◌, ◌++◌, map, length, Option, Some, refl, sym, ◌∙◌, ap, subst, arith, append_assoc, append-nil, drop}
+use Rattle.std.proofs.Common.{◌≡◌, inl, inr, ℕ, suc, ◌<◌, ◌+◌, ◌≤◌, Bool, true, false, List, [], ◌∷◌, ◌++◌, map, length, Option, Some, refl, sym, ◌∙◌, ap, subst, arith, append_assoc, append-nil, drop, if◌then◌else◌}
 use Rattle.std.specs.Prelude.{slice_get}
-use Rattle.std.specs.List.{AllByRecursion}
+use Rattle.std.specs.List.{AllByRecursion, AllZip}
 use Rattle.gc_catalogue.specs.declared.answer.Reading.{Reading}
 use Rattle.gc_catalogue.specs.declared.asked.Asked.{Asked}
 use Rattle.gc_client.specs.Beginning.{IsSubsequence, the_word}
 use Rattle.gc_client.specs.OneForOne.{Wanted, Restart, Send, Step, begun, course}
 use Rattle.gc_client.specs.declared.pending.Pending.{Pending}
-use Rattle.gc_client.specs.Rule.{ById, Outcome, Answered, Late, Settlement, fresh, lost}
+use Rattle.gc_client.specs.Rule.{ById, Outcome, Answered, Late, Lost, Settlement, fresh, lost}
 use Rattle.gc_instrument.specs.State.{KeptReply}
 use Rattle.gc_texts.specs.Tasks.{call_at}
 use Rattle.gc_texts.specs.declared.tasks.Task.{Task}
@@ -21,7 +21,7 @@ use Rattle.gc_links.specs.Acts.{Act}
 use Rattle.gc_station.specs.Beginnings.{unanswered_after}
 use Rattle.gc_station.specs.Begun.{AreBegun, heard_in}
 use Rattle.gc_station.specs.Marks.{record_of, records_of}
-use Rattle.gc_station.specs.Lists.{with_if}
+use Rattle.gc_station.specs.Links.{parts}
 use Rattle.gc_station.specs.Parts.{Part, joined, MarksAsk, parts_of, went_out, sent_of, timeless, client_after}
 use Rattle.gc_station.specs.Records.{Record}
 use Rattle.gc_station.specs.Runs.{state_after}
@@ -36,7 +36,7 @@ use Rattle.gc_station.proofs.Lists.{all_append, all_on}
 use Rattle.gc_station.specs.Scopes.{Scope}
 use Rattle.gc_world.specs.Clients.{by_ids}
 use Rattle.gc_world.specs.Record.{IsReplyTo}
-use Rattle.std.proofs.lemmas.Option.{none-some, same_Some, slice_get_within}
+use Rattle.std.proofs.lemmas.Option.{slice_get_within}
 use Rattle.gc_field.specs.World.{Ends}
 use Rattle.gc_field.specs.Begin.{IsWellFormed, AreTurns, UnderWay, begins, ids_under_way, leaves, turned}
 use Rattle.gc_field.specs.Beginnings.{AreOwn, ArePossibleIf, AreRuns, IsOwnIf, Run, after_turns, left_by_run, left_if, on_line}
@@ -44,7 +44,7 @@ use Rattle.gc_field.specs.Begun.{IsClean, IsFaithful, IsSafe, WasMadeOn, behind,
 use Rattle.gc_field.specs.Field.{ArePossible, seen}
 use Rattle.gc_field.specs.Instrument.{IsAnInstrument}
 use Rattle.gc_field.specs.Laws.{asked}
-use Rattle.gc_field.specs.Runs.{IsInField, IsOwnAnswer, LateHasExecution, IsRunFaithful, IsFaithfulThroughout, IsInTime, AreSentAs, own_sent, own_settled, world, written_over}
+use Rattle.gc_field.specs.Runs.{IsInField, IsOwnAnswer, LateHasExecution, RunsInFieldAreFaithful, IsFaithfulThroughout, IsInTime, AreSentAs, own_sent, own_settled, world, written_over}
 use Rattle.gc_field.specs.Shown.{AreShownAs, Stretch, shown, stretches}
 use Rattle.gc_field.proofs.BeginJoin.{begins_cleanly, left_lines}
 use Rattle.gc_field.proofs.BegunFaithful.{sent_is}
@@ -57,7 +57,7 @@ use Rattle.gc_field.proofs.Shown.{left_is}
 use Rattle.gc_field.proofs.Unbegun.{faithful_none}
 use Rattle.gc_field.proofs.Timeless.{IsLasting, all_timeless, late_lasts, own_lasts}
 use Rattle.gc_world.proofs.Places.{get_seen}
-use Rattle.gc_field.proofs.Among.{among_settled, among_late, get_drop}
+use Rattle.gc_field.proofs.Among.{among_first, get_drop}
 use Rattle.std.proofs.lemmas.List.{drop-map}
 use Rattle.std.proofs.lemmas.Bool.{true≢false}
 
@@ -117,11 +117,9 @@ module _ {State : Type 0} (ends : Ends State) (Good : State → Type 0) (kept : 
     pub sound : IsSoundStretch ends Good kept is s
     pub faithful : IsFaithful 7 ends s.from s.moves Good kept
 
-  -- the parts and the stretches fit, one for one
+  -- there are as many parts as stretches, and each part fits the stretch at its place
   abbrev pub AllFit : List Part → List (Stretch State) → Type 0
-  AllFit [] [] = Unit {0}
-  AllFit (p ∷ ps) (s ∷ ss) = Fits p s × AllFit ps ss
-  AllFit _ _ = ⊥
+  AllFit ps ss = AllZip Fits ps ss
 
   -- if the turns of a run show those of the part p, the ids that are left of the run's word are those that the turns of p leave
   left_so : (u : UnderWay State) (r : Run State) (p : Part) → shown ends r.turns (begins u) ≡ p.turns → (after_turns ends u r).left ≡ unanswered_after the_word (heard_in p.turns)
@@ -148,18 +146,9 @@ module _ {State : Type 0} (ends : Ends State) (Good : State → Type 0) (kept : 
   abbrev pub IsSafePart : Part → Stretch State → Type 0
   IsSafePart p s = (n : ℕ) (mark : _) → slice_get p.marks n ≡ Some (Some mark) → IsSafe 7 ends s.from Good kept s.moves (8 + n)
 
-  -- there are as many parts as stretches, and `IsSafePart` holds of each part with its stretch
+  -- there are as many parts as stretches, and `IsSafePart` holds of each part with the stretch at its place
   abbrev pub AllSafe : List Part → List (Stretch State) → Type 0
-  AllSafe [] [] = Unit {0}
-  AllSafe (p ∷ ps) (s ∷ ss) = IsSafePart p s × AllSafe ps ss
-  AllSafe _ _ = ⊥
-
-  -- where `AllSafe` holds of parts and stretches, `IsSafePart` holds of the part and the stretch at place i
-  pub safe_at : (ps : List Part) (ss : List (Stretch State)) (i : ℕ) (p : Part) (s : Stretch State) → AllSafe ps ss → slice_get ps i ≡ Some p → slice_get ss i ≡ Some s → IsSafePart p s
-  safe_at [] ss i p s h e f = absurd (none-some p e)
-  safe_at (q ∷ ps) [] i p s h e f = absurd h
-  safe_at (q ∷ ps) (t ∷ ss) zero p s h e f = subst (λ x. IsSafePart x s) (same_Some q p e) (subst (λ x. IsSafePart q x) (same_Some t s f) h.0)
-  safe_at (q ∷ ps) (t ∷ ss) (suc i) p s h e f = safe_at ps ss i p s h.1 e f
+  AllSafe ps ss = AllZip IsSafePart ps ss
 
   -- where the parts and the stretches fit, what holds of any stretch that fits a part holds of each of these stretches
   pub each_fits : (P : Stretch State → Type 0) → ((p : Part) (s : Stretch State) → Fits p s → P s) → (ps : List Part) (ss : List (Stretch State)) → AllFit ps ss → AllByRecursion P ss
@@ -279,10 +268,11 @@ module _ {State : Type 0} (ends : Ends State) (Good : State → Type 0) (kept : 
   -- `IsOwnAnswer` holds at first
   own_first : (reads : Asked → List ℕ → Reading) (commands : List Task) → HoldsAtFirst (IsOwnAnswer ends Good kept commands) reads commands
   own_first reads commands p s ps ss waiting xs e f safe sent =
-      all_records reads (IsOwnAnswer ends Good kept commands (p ∷ ps) (s ∷ ss)) p.marks xs
+      all_records reads 0 (IsOwnAnswer ends Good kept commands (p ∷ ps) (s ∷ ss)) p.marks xs
       (λ n mark x at got line says.
       let answered : x.outcome ≡ Answered line = was_answered (record_of reads 0 mark x) x (record { reads = reads; expected = mark.expected; command = refl; ended = refl }) line says in
-      let here = among_settled (own_settled ends s) waiting n x line (sym (ap (λ l. slice_get l n) e) ∙ got) answered in
+      let other : x.outcome ≡ Lost → ⊥ = λ is_lost. let both : Lost ≡ Answered line = sym is_lost ∙ answered in cc in
+      let here = among_first (own_settled ends s) waiting n x other (sym (ap (λ l. slice_get l n) e) ∙ got) in
       let beyond : 8 ≤ 8 + n = omega arith in
       let there = get_drop 8 n (world ends s).wire.settled x here in
       let a = of_at commands p.marks (map asked (own_sent ends s)) n (Some mark) sent at in
@@ -291,18 +281,9 @@ module _ {State : Type 0} (ends : Ends State) (Good : State → Type 0) (kept : 
       let right : x.call ≡ call_at a.2.0 mark.sent = (f.faithful.one_for_one.same (8 + n) x r.0 there (get_drop 8 n (world ends s).wire.sent r.0 r.1)).1 ∙ ap
       (λ (o : Wanted Asked). o.call) (r.2 ∙ a.2.2) in
       record {
-        k = 0;
-        part = p;
-        stretch = s;
-        of_parts = refl;
-        of_stretches = refl;
-        m = n;
-        expected = mark.expected;
-        mark = at;
+        of = record { k = 0; part = p; stretch = s; of_parts = refl; of_stretches = refl; m = n; expected = mark.expected; mark = at; task = a.2.0; listed = a.2.1 };
         request = r.0;
         sent = r.1;
-        task = a.2.0;
-        listed = a.2.1;
         asks = r.2 ∙ a.2.2;
         settled = here ∙ ap (λ (o : Outcome). Some (record { target = x.target; call = x.call; outcome = o })) answered;
         made = b.0;
@@ -331,10 +312,11 @@ module _ {State : Type 0} (ends : Ends State) (Good : State → Type 0) (kept : 
   -- `LateHasExecution` holds at first
   late_first : (reads : Asked → List ℕ → Reading) (commands : List Task) → HoldsAtFirst (LateHasExecution ends Good kept commands) reads commands
   late_first reads commands p s ps ss waiting xs e f safe sent =
-      all_records reads (LateHasExecution ends Good kept commands (p ∷ ps) (s ∷ ss)) p.marks xs
+      all_records reads 0 (LateHasExecution ends Good kept commands (p ∷ ps) (s ∷ ss)) p.marks xs
       (λ n mark x at got says.
       let late : x.outcome ≡ Late = was_late (record_of reads 0 mark x) x (record { reads = reads; expected = mark.expected; command = refl; ended = refl }) says in
-      let here = among_late (own_settled ends s) waiting n x (sym (ap (λ l. slice_get l n) e) ∙ got) late in
+      let other : x.outcome ≡ Lost → ⊥ = λ is_lost. let both : Lost ≡ Late = sym is_lost ∙ late in cc in
+      let here = among_first (own_settled ends s) waiting n x other (sym (ap (λ l. slice_get l n) e) ∙ got) in
       let beyond : 8 ≤ 8 + n = omega arith in
       let there = get_drop 8 n (world ends s).wire.settled x here in
       let a = of_at commands p.marks (map asked (own_sent ends s)) n (Some mark) sent at in
@@ -343,16 +325,7 @@ module _ {State : Type 0} (ends : Ends State) (Good : State → Type 0) (kept : 
       (λ (o : Wanted Asked). o.call) (r.2 ∙ a.2.2) in
       let made = f.faithful.late (8 + n) x beyond (safe n mark at) there late in
       record {
-        k = 0;
-        part = p;
-        stretch = s;
-        of_parts = refl;
-        of_stretches = refl;
-        m = n;
-        expected = mark.expected;
-        mark = at;
-        task = a.2.0;
-        listed = a.2.1;
+        of = record { k = 0; part = p; stretch = s; of_parts = refl; of_stretches = refl; m = n; expected = mark.expected; mark = at; task = a.2.0; listed = a.2.1 };
         line = made.0;
         made_on = subst (λ call. WasMadeOn 7 ends s.from s.moves (8 + n) call made.0) right made.1;
       })
@@ -385,7 +358,7 @@ module _ {State : Type 0} (ends : Ends State) (Good : State → Type 0) (kept : 
   all_if_sent P unsent [] h = tt
   all_if_sent P unsent (r ∷ rs) h = by_case (went_out r.end) refl (all_if_sent P unsent rs) h where
     -- the lemma above, by whether the command of the first record was sent (`b`)
-    by_case : (b : Bool) → went_out r.end ≡ b → (AllByRecursion P (sent_of rs) → AllByRecursion P rs) → AllByRecursion P (with_if b r (sent_of rs)) → AllByRecursion P (r ∷ rs)
+    by_case : (b : Bool) → went_out r.end ≡ b → (AllByRecursion P (sent_of rs) → AllByRecursion P rs) → AllByRecursion P (if b then r ∷ sent_of rs else sent_of rs) → AllByRecursion P (r ∷ rs)
     by_case true out others g = (g.0, others g.1)
     by_case false out others g = (unsent r out, others g)
 
@@ -403,13 +376,13 @@ module _ {State : Type 0} (ends : Ends State) (Good : State → Type 0) (kept : 
 
   -- the parts and the stretches of a run in the field fit, and what happens on the line is `AreOwn`
   pub all_fitting : (plan : Plan) (commands : List Task) (scope : Scope) (acts : List Act) (u : UnderWay State) (rs : List (Run State)) → IsInField ends Good kept plan commands scope acts u rs
-      → AllFit (parts_of plan commands (opening plan scope) acts) (stretches ends u rs) × AreOwn 7 ends Good kept u rs
+      → AllFit (parts plan commands scope acts) (stretches ends u rs) × AreOwn 7 ends Good kept u rs
   all_fitting plan commands scope acts u rs h =
-      all_fit (parts_of plan commands (opening plan scope) acts) rs u h.lines h.none h.shown h.possible (parts_begun plan commands (opening plan scope) acts h.runs)
+      all_fit (parts plan commands scope acts) rs u h.lines h.none h.shown h.possible (parts_begun plan commands (opening plan scope) acts h.runs)
 
   -- each request of a run in the field that is a command is safe in its stretch
   pub safe_in : (plan : Plan) (commands : List Task) (scope : Scope) (acts : List Act) (u : UnderWay State) (rs : List (Run State)) → IsInField ends Good kept plan commands scope acts u rs
-      → AllSafe (parts_of plan commands (opening plan scope) acts) (stretches ends u rs)
+      → AllSafe (parts plan commands scope acts) (stretches ends u rs)
   safe_in plan commands scope acts u rs h =
       let start = opening plan scope in
       let ps = parts_of plan commands start acts in
@@ -420,8 +393,7 @@ module _ {State : Type 0} (ends : Ends State) (Good : State → Type 0) (kept : 
       (sent_all scope.reads commands ps ss [] (state_after plan commands scope acts) fit.0 on)
 
   -- a run in the field is faithful
-  pub run_faithful : (plan : Plan) (commands : List Task) (scope : Scope) (acts : List Act) (u : UnderWay State) (rs : List (Run State))
-      → IsInField ends Good kept plan commands scope acts u rs → IsRunFaithful ends Good kept plan commands scope acts u rs
+  pub run_faithful : RunsInFieldAreFaithful ends Good kept
   run_faithful plan commands scope acts u rs h =
       let start = opening plan scope in
       let ps = parts_of plan commands start acts in

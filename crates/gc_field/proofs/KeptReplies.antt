@@ -1,15 +1,19 @@
--- What an instrument's retained reply is to: the last request that it was handed and knows (`table`), or a later one. And what
--- it means that a line is vouched for: it was made for its request, as that request's call was executed. The id of request n is
--- the difference of n and `since`, modulo 8.
-use Rattle.std.proofs.Common.{◌≡◌, ℕ, ◌+◌, ◌-◌, ◌%◌, ◌<◌, ◌≤◌, ◌⊎◌, inl, inr, Bool, true, false, List, Option, Some, None, refl, sym, ap, subst, arith}
+-- The request to which an instrument's retained reply is: the last one that it was handed and knows (`table`), or a later one.
+-- And what it means that a line is vouched for: it was made for its request, as that request's call was executed. The id of
+-- request n is the difference of n and `since`, modulo 8.
+use Rattle.std.proofs.Common.{◌≡◌, ℕ, ◌+◌, ◌-◌, ◌%◌, ◌<◌, ◌≤◌, ◌⊎◌, inl, inr, Bool, true, false, List, Option, Some, None, refl, sym, ◌∙◌, ap, subst, arith}
 use Rattle.std.specs.Prelude.{slice_get}
 use Rattle.gc_catalogue.specs.declared.asked.Asked.{Asked}
+use Rattle.gc_client.specs.Rule.{Settlement}
+use Rattle.gc_instrument.specs.Replying.{Handed}
 use Rattle.gc_instrument.specs.State.{KeptReply}
 use Rattle.gc_world.specs.Clients.{ByNumber}
 use Rattle.gc_world.specs.Record.{IsReplyTo}
-use Rattle.gc_field.specs.World.{Request, Sent, Numbered, Ends, World}
+use Rattle.gc_field.specs.World.{Request, Sent, Numbered, Ends, World, written}
 use Rattle.gc_world.proofs.Booked.{Has}
-use Rattle.gc_field.proofs.Once.{IsUnknown}
+use Rattle.gc_world.proofs.Replay.{IsOf}
+use Rattle.gc_field.specs.Instrument.{KeepsItsReply}
+use Rattle.gc_field.proofs.Once.{IsUnknown, IsUnknownOrRetained}
 
 -- What is kept.
 
@@ -110,15 +114,60 @@ kept_handed P Q f since top table n id known line k after recent le low own p (i
     subst (λ t. KeptIs Q since (n + 1) t after) (sym (ap (λ b. newest b n table) same.0))
     (kept_longer Q since top (n + 1) table after le (kept_more P Q f since top table after (kept_still P since top table k after (inr same.1) h)))
 
--- the line was made for request n, as its call was executed, is a reply to that call, and has the property M
-pub record IsVouched {State : Type 0} (ends : Ends State) (Good : State → Type 0) (M : ℕ → Asked → List ℕ → Type 0) (sent : List Sent) (executed : List ℕ)
-    (made : List (Numbered (List ℕ))) (n : ℕ) (line : List ℕ) : Type 0 where
-  pub among : Has (record { number = n; line = line }) made
-  pub acted : Has n executed
-  pub request : Sent
-  pub found : slice_get sent n ≡ Some request
-  pub reply : IsReplyTo ends Good request.call line
-  pub on : M n request.call line
+-- what the invariant of `Vouched` speaks of: of the client, the number that its ids are counted from (`since`) and how many of
+-- its requests are settled (`count`); the fields of the wire; and the reply that the instrument retains
+pub record Fields : Type 0 where
+  pub since : ℕ
+  pub count : ℕ
+  pub sent : List Sent
+  pub executed : List ℕ
+  pub starts : List ℕ
+  pub made : List (Numbered (List ℕ))
+  pub settled : List (Settlement Asked)
+  pub up : List (Numbered Request)
+  pub down : List (Numbered (List ℕ))
+  pub retained : Option KeptReply
+
+-- the `Fields` of a world, where `kept` gives the reply that an instrument retains
+abbrev pub fields_of : {State : Type 0} → (State → Option KeptReply) → World (ByNumber Asked) State → Fields
+fields_of kept w =
+    record {
+      since = w.client.since;
+      count = w.client.count;
+      sent = w.wire.sent;
+      executed = w.wire.executed;
+      starts = w.wire.starts;
+      made = w.wire.made;
+      settled = w.wire.settled;
+      up = w.wire.up;
+      down = w.wire.down;
+      retained = kept w.wire.state;
+    }
+
+module _ {State : Type 0} (ends : Ends State) (Good : State → Type 0) (kept : State → Option KeptReply) where
+  -- in a good state, if the instrument retains its reply to each request that `keeps` names: `keeps` doesn't name request x,
+  -- which it is handed; or the reply to x is retained, with its id
+  pub unknown_or_retained : (w : World (ByNumber Asked) State) (x : Numbered Request) (hd : Handed State) (keeps : Asked → Bool) (b : Bool) → keeps x.line.call ≡ b
+      → KeepsItsReply ends Good kept keeps → ends.handed w.wire.state x.line.id x.line.call ≡ hd → Good w.wire.state → (since : ℕ) → x.line.id ≡ (x.number - since) % 8
+      → IsOf written w.wire.sent x
+      → IsUnknownOrRetained keeps w.wire.sent x.number ((x.number + 1 - 1 - since) % 8) (kept hd.state) (record { id = x.line.id; line = hd.reply })
+  unknown_or_retained w x hd keeps true e is handed good since own o =
+      let back : x.number ≡ x.number + 1 - 1 = omega arith in
+      inr (
+        subst (λ (k : Handed State). kept k.state ≡ Some (record { id = x.line.id; line = k.reply })) handed (is.always w.wire.state x.line.id x.line.call good o.small e),
+        own ∙ ap (λ i. (i - since) % 8) back,
+      )
+  unknown_or_retained w x hd keeps false e is handed good since own o = inl (o.request, o.found, ap keeps o.call ∙ e)
+
+module _ {State : Type 0} (ends : Ends State) (Good : State → Type 0) (M : ℕ → Asked → List ℕ → Type 0) where
+  -- the line was made for request n, as its call was executed, is a reply to that call, and has the property M
+  pub record IsVouched (sent : List Sent) (executed : List ℕ) (made : List (Numbered (List ℕ))) (n : ℕ) (line : List ℕ) : Type 0 where
+    pub among : Has (record { number = n; line = line }) made
+    pub acted : Has n executed
+    pub request : Sent
+    pub found : slice_get sent n ≡ Some request
+    pub reply : IsReplyTo ends Good request.call line
+    pub on : M n request.call line
 
 -- if the instrument executes the front request, x, when that is handed to it, its reply has the property M
 abbrev pub ReplyHas : {State : Type 0} → Ends State → (ℕ → Asked → List ℕ → Type 0) → World (ByNumber Asked) State → Numbered Request → Type 0

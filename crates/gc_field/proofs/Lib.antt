@@ -7,6 +7,7 @@ pub mod NearTable
 pub mod Vouched
 pub mod Instruments
 pub mod Possible
+pub mod LineSteps
 pub mod Seen
 pub mod Moving
 pub mod Faithful

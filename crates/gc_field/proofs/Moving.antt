@@ -2,32 +2,34 @@
 -- each reply is its own request's. The world with the latter client is called the world of numbers here, that with the former
 -- the world of ids.
 use Rattle.std.proofs.Common.{◌≡◌, ℕ, ◌+◌, ◌-◌, ◌%◌, ◌<◌, ◌≤◌, ◌⊎◌, inl, inr, Bool, true, false, List, [], ◌∷◌, ◌++◌, length, drop, Option, Some, refl, sym, ◌∙◌, ap, subst, arith, ltb, eqb}
+use Rattle.std.specs.List.{AllByRecursion}
 use Rattle.std.specs.Prelude.{slice_get}
 use Rattle.std.proofs.lemmas.List.{length_push}
 use Rattle.std.proofs.lemmas.Bool.{le-ltb, true≢false}
+use Rattle.gc_lines.proofs.Lists.{all_append, all_on}
 use Rattle.gc_catalogue.specs.declared.asked.Asked.{Asked}
 use Rattle.gc_catalogue.specs.Asked.{asked_line}
 use Rattle.gc_client.specs.Rule.{ById, Settlement, Answered, Late, settle}
 use Rattle.gc_instrument.specs.State.{KeptReply}
 use Rattle.gc_world.specs.Clients.{ByNumber, by_ids, by_numbers, ids_open, numbers_open, number_send, number_reply}
 use Rattle.gc_world.specs.Exchange.{IsExchange}
-use Rattle.gc_world.specs.Order.{Each}
 use Rattle.gc_field.specs.World.{Request, Sent, Numbered, Ends, Step, Send, Up_deliver, Up_lose, Up_repeat, Down_deliver, Down_lose, Down_repeat, Expire, Restart_client, Restart_instrument, Nothing, World, Wire, without, doubled, replied, up_delivered, with_up, with_down, started, on_wire, requested, down_delivered, happens, written}
 use Rattle.gc_world.proofs.Agree.{Agree, agrees}
 use Rattle.std.proofs.lemmas.Option.{none-some}
 use Rattle.gc_world.proofs.Places.{all_at, get_push}
 use Rattle.gc_world.proofs.Replay.{IsOf, of_more}
-use Rattle.gc_world.proofs.Rows.{each_append, each_more, each_without, each_doubled}
+use Rattle.gc_world.proofs.Rows.{each_without, each_doubled}
 use Rattle.gc_world.proofs.Sound.{IsGoing, Sound, sound_step, sound_open}
 use Rattle.gc_field.specs.Field.{Move, Sends, Tells, Comes, Foreign, OnLine, Anew, Changes, Joins, IsLineStep, moves, moved, IsPossible, ArePossible, AsksOnly, IsFirstAlone}
 use Rattle.gc_field.specs.Instrument.{IsAnInstrumentFor, KeepsItsOwn, KeepsItsReply}
-use Rattle.gc_field.proofs.Answered.{HoldsOfAll, HoldsOfOutcome, all_so_get}
+use Rattle.gc_field.proofs.Answered.{HoldsOfAll, HoldsOfOutcome, holds_get}
 use Rattle.gc_field.specs.Once.{ActsOnce, IsInOrder}
-use Rattle.gc_field.proofs.Once.{IsUnknown, acts_once, once_few, climbing_first, order_few, ordered_first}
+use Rattle.gc_field.proofs.Once.{IsUnknownOrRetained, acts_once, once_few, climbing_first, order_few, ordered_first}
 use Rattle.gc_field.proofs.KeptReplies.{IsVouched, kept_one, ReplyHas}
 use Rattle.gc_field.proofs.Vouched.{Vouched, AllVouched, vouched_requested, vouched_down, vouched_line, vouched_started, vouched_changed}
 use Rattle.gc_field.specs.Made.{WasMadeOn}
-use Rattle.gc_field.proofs.Possible.{possible_front}
+use Rattle.gc_field.proofs.BeginLists.{each_all}
+use Rattle.gc_field.proofs.Possible.{front_possible}
 use Rattle.gc_values.specs.Boolean.{number_of}
 
 module _ {State : Type 0} (width : ℕ) (narrow : width ≤ 7) (ends : Ends State) (Good : State → Type 0) (ex : IsExchange ends Good) (kept : State → Option KeptReply) where
@@ -144,7 +146,7 @@ module _ {State : Type 0} (width : ℕ) (narrow : width ≤ 7) (ends : Ends Stat
   pub made_here : (a : World (ById Asked) State) (b : World (ByNumber Asked) State) → Both width narrow ends Good ex kept a b → (ms : List (Move State))
       → ArePossible ends Good kept (by_ids width ends) ms a → RepliesHave width ends (λ n call line. WasMadeOn width ends a ms n call line) ms b
   made_here a b both ms p front later e x rest q exe =
-      let p' = possible_front width ends Good kept front (OnLine Up_deliver ∷ later) a (subst (λ l. ArePossible ends Good kept (by_ids width ends) l a) e p) in
+      let p' = front_possible width ends Good kept ms front (OnLine Up_deliver ∷ later) a e p in
       let same : (moved ends (by_ids width ends) front a).wire ≡ (moved ends (by_numbers width) front b).wire = (both_all width narrow ends Good ex kept front a b p' both).agree.wire in
       let stands : (moved ends (by_ids width ends) front a).wire.state ≡ (moved ends (by_numbers width) front b).wire.state = ap (λ (w : Wire State). w.state) same in
       record {
@@ -178,16 +180,16 @@ module _ {State : Type 0} (width : ℕ) (narrow : width ≤ 7) (knows : Asked �
       ]
 
   -- in a `Trusted` world `HoldsOfOutcome` of `Vouches` holds of each settlement
-  so_at : (w : World (ByNumber Asked) State) (t : Trusted w) (m : ℕ) (s : Settlement Asked) → slice_get w.wire.settled m ≡ Some s → HoldsOfOutcome (Vouches w t) m s.outcome
-  so_at w t m s e = let i : 0 + m ≡ m = omega arith in subst (λ k. HoldsOfOutcome (Vouches w t) k s.outcome) i (all_so_get (Vouches w t) 0 w.wire.settled m s t.answers e)
+  outcome_vouched : (w : World (ByNumber Asked) State) (t : Trusted w) (m : ℕ) (s : Settlement Asked) → slice_get w.wire.settled m ≡ Some s → HoldsOfOutcome (Vouches w t) m s.outcome
+  outcome_vouched w t m s e = let i : 0 + m ≡ m = omega arith in subst (λ k. HoldsOfOutcome (Vouches w t) k s.outcome) i (holds_get (Vouches w t) 0 w.wire.settled m s t.answers e)
 
   -- `IsVouchedFor` holds in a `Trusted` world
   pub vouched_for : (w : World (ByNumber Asked) State) → Trusted w → IsVouchedFor ends Good kept E M w.wire
   vouched_for w t =
       record {
         own = λ m s not e. record {
-          answered = λ line answered. own_line w t m line not (subst (λ o. HoldsOfOutcome (Vouches w t) m o) answered (so_at w t m s e));
-          late = λ late. let l : (line : List ℕ) × Vouches w t m line = subst (λ o. HoldsOfOutcome (Vouches w t) m o) late (so_at w t m s e) in (l.0, own_line w t m l.0 not l.1);
+          answered = λ line answered. own_line w t m line not (subst (λ o. HoldsOfOutcome (Vouches w t) m o) answered (outcome_vouched w t m s e));
+          late = λ late. let l : (line : List ℕ) × Vouches w t m line = subst (λ o. HoldsOfOutcome (Vouches w t) m o) late (outcome_vouched w t m s e) in (l.0, own_line w t m l.0 not l.1);
         };
         order = t.order.order;
         once = λ keeps k. acts_once keeps w.wire.sent w.wire.executed w.wire.starts (t.once keeps k).once;
@@ -227,11 +229,11 @@ module _ {State : Type 0} (width : ℕ) (narrow : width ≤ 7) (knows : Asked �
 
   -- where `Both` holds of two worlds, possible moves of which `RepliesHave` holds leave a `Trusted` world `Trusted`; where
   -- `Plain` holds, they have to ask only what is known
-  pub whole_all : (ms : List (Move State)) (a : World (ById Asked) State) (b : World (ByNumber Asked) State) → Both width narrow ends Good ex kept a b
+  pub trusted_all : (ms : List (Move State)) (a : World (ById Asked) State) (b : World (ByNumber Asked) State) → Both width narrow ends Good ex kept a b
       → ArePossible ends Good kept (by_ids width ends) ms a → (Plain → AsksOnly knows ms) → RepliesHave width ends M ms b → Trusted b → Trusted (moved ends (by_numbers width) ms b)
-  whole_all [] a b h p asks on t = t
-  whole_all (m ∷ ms) a b h p asks on t =
-      whole_all ms _ _ (both_move width narrow ends Good ex kept a b m p.0 h) p.1 (λ plain. asks_behind m ms (asks plain)) (replies_have_behind width ends M m ms b on)
+  trusted_all [] a b h p asks on t = t
+  trusted_all (m ∷ ms) a b h p asks on t =
+      trusted_all ms _ _ (both_move width narrow ends Good ex kept a b m p.0 h) p.1 (λ plain. asks_behind m ms (asks plain)) (replies_have_behind width ends M m ms b on)
       (trusted_move m ms a b h p.0 asks on h.sound t)
 
 module _ {State : Type 0} (width : ℕ) (narrow : width ≤ 7) (knows : Asked → Bool) (ends : Ends State) (Good : State → Type 0) (ex : IsExchange ends Good)
@@ -251,13 +253,8 @@ module _ {State : Type 0} (width : ℕ) (narrow : width ≤ 7) (knows : Asked �
     pub executed : b.wire.executed ≡ []
     pub settled : b.wire.settled ≡ []
     pub sent : length b.wire.sent ≤ number_of out
-    pub lines : Each (IsOf written b.wire.sent) b.wire.up
-    pub known : Each (λ (r : Sent). knows r.call ≡ true) b.wire.sent
-
-  -- what holds of every value holds of each element of a list
-  each_all : {A : Type 0} (P : A → Type 0) → ((x : A) → P x) → (xs : List A) → Each P xs
-  each_all P f [] = tt
-  each_all P f (x ∷ xs) = (f x, each_all P f xs)
+    pub lines : AllByRecursion (IsOf written b.wire.sent) b.wire.up
+    pub known : AllByRecursion (λ (r : Sent). knows r.call ≡ true) b.wire.sent
 
   -- what a step of the line makes of the fresh world b, which is sound
   module _ (b : World (ByNumber Asked) State) (out : Bool) (s : Sound width ends Good b) (f : IsFresh b out) where
@@ -267,8 +264,8 @@ module _ {State : Type 0} (width : ℕ) (narrow : width ≤ 7) (knows : Asked �
     fresh_reached x rest q =
         let v = b.wire in
         let hd = ends.handed v.state x.line.id x.line.call in
-        let g = subst (λ l. Each (IsGoing b.client.since (length b.client.requests)) l) q s.going in
-        let o = subst (λ l. Each (IsOf written v.sent) l) q f.lines in
+        let g = subst (λ l. AllByRecursion (IsGoing b.client.since (length b.client.requests)) l) q s.going in
+        let o = subst (λ l. AllByRecursion (IsOf written v.sent) l) q f.lines in
         let few : length v.sent ≤ 1 = below_two out f.sent in
         let nought : x.number ≡ 0 = omega (arith, g.0.sent, s.counted, few) in
         let m : Numbered (List ℕ) = record { number = x.number; line = hd.reply } in
@@ -285,13 +282,13 @@ module _ {State : Type 0} (width : ℕ) (narrow : width ≤ 7) (knows : Asked �
           lower = omega arith;
           least = omega arith;
           above = each_all (λ (y : Numbered Request). 1 ≤ y.number + 1) (λ y. omega arith) rest;
-          below = subst (λ l. Each (λ (y : Numbered (List ℕ)). y.number < 1) (l ++ m ∷ [])) (sym f.down) (omega (arith, nought), tt);
+          below = subst (λ l. AllByRecursion (λ (y : Numbered (List ℕ)). y.number < 1) (l ++ m ∷ [])) (sym f.down) (omega (arith, nought), tt);
           holds =
               kept_one P b.client.since 1 0 0 x.line.id hd.reply (kept hd.state) (omega (arith, f.since)) (omega arith) (omega arith) id (subst (λ n. P n hd.reply) nought early)
               (own_kept known (keeper.keeps v.state x.line.id x.line.call s.good o.0.small));
           lines = o.1;
           near = inl (tt, omega arith, f.known);
-          coming = subst (λ l. Each (λ (y : Numbered (List ℕ)). P y.number y.line) (l ++ m ∷ [])) (sym f.down) (early, tt);
+          coming = subst (λ l. AllByRecursion (λ (y : Numbered (List ℕ)). P y.number y.line) (l ++ m ∷ [])) (sym f.down) (early, tt);
           answers = subst (λ l. HoldsOfAll P 0 l) (sym f.settled) tt;
           order = ordered_first x.number v.executed hd.executed f.executed nought;
           once = λ keeps k.
@@ -315,9 +312,8 @@ module _ {State : Type 0} (width : ℕ) (narrow : width ≤ 7) (knows : Asked �
         -- if the instrument retains its reply to each request that `keeps` names: `keeps` doesn't name x; or the reply to x is
         -- retained, with its id, which is that of request 0
         held : (keeps : Asked → Bool) → KeepsItsReply ends Good kept keeps → (t : Bool) → keeps x.line.call ≡ t → IsOf written b.wire.sent x → x.line.id ≡ (0 - b.client.since) % 8
-            → IsUnknown keeps b.wire.sent x.number
-            ⊎ ((kept (ends.handed b.wire.state x.line.id x.line.call).state ≡ Some (record { id = x.line.id; line = (ends.handed b.wire.state x.line.id x.line.call).reply }))
-            × (x.line.id ≡ (1 - 1 - b.client.since) % 8))
+            → IsUnknownOrRetained keeps b.wire.sent x.number ((1 - 1 - b.client.since) % 8) (kept (ends.handed b.wire.state x.line.id x.line.call).state)
+            (record { id = x.line.id; line = (ends.handed b.wire.state x.line.id x.line.call).reply })
         held keeps k true e o id = inr (k.always b.wire.state x.line.id x.line.call s.good o.small e, id)
         held keeps k false e o id = inl (o.request, o.found, ap keeps o.call ∙ e)
 
@@ -328,7 +324,7 @@ module _ {State : Type 0} (width : ℕ) (narrow : width ≤ 7) (knows : Asked �
     fresh_up (x ∷ rest) q = inr (fresh_reached x rest q)
 
     -- a fresh world stays fresh if the requests in flight change to others that were sent, or (`t` is false) don't
-    fresh_with_up : (up : List (Numbered Request)) (t : Bool) → Each (IsOf written b.wire.sent) up → IsFresh (on_wire b (with_up b.wire up t)) out
+    fresh_with_up : (up : List (Numbered Request)) (t : Bool) → AllByRecursion (IsOf written b.wire.sent) up → IsFresh (on_wire b (with_up b.wire up t)) out
     fresh_with_up up true l = record { since = f.since; count = f.count; down = f.down; executed = f.executed; settled = f.settled; sent = f.sent; lines = l; known = f.known }
     fresh_with_up up false l = record { since = f.since; count = f.count; down = f.down; executed = f.executed; settled = f.settled; sent = f.sent; lines = f.lines; known = f.known }
 
@@ -369,9 +365,9 @@ module _ {State : Type 0} (width : ℕ) (narrow : width ≤ 7) (knows : Asked �
         settled = f.settled;
         sent = omega (arith, f.sent, length_push b.wire.sent r);
         lines =
-            each_append _ b.wire.up _ (each_more _ _ (of_more written b.wire.sent (r ∷ [])) b.wire.up f.lines)
+            all_append _ b.wire.up _ (all_on _ _ b.wire.up (of_more written b.wire.sent (r ∷ [])) f.lines)
             (record { request = r; found = get_push b.wire.sent r; small = omega arith; call = refl; text = refl }, tt);
-        known = each_append (λ (r : Sent). knows r.call ≡ true) b.wire.sent (r ∷ []) f.known (is, tt);
+        known = all_append (λ (r : Sent). knows r.call ≡ true) b.wire.sent (r ∷ []) f.known (is, tt);
       }
 
   -- where `Both` holds of two worlds, and the world of numbers is fresh, no reply is in flight in the world of ids
@@ -408,7 +404,7 @@ module _ {State : Type 0} (width : ℕ) (narrow : width ≤ 7) (knows : Asked �
       elim (fresh_line b out h.sound f step p.0) [
         | inl g ↦ early_all ms out _ _ both p.1 k l (replies_have_behind width ends M (OnLine step) ms b on) g
         | inr t ↦ (vouched_for width narrow knows ends Good ex kept keeper 1 E (Unit {0}) M (moved ends (by_numbers width) ms (happens ends (by_numbers width) b step))
-            (whole_all width narrow knows ends Good ex kept keeper 1 E (Unit {0}) M ms _ _ both p.1 (λ plain. k) (replies_have_behind width ends M (OnLine step) ms b on) t))
+            (trusted_all width narrow knows ends Good ex kept keeper 1 E (Unit {0}) M ms _ _ both p.1 (λ plain. k) (replies_have_behind width ends M (OnLine step) ms b on) t))
       ]
   early_all (Anew ∷ ms) out a b h p k l on f =
       early_all ms out _ _ (both_move width narrow ends Good ex kept a b Anew p.0 h) p.1 k l (replies_have_behind width ends M Anew ms b on)

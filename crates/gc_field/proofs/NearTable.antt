@@ -1,9 +1,9 @@
 -- Requests near the last call of the table that the instrument was handed: `table` is the number of that call, the newest request
--- that `knows` names; requests that `E` names are excepted.
+-- that `knows` names; requests that `E` names are excepted, and `Plain` is any statement.
 use Rattle.std.proofs.Common.{◌≡◌, ℕ, ◌+◌, ◌-◌, ◌%◌, ◌<◌, ◌≤◌, ◌⊎◌, inl, inr, Bool, true, List, sym, ap, subst, arith}
+use Rattle.std.specs.List.{AllByRecursion}
 use Rattle.gc_catalogue.specs.declared.asked.Asked.{Asked}
 use Rattle.gc_instrument.specs.State.{KeptReply}
-use Rattle.gc_world.specs.Order.{Each}
 use Rattle.gc_field.specs.World.{Sent}
 use Rattle.gc_field.proofs.KeptReplies.{IsKept, newest, newest_up}
 
@@ -11,7 +11,7 @@ module _ (knows : Asked → Bool) (E : ℕ → Type 0) (Plain : Type 0) where
   -- `Plain` holds, no request after the newest known one was handed, and all requests that were sent are known; or each request
   -- that isn't excepted is at most seven after the newest known one
   abbrev pub IsNear : (sent : List Sent) (top table : ℕ) → Type 0
-  IsNear sent top table = (Plain × (top ≤ table + 1) × Each (λ (r : Sent). knows r.call ≡ true) sent) ⊎ ((n : ℕ) → E n ⊎ (n ≤ table + 7))
+  IsNear sent top table = (Plain × (top ≤ table + 1) × AllByRecursion (λ (r : Sent). knows r.call ≡ true) sent) ⊎ ((n : ℕ) → E n ⊎ (n ≤ table + 7))
 
   -- where `IsKept` holds of the retained reply `k`, and request n, which is neither before `since` nor before the last one handed
   -- (`top` - 1), has the id of `k`, and is excepted or at most seven after the newest known one: n is excepted, or P holds of n
@@ -25,7 +25,7 @@ module _ (knows : Asked → Bool) (E : ℕ → Type 0) (Plain : Type 0) where
 
   -- `IsNear` is preserved where request n, which isn't before `table`, is handed, if n is known (`known`) wherever all requests
   -- are
-  pub near_on : (sent : List Sent) (top table n : ℕ) (known : Bool) → table ≤ n → (Each (λ (r : Sent). knows r.call ≡ true) sent → known ≡ true) → IsNear sent top table
+  pub near_on : (sent : List Sent) (top table n : ℕ) (known : Bool) → table ≤ n → (AllByRecursion (λ (r : Sent). knows r.call ≡ true) sent → known ≡ true) → IsNear sent top table
       → IsNear sent (n + 1) (newest known n table)
   near_on sent top table n known low all (inl h) =
       let is : n ≡ newest known n table = sym (ap (λ b. newest b n table) (all h.2)) in

@@ -1,31 +1,31 @@
 -- Each clause on instruments is needed: the instruments and runs of `specs/Needed.antt`, computed.
-use Rattle.std.proofs.Common.{◌≡◌, ℕ, ◌<◌, inl, inr, Bool, true, false, cond, List, [], ◌∷◌, Option, Some, None, refl, ◌∙◌, ap, arith, lit<}
+use Rattle.std.proofs.Common.{◌≡◌, ℕ, ◌<◌, inl, inr, Bool, true, false, cond, List, [], ◌∷◌, Option, Some, None, refl, sym, ◌∙◌, ap, arith, lit<}
+use Rattle.std.specs.List.{AllByRecursion}
 use Rattle.std.proofs.lemmas.Bool.{eqb-true, true≢false}
 use Rattle.std.specs.Prelude.{nat_eq, slice_get}
 use Rattle.std.specs.Fmt.{decimal, digits}
 use Rattle.gc_lines.specs.Readers.{header_at, reply_at}
-use Rattle.gc_lines.proofs.Written.{reply_back}
 use Rattle.gc_catalogue.specs.Asked.{asked_line, asked_request, is_of_table}
 use Rattle.gc_catalogue.specs.declared.asked.Asked.TheVariants.{Table}
 use Rattle.gc_catalogue.specs.declared.call.Call.TheVariants.{InstrumentNo}
-use Rattle.gc_client.specs.Rule.{id_in, heard}
+use Rattle.gc_client.specs.Rule.{heard}
 use Rattle.gc_client.specs.declared.window.TheConstants.{WINDOW}
 use Rattle.gc_instrument.specs.State.{KeptReply}
-use Rattle.gc_world.specs.Order.{Each}
-use Rattle.std.proofs.lemmas.Option.{same_Some}
+use Rattle.std.proofs.lemmas.Option.{none-some, same_Some}
+use Rattle.gc_world.proofs.Handing.{reply_heard}
 use Rattle.gc_world.proofs.Places.{all_at}
 use Rattle.gc_field.specs.Begin.{none_under_way}
 use Rattle.gc_field.specs.Begun.{IsClean, behind}
 use Rattle.gc_field.specs.Instrument.{IsAnInstrument, AnyState, nothing}
 use Rattle.gc_field.specs.Laws.{WasExecuted}
-use Rattle.gc_field.specs.Needed.{Keeper, IsAllNeeded, IsUnbroken, giving, refusal, kept, keeper, held, again_or, refuses_or, answers_in, deals_anew, refuses_raws, sound, forgets, repeated_request}
+use Rattle.gc_field.specs.Needed.{Keeper, IsAllNeeded, IsUnbroken, giving, refusal, kept, keeper, held, again_else, again_or, refuses_or, answers_in, deals_anew, refuses_raws, sound, forgets, repeated_request}
 use Rattle.gc_field.specs.Once.{ActsOnce}
 use Rattle.gc_field.specs.World.{Sent}
 use Rattle.gc_field.proofs.Instruments.{keeps_none}
 use Rattle.gc_field.proofs.KeptReplies.{IsKeptAfter}
 
 -- where n is held for an id, the reply with that id and n is kept
-pub kept_own : (k : Keeper) (id n : ℕ) → held k id ≡ Some n → kept k ≡ Some (record { id = id; line = giving id n })
+kept_own : (k : Keeper) (id n : ℕ) → held k id ≡ Some n → kept k ≡ Some (record { id = id; line = giving id n })
 kept_own None id n e = let never : ⊥ = cc in absurd never
 kept_own (Some x) id n e = chosen (nat_eq x.0 id) refl e where
   -- the lemma above, by whether the number is kept with this id (`b`)
@@ -34,27 +34,43 @@ kept_own (Some x) id n e = chosen (nat_eq x.0 id) refl e where
   chosen false t e = let never : ⊥ = cc in absurd never
 
 -- a reply that gives a number, with an id below 8, reads as one with that id
-pub reads_giving : (id n : ℕ) → id < 8 → heard (giving id n) ≡ Some id
-reads_giving id n small = ap id_in (reply_back (record { rc_com = 0; id = Some id; rc = 0; params = decimal n }) (record { rc_com = lit< tt; id = small; rc = lit< tt }))
+reads_giving : (id n : ℕ) → id < 8 → heard (giving id n) ≡ Some id
+reads_giving id n small = reply_heard 0 id 0 (decimal n) (lit< tt) small (lit< tt)
 
 -- a reply that refuses, with an id below 8, reads as one with that id
 reads_refusal : (id : ℕ) → id < 8 → heard (refusal id) ≡ Some id
-reads_refusal id small = ap id_in (reply_back (record { rc_com = 3081; id = Some id; rc = 0; params = [] }) (record { rc_com = lit< tt; id = small; rc = lit< tt }))
+reads_refusal id small = reply_heard 3081 id 0 [] (lit< tt) small (lit< tt)
+
+module _ {State : Type 0} (next : State) (new id : ℕ) where
+  -- the reply of `again_else` to a request with an id below 8 reads as one with that id
+  pub else_reads : (s : State) (o : Option ℕ) → id < 8 → heard (again_else next new id s o).reply ≡ Some id
+  else_reads s (Some n) small = reads_giving id n small
+  else_reads s None small = reads_giving id new small
+
+  module _ (keeps : State → Keeper) where
+    -- a line that `again_else` sends without executing the request is the one that it retains, for this id
+    pub else_repeats : (s : State) (o : Option ℕ) → held (keeps s) id ≡ o → (again_else next new id s o).executed ≡ false
+        → kept (keeps s) ≡ Some (record { id = id; line = (again_else next new id s o).reply })
+    else_repeats s (Some n) e not = kept_own (keeps s) id n e
+    else_repeats s None e not = absurd (true≢false not)
+
+    -- after a request `again_else` retains its reply to that request, if the state `next` retains the number `new` for its id
+    pub else_keeps : (s : State) (o : Option ℕ) → held (keeps s) id ≡ o → keeps next ≡ Some (id, new)
+        → kept (keeps (again_else next new id s o).state) ≡ Some (record { id = id; line = (again_else next new id s o).reply })
+    else_keeps s (Some n) e own = kept_own (keeps s) id n e
+    else_keeps s None e own = ap kept own
 
 -- the reply of `again_or` to a request with an id below 8 reads as one with that id
 again_reads : (k : Keeper) (id : ℕ) (o : Option ℕ) → id < 8 → heard (again_or id k o).reply ≡ Some id
-again_reads k id (Some n) small = reads_giving id n small
-again_reads k id None small = reads_giving id 0 small
+again_reads k id o small = else_reads {State = Keeper} (Some (id, 0)) 0 id k o small
 
 -- a line that `again_or` sends without executing the request is the one that it retains, for this id
 again_repeats : (k : Keeper) (id : ℕ) (o : Option ℕ) → held k id ≡ o → (again_or id k o).executed ≡ false → kept k ≡ Some (record { id = id; line = (again_or id k o).reply })
-again_repeats k id (Some n) e not = kept_own k id n e
-again_repeats k id None e not = absurd (true≢false not)
+again_repeats k id o e not = else_repeats {State = Keeper} (Some (id, 0)) 0 id (λ (x : Keeper). x) k o e not
 
 -- after a request `again_or` retains its reply to that request
 again_keeps : (k : Keeper) (id : ℕ) (o : Option ℕ) → held k id ≡ o → kept (again_or id k o).state ≡ Some (record { id = id; line = (again_or id k o).reply })
-again_keeps k id (Some n) e = kept_own k id n e
-again_keeps k id None e = refl
+again_keeps k id o e = else_keeps {State = Keeper} (Some (id, 0)) 0 id (λ (x : Keeper). x) k o e refl
 
 -- the reply of `refuses_or` to a request with an id below 8 reads as one with that id
 refuses_reads : (b : Bool) (k : Keeper) (id : ℕ) → id < 8 → heard (refuses_or b k id).reply ≡ Some id
@@ -67,7 +83,7 @@ refuses_repeats true k id not = again_repeats k id (held k id) refl not
 refuses_repeats false k id not = absurd (true≢false not)
 
 -- a number that is above all that were executed wasn't executed
-above : (n : ℕ) (xs : List ℕ) → Each (λ m. m < n) xs → WasExecuted xs n → ⊥
+above : (n : ℕ) (xs : List ℕ) → AllByRecursion (λ m. m < n) xs → WasExecuted xs n → ⊥
 above n xs low h = omega (arith, all_at (λ m. m < n) xs h.0 n low h.1)
 
 -- where only requests 8 to 15 were executed, request 16 wasn't
@@ -160,29 +176,21 @@ sound_is =
       starts_good = λ b good. good;
     }
 
--- an instrument that retains nothing retains no reply with another id than 7
-none_kept : {State : Type 0} (state : State) (k : KeptReply) → nothing state ≡ Some k → k.id ≡ 7
-none_kept state k e = let never : ⊥ = cc in absurd never
+-- with nothing in flight, and a good state in which nothing is retained, a synchronization is clean
+clean_none : {State : Type 0} (Good : State → Type 0) (retains : State → Option KeptReply) (state : State) → Good state → retains state ≡ None → IsClean Good retains (none_under_way state)
+clean_none Good retains state good none = record { good = good; up = tt; down = tt; keeps = λ k e. absurd (none-some k (sym none ∙ e)) }
 
--- a `Keeper` that has nothing retains no reply with another id than 7
-none_of : (k : KeptReply) → kept None ≡ Some k → k.id ≡ 7
-none_of k e = let never : ⊥ = cc in absurd never
-
--- with nothing in flight and nothing kept, a synchronization is clean
+-- `clean_none` over an instrument that retains nothing, in any state
 clean_any : IsClean AnyState nothing (none_under_way false)
-clean_any = record { good = tt; up = tt; down = tt; keeps = none_kept false }
+clean_any = clean_none AnyState nothing false tt refl
 
--- with nothing in flight and nothing kept, a synchronization is clean, over an instrument in order
+-- `clean_none` over an instrument in order
 clean_order : IsClean IsUnbroken nothing (none_under_way false)
-clean_order = record { good = refl; up = tt; down = tt; keeps = none_kept false }
+clean_order = clean_none IsUnbroken nothing false refl refl
 
--- with nothing in flight, and a `Keeper` that has nothing, a synchronization is clean
+-- `clean_none` over a `Keeper` that has nothing
 clean_kept : IsClean AnyState kept (none_under_way None)
-clean_kept = record { good = tt; up = tt; down = tt; keeps = none_of }
-
--- with nothing in flight, a synchronization is clean over an instrument that has a `Keeper` but is taken to retain nothing
-clean_key : IsClean {State = Keeper} AnyState nothing (none_under_way None)
-clean_key = record { good = tt; up = tt; down = tt; keeps = none_kept {State = Keeper} None }
+clean_kept = clean_none AnyState kept None tt refl
 
 -- each clause on instruments is needed
 pub all_needed : IsAllNeeded
@@ -394,7 +402,13 @@ all_needed =
         executed = not_16;
       };
       shared_is = keeper_is;
-      changes_kept = record { beyond = omega arith; clean = clean_key; field = (tt, (tt, ((8, [], refl), ((tt, refl), (tt, (tt, ((9, [], refl), tt))))))); settled = refl; executed = not_9 };
+      changes_kept = record {
+        beyond = omega arith;
+        clean = clean_none {State = Keeper} AnyState nothing None tt refl;
+        field = (tt, (tt, ((8, [], refl), ((tt, refl), (tt, (tt, ((9, [], refl), tt)))))));
+        settled = refl;
+        executed = not_9;
+      };
       sound_is = sound_is;
       changes_good = record { beyond = omega arith; clean = clean_any; field = (tt, (tt, ((8, [], refl), ((tt, refl), (tt, (tt, (tt, ((9, [], refl), tt)))))))); settled = refl; executed = not_10 };
       again = record {

@@ -2,30 +2,32 @@
 -- the requests to which it retains its reply (`IsClimbing`): it is handed the last request again, which it doesn't execute
 -- then, or a later one.
 use Rattle.std.proofs.Common.{◌≡◌, ℕ, zero, suc, ◌+◌, ◌-◌, ◌%◌, ◌<◌, ◌≤◌, ◌⊎◌, inl, inr, Bool, true, false, List, [], ◌∷◌, ◌++◌, length, Option, Some, None, cond, refl, sym, ◌∙◌, ap, subst, arith, ltb}
+use Rattle.std.specs.List.{AllByRecursion}
 use Rattle.std.proofs.lemmas.Bool.{ltb-true, ltb-false, true≢false}
 use Rattle.std.specs.Prelude.{slice_get}
 use Rattle.gc_catalogue.specs.declared.asked.Asked.{Asked}
 use Rattle.gc_instrument.specs.State.{KeptReply}
-use Rattle.gc_world.specs.Order.{Each}
 use Rattle.std.proofs.lemmas.Option.{same_Some, none-some, slice_get_within}
 use Rattle.gc_field.specs.World.{Sent}
 use Rattle.gc_world.proofs.Places.{all_at, get_more}
-use Rattle.gc_world.proofs.Rows.{each_append, each_more}
 use Rattle.gc_field.specs.Once.{HasNoStart, ActsOnce, IsInOrder}
-use Rattle.gc_lines.proofs.Lists.{all_front, all_behind}
+use Rattle.gc_lines.proofs.Lists.{all_front, all_behind, all_append, all_on}
+use Rattle.gc_station.proofs.SentAt.{get_split}
 
 -- Lists.
 
 -- what is at a place of a list with one element more behind it was at that place before, or is that element, at the last place
 get_pushed : {A : Type 0} (xs : List A) (x : A) (i : ℕ) (y : A) → slice_get (xs ++ x ∷ []) i ≡ Some y → (slice_get xs i ≡ Some y) ⊎ ((i ≡ length xs) × (x ≡ y))
-get_pushed [] x zero y e = inr (refl, same_Some x y e)
-get_pushed [] x (suc i) y e = absurd (none-some y e)
-get_pushed (z ∷ xs) x zero y e = inl e
-get_pushed (z ∷ xs) x (suc i) y e =
-    elim (get_pushed xs x i y e) [
+get_pushed xs x i y e =
+    elim (get_split xs (x ∷ []) i y e) [
       | inl h ↦ inl h
-      | inr h ↦ inr (ap suc h.0, h.1)
+      | inr h ↦ inr (last h.0 h.1 h.2)
     ]
+  where
+    -- what is in the list of the one element is that element, at place 0 of it
+    last : (k : ℕ) → i ≡ length xs + k → slice_get (x ∷ []) k ≡ Some y → (i ≡ length xs) × (x ≡ y)
+    last zero at got = (omega (arith, at), same_Some x y got)
+    last (suc k) at got = absurd (none-some y got)
 
 -- What was executed.
 
@@ -60,19 +62,30 @@ RiseUnlessUnknown knows sent executed starts =
 -- known, or `IsHeld` holds of what is retained (`k`) with its id, `id`
 pub record IsClimbing (knows : Asked → Bool) (id top : ℕ) (sent : List Sent) (executed starts : List ℕ) (k : Option KeptReply) : Type 0 where
   pub once : RiseUnlessUnknown knows sent executed starts
-  pub below : Each (λ n. n < top) executed
+  pub below : AllByRecursion (λ n. n < top) executed
   pub last : IsUnknown knows sent (top - 1) ⊎ IsHeld id executed starts k
 
 -- what was executed is in order, and each number is below `top`
 pub record IsOrdered (top : ℕ) (executed : List ℕ) : Type 0 where
   pub order : IsInOrder executed
-  pub below : Each (λ n. n < top) executed
+  pub below : AllByRecursion (λ n. n < top) executed
+
+-- in a list of at most one execution none comes after another
+never_two : (executed : List ℕ) (j k n : ℕ) → length executed ≤ 1 → j < k → slice_get executed k ≡ Some n → ⊥
+never_two executed j k n few lt b = let size : k < length executed = slice_get_within executed k n b in omega (arith, size, few, lt)
 
 -- a list of at most one execution is in order
 pub order_few : (executed : List ℕ) → length executed ≤ 1 → IsInOrder executed
-order_few executed few j k m n lt a b =
-    let size : k < length executed = slice_get_within executed k n b in
-    absurd (omega (arith, size, few, lt))
+order_few executed few j k m n lt a b = absurd (never_two executed j k n few lt b)
+
+-- where each execution is of a request before `top`, and request n, which is none before the last of these, is handed to the
+-- instrument, each is of a request up to n
+below_handed : (top n : ℕ) (executed : List ℕ) → top ≤ n + 1 → AllByRecursion (λ m. m < top) executed → AllByRecursion (λ m. m < n + 1) executed
+below_handed top n executed le h = all_on (λ m. m < top) (λ m. m < n + 1) executed (λ m l. omega (arith, l, le)) h
+
+-- `below_handed` where request n is executed
+below_acted : (top n : ℕ) (executed : List ℕ) → top ≤ n + 1 → AllByRecursion (λ m. m < top) executed → AllByRecursion (λ m. m < n + 1) (executed ++ n ∷ [])
+below_acted top n executed le h = all_append (λ m. m < n + 1) executed (n ∷ []) (below_handed top n executed le h) (omega arith, tt)
 
 -- where request n is executed, and no later one was handed to the instrument before (`top`), `IsOrdered` is preserved, with n + 1
 -- for `top`
@@ -90,13 +103,13 @@ ordered_acted top n executed le h =
           | inr last ↦ absurd (omega (arith, last.0, lt, new.0))
         ]
       ];
-      below = each_append (λ m. m < n + 1) executed (n ∷ []) (each_more (λ m. m < top) (λ m. m < n + 1) (λ m l. omega (arith, l, le)) executed h.below) (omega arith, tt);
+      below = below_acted top n executed le h.below;
     }
 
 -- where request n is handed to the instrument and isn't executed, and no later one was handed before (`top`), `IsOrdered` is
 -- preserved, with n + 1 for `top`
 pub ordered_handed : (top n : ℕ) (executed : List ℕ) → top ≤ n + 1 → IsOrdered top executed → IsOrdered (n + 1) executed
-ordered_handed top n executed le h = record { order = h.order; below = each_more (λ m. m < top) (λ m. m < n + 1) (λ m l. omega (arith, l, le)) executed h.below }
+ordered_handed top n executed le h = record { order = h.order; below = below_handed top n executed le h.below }
 
 -- `IsOrdered` holds, with 1 for `top`, once request 0 reached the instrument, executed or not (`acted`), if nothing was executed
 -- before
@@ -109,9 +122,7 @@ ordered_first n executed acted none nought = subst (λ l. IsOrdered 1 (cond acte
 
 -- `RiseUnlessUnknown` holds of a list of at most one execution
 pub once_few : (knows : Asked → Bool) (sent : List Sent) (executed starts : List ℕ) → length executed ≤ 1 → RiseUnlessUnknown knows sent executed starts
-once_few knows sent executed starts few i j m n lt run a b =
-    let size : j < length executed = slice_get_within executed j n b in
-    absurd (omega (arith, size, few, lt))
+once_few knows sent executed starts few i j m n lt run a b = absurd (never_two executed i j n few lt b)
 
 -- where `RiseUnlessUnknown` holds, `ActsOnce` holds
 pub acts_once : (knows : Asked → Bool) (sent : List Sent) (executed starts : List ℕ) → RiseUnlessUnknown knows sent executed starts → ActsOnce knows sent executed starts
@@ -137,6 +148,13 @@ climbing_sent knows id top sent more executed starts k h =
       ];
     }
 
+-- where the instrument retains what it retained (`k`), or nothing, what holds of the retained reply, if there was one, holds of
+-- the one that it retains then (`after`), if any
+pub still_retained : (Q : KeptReply → Type 0) (k after : Option KeptReply) → (after ≡ None) ⊎ (after ≡ k) → ((r : KeptReply) → k ≡ Some r → Q r)
+    → (r : KeptReply) → after ≡ Some r → Q r
+still_retained Q k after (inl none) f r e = absurd (none-some r (sym none ∙ e))
+still_retained Q k after (inr same) f r e = f r (sym same ∙ e)
+
 -- `IsClimbing` is preserved by a start of the instrument, which retains what it retained (`k`), or nothing
 pub climbing_started : (knows : Asked → Bool) (id top : ℕ) (sent : List Sent) (executed starts : List ℕ) (k after : Option KeptReply) → (after ≡ None) ⊎ (after ≡ k)
     → IsClimbing knows id top sent executed starts k → IsClimbing knows id top sent executed (starts ++ length executed ∷ []) after
@@ -146,14 +164,9 @@ climbing_started knows id top sent executed starts k after now h =
       below = h.below;
       last = elim h.last [
         | inl u ↦ inl u
-        | inr g ↦ inr (record { idle = λ e. inr (starts, refl); same = still g now })
+        | inr g ↦ inr (record { idle = λ e. inr (starts, refl); same = still_retained (λ (r : KeptReply). r.id ≡ id) k after now g.same })
       ];
     }
-  where
-    -- what is retained after the start, if anything, was retained before it: so it has the id `id`
-    still : IsHeld id executed starts k → (after ≡ None) ⊎ (after ≡ k) → (r : KeptReply) → after ≡ Some r → r.id ≡ id
-    still g (inl none) r e = absurd (none-some r (sym none ∙ e))
-    still g (inr same) r e = g.same r (sym same ∙ e)
 
 -- request n isn't known; or a reply, r, with the id `new` is retained (`after`)
 abbrev pub IsUnknownOrRetained : (knows : Asked → Bool) (sent : List Sent) (n new : ℕ) (after : Option KeptReply) (r : KeptReply) → Type 0
@@ -179,7 +192,7 @@ pub climbing_handed : (knows : Asked → Bool) (id new top n : ℕ) (sent : List
 climbing_handed knows id new top n sent executed starts k after r le why h =
     record {
       once = h.once;
-      below = each_more (λ m. m < top) (λ m. m < n + 1) (λ m l. omega (arith, l, le)) executed h.below;
+      below = below_handed top n executed le h.below;
       last = last_of knows new n sent executed starts after r why;
     }
 
@@ -195,12 +208,12 @@ never_idle executed starts j k m (inr h) run a e =
     ]
 
 -- where request n is executed, and no later one was handed before (`top`), `IsClimbing` is preserved, with the id `new` and n + 1
--- for `top`, in two cases: n isn't known; or a reply with the id `new` is retained then (`after`), and nothing was executed since
--- the last start, or n is later than all that were handed before
+-- for `top`, if two things hold: n isn't known, or nothing was executed since the last start, or n is later than all that were
+-- handed before; and n isn't known, or a reply with the id `new` is retained then (`after`)
 pub climbing_acted : (knows : Asked → Bool) (id new top n : ℕ) (sent : List Sent) (executed starts : List ℕ) (k after : Option KeptReply) (r : KeptReply) → top ≤ n + 1
-    → IsUnknown knows sent n ⊎ ((IsIdle executed starts ⊎ (top ≤ n)) × (after ≡ Some r) × (r.id ≡ new))
+    → IsUnknown knows sent n ⊎ (IsIdle executed starts ⊎ (top ≤ n)) → IsUnknownOrRetained knows sent n new after r
     → IsClimbing knows id top sent executed starts k → IsClimbing knows new (n + 1) sent (executed ++ n ∷ []) starts after
-climbing_acted knows id new top n sent executed starts k after r le why h =
+climbing_acted knows id new top n sent executed starts k after r le why retained h =
     record {
       once = λ i j x y lt run a b. elim (get_pushed executed n j y b) [
         | inl old ↦ (let size : j < length executed = slice_get_within executed j y old in
@@ -213,25 +226,17 @@ climbing_acted knows id new top n sent executed starts k after r le why h =
           | inr last ↦ absurd (omega (arith, last.0, lt, new.0))
         ]
       ];
-      below = each_append (λ m. m < n + 1) executed (n ∷ []) (each_more (λ m. m < top) (λ m. m < n + 1) (λ m l. omega (arith, l, le)) executed h.below) (omega arith, tt);
-      last = last_of knows new n sent (executed ++ n ∷ []) starts after r (held why);
+      below = below_acted top n executed le h.below;
+      last = last_of knows new n sent (executed ++ n ∷ []) starts after r retained;
     }
   where
     -- an earlier execution, at place i, with no start between it and the execution of request n, at place j, is of a request
     -- before n, or n isn't known
     later : (i j x : ℕ) → HasNoStart starts i j → slice_get executed i ≡ Some x → j ≡ length executed
-        → IsUnknown knows sent n ⊎ ((IsIdle executed starts ⊎ (top ≤ n)) × (after ≡ Some r) × (r.id ≡ new)) → (x < n) ⊎ IsUnknown knows sent n
+        → IsUnknown knows sent n ⊎ (IsIdle executed starts ⊎ (top ≤ n)) → (x < n) ⊎ IsUnknown knows sent n
     later i j x run first e (inl u) = inr u
-    later i j x run first e (inr g) =
-        elim g.0 [
-          | inl idle ↦ absurd (never_idle executed starts i j x idle run first e)
-          | inr above ↦ (let l : x < top = all_at (λ m. m < top) executed i x h.below first in inl (omega (arith, l, above)))
-        ]
-
-    -- request n isn't known, or r is retained then, with the id `new`
-    held : IsUnknown knows sent n ⊎ ((IsIdle executed starts ⊎ (top ≤ n)) × (after ≡ Some r) × (r.id ≡ new)) → IsUnknownOrRetained knows sent n new after r
-    held (inl u) = inl u
-    held (inr g) = inr (g.1, g.2)
+    later i j x run first e (inr (inl idle)) = absurd (never_idle executed starts i j x idle run first e)
+    later i j x run first e (inr (inr above)) = let l : x < top = all_at (λ m. m < top) executed i x h.below first in inl (omega (arith, l, above))
 
 -- where `IsClimbing` holds, request n is known and has the id n - `since` modulo 8, no later one was handed before, and the
 -- instrument retains no reply with that id: nothing was executed since the last start, or n is later than all that the instrument
@@ -282,6 +287,6 @@ climbing_first knows new n sent executed starts acted after r none nought why =
     few false = subst (λ l. length l ≤ 1) (sym none) (omega arith)
 
     -- each execution is of a request below 1
-    low : (acted : Bool) → Each (λ m. m < 1) (cond acted (executed ++ n ∷ []) executed)
-    low true = subst (λ l. Each (λ m. m < 1) (l ++ n ∷ [])) (sym none) (omega (arith, nought), tt)
-    low false = subst (λ l. Each (λ m. m < 1) l) (sym none) tt
+    low : (acted : Bool) → AllByRecursion (λ m. m < 1) (cond acted (executed ++ n ∷ []) executed)
+    low true = subst (λ l. AllByRecursion (λ m. m < 1) (l ++ n ∷ [])) (sym none) (omega (arith, nought), tt)
+    low false = subst (λ l. AllByRecursion (λ m. m < 1) l) (sym none) tt

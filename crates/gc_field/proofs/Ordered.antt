@@ -1,17 +1,17 @@
 -- What is sent after an answer is executed after the request that was answered. A *stretch* is a run once it has synchronized:
 -- what is in flight then, and its moves.
-use Rattle.std.proofs.Common.{◌≡◌, ◌⊎◌, inl, inr, ℕ, zero, suc, ◌+◌, ◌<◌, ◌≤◌, List, [], ◌∷◌, ◌++◌, length, Option, Some, refl, sym, ◌∙◌, ap, subst, arith, append_assoc, Bool, true, false, ltb, append-nil}
+use Rattle.std.proofs.Common.{◌≡◌, ◌⊎◌, inl, inr, ℕ, suc, ◌+◌, ◌<◌, ◌≤◌, List, [], ◌∷◌, ◌++◌, length, Option, Some, refl, sym, ◌∙◌, ap, subst, arith, append_assoc, Bool, true, false, ltb, append-nil}
+use Rattle.std.specs.List.{AllByRecursion}
 use Rattle.std.proofs.lemmas.Bool.{ltb-true, ltb-false}
 use Rattle.std.specs.Prelude.{slice_get}
 use Rattle.std.proofs.lemmas.List.{length-append}
 use Rattle.std.proofs.lemmas.Option.{slice_get_within}
+use Rattle.gc_lines.proofs.Lists.{all_on}
 use Rattle.gc_catalogue.specs.declared.asked.Asked.{Asked}
 use Rattle.gc_client.specs.Rule.{ById, Settlement, Answered}
 use Rattle.gc_instrument.specs.State.{KeptReply}
 use Rattle.gc_world.specs.Clients.{by_ids}
-use Rattle.gc_world.specs.Order.{Each}
 use Rattle.gc_field.specs.World.{Ends, Numbered, Request, Sent, Up_deliver, World}
-use Rattle.gc_world.proofs.Rows.{each_more}
 use Rattle.gc_field.specs.Begun.{IsClean, IsSafe, WasMadeOn, behind, ids_begun}
 use Rattle.gc_field.specs.Chains.{AreCalls, IsExecutedAfter}
 use Rattle.gc_field.specs.Field.{Move, OnLine, moves, moved, ArePossible}
@@ -21,17 +21,20 @@ use Rattle.gc_field.specs.Shown.{Stretch}
 use Rattle.gc_field.proofs.Among.{each_at}
 use Rattle.gc_field.proofs.BeginLists.{each_both}
 use Rattle.gc_field.proofs.Between.{IsConsistent, acted, calls_more, did_all, made_both, consistent_all}
-use Rattle.gc_field.proofs.InTime.{front_of, clean_faithful}
-use Rattle.gc_field.proofs.Possible.{moved_append, possible_behind, possible_front}
+use Rattle.gc_field.proofs.InTime.{clean_faithful}
+use Rattle.gc_field.proofs.Possible.{front_possible, later_possible, moved_append}
 use Rattle.gc_station.proofs.Lists.{fronts, get_behind, get_more}
+use Rattle.gc_station.proofs.SentAt.{get_split}
 
 -- Lists.
 
 -- an element of two lists in a row, at a place below the length of the first, is at that place of the first
 pub in_front_at : {A : Type 0} (xs ys : List A) (i : ℕ) (x : A) → i < length xs → slice_get (xs ++ ys) i ≡ Some x → slice_get xs i ≡ Some x
-in_front_at [] ys i x less e = absurd (omega (arith, less))
-in_front_at (y ∷ xs) ys zero x less e = e
-in_front_at (y ∷ xs) ys (suc i) x less e = in_front_at xs ys i x (omega (arith, less)) e
+in_front_at xs ys i x less e =
+    elim (get_split xs ys i x e) [
+      | inl first ↦ first
+      | inr second ↦ (let at : i ≡ length xs + second.0 = second.1 in absurd (omega (arith, less, at)))
+    ]
 
 -- The requests that were executed between a request m and a later one, n.
 
@@ -59,7 +62,7 @@ module _ (e : List ℕ) (m n : ℕ) (numbers : List ℕ) where
   between_in_order rises j k x y lt a b = rises (length e + (1 + j)) (length e + (1 + k)) x y (omega (arith, lt)) (at_x j x a) (at_x k y b)
 
   -- if all executions are in order, those between are of no request before m and of none after n
-  pub upto : IsInOrder all → Each (λ x. (m ≤ x) × (x ≤ n)) numbers
+  pub upto : IsInOrder all → AllByRecursion (λ x. (m ≤ x) × (x ≤ n)) numbers
   upto rises =
       each_at (λ (x : ℕ). (m ≤ x) × (x ≤ n)) numbers
       (λ i x got.
@@ -70,8 +73,8 @@ module _ (e : List ℕ) (m n : ℕ) (numbers : List ℕ) where
 
   -- if no start came after the execution of m, all executions are in order, and the instrument acts once for the requests that
   -- `knows` names, the executions between of such requests are of requests sent after m and before n
-  pub inside : (knows : Asked → Bool) (sent : List Sent) (starts : List ℕ) → Each (λ s. s ≤ length e) starts → IsInOrder all → ActsOnce knows sent all starts
-      → Each (λ x. (r : Sent) → slice_get sent x ≡ Some r → knows r.call ≡ true → (m < x) × (x < n)) numbers
+  pub inside : (knows : Asked → Bool) (sent : List Sent) (starts : List ℕ) → AllByRecursion (λ s. s ≤ length e) starts → IsInOrder all → ActsOnce knows sent all starts
+      → AllByRecursion (λ x. (r : Sent) → slice_get sent x ≡ Some r → knows r.call ≡ true → (m < x) × (x < n)) numbers
   inside knows sent starts early rises once =
       each_at (λ (x : ℕ). (r : Sent) → slice_get sent x ≡ Some r → knows r.call ≡ true → (m < x) × (x < n)) numbers
       (λ i x got r found known.
@@ -87,7 +90,7 @@ module _ (e : List ℕ) (m n : ℕ) (numbers : List ℕ) where
     where
       -- no start is between two executions from that of request m on
       none : (j k : ℕ) → length e ≤ j → HasNoStart starts j k
-      none j k le = each_more (λ s. s ≤ length e) (λ s. (s ≤ j) ⊎ (k < s)) (λ s l. inl (omega (arith, l, le))) starts early
+      none j k le = all_on (λ s. s ≤ length e) (λ s. (s ≤ j) ⊎ (k < s)) starts (λ s l. inl (omega (arith, l, le))) early
 
       -- where request x is r, which is known, and x is at most n: x is below n, if it is below n in the case that request n is r,
       -- too
@@ -109,27 +112,21 @@ module _ {State : Type 0} (ends : Ends State) (Good : State → Type 0) (kept : 
   abbrev at : List (Move State) → World (ById Asked) State
   at ms = behind 7 ends s.from ms
 
-  -- the front of the stretch's moves is possible
-  possible_to : (front later : List (Move State)) → s.moves ≡ front ++ later → ArePossible ends Good kept (by_ids 7 ends) front (ids_begun s.from)
-  possible_to front later e = front_of ends Good kept is s.from s.moves front later e field
-
-  -- the later moves of the stretch are possible in the world that the front leaves
-  possible_from : (front later : List (Move State)) → s.moves ≡ front ++ later → ArePossible ends Good kept (by_ids 7 ends) later (at front)
-  possible_from front later e = possible_behind 7 ends Good kept front later (ids_begun s.from) (subst (λ xs. ArePossible ends Good kept (by_ids 7 ends) xs (ids_begun s.from)) e field)
-
   -- where a line was made on executing request n, that request had been sent before it reached the instrument
   was_sent : (n : ℕ) (call : Asked) (line : List ℕ) (h : WasMadeOn 7 ends s.from s.moves n call line) → n < length (at h.front).wire.sent
   was_sent n call line h =
-      let stands = consistent_all ends Good kept h.front s.from clean (possible_to h.front (OnLine Up_deliver ∷ h.later) h.split) in
-      let known = (subst (λ l. Each (λ (x : Numbered Request). (r : _) × (slice_get (at h.front).wire.sent x.number ≡ Some r) × (r.call ≡ x.line.call)) l) h.reaches stands.known).0 in
+      let stands = consistent_all ends Good kept h.front s.from clean (front_possible 7 ends Good kept s.moves h.front (OnLine Up_deliver ∷ h.later) (ids_begun s.from) h.split field) in
+      let known = (subst (λ l. AllByRecursion (λ (x : Numbered Request). (r : _) × (slice_get (at h.front).wire.sent x.number ≡ Some r) × (r.call ≡ x.line.call)) l) h.reaches stands.known).0 in
       slice_get_within (at h.front).wire.sent n known.0 known.1
 
   -- further moves only add to what was sent
   sent_more : (front more later : List (Move State)) → s.moves ≡ (front ++ more) ++ later → (extra : List _) × ((at (front ++ more)).wire.sent ≡ (at front).wire.sent ++ extra)
   sent_more front more later e =
       let split : s.moves ≡ front ++ (more ++ later) = e ∙ append_assoc front more later in
-      let possible = possible_front 7 ends Good kept more later (at front) (possible_from front (more ++ later) split) in
-      let did = did_all ends Good kept more (at front) possible (consistent_all ends Good kept front s.from clean (possible_to front (more ++ later) split)) in
+      let rest_possible = later_possible 7 ends Good kept s.moves front (more ++ later) (ids_begun s.from) split field in
+      let possible = front_possible 7 ends Good kept (more ++ later) more later (at front) refl rest_possible in
+      let did = did_all ends Good kept more (at front) possible
+      (consistent_all ends Good kept front s.from clean (front_possible 7 ends Good kept s.moves front (more ++ later) (ids_begun s.from) split field)) in
       (did.more, ap (λ (w : World (ById Asked) State). w.wire.sent) (moved_append ends (by_ids 7 ends) front more (ids_begun s.from)) ∙ did.sent)
 
   -- a request that wasn't sent by the end of the moves `before`, and on whose execution a line was made, was executed after these
@@ -156,18 +153,19 @@ module _ {State : Type 0} (ends : Ends State) (Good : State → Type 0) (kept : 
       let split_h : s.moves ≡ (h.front ++ OnLine Up_deliver ∷ []) ++ h.later = h.split ∙ sym (append_assoc h.front (OnLine Up_deliver ∷ []) h.later) in
       let v = at f.front in
       let w = moves ends (by_ids 7 ends) v (OnLine Up_deliver) in
-      let stands = consistent_all ends Good kept f.front s.from clean (possible_to f.front (OnLine Up_deliver ∷ (between ++ OnLine Up_deliver ∷ h.later)) split_f) in
+      let stands = consistent_all ends Good kept f.front s.from clean
+      (front_possible 7 ends Good kept s.moves f.front (OnLine Up_deliver ∷ (between ++ OnLine Up_deliver ∷ h.later)) (ids_begun s.from) split_f field) in
       let one = acted ends v (record { number = m; line = record { id = f.id; call = call_m } }) f.rest f.reaches f.executed in
       let last = acted ends (at h.front) (record { number = n; line = record { id = h.id; call = call_n } }) h.rest h.reaches h.executed in
       let possible : ArePossible ends Good kept (by_ids 7 ends) between w =
-      possible_front 7 ends Good kept between (OnLine Up_deliver ∷ h.later) w
-      (possible_from f.front (OnLine Up_deliver ∷ (between ++ OnLine Up_deliver ∷ h.later)) split_f).1 in
+      front_possible 7 ends Good kept (between ++ OnLine Up_deliver ∷ h.later) between (OnLine Up_deliver ∷ h.later) w refl
+      (later_possible 7 ends Good kept s.moves f.front (OnLine Up_deliver ∷ (between ++ OnLine Up_deliver ∷ h.later)) (ids_begun s.from) split_f field).1 in
       let split_w : s.moves ≡ (f.front ++ OnLine Up_deliver ∷ []) ++ (between ++ OnLine Up_deliver ∷ h.later) =
       split_f ∙ sym (append_assoc f.front (OnLine Up_deliver ∷ []) (between ++ OnLine Up_deliver ∷ h.later)) in
       let stands_w : IsConsistent ends w.wire = subst (λ (x : World (ById Asked) State). IsConsistent ends x.wire)
       (moved_append ends (by_ids 7 ends) f.front (OnLine Up_deliver ∷ []) (ids_begun s.from))
       (consistent_all ends Good kept (f.front ++ OnLine Up_deliver ∷ []) s.from clean
-      (possible_to (f.front ++ OnLine Up_deliver ∷ []) (between ++ OnLine Up_deliver ∷ h.later) split_w)) in
+      (front_possible 7 ends Good kept s.moves (f.front ++ OnLine Up_deliver ∷ []) (between ++ OnLine Up_deliver ∷ h.later) (ids_begun s.from) split_w field)) in
       let did = did_all ends Good kept between w possible stands_w in
       let there : at h.front ≡ moved ends (by_ids 7 ends) between w = ap (λ l. at l) order ∙ moved_append ends (by_ids 7 ends) f.front (OnLine Up_deliver ∷ between) (ids_begun s.from) in
       let e = v.wire.executed in
@@ -178,7 +176,7 @@ module _ {State : Type 0} (ends : Ends State) (Good : State → Type 0) (kept : 
       let whole : (at (h.front ++ OnLine Up_deliver ∷ [])).wire.executed ≡ (e ++ m ∷ did.numbers) ++ n ∷ [] =
       ap (λ (x : World (ById Asked) State). x.wire.executed) behind_last ∙ last.0 ∙ ap (λ l. l ++ n ∷ []) ran in
       let law_there = clean_faithful ends Good kept is s.from clean (h.front ++ OnLine Up_deliver ∷ [])
-      (front_of ends Good kept is s.from s.moves (h.front ++ OnLine Up_deliver ∷ []) h.later split_h field) in
+      (front_possible 7 ends Good kept s.moves (h.front ++ OnLine Up_deliver ∷ []) h.later (ids_begun s.from) split_h field) in
       let grown = sent_more h.front (OnLine Up_deliver ∷ h.later) [] (h.split ∙ sym (append-nil (h.front ++ OnLine Up_deliver ∷ h.later))) in
       let grown_all : (at s.moves).wire.sent ≡ (at h.front).wire.sent ++ grown.0 = ap (λ l. (at l).wire.sent) h.split ∙ grown.1 in
       let asked_there : AreCalls (at h.front).wire.sent did.numbers did.calls = subst (λ (x : World (ById Asked) State). AreCalls x.wire.sent did.numbers did.calls) (sym there) did.asked in
@@ -223,7 +221,8 @@ module _ {State : Type 0} (ends : Ends State) (Good : State → Type 0) (kept : 
       → IsSafe 7 ends s.from Good kept before m → slice_get (at before).wire.settled m ≡ Some x → x.outcome ≡ Answered line_m
       → length (at before).wire.sent ≤ n → (call : Asked) (line_n : List ℕ) → WasMadeOn 7 ends s.from s.moves n call line_n → IsExecutedAfter ends Good kept s m n x.call call line_m line_n
   executed_behind before later e m n x line_m beyond safe settled answered unsent call line_n h =
-      let f = (clean_faithful ends Good kept is s.from clean before (front_of ends Good kept is s.from s.moves before later e field)).made_on m x line_m beyond safe settled answered in
+      let possible = front_possible 7 ends Good kept s.moves before later (ids_begun s.from) e field in
+      let f = (clean_faithful ends Good kept is s.from clean before possible).made_on m x line_m beyond safe settled answered in
       let more = behind_front before later e n unsent call line_n h in
       let first : WasMadeOn 7 ends s.from s.moves m x.call line_m = record {
         front = f.front;

@@ -29,7 +29,6 @@ use Rattle.gc_station.specs.Scopes.{Scope}
 use Rattle.gc_station.specs.declared.plan.Plan.{Plan}
 use Rattle.gc_station.proofs.Booking.{of_at}
 use Rattle.gc_field.specs.Simulator.{ends, handed}
-use Rattle.gc_world.specs.Order.{Each}
 use Rattle.gc_field.specs.World.{Sent}
 use Rattle.gc_world.proofs.Handing.{bare_after}
 use Rattle.std.proofs.lemmas.Option.{same_Some, slice_get_within}
@@ -145,7 +144,7 @@ unfolding exec
 position_points s hz v pos_mode atr_mode dummy = (refl, refl)
 
 -- calls that turn no telescope leave the telescope's direction and face as they were
-executing_same : (calls : List Asked) (s : State) → Each (λ x. turns_telescope x ≡ false) calls → PointsAs (executing after_call s calls) s
+executing_same : (calls : List Asked) (s : State) → AllByRecursion (λ x. turns_telescope x ≡ false) calls → PointsAs (executing after_call s calls) s
 executing_same [] s h = record { pointing = refl; face = refl }
 executing_same (x ∷ calls) s h =
     let one = asked_same s x h.0 in
@@ -157,9 +156,9 @@ executing_same (x ∷ calls) s h =
 -- if those of these requests (`ns`) that are calls of the table are between m and n, and the requests sent between m and n turn
 -- no telescope, the calls of these requests (`calls`) don't
 all_still : (sent : List Sent) (m n : ℕ) (ns : List ℕ) (calls : List Asked) → AreCalls sent ns calls
-    → Each (λ x. (r : Sent) → slice_get sent x ≡ Some r → is_of_table r.call ≡ true → (m < x) × (x < n)) ns
+    → AllByRecursion (λ x. (r : Sent) → slice_get sent x ≡ Some r → is_of_table r.call ≡ true → (m < x) × (x < n)) ns
     → ((x : ℕ) (r : Sent) → m < x → x < n → slice_get sent x ≡ Some r → turns_telescope r.call ≡ false)
-    → Each (λ x. turns_telescope x ≡ false) calls
+    → AllByRecursion (λ x. turns_telescope x ≡ false) calls
 all_still sent m n [] [] h g f = tt
 all_still sent m n [] (x ∷ calls) h g f = absurd h
 all_still sent m n (k ∷ ns) [] h g f = absurd h
@@ -217,7 +216,7 @@ module _ (plan : Plan) (commands : List Task) (scope : Scope) (acts : List Act) 
 
     -- if nothing disturbs the simulator between the two executions, the telescope points at the later one as the earlier one left
     -- it, by `IsMeasuredWhereItPointed`
-    pointed_there : IsUndisturbed h.executed.between → IsMeasuredWhereItPointed scope.reads commands (parts plan commands scope acts) ss (state_after plan commands scope acts).records a b line h
+    pointed_there : IsUndisturbed h.executed.between → IsMeasuredWhereItPointed h
     pointed_there quiet =
         let x = h.executed in
         let s = (stretch_wire ends h.stretch x.first.front).state in

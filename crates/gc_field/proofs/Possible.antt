@@ -1,5 +1,5 @@
 -- Moves that are possible, cut in two: the front is possible, and so are the later moves, in the world that the front leaves.
-use Rattle.std.proofs.Common.{◌≡◌, ℕ, List, [], ◌∷◌, ◌++◌, Option, refl}
+use Rattle.std.proofs.Common.{◌≡◌, ℕ, List, [], ◌∷◌, ◌++◌, Option, refl, subst}
 use Rattle.gc_catalogue.specs.declared.asked.Asked.{Asked}
 use Rattle.gc_client.specs.Rule.{ById}
 use Rattle.gc_instrument.specs.State.{KeptReply}
@@ -14,14 +14,22 @@ module _ {Client State : Type 0} (ends : Ends State) (rule : Rule Client) where
   moved_append (m ∷ front) later w = moved_append front later (moves ends rule w m)
 
 module _ {State : Type 0} (width : ℕ) (ends : Ends State) (Good : State → Type 0) (kept : State → Option KeptReply) where
-  -- the front of possible moves is possible
-  pub possible_front : (front later : List (Move State)) (w : World (ById Asked) State) → ArePossible ends Good kept (by_ids width ends) (front ++ later) w
+  -- where possible moves are a front and later ones, the front is possible
+  pub front_possible : (ms front later : List (Move State)) (w : World (ById Asked) State) → ms ≡ front ++ later → ArePossible ends Good kept (by_ids width ends) ms w
       → ArePossible ends Good kept (by_ids width ends) front w
-  possible_front [] later w h = tt
-  possible_front (m ∷ front) later w h = (h.0, possible_front front later (moves ends (by_ids width ends) w m) h.1)
+  front_possible ms front later w e p = of_both front w (subst (λ xs. ArePossible ends Good kept (by_ids width ends) xs w) e p) where
+    -- the lemma above, for the front and the later moves in one list
+    of_both : (front : List (Move State)) (w : World (ById Asked) State) → ArePossible ends Good kept (by_ids width ends) (front ++ later) w
+        → ArePossible ends Good kept (by_ids width ends) front w
+    of_both [] w h = tt
+    of_both (m ∷ front) w h = (h.0, of_both front (moves ends (by_ids width ends) w m) h.1)
 
-  -- the later ones of possible moves are possible in the world that the front leaves
-  pub possible_behind : (front later : List (Move State)) (w : World (ById Asked) State) → ArePossible ends Good kept (by_ids width ends) (front ++ later) w
+  -- where possible moves are a front and later ones, the later ones are possible in the world that the front leaves
+  pub later_possible : (ms front later : List (Move State)) (w : World (ById Asked) State) → ms ≡ front ++ later → ArePossible ends Good kept (by_ids width ends) ms w
       → ArePossible ends Good kept (by_ids width ends) later (moved ends (by_ids width ends) front w)
-  possible_behind [] later w h = h
-  possible_behind (m ∷ front) later w h = possible_behind front later (moves ends (by_ids width ends) w m) h.1
+  later_possible ms front later w e p = of_both front w (subst (λ xs. ArePossible ends Good kept (by_ids width ends) xs w) e p) where
+    -- the lemma above, for the front and the later moves in one list
+    of_both : (front : List (Move State)) (w : World (ById Asked) State) → ArePossible ends Good kept (by_ids width ends) (front ++ later) w
+        → ArePossible ends Good kept (by_ids width ends) later (moved ends (by_ids width ends) front w)
+    of_both [] w h = h
+    of_both (m ∷ front) w h = of_both front (moves ends (by_ids width ends) w m) h.1

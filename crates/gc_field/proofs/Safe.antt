@@ -14,12 +14,13 @@ use Rattle.gc_station.specs.Behind.{IsNearTheTable}
 use Rattle.gc_field.specs.World.{Ends}
 use Rattle.gc_world.proofs.Places.{in_range}
 use Rattle.gc_world.proofs.Settled.{of_sent}
-use Rattle.gc_field.specs.Begun.{IsBehindTheTable, IsByReply, WentOutBehindTheTable, behind, nulls, nulls_settled}
+use Rattle.gc_field.specs.Begun.{IsBehindTheTable, IsByReply, WentOutBehindTheTable, behind, ids_begun, nulls, nulls_settled}
 use Rattle.gc_field.specs.Field.{Move, Sends, Tells, Comes, Foreign, OnLine, Anew, Changes, Joins, seen}
 use Rattle.gc_field.specs.Instrument.{IsAnInstrument}
 use Rattle.gc_field.specs.Shown.{Stretch}
 use Rattle.gc_field.proofs.BegunFaithful.{sent_is}
-use Rattle.gc_field.proofs.InTime.{IsSoundStretch, front_of, throughout}
+use Rattle.gc_field.proofs.InTime.{IsSoundStretch, throughout}
+use Rattle.gc_field.proofs.Possible.{front_possible}
 use Rattle.gc_station.proofs.Lists.{cons_head, cons_tail, get_behind}
 
 -- The step at which a request is sent.
@@ -143,7 +144,7 @@ module _ {State : Type 0} (ends : Ends State) (Good : State → Type 0) (kept : 
   sent_count : (s : Stretch State) → IsSoundStretch ends Good kept is s → (before after : List (Move State)) → s.moves ≡ before ++ after
       → length (behind 7 ends s.from before).wire.sent ≡ 8 + length (course 7 begun (seen before)).sent
   sent_count s sound before after e =
-      let p = front_of ends Good kept is s.from s.moves before after e sound.possible in
+      let p = front_possible 7 ends Good kept s.moves before after (ids_begun s.from) e sound.possible in
       let w = (behind 7 ends s.from before).wire in
       let all = sent_is ends Good kept is 7 (omega arith) s.from before p in
       sym (length-map w.sent of_sent) ∙ ap length all ∙ length-append (map of_sent nulls) (course 7 begun (seen before)).sent

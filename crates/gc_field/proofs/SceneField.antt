@@ -1,7 +1,6 @@
 -- The instrument of a scene is an instrument (`IsAnInstrument`).
-use Rattle.std.proofs.Common.{◌≡◌, ℕ, ◌<◌, inl, inr, Bool, true, false, List, [], Option, Some, None, cond, refl, sym, ap, subst, lit<}
+use Rattle.std.proofs.Common.{◌≡◌, ℕ, ◌<◌, inl, inr, Bool, true, false, List, [], Option, Some, None, cond, refl, subst, lit<}
 use Rattle.gc_lines.proofs.Requests.{request_found}
-use Rattle.gc_lines.specs.Replies.{ReplyFields, reply_text}
 use Rattle.gc_catalogue.proofs.AskedRules.{asked_again}
 use Rattle.gc_catalogue.proofs.LineLaws.{call_again}
 use Rattle.gc_catalogue.specs.Asked.{asked_line, asked_request, is_of_table}
@@ -10,21 +9,19 @@ use Rattle.gc_catalogue.specs.Texts.{request_line, request_of}
 use Rattle.gc_catalogue.specs.declared.asked.Asked.{Asked}
 use Rattle.gc_catalogue.specs.declared.asked.Asked.TheVariants.{Table, Raw}
 use Rattle.gc_catalogue.specs.declared.call.Call.{Call}
-use Rattle.gc_catalogue.specs.declared.fault.CallFault.TheVariants.{Unknown}
 use Rattle.gc_catalogue.specs.declared.raw.RawCall.{RawCall}
 use Rattle.gc_client.specs.Rule.{heard}
-use Rattle.gc_instrument.specs.Replying.{Handed, kept_after, refusal_line}
-use Rattle.gc_instrument.specs.State.{KeptReply, IsFittingKept, IsFittingReply}
+use Rattle.gc_instrument.specs.Replying.{Handed, kept_after}
+use Rattle.gc_instrument.specs.State.{KeptReply}
 use Rattle.gc_scenes.proofs.Codes.{fault_bound, call_bound}
 use Rattle.gc_scenes.specs.Rules.{fault_of, answer_of}
 use Rattle.gc_scenes.specs.Params.{scripted_params}
 use Rattle.gc_scenes.specs.SceneExecution.{Played, played_call, played_raw, unless_faulted_raw, scripted, counting}
-use Rattle.gc_scenes.specs.SceneReplying.{IsPlayed, answers, names_call, names_none, IsHanded, resent_line, again_or_played, handed_call, handed_raw, played_or_refused, played_line, kept_if_repeating}
+use Rattle.gc_scenes.specs.SceneReplying.{IsPlayed, answers, names_call, names_none, resent_line, again_or_played, handed_call, handed_raw, played_or_refused, played_line}
 use Rattle.gc_scenes.specs.SceneState.{SceneState}
 use Rattle.gc_scenes.specs.declared.rules.Scripted.{Scripted}
-use Rattle.gc_field.specs.Instrument.{KeepsItsOwn}
 use Rattle.gc_field.proofs.KeptReplies.{IsOwnOrNone, IsKeptAfter}
-use Rattle.gc_field.specs.SceneField.{scene_handed, scene_ends, scene_kept, RetainedReads, SceneIsAnInstrument}
+use Rattle.gc_field.specs.SceneField.{scene_handed, SceneIsAnInstrument}
 use Rattle.gc_world.specs.Exchange.{ReadsWithItsId}
 use Rattle.gc_world.proofs.Handing.{again_kept, kept_reads, reply_heard}
 use Rattle.std.proofs.lemmas.Option.{same_Some}

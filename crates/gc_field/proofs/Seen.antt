@@ -1,6 +1,6 @@
 -- What a station's client settles is what the world's client settles: over any moves, its course has the requests, the
 -- settlements and the client of the world (`SameAs`).
-use Rattle.std.proofs.Common.{◌≡◌, ℕ, Bool, true, false, List, [], ◌∷◌, ◌++◌, length, map, Option, Some, None, refl, sym, ◌∙◌, ap, subst, ltb}
+use Rattle.std.proofs.Common.{◌≡◌, ℕ, List, [], ◌∷◌, ◌++◌, map, Option, Some, None, refl, sym, ◌∙◌, ap, subst}
 use Rattle.std.proofs.lemmas.List.{map-append, append-nil}
 use Rattle.gc_catalogue.specs.declared.asked.Asked.{Asked}
 use Rattle.gc_catalogue.specs.Asked.{asked_line}
@@ -8,11 +8,13 @@ use Rattle.gc_client.specs.OneForOne.{Course, course, sent_on, settled_on, begun
 use Rattle.gc_client.specs.Rule.{ById, Sending, sends, hears, heard}
 use Rattle.gc_instrument.specs.State.{KeptReply}
 use Rattle.gc_world.specs.Clients.{by_ids, ids_open}
-use Rattle.gc_field.specs.World.{Request, Numbered, Ends, Step, Send, Up_deliver, Up_lose, Up_repeat, Down_deliver, Down_lose, Down_repeat, Expire, Restart_client, Restart_instrument, Nothing, World, without, doubled, up_delivered, with_up, with_down, on_wire, requested, with_settled, down_delivered, happens}
+use Rattle.gc_field.specs.World.{Numbered, Ends, Step, World, requested, with_settled, down_delivered, happens}
 use Rattle.gc_world.proofs.Settled.{of_sent}
+use Rattle.gc_field.specs.Instrument.{ReadsByGrammar}
+use Rattle.gc_field.proofs.LineSteps.{same_over_line}
 use Rattle.gc_field.specs.Field.{Move, Sends, Tells, Comes, Foreign, OnLine, Anew, Changes, Joins, IsLineStep, moved, ArePossible, seen}
 
-module _ {State : Type 0} (width : ℕ) (ends : Ends State) (same_heard : (line : List ℕ) → ends.heard line ≡ heard line) (Good : State → Type 0) (kept : State → Option KeptReply) where
+module _ {State : Type 0} (width : ℕ) (ends : Ends State) (same_heard : ReadsByGrammar ends) (Good : State → Type 0) (kept : State → Option KeptReply) where
   -- the course of a client and the world have the same requests, settlements and client
   pub record SameAs (x : Course Asked) (w : World (ById Asked) State) : Type 0 where
     pub sent : x.sent ≡ map of_sent w.wire.sent
@@ -55,34 +57,11 @@ module _ {State : Type 0} (width : ℕ) (ends : Ends State) (same_heard : (line 
   same_foreign x w line e h =
       subst (λ o. SameAs (settled_on x (hears x.client line o)) w) (sym e) (record { sent = h.sent; settled = append-nil x.settlements ∙ h.settled; client = h.client })
 
-  -- `SameAs` is preserved if the front request reaches the instrument
-  same_up : (x : Course Asked) (w : World (ById Asked) State) (q : List (Numbered Request)) → SameAs x w → SameAs x (on_wire w (up_delivered ends w.wire q))
-  same_up x w [] h = record { sent = h.sent; settled = h.settled; client = h.client }
-  same_up x w (y ∷ rest) h = record { sent = h.sent; settled = h.settled; client = h.client }
-
-  -- `SameAs` is preserved if the requests in flight change, or (`b` is false) don't
-  same_with_up : (x : Course Asked) (w : World (ById Asked) State) (q : List (Numbered Request)) (b : Bool) → SameAs x w → SameAs x (on_wire w (with_up w.wire q b))
-  same_with_up x w q true h = record { sent = h.sent; settled = h.settled; client = h.client }
-  same_with_up x w q false h = record { sent = h.sent; settled = h.settled; client = h.client }
-
-  -- `SameAs` is preserved if the replies in flight change, or (`b` is false) don't
-  same_with_down : (x : Course Asked) (w : World (ById Asked) State) (q : List (Numbered (List ℕ))) (b : Bool) → SameAs x w → SameAs x (on_wire w (with_down w.wire q b))
-  same_with_down x w q true h = record { sent = h.sent; settled = h.settled; client = h.client }
-  same_with_down x w q false h = record { sent = h.sent; settled = h.settled; client = h.client }
-
   -- `SameAs` is preserved by a step of the line
   same_line : (x : Course Asked) (w : World (ById Asked) State) (step : Step) → IsLineStep step → SameAs x w → SameAs x (happens ends (by_ids width ends) w step)
-  same_line x w (Send target call deadline) p h = absurd p
-  same_line x w Up_deliver p h = same_up x w w.wire.up h
-  same_line x w (Up_lose k) p h = same_with_up x w (without k w.wire.up) (ltb k (length w.wire.up)) h
-  same_line x w (Up_repeat k) p h = same_with_up x w (doubled k w.wire.up) (ltb k (length w.wire.up)) h
-  same_line x w Down_deliver p h = absurd p
-  same_line x w (Down_lose k) p h = same_with_down x w (without k w.wire.down) (ltb k (length w.wire.down)) h
-  same_line x w (Down_repeat k) p h = same_with_down x w (doubled k w.wire.down) (ltb k (length w.wire.down)) h
-  same_line x w (Expire now) p h = absurd p
-  same_line x w Restart_client p h = absurd p
-  same_line x w Restart_instrument p h = absurd p
-  same_line x w Nothing p h = record { sent = h.sent; settled = h.settled; client = h.client }
+  same_line x w step p h =
+      let after = same_over_line ends (by_ids width ends) w step p in
+      record { sent = h.sent ∙ ap (map of_sent) (sym after.sent); settled = h.settled ∙ sym after.settled; client = h.client ∙ sym after.client }
 
   -- `SameAs` is preserved by possible moves: the course takes the steps that the client sees of them
   pub same_all : (ms : List (Move State)) (x : Course Asked) (w : World (ById Asked) State) → ArePossible ends Good kept (by_ids width ends) ms w → SameAs x w

@@ -9,7 +9,7 @@ use Rattle.gc_texts.specs.declared.tasks.Task.{Task}
 use Rattle.gc_station.specs.Parts.{Part, timeless}
 use Rattle.gc_station.specs.Records.{Record}
 use Rattle.gc_field.specs.World.{Ends}
-use Rattle.gc_field.specs.Runs.{HasExecution, IsItsOwn, IsOwnAnswer, LateHasExecution}
+use Rattle.gc_field.specs.Runs.{HasExecution, HasRequest, IsItsOwn, IsOwnAnswer, LateHasExecution}
 use Rattle.gc_field.specs.Shown.{Stretch}
 
 -- `P`, which a record says of the parts and the stretches of a run, *lasts*: it holds with one more part and one more stretch
@@ -24,25 +24,33 @@ pub all_timeless : {State : Type 0} (P : List Part → List (Stretch State) → 
 all_timeless P lasts ps ss [] h = tt
 all_timeless P lasts ps ss (r ∷ rs) h = (lasts.any_moment ps ss r h.0, all_timeless P lasts ps ss rs h.1)
 
+-- the request of a record in a run with the parts `ps` and the stretches `ss` is its request in a run with the parts `qs` and the
+-- stretches `ts` where its part and its stretch are at place k, whatever the moment (`utc`) at which the record was recorded
+request_moved : {State : Type 0} (commands : List Task) (ps qs : List Part) (ss ts : List (Stretch State)) (r : Record) (utc : ℕ) (h : HasRequest commands ps ss (record r { utc = utc })) (k : ℕ)
+    → slice_get qs k ≡ Some h.part → slice_get ts k ≡ Some h.stretch → HasRequest commands qs ts r
+request_moved commands ps qs ss ts r utc h k of_parts of_stretches = record {
+  k = k;
+  part = h.part;
+  stretch = h.stretch;
+  of_parts = of_parts;
+  of_stretches = of_stretches;
+  m = h.m;
+  expected = h.expected;
+  mark = h.mark;
+  task = h.task;
+  listed = h.listed;
+}
+
 module _ {State : Type 0} (ends : Ends State) (Good : State → Type 0) (kept : State → Option KeptReply) where
-  -- an answer that is its own in a run with the parts `ps` and the stretches `ss` is its own in a run with the parts `qs` and the
-  -- stretches `ts` where its part and its stretch are at place k, whatever the moment (`utc`) at which it was recorded
+  -- an answer that is its own is its own where its request has moved (`request_moved`), too
   own_moved : (commands : List Task) (ps qs : List Part) (ss ts : List (Stretch State)) (r : Record) (utc : ℕ) (line : List ℕ)
-      → (h : IsItsOwn ends Good kept commands ps ss (record r { utc = utc }) line) → (k : ℕ) → slice_get qs k ≡ Some h.part → slice_get ts k ≡ Some h.stretch
+      → (h : IsItsOwn ends Good kept commands ps ss (record r { utc = utc }) line) → (k : ℕ) → slice_get qs k ≡ Some h.of.part → slice_get ts k ≡ Some h.of.stretch
       → IsItsOwn ends Good kept commands qs ts r line
+  unfolding request_moved
   own_moved commands ps qs ss ts r utc line h k of_parts of_stretches = record {
-    k = k;
-    part = h.part;
-    stretch = h.stretch;
-    of_parts = of_parts;
-    of_stretches = of_stretches;
-    m = h.m;
-    expected = h.expected;
-    mark = h.mark;
+    of = request_moved commands ps qs ss ts r utc h.of k of_parts of_stretches;
     request = h.request;
     sent = h.sent;
-    task = h.task;
-    listed = h.listed;
     asks = h.asks;
     settled = h.settled;
     made = h.made;
@@ -51,37 +59,24 @@ module _ {State : Type 0} (ends : Ends State) (Good : State → Type 0) (kept : 
     made_on = h.made_on;
   }
 
-  -- if the command of a late record was executed in a run with the parts `ps` and the stretches `ss`, it was executed in a run
-  -- with the parts `qs` and the stretches `ts` where its part and its stretch are at place k, whatever the moment (`utc`) at
-  -- which it was recorded
+  -- if the command of a late record was executed, it was executed where its request has moved (`request_moved`), too
   late_moved : (commands : List Task) (ps qs : List Part) (ss ts : List (Stretch State)) (r : Record) (utc : ℕ)
-      → (h : HasExecution ends Good kept commands ps ss (record r { utc = utc })) → (k : ℕ) → slice_get qs k ≡ Some h.part → slice_get ts k ≡ Some h.stretch
+      → (h : HasExecution ends Good kept commands ps ss (record r { utc = utc })) → (k : ℕ) → slice_get qs k ≡ Some h.of.part → slice_get ts k ≡ Some h.of.stretch
       → HasExecution ends Good kept commands qs ts r
-  late_moved commands ps qs ss ts r utc h k of_parts of_stretches = record {
-    k = k;
-    part = h.part;
-    stretch = h.stretch;
-    of_parts = of_parts;
-    of_stretches = of_stretches;
-    m = h.m;
-    expected = h.expected;
-    mark = h.mark;
-    task = h.task;
-    listed = h.listed;
-    line = h.line;
-    made_on = h.made_on;
-  }
+  unfolding request_moved
+  late_moved commands ps qs ss ts r utc h k of_parts of_stretches =
+      record { of = request_moved commands ps qs ss ts r utc h.of k of_parts of_stretches; line = h.line; made_on = h.made_on }
 
   -- `IsOwnAnswer` lasts
   pub own_lasts : (commands : List Task) → IsLasting (IsOwnAnswer ends Good kept commands)
   own_lasts commands = record {
-    later = λ p s ps ss r own line answered. let h = own line answered in own_moved commands ps (p ∷ ps) ss (s ∷ ss) r r.utc line h (suc h.k) h.of_parts h.of_stretches;
-    any_moment = λ ps ss r own line answered. let h = own line answered in own_moved commands ps ps ss ss r 0 line h h.k h.of_parts h.of_stretches;
+    later = λ p s ps ss r own line answered. let h = own line answered in own_moved commands ps (p ∷ ps) ss (s ∷ ss) r r.utc line h (suc h.of.k) h.of.of_parts h.of.of_stretches;
+    any_moment = λ ps ss r own line answered. let h = own line answered in own_moved commands ps ps ss ss r 0 line h h.of.k h.of.of_parts h.of.of_stretches;
   }
 
   -- `LateHasExecution` lasts
   pub late_lasts : (commands : List Task) → IsLasting (LateHasExecution ends Good kept commands)
   late_lasts commands = record {
-    later = λ p s ps ss r executed late. let h = executed late in late_moved commands ps (p ∷ ps) ss (s ∷ ss) r r.utc h (suc h.k) h.of_parts h.of_stretches;
-    any_moment = λ ps ss r executed late. let h = executed late in late_moved commands ps ps ss ss r 0 h h.k h.of_parts h.of_stretches;
+    later = λ p s ps ss r executed late. let h = executed late in late_moved commands ps (p ∷ ps) ss (s ∷ ss) r r.utc h (suc h.of.k) h.of.of_parts h.of.of_stretches;
+    any_moment = λ ps ss r executed late. let h = executed late in late_moved commands ps ps ss ss r 0 h h.of.k h.of.of_parts h.of.of_stretches;
   }

@@ -2,32 +2,33 @@
 -- instrument starts again; requests that `E` names are excepted. M n call line is any property that the reply to each executed
 -- request has. The client is given the number of each reply's request: `count` of its requests are settled, and request n has the
 -- id n - `since` modulo 8. What the instrument retains is a reply to `table`, the last request that it was handed and that
--- `knows` names, or to a later one. `AllVouched` is the invariant: each reply in flight, the retained one and each answer was
--- made so.
+-- `knows` names, or to a later one; `low` is at most `table` + 1. Where `Plain` holds, all requests that are sent have to be
+-- known. `AllVouched` is the invariant: each reply in flight, the retained one and each answer was made so.
 use Rattle.std.proofs.Common.{◌≡◌, ℕ, ◌+◌, ◌-◌, ◌%◌, ◌<◌, ◌≤◌, ◌⊎◌, inl, inr, Bool, true, false, List, [], ◌∷◌, ◌++◌, length, drop, Option, Some, None, refl, sym, ◌∙◌, ap, subst, arith, ltb, eqb}
+use Rattle.std.specs.List.{AllByRecursion}
 use Rattle.std.proofs.lemmas.List.{length_push}
 use Rattle.std.proofs.lemmas.Bool.{ltb-false, true≢false}
+use Rattle.gc_lines.proofs.Lists.{all_append, all_on}
 use Rattle.gc_catalogue.specs.declared.asked.Asked.{Asked}
 use Rattle.gc_catalogue.specs.Asked.{asked_line}
 use Rattle.gc_client.specs.Rule.{Settlement, Sending, pending_of}
 use Rattle.gc_instrument.specs.Replying.{Handed}
 use Rattle.gc_instrument.specs.State.{KeptReply}
 use Rattle.gc_world.specs.Clients.{ByNumber, number_send, number_reply, by_numbers}
-use Rattle.gc_world.specs.Order.{Each, Rising, numbers}
-use Rattle.gc_field.specs.World.{Request, Sent, Numbered, Ends, Step, Send, Up_deliver, Up_lose, Up_repeat, Down_deliver, Down_lose, Down_repeat, Expire, Restart_client, Restart_instrument, Nothing, World, without, doubled, idle, replied, up_delivered, with_up, with_down, started, on_wire, requested, with_settled, down_delivered, happens, written}
+use Rattle.gc_world.specs.Order.{Rising, numbers}
+use Rattle.gc_field.specs.World.{Request, Sent, Numbered, Ends, Step, Send, Up_deliver, Up_lose, Up_repeat, Down_deliver, Down_lose, Down_repeat, Expire, Restart_client, Restart_instrument, Nothing, World, without, doubled, replied, up_delivered, with_up, with_down, started, on_wire, requested, with_settled, down_delivered, happens, written}
 use Rattle.gc_world.proofs.Booked.{Has, has_more, has_push}
 use Rattle.std.proofs.lemmas.Option.{same_Some, none-some}
 use Rattle.gc_world.proofs.Places.{get_more, get_push, all_at}
 use Rattle.gc_world.proofs.Replay.{IsOf, of_more}
-use Rattle.gc_world.proofs.Rows.{each_append, each_more, each_without, each_doubled}
+use Rattle.gc_world.proofs.Rows.{each_without, each_doubled, rising_each, rising_tail}
 use Rattle.gc_world.proofs.Sound.{IsGoing, Sound}
 use Rattle.gc_field.specs.Field.{IsLineStep}
 use Rattle.gc_field.specs.Instrument.{IsAnInstrumentFor, KeepsItsReply}
-use Rattle.gc_field.proofs.Answered.{HoldsOfAll, all_so_more, all_so_append, all_so_settle}
+use Rattle.gc_field.proofs.Answered.{HoldsOfAll, holds_more, holds_append, holds_settled}
 use Rattle.gc_field.proofs.Once.{IsClimbing, IsIdle, IsOrdered, IsUnknown, climbing_started, climbing_acted, climbing_handed, climbing_sent, known_not, ordered_acted, ordered_handed, unknown_more, why_acted}
-use Rattle.gc_field.proofs.KeptReplies.{IsKeptAfter, KeptIs, kept_more, kept_still, newest, newest_up, newest_low, IsDealt, newest_dealt, kept_handed, IsVouched, ReplyHas}
+use Rattle.gc_field.proofs.KeptReplies.{Fields, fields_of, unknown_or_retained, IsKeptAfter, KeptIs, kept_more, kept_still, newest, newest_up, newest_low, IsDealt, newest_dealt, kept_handed, IsVouched, ReplyHas}
 use Rattle.gc_field.proofs.NearTable.{IsNear, near_same, near_on, near_of}
-use Rattle.gc_world.proofs.Once.{rising_each, rising_tail}
 
 module _ {State : Type 0} (width : ℕ) (narrow : width ≤ 7) (knows : Asked → Bool) (ends : Ends State) (Good : State → Type 0)
     (kept : State → Option KeptReply) (keeper : IsAnInstrumentFor ends Good kept knows) (low : ℕ) (E : ℕ → Type 0) (Plain : Type 0) (M : ℕ → Asked → List ℕ → Type 0) where
@@ -64,68 +65,67 @@ module _ {State : Type 0} (width : ℕ) (narrow : width ≤ 7) (knows : Asked �
     own (inl e) = inl e
     own (inr v) = inr (record { among = has_more _ made more v.among; acted = lasts n v.acted; request = v.request; found = v.found; reply = v.reply; on = v.on })
 
-  -- the invariant, over the fields of a world: each reply in flight, the retained reply `k`, and each answer is vouched for; each
+  -- the invariant, over the fields of a world: each reply in flight, the retained reply, and each answer is vouched for; each
   -- request in flight is one that was sent; executions are in order, and each request acts once to which the instrument retains
-  -- its reply; and the numbers fit as the fields say
-  pub record AllVouchedIn (since count : ℕ) (sent : List Sent) (executed starts : List ℕ) (made : List (Numbered (List ℕ))) (settled : List (Settlement Asked))
-      (up : List (Numbered Request)) (down : List (Numbered (List ℕ))) (k : Option KeptReply) : Type 0 where
+  -- its reply; and the numbers fit as said below
+  pub record AllVouchedIn (v : Fields) : Type 0 where
     -- the number of the last request that the instrument was handed is one less than this
     pub top : ℕ
     -- the number of the newest request that is known
     pub table : ℕ
     -- what is settled was handed to the instrument, and what was handed to it was sent
-    pub counted : count ≤ top
-    pub within : top ≤ length sent
+    pub counted : v.count ≤ top
+    pub within : top ≤ length v.sent
     -- the newest known request was handed, too; `low` is at most one above it
     pub lower : table < top
     pub least : low ≤ table + 1
     -- no request in flight is before the last one handed, and no reply in flight is to a later one
-    pub above : Each (λ x. top ≤ x.number + 1) up
-    pub below : Each (λ x. x.number < top) down
-    pub holds : KeptIs (Vouched sent executed made table) since top table k
-    pub lines : Each (IsOf written sent) up
-    pub near : IsNear knows E Plain sent top table
-    pub coming : Each (λ x. Vouched sent executed made table x.number x.line) down
-    pub answers : HoldsOfAll (Vouched sent executed made table) 0 settled
-    pub order : IsOrdered top executed
-    pub once : (keeps : Asked → Bool) → KeepsItsReply ends Good kept keeps → IsClimbing keeps ((top - 1 - since) % 8) top sent executed starts k
+    pub above : AllByRecursion (λ x. top ≤ x.number + 1) v.up
+    pub below : AllByRecursion (λ x. x.number < top) v.down
+    pub holds : KeptIs (Vouched v.sent v.executed v.made table) v.since top table v.retained
+    pub lines : AllByRecursion (IsOf written v.sent) v.up
+    pub near : IsNear knows E Plain v.sent top table
+    pub coming : AllByRecursion (λ x. Vouched v.sent v.executed v.made table x.number x.line) v.down
+    pub answers : HoldsOfAll (Vouched v.sent v.executed v.made table) 0 v.settled
+    pub order : IsOrdered top v.executed
+    pub once : (keeps : Asked → Bool) → KeepsItsReply ends Good kept keeps → IsClimbing keeps ((top - 1 - v.since) % 8) top v.sent v.executed v.starts v.retained
 
   -- the invariant of a world
   abbrev pub AllVouched : World (ByNumber Asked) State → Type 0
-  AllVouched w = AllVouchedIn w.client.since w.client.count w.wire.sent w.wire.executed w.wire.starts w.wire.made w.wire.settled w.wire.up w.wire.down (kept w.wire.state)
+  AllVouched w = AllVouchedIn (fields_of kept w)
 
   -- `AllVouchedIn` is preserved if a request is sent, which is known if all have to be
-  vouched_sent : (since count : ℕ) (sent : List Sent) (executed starts : List ℕ) (made : List (Numbered (List ℕ))) (settled : List (Settlement Asked))
-      (up : List (Numbered Request)) (down : List (Numbered (List ℕ))) (k : Option KeptReply) (target id : ℕ) (call : Asked) → id < 8 → (Plain → knows call ≡ true)
-      → AllVouchedIn since count sent executed starts made settled up down k
-      → AllVouchedIn since count (sent ++ record { target = target; call = call; line = asked_line (Some id) call } ∷ []) executed starts made settled
-      (up ++ record { number = length sent; line = record { id = id; call = call } } ∷ []) down k
-  vouched_sent since count sent executed starts made settled up down k target id call digit plain h =
+  vouched_sent : (v : Fields) (target id : ℕ) (call : Asked) → id < 8 → (Plain → knows call ≡ true) → AllVouchedIn v
+      → AllVouchedIn (record v {
+        sent = v.sent ++ record { target = target; call = call; line = asked_line (Some id) call } ∷ [];
+        up = v.up ++ record { number = length v.sent; line = record { id = id; call = call } } ∷ [];
+      })
+  vouched_sent v target id call digit plain h =
       let r : Sent = record { target = target; call = call; line = asked_line (Some id) call } in
-      let P = Vouched sent executed made h.table in
-      let Q = Vouched (sent ++ r ∷ []) executed made h.table in
-      let f = stays_sent sent (r ∷ []) executed made h.table in
+      let P = Vouched v.sent v.executed v.made h.table in
+      let Q = Vouched (v.sent ++ r ∷ []) v.executed v.made h.table in
+      let f = stays_sent v.sent (r ∷ []) v.executed v.made h.table in
       record {
         top = h.top;
         table = h.table;
         counted = h.counted;
-        within = omega (arith, h.within, length_push sent r);
+        within = omega (arith, h.within, length_push v.sent r);
         lower = h.lower;
         least = h.least;
-        above = each_append _ up _ h.above (omega (arith, h.within), tt);
+        above = all_append _ v.up _ h.above (omega (arith, h.within), tt);
         below = h.below;
-        holds = kept_more P Q f since h.top h.table k h.holds;
-        lines = each_append _ up _ (each_more _ _ (of_more written sent (r ∷ [])) up h.lines) (record { request = r; found = get_push sent r; small = digit; call = refl; text = refl }, tt);
+        holds = kept_more P Q f v.since h.top h.table v.retained h.holds;
+        lines = all_append _ v.up _ (all_on _ _ v.up (of_more written v.sent (r ∷ [])) h.lines) (record { request = r; found = get_push v.sent r; small = digit; call = refl; text = refl }, tt);
         near = near_sent r plain h.near;
-        coming = each_more (λ (x : Numbered (List ℕ)). P x.number x.line) (λ x. Q x.number x.line) (λ x. f x.number x.line) down h.coming;
-        answers = all_so_more P Q f 0 settled h.answers;
+        coming = all_on (λ (x : Numbered (List ℕ)). P x.number x.line) (λ x. Q x.number x.line) v.down (λ x. f x.number x.line) h.coming;
+        answers = holds_more P Q f 0 v.settled h.answers;
         order = h.order;
-        once = λ keeps is. climbing_sent keeps ((h.top - 1 - since) % 8) h.top sent (r ∷ []) executed starts k (h.once keeps is);
+        once = λ keeps is. climbing_sent keeps ((h.top - 1 - v.since) % 8) h.top v.sent (r ∷ []) v.executed v.starts v.retained (h.once keeps is);
       }
     where
       -- `IsNear` is preserved if the request r is sent, which is known if all have to be
-      near_sent : (r : Sent) → (Plain → knows r.call ≡ true) → IsNear knows E Plain sent h.top h.table → IsNear knows E Plain (sent ++ r ∷ []) h.top h.table
-      near_sent r plain (inl n) = inl (n.0, n.1, each_append (λ (r : Sent). knows r.call ≡ true) sent (r ∷ []) n.2 (plain n.0, tt))
+      near_sent : (r : Sent) → (Plain → knows r.call ≡ true) → IsNear knows E Plain v.sent h.top h.table → IsNear knows E Plain (v.sent ++ r ∷ []) h.top h.table
+      near_sent r plain (inl n) = inl (n.0, n.1, all_append (λ (r : Sent). knows r.call ≡ true) v.sent (r ∷ []) n.2 (plain n.0, tt))
       near_sent r plain (inr n) = inr n
 
   -- `AllVouched` is preserved if the client sends a request, which is known if all have to be
@@ -137,7 +137,7 @@ module _ {State : Type 0} (width : ℕ) (narrow : width ≤ 7) (knows : Asked �
       let id = (length c.requests - c.since) % 8 in
       let y : Sending (ByNumber Asked) = record { id = id; client = record { count = c.count; requests = c.requests ++ pending_of target call deadline ∷ []; since = c.since } } in
       subst (λ z. AllVouched (requested w target call (Some z))) (same_Some y x e)
-      (vouched_sent c.since c.count w.wire.sent w.wire.executed w.wire.starts w.wire.made w.wire.settled w.wire.up w.wire.down (kept w.wire.state) target id call (omega arith) plain h)
+      (vouched_sent (fields_of kept w) target id call (omega arith) plain h)
 
   -- what `AllVouched` says of the front request, x, of which `known` says whether it is one that `knows` names
   record FrontIs (w : World (ByNumber Asked) State) (h : AllVouched w) (x : Numbered Request) (known : Bool) : Type 0 where
@@ -150,16 +150,16 @@ module _ {State : Type 0} (width : ℕ) (narrow : width ≤ 7) (knows : Asked �
     near : E x.number ⊎ (x.number ≤ h.table + 7)
     of : IsOf written w.wire.sent x
     unknown : (known ≡ false) → IsUnknown knows w.wire.sent x.number
-    all : Each (λ (r : Sent). knows r.call ≡ true) w.wire.sent → known ≡ true
+    all : AllByRecursion (λ (r : Sent). knows r.call ≡ true) w.wire.sent → known ≡ true
 
   -- in a sound world of which `AllVouched` holds, the front request, x, is as `FrontIs` says
   front_is : (w : World (ByNumber Asked) State) (x : Numbered Request) (rest : List (Numbered Request)) (known : Bool) → w.wire.up ≡ x ∷ rest → knows x.line.call ≡ known → Sound width ends Good w
       → (h : AllVouched w) → FrontIs w h x known
   front_is w x rest known q is s h =
       let c = w.client in
-      let g = (subst (λ l. Each (IsGoing c.since (length c.requests)) l) q s.going).0 in
-      let a = (subst (λ l. Each (λ y. h.top ≤ y.number + 1) l) q h.above).0 in
-      let o = (subst (λ l. Each (IsOf written w.wire.sent) l) q h.lines).0 in
+      let g = (subst (λ l. AllByRecursion (IsGoing c.since (length c.requests)) l) q s.going).0 in
+      let a = (subst (λ l. AllByRecursion (λ y. h.top ≤ y.number + 1) l) q h.above).0 in
+      let o = (subst (λ l. AllByRecursion (IsOf written w.wire.sent) l) q h.lines).0 in
       record {
         recent = g.recent;
         sent = omega (arith, g.sent, s.counted);
@@ -173,19 +173,28 @@ module _ {State : Type 0} (width : ℕ) (narrow : width ≤ 7) (knows : Asked �
         all = λ every. sym is ∙ sym (ap knows o.call) ∙ all_at (λ (r : Sent). knows r.call ≡ true) w.wire.sent x.number o.request every o.found;
       }
 
-  -- `AllVouchedIn` is preserved if the front request, x, is handed to the instrument: what was executed before still was
-  -- (`lasts`), what is retained then is as `IsKeptAfter` says (`now`), the line that it sends is vouched for, or x excepted
-  -- (`new`), and the executions are in order and act once
+  -- the front request, x, was handed to the instrument, which sent this line for it: `executed` are all executions then, and
+  -- `after` is what is retained. What was executed before is among them (`lasts`), what is retained is as `IsKeptAfter` says
+  -- (`now`), the line is vouched for, or x excepted (`new`), and the executions are in order and act once
+  record WasHanded (w : World (ByNumber Asked) State) (x : Numbered Request) (known : Bool) (line executed : List ℕ) (after : Option KeptReply) : Type 0 where
+    lasts : (i : ℕ) → Has i w.wire.executed → Has i executed
+    now : IsKeptAfter known x.line.id line (kept w.wire.state) after
+    new : E x.number ⊎ IsVouched ends Good M w.wire.sent executed (w.wire.made ++ record { number = x.number; line = line } ∷ []) x.number line
+    order : IsOrdered (x.number + 1) executed
+    once : (keeps : Asked → Bool) → KeepsItsReply ends Good kept keeps
+        → IsClimbing keeps ((x.number + 1 - 1 - w.client.since) % 8) (x.number + 1) w.wire.sent executed w.wire.starts after
+
+  -- `AllVouchedIn` is preserved if the front request, x, is handed to the instrument, as `WasHanded` says
   vouched_on : (w : World (ByNumber Asked) State) (x : Numbered Request) (rest : List (Numbered Request)) (known : Bool) (line executed : List ℕ) (after : Option KeptReply) → w.wire.up ≡ x ∷ rest
-      → (h : AllVouched w) → (front : FrontIs w h x known) → Sound width ends Good w → (lasts : (i : ℕ) → Has i w.wire.executed → Has i executed)
-      → (now : IsKeptAfter known x.line.id line (kept w.wire.state) after)
-      → (new : E x.number ⊎ IsVouched ends Good M w.wire.sent executed (w.wire.made ++ record { number = x.number; line = line } ∷ []) x.number line)
-      → (order : IsOrdered (x.number + 1) executed)
-      → (once : (keeps : Asked → Bool) → KeepsItsReply ends Good kept keeps
-      → IsClimbing keeps ((x.number + 1 - 1 - w.client.since) % 8) (x.number + 1) w.wire.sent executed w.wire.starts after)
-      → AllVouchedIn w.client.since w.client.count w.wire.sent executed w.wire.starts (w.wire.made ++ record { number = x.number; line = line } ∷ []) w.wire.settled rest
-      (w.wire.down ++ record { number = x.number; line = line } ∷ []) after
-  vouched_on w x rest known line executed after q h front s lasts now new order once =
+      → (h : AllVouched w) → FrontIs w h x known → Sound width ends Good w → WasHanded w x known line executed after
+      → AllVouchedIn (record (fields_of kept w) {
+        executed = executed;
+        made = w.wire.made ++ record { number = x.number; line = line } ∷ [];
+        up = rest;
+        down = w.wire.down ++ record { number = x.number; line = line } ∷ [];
+        retained = after;
+      })
+  vouched_on w x rest known line executed after q h front s was =
       let c = w.client in
       let v = w.wire in
       let n = x.number in
@@ -194,10 +203,10 @@ module _ {State : Type 0} (width : ℕ) (narrow : width ≤ 7) (knows : Asked �
       let up : h.table ≤ next = newest_up known n h.table front.least in
       let P = Vouched v.sent v.executed v.made h.table in
       let Q = Vouched v.sent executed (v.made ++ m ∷ []) next in
-      let f : (i : ℕ) (line : List ℕ) → P i line → Q i line = λ i line p. stays_on v.sent v.executed executed v.made (m ∷ []) h.table next i line lasts up p in
-      let own : Q n line = (newest_dealt knows v.sent known n h.table front.unknown, new) in
+      let f : (i : ℕ) (line : List ℕ) → P i line → Q i line = λ i line p. stays_on v.sent v.executed executed v.made (m ∷ []) h.table next i line was.lasts up p in
+      let own : Q n line = (newest_dealt knows v.sent known n h.table front.unknown, was.new) in
       let rising = rising_tail c.count n (numbers v.down) (numbers rest) (subst (λ l. Rising c.count (numbers v.down ++ numbers l)) q s.order) in
-      let o = subst (λ l. Each (IsOf written v.sent) l) q h.lines in
+      let o = subst (λ l. AllByRecursion (IsOf written v.sent) l) q h.lines in
       let low : next ≤ n = newest_low known n h.table front.least in
       record {
         top = n + 1;
@@ -208,15 +217,15 @@ module _ {State : Type 0} (width : ℕ) (narrow : width ≤ 7) (knows : Asked �
         least = omega (arith, h.least, up);
         above = rising_each (n + 1) rest rising.1;
         below =
-            each_append _ v.down _ (each_more (λ (y : Numbered (List ℕ)). y.number < h.top) (λ y. y.number < n + 1) (λ y l. omega (arith, l, front.top)) v.down h.below)
+            all_append _ v.down _ (all_on (λ (y : Numbered (List ℕ)). y.number < h.top) (λ y. y.number < n + 1) v.down (λ y l. omega (arith, l, front.top)) h.below)
             (omega arith, tt);
-        holds = kept_handed P Q f c.since h.top h.table n x.line.id known line (kept v.state) after front.recent front.top front.least front.id own now h.holds;
+        holds = kept_handed P Q f c.since h.top h.table n x.line.id known line (kept v.state) after front.recent front.top front.least front.id own was.now h.holds;
         lines = o.1;
         near = near_on knows E Plain v.sent h.top h.table n known front.least front.all h.near;
-        coming = each_append _ v.down _ (each_more (λ (y : Numbered (List ℕ)). P y.number y.line) (λ y. Q y.number y.line) (λ y. f y.number y.line) v.down h.coming) (own, tt);
-        answers = all_so_more P Q f 0 v.settled h.answers;
-        order = order;
-        once = once;
+        coming = all_append _ v.down _ (all_on (λ (y : Numbered (List ℕ)). P y.number y.line) (λ y. Q y.number y.line) v.down (λ y. f y.number y.line) h.coming) (own, tt);
+        answers = holds_more P Q f 0 v.settled h.answers;
+        order = was.order;
+        once = was.once;
       }
 
   -- if what is retained has the id of the front request, x, then x is excepted, or the retained line is vouched for as its reply
@@ -238,19 +247,6 @@ module _ {State : Type 0} (width : ℕ) (narrow : width ≤ 7) (knows : Asked �
   abbrev AfterIs : World (ByNumber Asked) State → Numbered Request → Handed State → Bool → Type 0
   AfterIs w x hd known = IsKeptAfter known x.line.id hd.reply (kept w.wire.state) (kept hd.state)
 
-  -- in a good state, if the instrument retains its reply to each request that `keeps` names: `keeps` doesn't name the front
-  -- request, x; or the reply to x is retained, with its id
-  held_by : (w : World (ByNumber Asked) State) (x : Numbered Request) (hd : Handed State) (keeps : Asked → Bool) (b : Bool) → keeps x.line.call ≡ b → KeepsItsReply ends Good kept keeps
-      → ends.handed w.wire.state x.line.id x.line.call ≡ hd → Good w.wire.state → (since : ℕ) → x.line.id ≡ (x.number - since) % 8 → IsOf written w.wire.sent x
-      → IsUnknown keeps w.wire.sent x.number ⊎ ((kept hd.state ≡ Some (record { id = x.line.id; line = hd.reply })) × (x.line.id ≡ (x.number + 1 - 1 - since) % 8))
-  held_by w x hd keeps true e is handed good since own o =
-      let back : x.number ≡ x.number + 1 - 1 = omega arith in
-      inr (
-        subst (λ (k : Handed State). kept k.state ≡ Some (record { id = x.line.id; line = k.reply })) handed (is.always w.wire.state x.line.id x.line.call good o.small e),
-        own ∙ ap (λ i. (i - since) % 8) back,
-      )
-  held_by w x hd keeps false e is handed good since own o = inl (o.request, o.found, ap keeps o.call ∙ e)
-
   -- in a sound world `AllVouched` is preserved if the front request isn't executed, and the retained line is sent again for it
   vouched_again : (w : World (ByNumber Asked) State) (x : Numbered Request) (rest : List (Numbered Request)) (hd : Handed State) (known : Bool) → w.wire.up ≡ x ∷ rest
       → ends.handed w.wire.state x.line.id x.line.call ≡ hd → knows x.line.call ≡ known → kept w.wire.state ≡ Some (record { id = x.line.id; line = hd.reply }) → AfterIs w x hd known
@@ -259,30 +255,26 @@ module _ {State : Type 0} (width : ℕ) (narrow : width ≤ 7) (knows : Asked �
       let c = w.client in
       let v = w.wire in
       let front = front_is w x rest known q what s h in
-      vouched_on w x rest known hd.reply v.executed (kept hd.state) q h front s (λ i has. has) now (again_own w x known hd.reply (kept v.state) h front refl same)
-      (ordered_handed h.top x.number v.executed front.top h.order)
-      (λ keeps k. climbing_handed keeps ((h.top - 1 - c.since) % 8) ((x.number + 1 - 1 - c.since) % 8) h.top x.number v.sent v.executed v.starts (kept v.state) (kept hd.state)
-      (record { id = x.line.id; line = hd.reply }) front.top
-      (held_by w x hd keeps (keeps x.line.call) refl k is s.good c.since front.id front.of) (h.once keeps k))
+      vouched_on w x rest known hd.reply v.executed (kept hd.state) q h front s (record {
+        lasts = λ i has. has;
+        now = now;
+        new = again_own w x known hd.reply (kept v.state) h front refl same;
+        order = ordered_handed h.top x.number v.executed front.top h.order;
+        once = λ keeps k.
+            climbing_handed keeps ((h.top - 1 - c.since) % 8) ((x.number + 1 - 1 - c.since) % 8) h.top x.number v.sent v.executed v.starts (kept v.state) (kept hd.state)
+            (record { id = x.line.id; line = hd.reply }) front.top (unknown_or_retained ends Good kept w x hd keeps (keeps x.line.call) refl k is s.good c.since front.id front.of) (h.once keeps k);
+      })
 
   -- in a good state, if the front request, x, is executed, and the instrument retains its reply to each request that `keeps`
-  -- names: `keeps` doesn't name x; or the reply to x is retained, with its id, and either x is later than all that were handed
-  -- before, or nothing was executed since the last start
+  -- names: `keeps` doesn't name x, or nothing was executed since the last start, or x is later than all that were handed before
   acted_by : (w : World (ByNumber Asked) State) (x : Numbered Request) (hd : Handed State) (known : Bool) (keeps : Asked → Bool) (b : Bool) → keeps x.line.call ≡ b
       → KeepsItsReply ends Good kept keeps → ends.handed w.wire.state x.line.id x.line.call ≡ hd → hd.executed ≡ true → Good w.wire.state → (h : AllVouched w) → FrontIs w h x known
-      → IsUnknown keeps w.wire.sent x.number
-      ⊎ ((IsIdle w.wire.executed w.wire.starts ⊎ (h.top ≤ x.number)) × (kept hd.state ≡ Some (record { id = x.line.id; line = hd.reply }))
-      × (x.line.id ≡ (x.number + 1 - 1 - w.client.since) % 8))
+      → IsUnknown keeps w.wire.sent x.number ⊎ (IsIdle w.wire.executed w.wire.starts ⊎ (h.top ≤ x.number))
   acted_by w x hd known keeps true e k is exe good h front =
       let v = w.wire in
       let o = front.of in
-      let back : x.number ≡ x.number + 1 - 1 = omega arith in
-      inr (
-        why_acted keeps w.client.since h.top x.number x.line.id v.sent v.executed v.starts (kept v.state) (known_not keeps v.sent x.number o.request o.found (ap keeps o.call ∙ e)) front.id front.top
-            (λ line same. true≢false (sym exe ∙ sym (ap (λ (k : Handed State). k.executed) is) ∙ k.again v.state x.line.id x.line.call line good o.small e same)) (h.once keeps k),
-        subst (λ (k : Handed State). kept k.state ≡ Some (record { id = x.line.id; line = k.reply })) is (k.always v.state x.line.id x.line.call good o.small e),
-        front.id ∙ ap (λ i. (i - w.client.since) % 8) back,
-      )
+      inr (why_acted keeps w.client.since h.top x.number x.line.id v.sent v.executed v.starts (kept v.state) (known_not keeps v.sent x.number o.request o.found (ap keeps o.call ∙ e))
+      front.id front.top (λ line same. true≢false (sym exe ∙ sym (ap (λ (k : Handed State). k.executed) is) ∙ k.again v.state x.line.id x.line.call line good o.small e same)) (h.once keeps k))
   acted_by w x hd known keeps false e k is exe good h front = inl (front.of.request, front.of.found, ap keeps front.of.call ∙ e)
 
   -- in a sound world `AllVouched` is preserved if the front request is executed, and its reply has the property M
@@ -296,25 +288,30 @@ module _ {State : Type 0} (width : ℕ) (narrow : width ≤ 7) (knows : Asked �
       let front = front_is w x rest known q what s h in
       let o = front.of in
       let m : Numbered (List ℕ) = record { number = n; line = hd.reply } in
-      vouched_on w x rest known hd.reply (v.executed ++ n ∷ []) (kept hd.state) q h front s (λ i has. has_more i v.executed (n ∷ []) has) now
-      (inr (record {
-        among = has_push m v.made;
-        acted = has_push n v.executed;
-        request = o.request;
-        found = o.found;
-        reply = record {
-          state = v.state;
-          good = s.good;
-          id = x.line.id;
-          small = o.small;
-          executed = ap (λ call. (ends.handed v.state x.line.id call).executed) o.call ∙ ap (λ (k : Handed State). k.executed) is ∙ exe;
-          reply = sym (ap (λ (k : Handed State). k.reply) is) ∙ ap (λ call. (ends.handed v.state x.line.id call).reply) (sym o.call);
-        };
-        on = subst (λ call. M n call hd.reply) (sym o.call) on;
-      }))
-      (ordered_acted h.top n v.executed front.top h.order)
-      (λ keeps k. climbing_acted keeps ((h.top - 1 - c.since) % 8) ((n + 1 - 1 - c.since) % 8) h.top n v.sent v.executed v.starts (kept v.state) (kept hd.state)
-      (record { id = x.line.id; line = hd.reply }) front.top (acted_by w x hd known keeps (keeps x.line.call) refl k is exe s.good h front) (h.once keeps k))
+      vouched_on w x rest known hd.reply (v.executed ++ n ∷ []) (kept hd.state) q h front s (record {
+        lasts = λ i has. has_more i v.executed (n ∷ []) has;
+        now = now;
+        new = inr (record {
+          among = has_push m v.made;
+          acted = has_push n v.executed;
+          request = o.request;
+          found = o.found;
+          reply = record {
+            state = v.state;
+            good = s.good;
+            id = x.line.id;
+            small = o.small;
+            executed = ap (λ call. (ends.handed v.state x.line.id call).executed) o.call ∙ ap (λ (k : Handed State). k.executed) is ∙ exe;
+            reply = sym (ap (λ (k : Handed State). k.reply) is) ∙ ap (λ call. (ends.handed v.state x.line.id call).reply) (sym o.call);
+          };
+          on = subst (λ call. M n call hd.reply) (sym o.call) on;
+        });
+        order = ordered_acted h.top n v.executed front.top h.order;
+        once = λ keeps k.
+            climbing_acted keeps ((h.top - 1 - c.since) % 8) ((n + 1 - 1 - c.since) % 8) h.top n v.sent v.executed v.starts (kept v.state) (kept hd.state)
+            (record { id = x.line.id; line = hd.reply }) front.top (acted_by w x hd known keeps (keeps x.line.call) refl k is exe s.good h front)
+            (unknown_or_retained ends Good kept w x hd keeps (keeps x.line.call) refl k is s.good c.since front.id front.of) (h.once keeps k);
+      })
 
   -- in a sound world `AllVouched` is preserved if the front request is handed to the instrument, whether that executes it (`b`)
   -- or not; if it does, the reply has the property M
@@ -324,7 +321,7 @@ module _ {State : Type 0} (width : ℕ) (narrow : width ≤ 7) (knows : Asked �
   vouched_handed w x rest hd b q is exe on s h = chosen b exe where
     -- the request's id is below 8
     small : x.line.id < 8
-    small = (subst (λ l. Each (IsOf written w.wire.sent) l) q h.lines).0.small
+    small = (subst (λ l. AllByRecursion (IsOf written w.wire.sent) l) q h.lines).0.small
 
     -- what the instrument retains after the request is as `AfterIs` says
     now : AfterIs w x hd (knows x.line.call)
@@ -347,7 +344,7 @@ module _ {State : Type 0} (width : ℕ) (narrow : width ≤ 7) (knows : Asked �
   -- `count` says how many requests are settled then
   reply_came : (w : World (ByNumber Asked) State) (x : Numbered (List ℕ)) (rest : List (Numbered (List ℕ))) (count : ℕ) (settled : List (Settlement Asked)) → w.wire.down ≡ x ∷ rest
       → (h : AllVouched w) → count ≤ h.top → HoldsOfAll (Vouched w.wire.sent w.wire.executed w.wire.made h.table) 0 settled
-      → AllVouchedIn w.client.since count w.wire.sent w.wire.executed w.wire.starts w.wire.made settled w.wire.up rest (kept w.wire.state)
+      → AllVouchedIn (record (fields_of kept w) { count = count; settled = settled; down = rest })
   reply_came w x rest count settled e h few answers =
       let v = w.wire in
       let P = Vouched v.sent v.executed v.made h.table in
@@ -359,11 +356,11 @@ module _ {State : Type 0} (width : ℕ) (narrow : width ≤ 7) (knows : Asked �
         lower = h.lower;
         least = h.least;
         above = h.above;
-        below = (subst (λ (q : List (Numbered (List ℕ))). Each (λ (y : Numbered (List ℕ)). y.number < h.top) q) e h.below).1;
+        below = (subst (λ (q : List (Numbered (List ℕ))). AllByRecursion (λ (y : Numbered (List ℕ)). y.number < h.top) q) e h.below).1;
         holds = h.holds;
         lines = h.lines;
         near = h.near;
-        coming = (subst (λ (q : List (Numbered (List ℕ))). Each (λ (y : Numbered (List ℕ)). P y.number y.line) q) e h.coming).1;
+        coming = (subst (λ (q : List (Numbered (List ℕ))). AllByRecursion (λ (y : Numbered (List ℕ)). P y.number y.line) q) e h.coming).1;
         answers = answers;
         order = h.order;
         once = h.once;
@@ -376,22 +373,22 @@ module _ {State : Type 0} (width : ℕ) (narrow : width ≤ 7) (knows : Asked �
   vouched_reply w x rest true t e s h =
       let v = w.wire in
       let P = Vouched v.sent v.executed v.made h.table in
-      reply_came w x rest w.client.count (v.settled ++ []) e h h.counted (all_so_append P 0 w.client.count v.settled [] (omega (arith, s)) h.answers tt)
+      reply_came w x rest w.client.count (v.settled ++ []) e h h.counted (holds_append P 0 w.client.count v.settled [] (omega (arith, s)) h.answers tt)
   vouched_reply w x rest false t e s h =
       let v = w.wire in
       let P = Vouched v.sent v.executed v.made h.table in
-      let b = subst (λ q. Each (λ y. y.number < h.top) q) e h.below in
-      let m = subst (λ q. Each (λ y. P y.number y.line) q) e h.coming in
+      let b = subst (λ q. AllByRecursion (λ y. y.number < h.top) q) e h.below in
+      let m = subst (λ q. AllByRecursion (λ y. P y.number y.line) q) e h.coming in
       let ge : w.client.count ≤ x.number = ltb-false _ _ t in
       reply_came w x rest (x.number + 1) (v.settled ++ (number_reply w.client x false).settlements) e h (omega (arith, b.0))
-      (all_so_append P 0 w.client.count v.settled _ (omega (arith, s)) h.answers
-      (all_so_settle P w.client.count x.number (x.number - w.client.count) x.line (drop w.client.count w.client.requests) (omega (arith, ge)) m.0))
+      (holds_append P 0 w.client.count v.settled _ (omega (arith, s)) h.answers
+      (holds_settled P w.client.count x.number (x.number - w.client.count) x.line (drop w.client.count w.client.requests) (omega (arith, ge)) m.0))
 
   -- `AllVouchedIn` is preserved if what is retained stays, or nothing is retained any more, and executions still act once, also
   -- with these starts
   still_kept : (w : World (ByNumber Asked) State) (starts : List ℕ) (state : State) → (kept state ≡ None) ⊎ (kept state ≡ kept w.wire.state) → (h : AllVouched w)
       → ((keeps : Asked → Bool) → KeepsItsReply ends Good kept keeps → IsClimbing keeps ((h.top - 1 - w.client.since) % 8) h.top w.wire.sent w.wire.executed starts (kept state))
-      → AllVouchedIn w.client.since w.client.count w.wire.sent w.wire.executed starts w.wire.made w.wire.settled w.wire.up w.wire.down (kept state)
+      → AllVouchedIn (record (fields_of kept w) { starts = starts; retained = kept state })
   still_kept w starts state now h once =
       let v = w.wire in
       record {
@@ -430,8 +427,8 @@ module _ {State : Type 0} (width : ℕ) (narrow : width ≤ 7) (knows : Asked �
 
   -- `AllVouched` is preserved if the lines in flight change to others that meet its clauses on lines in flight
   vouched_queues : (w : World (ByNumber Asked) State) (up : List (Numbered Request)) (down : List (Numbered (List ℕ))) (h : AllVouched w)
-      → Each (λ x. h.top ≤ x.number + 1) up → Each (IsOf written w.wire.sent) up → Each (λ x. x.number < h.top) down
-      → Each (λ x. Vouched w.wire.sent w.wire.executed w.wire.made h.table x.number x.line) down → AllVouched (on_wire w (record w.wire { up = up; down = down }))
+      → AllByRecursion (λ x. h.top ≤ x.number + 1) up → AllByRecursion (IsOf written w.wire.sent) up → AllByRecursion (λ x. x.number < h.top) down
+      → AllByRecursion (λ x. Vouched w.wire.sent w.wire.executed w.wire.made h.table x.number x.line) down → AllVouched (on_wire w (record w.wire { up = up; down = down }))
   vouched_queues w up down h a l b c = record {
     top = h.top;
     table = h.table;
@@ -465,13 +462,13 @@ module _ {State : Type 0} (width : ℕ) (narrow : width ≤ 7) (knows : Asked �
 
   -- `AllVouched` is preserved if the requests in flight stay (`b` is false), or change to some that meet its clauses
   vouched_with_up : (w : World (ByNumber Asked) State) (up : List (Numbered Request)) (b : Bool) (h : AllVouched w)
-      → Each (λ x. h.top ≤ x.number + 1) up → Each (IsOf written w.wire.sent) up → AllVouched (on_wire w (with_up w.wire up b))
+      → AllByRecursion (λ x. h.top ≤ x.number + 1) up → AllByRecursion (IsOf written w.wire.sent) up → AllVouched (on_wire w (with_up w.wire up b))
   vouched_with_up w up false h a l = h
   vouched_with_up w up true h a l = vouched_queues w up w.wire.down h a l h.below h.coming
 
   -- `AllVouched` is preserved if the replies in flight stay (`b` is false), or change to some that meet its clauses
   vouched_with_down : (w : World (ByNumber Asked) State) (down : List (Numbered (List ℕ))) (b : Bool) (h : AllVouched w)
-      → Each (λ x. x.number < h.top) down → Each (λ x. Vouched w.wire.sent w.wire.executed w.wire.made h.table x.number x.line) down
+      → AllByRecursion (λ x. x.number < h.top) down → AllByRecursion (λ x. Vouched w.wire.sent w.wire.executed w.wire.made h.table x.number x.line) down
       → AllVouched (on_wire w (with_down w.wire down b))
   vouched_with_down w down false h l c = h
   vouched_with_down w down true h l c = vouched_queues w w.wire.up down h h.above h.lines l c

@@ -7,10 +7,11 @@ use Rattle.gc_client.specs.declared.pending.Pending.{Pending}
 use Rattle.gc_client.specs.Rule.{ById, Settlement, expired, hears, id_send, id_settled, pending_of, place_in, settle}
 use Rattle.gc_instrument.specs.State.{KeptReply}
 use Rattle.gc_world.specs.Clients.{by_ids}
-use Rattle.gc_field.specs.World.{Ends, Numbered, Request, Step, Send, Up_deliver, Up_lose, Up_repeat, Down_deliver, Down_lose, Down_repeat, Expire, Restart_client, Restart_instrument, Nothing, World, without, doubled, up_delivered, with_up, with_down, on_wire, requested, down_delivered}
+use Rattle.gc_field.specs.World.{Ends, Numbered, Step, World, requested, down_delivered}
 use Rattle.gc_client.proofs.OneForOne.{length-settle}
 use Rattle.gc_field.specs.Field.{Move, Sends, Tells, Comes, Foreign, OnLine, Anew, Changes, Joins, IsLineStep, moves, moved, ArePossible}
 use Rattle.gc_field.specs.Runs.{times_out}
+use Rattle.gc_field.proofs.LineSteps.{same_over_line}
 use Rattle.gc_station.proofs.Lists.{get_more, get_dropped}
 use Rattle.std.proofs.Math.Bool.{or_assoc, or-false}
 use Rattle.gc_world.proofs.Places.{get_map}
@@ -83,34 +84,12 @@ module _ {State : Type 0} (ends : Ends State) (Good : State → Type 0) (kept : 
   waits_sent w target call deadline true n p h = h
   waits_sent w target call deadline false n p h = λ le. get_more w.client.waiting (pending_of target call deadline ∷ []) (n - length w.wire.settled) p (h le)
 
-  -- `Waits` is preserved if the front request reaches the instrument, if there is one
-  waits_up : (w : World (ById Asked) State) (q : List (Numbered Request)) (n : ℕ) (p : Pending Asked) → Waits w n p → Waits (on_wire w (up_delivered ends w.wire q)) n p
-  waits_up w [] n p h = h
-  waits_up w (x ∷ rest) n p h = h
-
-  -- `Waits` is preserved if the requests in flight change, or (`b` is false) don't
-  waits_with_up : (w : World (ById Asked) State) (q : List (Numbered Request)) (b : Bool) (n : ℕ) (p : Pending Asked) → Waits w n p → Waits (on_wire w (with_up w.wire q b)) n p
-  waits_with_up w q true n p h = h
-  waits_with_up w q false n p h = h
-
-  -- `Waits` is preserved if the replies in flight change, or (`b` is false) don't
-  waits_with_down : (w : World (ById Asked) State) (q : List (Numbered (List ℕ))) (b : Bool) (n : ℕ) (p : Pending Asked) → Waits w n p → Waits (on_wire w (with_down w.wire q b)) n p
-  waits_with_down w q true n p h = h
-  waits_with_down w q false n p h = h
-
   -- `Waits` is preserved if a step of the line happens
   waits_line : (w : World (ById Asked) State) (step : Step) (n : ℕ) (p : Pending Asked) → IsLineStep step → Waits w n p → Waits (moves ends (by_ids 7 ends) w (OnLine step)) n p
-  waits_line w (Send target call deadline) n p o h = absurd o
-  waits_line w Up_deliver n p o h = waits_up w w.wire.up n p h
-  waits_line w (Up_lose k) n p o h = waits_with_up w (without k w.wire.up) (nat_lt k (length w.wire.up)) n p h
-  waits_line w (Up_repeat k) n p o h = waits_with_up w (doubled k w.wire.up) (nat_lt k (length w.wire.up)) n p h
-  waits_line w Down_deliver n p o h = absurd o
-  waits_line w (Down_lose k) n p o h = waits_with_down w (without k w.wire.down) (nat_lt k (length w.wire.down)) n p h
-  waits_line w (Down_repeat k) n p o h = waits_with_down w (doubled k w.wire.down) (nat_lt k (length w.wire.down)) n p h
-  waits_line w (Expire now) n p o h = absurd o
-  waits_line w Restart_client n p o h = absurd o
-  waits_line w Restart_instrument n p o h = absurd o
-  waits_line w Nothing n p o h = h
+  waits_line w step n p o h =
+      let after = same_over_line ends (by_ids 7 ends) w step o in
+      subst (λ (c : ById Asked). WaitsAt (length (moves ends (by_ids 7 ends) w (OnLine step)).wire.settled) c.waiting n p) (sym after.client)
+      (subst (λ xs. WaitsAt (length xs) w.client.waiting n p) (sym after.settled) h)
 
   -- where `Waits` holds of request n and `p`, after possible moves it holds of n and what they make of `p` (`after_moves`)
   pub waits_all : (ms : List (Move State)) (w : World (ById Asked) State) (n : ℕ) (p : Pending Asked) → ArePossible ends Good kept (by_ids 7 ends) ms w → Waits w n p

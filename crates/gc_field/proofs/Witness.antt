@@ -41,11 +41,15 @@ pub units : (n : ℕ) → Units n
 units zero = tt
 units (suc n) = (tt, units n)
 
--- the acts by which a connection is made and cleared, and all eight null procedures are answered by the simulator, are a run,
--- whatever is to be asked
-pub opens :
+-- the acts by which a connection is made and cleared, and the null procedures are answered by these lines, are a run, with any
+-- width of the window, and whatever is to be asked
+abbrev pub OpensWith : List (List ℕ) → Type 0
+OpensWith answers =
     (width : ℕ) (tasks : List Task) (reads : Asked → List ℕ → Reading)
-    → Runs (plan_of width) tasks (opening (plan_of width) (record { turns = 100; reads = reads })) (begun_with replies [])
+    → Runs (plan_of width) tasks (opening (plan_of width) (record { turns = 100; reads = reads })) (begun_with answers [])
+
+-- with the simulator's replies to all eight null procedures these acts are a run
+pub opens : OpensWith replies
 unfolding is_elsewhere header_at reply_at digits
 opens width tasks reads =
     (tt, (refl, (tt, (refl, (tt, (tt, (refl, (tt, (tt, (refl, (tt, (tt, (refl, (tt, (tt, (refl, (tt, (tt, (refl, (tt, (tt, (refl, (tt, (tt, (refl, (tt, (tt, tt)))))))))))))))))))))))))))
@@ -99,13 +103,13 @@ fits =
     }
 
 -- two equal numbers aren't 6 and 0
-six : (n m : ℕ) → n ≡ m → n ≡ 6 → m ≡ 0 → ⊥
-six n m e a b = omega (arith, e, a, b)
+not_six_and_zero : (n m : ℕ) → n ≡ m → n ≡ 6 → m ≡ 0 → ⊥
+not_six_and_zero n m e a b = omega (arith, e, a, b)
 
 -- the word isn't a subsequence of two ids 0
 pub none_here : IsSubsequence the_word (0 ∷ 0 ∷ []) → ⊥
-none_here (inl h) = six 6 0 h.0 refl refl
-none_here (inr (inl h)) = six 6 0 h.0 refl refl
+none_here (inl h) = not_six_and_zero 6 0 h.0 refl refl
+none_here (inr (inl h)) = not_six_and_zero 6 0 h.0 refl refl
 none_here (inr (inr h)) = h
 
 -- the answer was made on executing the command's request, the client's first one
@@ -129,7 +133,7 @@ parts_are : parts_of plan commands (opening plan scope) acts ≡ one_part all_tu
 unfolding is_elsewhere header_at reply_at digits
 parts_are = refl
 
--- what the line does while the station synchronizes shows these turns
+-- what happens while the station synchronizes shows these turns
 shown_are : shown ends turns (begins at_start) ≡ all_turns
 unfolding is_elsewhere header_at reply_at handed exec digits
 shown_are = refl

@@ -6,9 +6,9 @@ use Rattle.gc_links.specs.Acts.{Act, Put, Cut, Gave, Closed}
 use Rattle.gc_station.specs.Parts.{Turn, Asks, Hears}
 use Rattle.gc_station.specs.Model.{lines_completed, null_text}
 
--- the bytes that a synchronizing station sends, and the turns that this means: they are a line feed, which clears the receiver and
--- is no turn; or they are the line of the null procedure of the first id that isn't answered (no bytes if all are answered), which
--- is the turn `Asks`
+-- the bytes that a synchronizing station sends, and the turns that this means: they are a line feed, which clears the receiver
+-- and is no turn; or they are the line of the null procedure of the first id that isn't answered (no bytes if all are answered),
+-- which is the turn `Asks`
 abbrev pub IsAskedFor : (word bytes : List ℕ) → List Turn → Type 0
 IsAskedFor word bytes turns = ((bytes ≡ 10 ∷ []) × (turns ≡ [])) ⊎ ((bytes ≡ null_text word) × (turns ≡ Asks ∷ []))
 

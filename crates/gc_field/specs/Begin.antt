@@ -1,17 +1,16 @@
 -- A synchronization in the field, this project's own: a client that synchronizes, an instrument, and a line between them that
--- keeps order, loses lines whole, and repeats one directly after it. The client sends null procedures with the ids
--- 6 5 4 3 2 1 0 7, the word, each until it is answered. What is in flight from before may be anything. Connections aren't
--- spoken of, because a close is a loss of lines. A request that is cut arrives whole or is lost, because a line feed arrives after
--- its front. The instrument may start again at any moment.
+-- keeps order, loses lines whole, and repeats one directly after it. The client sends null procedures with the ids 6 5 4 3 2 1 0
+-- 7, the word, each until it is answered. What is in flight from before may be anything. Connections aren't spoken of, because a
+-- close is a loss of lines. A request that is cut arrives whole or is lost, because a line feed arrives after its front. The
+-- instrument may start again at any moment.
 use Rattle.std.specs.Prelude.{◌≡◌, ℕ, ◌<◌, Bool, true, false, List, [], ◌∷◌, ◌++◌, map, Option, None}
-use Rattle.std.specs.List.{filter_map}
+use Rattle.std.specs.List.{filter_map, AllByRecursion}
 use Rattle.gc_catalogue.specs.declared.asked.Asked.TheVariants.{Table}
 use Rattle.gc_catalogue.specs.declared.call.Call.TheVariants.{NullProc}
 use Rattle.gc_client.specs.Beginning.{the_word, left_by}
 use Rattle.gc_client.specs.Rule.{heard}
 use Rattle.gc_client.specs.declared.window.TheConstants.{IDS}
 use Rattle.gc_instrument.specs.State.{KeptReply}
-use Rattle.gc_world.specs.Order.{Each}
 use Rattle.gc_field.specs.World.{Ends, Request, without, doubled}
 use Rattle.gc_field.specs.Instrument.{MayBecome}
 
@@ -34,7 +33,7 @@ ids_under_way u = filter_map heard u.down ++ map (λ x. x.id) u.up
 
 -- what is in flight is well formed: the id of each request is one digit from 0 to 7; and the instrument's state is good (`Good`)
 pub record IsWellFormed {State : Type 0} (Good : State → Type 0) (u : UnderWay State) : Type 0 where
-  pub ids : Each (λ x. x.id < IDS) u.up
+  pub ids : AllByRecursion (λ x. x.id < IDS) u.up
   pub good : Good u.state
 
 -- The client that synchronizes.
@@ -117,8 +116,8 @@ module _ {State : Type 0} where
   turned ends [] s = s
   turned ends (t ∷ ts) s = turned ends ts (turns ends s t)
 
-  -- a turn is possible: a foreign line is no reply with an id, but an echo, noise, or what is left of a line that was cut; and the
-  -- instrument changes by itself only as `MayBecome` allows
+  -- a turn is possible: a foreign line is no reply with an id, but an echo, noise, or what is left of a line that was cut; and
+  -- the instrument changes by itself only as `MayBecome` allows
   abbrev pub IsTurn : (State → Type 0) → (State → Option KeptReply) → Model State → Turn State → Type 0
   IsTurn Good kept s (Foreign line) = heard line ≡ None
   IsTurn Good kept s (Changes state) = MayBecome Good kept s.state state

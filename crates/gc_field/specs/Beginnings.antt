@@ -3,12 +3,13 @@
 -- depends on a clock. The word of a synchronization has the ids of its null procedures, 6 5 4 3 2 1 0 7; what is left of it are
 -- those that aren't answered.
 use Rattle.std.specs.Prelude.{◌≡◌, ℕ, ◌+◌, ◌%◌, ◌<◌, ◌≤◌, List, [], ◌∷◌, map, Option}
+use Rattle.std.specs.List.{AllByRecursion}
 use Rattle.gc_client.specs.Beginning.{IsSubsequence, the_word}
 use Rattle.gc_client.specs.declared.window.TheConstants.{WINDOW}
-use Rattle.gc_instrument.specs.State.{KeptReply, State, IsFittingState}
+use Rattle.gc_instrument.specs.State.{KeptReply, IsFittingState}
 use Rattle.gc_world.specs.Clients.{by_ids}
 use Rattle.gc_field.specs.Simulator.{ends}
-use Rattle.gc_world.specs.Order.{Each, Rising}
+use Rattle.gc_world.specs.Order.{Rising}
 use Rattle.gc_field.specs.World.{Ends, Wire}
 use Rattle.gc_field.specs.Begin.{IsWellFormed, AreTurns, Model, Turn, UnderWay, begins, ids_under_way, leaves, turned}
 use Rattle.gc_field.specs.Begun.{HasBegunCleanly, IsClean, IsFaithful, behind, ids_begun}
@@ -27,7 +28,7 @@ pub record HasRisingIds {State : Type 0} (u : UnderWay State) : Type 0 where
   pub numbers : List ℕ
   pub some : 0 < low
   pub rising : Rising low numbers
-  pub few : Each (λ n. n < low + WINDOW) numbers
+  pub few : AllByRecursion (λ n. n < low + WINDOW) numbers
   pub ids : ids_under_way u ≡ map (λ n. n % 8) numbers
 
 -- where `HasRisingIds` holds of what is in flight, the word is no subsequence of the ids in flight: not even the first three ids
@@ -105,18 +106,19 @@ module _ {State : Type 0} (width : ℕ) (ends : Ends State) where
     AreOwn u [] = Unit {0}
     AreOwn u (r ∷ rs) = IsOwnIf (after_turns ends u r).left (after_turns ends u r) r.moves × AreOwn (left_by_run u r) rs
 
--- for any instrument, and clients with a window of at most `WINDOW` requests, after a run that had synchronized, or over a line
--- with nothing in flight (`HasRisingIds`, `IsWellFormed`): as long as fewer than six runs in a row end while they synchronize,
--- each run that has synchronized has done so cleanly, and `IsFaithful` holds of its moves: each of its answers to a request that
--- is `IsSafe` is its own
-abbrev pub RunsAreTheirOwn : Type 0 → Type 0
-RunsAreTheirOwn State =
-    (ends : Ends State) (kept : State → Option KeptReply) → IsAnInstrument ends AnyState kept →
-    (width : ℕ) → width ≤ WINDOW → (u : UnderWay State) → IsWellFormed AnyState u → HasRisingIds u →
-    (rs : List (Run State)) → AreRuns width ends AnyState kept u rs → AreFewKilled width ends 0 u rs → AreOwn width ends AnyState kept u rs
+-- for clients with a window of at most `WINDOW` requests, after a run that had synchronized, or over a line with nothing in
+-- flight (`HasRisingIds`, `IsWellFormed`): as long as fewer than six runs in a row end while they synchronize, each run that has
+-- synchronized has done so cleanly, and `IsFaithful` holds of its moves: each of its answers to a request that is `IsSafe` is its
+-- own. `Good` says which states of the instrument are good, and `kept` what reply each of them retains
+abbrev pub RunsInARowAreOwn : {State : Type 0} → (ends : Ends State) → (Good : State → Type 0) → (kept : State → Option KeptReply) → Type 0
+RunsInARowAreOwn {State = State} ends Good kept =
+    (width : ℕ) → width ≤ WINDOW → (u : UnderWay State) → IsWellFormed Good u → HasRisingIds u →
+    (rs : List (Run State)) → AreRuns width ends Good kept u rs → AreFewKilled width ends 0 u rs → AreOwn width ends Good kept u rs
 
--- `RunsAreTheirOwn` for the simulator, in any state that fits
+-- `RunsInARowAreOwn`, for any instrument, in any state
+abbrev pub RunsAreTheirOwn : Type 0 → Type 0
+RunsAreTheirOwn State = (ends : Ends State) (kept : State → Option KeptReply) → IsAnInstrument ends AnyState kept → RunsInARowAreOwn ends AnyState kept
+
+-- `RunsInARowAreOwn`, for the simulator, in any state that fits
 abbrev pub SimulatorsRunsAreTheirOwn : Type 0
-SimulatorsRunsAreTheirOwn =
-    (width : ℕ) → width ≤ WINDOW → (u : UnderWay State) → IsWellFormed IsFittingState u → HasRisingIds u →
-    (rs : List (Run State)) → AreRuns width ends IsFittingState kept_of u rs → AreFewKilled width ends 0 u rs → AreOwn width ends IsFittingState kept_of u rs
+SimulatorsRunsAreTheirOwn = RunsInARowAreOwn ends IsFittingState kept_of

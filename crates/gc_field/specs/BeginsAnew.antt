@@ -1,7 +1,7 @@
 -- Some run resynchronizes within itself, this project's own. Seven requests are sent at once, and have timed out. The reply to
 -- the first is in flight then, and the seventh request: both come while the station synchronizes again, on the same connection.
 -- The eighth command is sent after that, with the first one's id, and has the answer that was made for it.
-use Rattle.std.specs.Prelude.{◌≡◌, ℕ, true, false, List, [], ◌∷◌, ◌++◌, codes, drop, map, pos, Some, None}
+use Rattle.std.specs.Prelude.{◌≡◌, ℕ, true, false, List, [], ◌∷◌, ◌++◌, codes, drop, map, pos, Some}
 use Rattle.gc_lines.specs.Lines.{with_end}
 use Rattle.gc_catalogue.specs.declared.answer.Answer.TheVariants.{Long}
 use Rattle.gc_catalogue.specs.declared.answer.Reading.TheVariants.{Value}
@@ -73,10 +73,13 @@ abbrev pub put_all : ℕ → List (List ℕ) → List Act → List Act
 put_all now [] acts = acts
 put_all now (line ∷ others) acts = Put (with_end line) ∷ Told (at now) ∷ put_all now others acts
 
--- the acts until seven have timed out: the station synchronizes; seven commands are sent, and nothing comes until their
--- deadline
+-- the acts by which seven commands are sent, and time out: nothing comes until their deadline
+abbrev pub seven_unanswered : List Act
+seven_unanswered = Told (at 15) ∷ put_all 15 seven_lines (Silent (at 115) ∷ [])
+
+-- the acts until seven have timed out: the station synchronizes, and then sends the seven
 abbrev pub given_up : List Act
-given_up = begun_with null_replies (Told (at 15) ∷ put_all 15 seven_lines (Silent (at 115) ∷ []))
+given_up = begun_with null_replies seven_unanswered
 
 -- the acts from there on: the station resynchronizes, and its first null procedure is sent. The reply to the first command
 -- comes, and is discarded; the reply to the seventh comes twice, and the second is discarded; the other null procedures are
@@ -110,7 +113,7 @@ abbrev pub send_all : {S : Type 0} → (now deadline : ℕ) → List ℕ → Lis
 send_all now deadline [] ms = ms
 send_all now deadline (target ∷ others) ms = Sends target (Table InstrumentNo) deadline ∷ Tells now ∷ send_all now deadline others ms
 
--- what the line does meanwhile: the first of the seven reaches the instrument, the five after it are lost, and the last
+-- what happens meanwhile: the first of the seven reaches the instrument, the five after it are lost, and the last
 -- stays in flight
 abbrev pub moves : List (Move Counter)
 moves =
@@ -127,13 +130,13 @@ moves =
     ∷ []
     )
 
--- what the line does while the station resynchronizes: the reply to the first command comes, and the seventh request reaches the
+-- what happens while the station resynchronizes: the reply to the first command comes, and the seventh request reaches the
 -- instrument, whose reply is sent again for the first null procedure, which has that request's id; the other null procedures are
 -- answered
 abbrev pub turns : List (Turn Counter)
 turns = Asks ∷ turn.Comes ∷ Reaches ∷ turn.Comes ∷ Asks ∷ Reaches ∷ turn.Comes ∷ Reaches ∷ turn.Comes ∷ drop 6 eight_answered
 
--- what the line does once the station has resynchronized: the eighth command is answered
+-- what happens once the station has resynchronized: the eighth command is answered
 abbrev pub moves_anew : List (Move Counter)
 moves_anew = Sends 8 (Table InstrumentNo) 220 ∷ Tells 120 ∷ OnLine Up_deliver ∷ Tells 125 ∷ Comes answer ∷ []
 

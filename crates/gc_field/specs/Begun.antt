@@ -2,6 +2,7 @@
 -- client that sends then is its own, from its first request on. The word of a synchronization has the ids of its null
 -- procedures: 6 5 4 3 2 1 0 7.
 use Rattle.std.specs.Prelude.{◌≡◌, ℕ, ◌+◌, ◌-◌, ◌<◌, ◌≤◌, ◌⊎◌, Bool, true, false, List, [], ◌∷◌, ◌++◌, length, map, Option, Some, slice_get}
+use Rattle.std.specs.List.{AllByRecursion}
 use Rattle.gc_catalogue.specs.declared.asked.Asked.{Asked}
 use Rattle.gc_catalogue.specs.declared.asked.Asked.TheVariants.{Table}
 use Rattle.gc_catalogue.specs.declared.call.Call.TheVariants.{NullProc}
@@ -11,10 +12,9 @@ use Rattle.gc_client.specs.declared.pending.Pending.{Pending}
 use Rattle.gc_client.specs.declared.window.TheConstants.{WINDOW}
 use Rattle.gc_client.specs.OneForOne.{begun, course, of_settled, of_pending}
 use Rattle.gc_client.specs.Rule.{ById, Outcome, Settlement, Answered, Late, Lost, fresh, heard, settle}
-use Rattle.gc_instrument.specs.State.{KeptReply, State, IsFittingState}
+use Rattle.gc_instrument.specs.State.{KeptReply, IsFittingState}
 use Rattle.gc_world.specs.Clients.{ByNumber, by_ids, by_numbers}
 use Rattle.gc_field.specs.Simulator.{ends}
-use Rattle.gc_world.specs.Order.{Each}
 use Rattle.gc_world.specs.Record.{IsBooked, IsOneForOne}
 use Rattle.gc_field.specs.World.{Ends, Numbered, Request, Sent, Wire, World}
 use Rattle.gc_field.specs.Begin.{IsWellFormed, AreTurns, Model, Turn, UnderWay, begins, ids_under_way, turned}
@@ -36,11 +36,11 @@ abbrev pub IsOfEighth : {State : Type 0} → (State → Option KeptReply) → St
 IsOfEighth kept state = (k : KeptReply) → kept state ≡ Some k → k.id ≡ 7
 
 -- a synchronization ended cleanly: all that is in flight is copies of its eighth null procedure, and replies to it; and what the
--- instrument retains, if it retains anything, has its id. No request from before is in flight, nor a reply to one, and none of the
--- other null procedures
+-- instrument retains, if it retains anything, has its id. No request from before is in flight, nor a reply to one, and none of
+-- the other null procedures
 pub record HasBegunCleanly {State : Type 0} (kept : State → Option KeptReply) (s : Model State) : Type 0 where
-  pub up : Each (λ x. (x.old ≡ false) × (x.line ≡ eighth)) s.up
-  pub down : Each (λ x. (x.old ≡ false) × (heard x.line ≡ Some 7)) s.down
+  pub up : AllByRecursion (λ x. (x.old ≡ false) × (x.line ≡ eighth)) s.up
+  pub down : AllByRecursion (λ x. (x.old ≡ false) × (heard x.line ≡ Some 7)) s.down
   pub keeps : IsOfEighth kept s.state
 
 -- for any instrument: unless the word is a subsequence of the ids in flight when a synchronization begins, whatever is in flight
@@ -58,8 +58,8 @@ BeginsCleanly State =
 -- procedure, replies with its id (7), and a retained reply with that id, or none
 pub record IsClean {State : Type 0} (Good : State → Type 0) (kept : State → Option KeptReply) (u : UnderWay State) : Type 0 where
   pub good : Good u.state
-  pub up : Each (λ x. x ≡ eighth) u.up
-  pub down : Each (λ line. heard line ≡ Some 7) u.down
+  pub up : AllByRecursion (λ x. x ≡ eighth) u.up
+  pub down : AllByRecursion (λ line. heard line ≡ Some 7) u.down
   pub keeps : IsOfEighth kept u.state
 
 -- the null procedures of a synchronization, as requests: none of them is the client's
@@ -132,9 +132,9 @@ module _ {State : Type 0} (width : ℕ) (ends : Ends State) (u : UnderWay State)
   abbrev pub WasMadeOn : List (Move State) → ℕ → Asked → List ℕ → Type 0
   WasMadeOn ms m call line = making.WasMadeOn width ends (ids_begun u) ms m call line
 
-  -- among these moves is a send before which m requests were sent, the null procedures of the synchronization counted, and at which
-  -- the next request, number m, is sent after the table (`IsBehindTheTable`). The client may refuse that send; request m is then sent
-  -- later, if at all
+  -- among these moves is a send before which m requests were sent, the null procedures of the synchronization counted, and at
+  -- which the next request, number m, is sent after the table (`IsBehindTheTable`). The client may refuse that send; request m is
+  -- then sent later, if at all
   pub record WentOutBehindTheTable (ms : List (Move State)) (m : ℕ) : Type 0 where
     pub front : List (Move State)
     pub later : List (Move State)
@@ -145,8 +145,9 @@ module _ {State : Type 0} (width : ℕ) (ends : Ends State) (u : UnderWay State)
     pub number : length (behind front).wire.sent ≡ m
     pub behind_table : IsBehindTheTable (behind front).wire
 
-  -- one of the three conditions holds under which the answer to request m is its own: each request of these moves is a call of the table;
-  -- or the instrument retains its own reply, or none, after every request (`TreatsRawsAlike`); or request m was sent after the table
+  -- one of the three conditions holds under which the answer to request m is its own: each request of these moves is a call of
+  -- the table; or the instrument retains its own reply, or none, after every request (`TreatsRawsAlike`); or request m was sent
+  -- after the table
   abbrev pub IsSafe : (State → Type 0) → (State → Option KeptReply) → List (Move State) → ℕ → Type 0
   IsSafe Good kept ms m = AsksTheTable ms ⊎ (TreatsRawsAlike ends Good kept ⊎ WentOutBehindTheTable ms m)
 
@@ -189,16 +190,18 @@ module _ {State : Type 0} (width : ℕ) (ends : Ends State) (u : UnderWay State)
         (n : ℕ) (line : List ℕ) (rest : List (Numbered (List ℕ))) → (behind ms).wire.down ≡ record { number = n; line = line } ∷ rest → length (behind ms).wire.settled ≤ n →
         (moves ends (by_ids width ends) (behind ms) (Comes line)).wire.settled ≡ (behind ms).wire.settled ++ settle (n - length (behind ms).wire.settled) line (behind ms).client.waiting
 
--- possible moves after a clean synchronization (`IsClean`) are faithful, for any instrument, and a client with a window of at
--- most `WINDOW` requests, whenever it sends; no request has to be sent alone
-abbrev pub AnswersAreTheirOwnOnceBegun : Type 0 → Type 0
-AnswersAreTheirOwnOnceBegun State =
-    (ends : Ends State) (kept : State → Option KeptReply) → IsAnInstrument ends AnyState kept →
-    (width : ℕ) → width ≤ WINDOW → (u : UnderWay State) → IsClean AnyState kept u →
-    (ms : List (Move State)) → ArePossible ends AnyState kept (by_ids width ends) ms (ids_begun u) → IsFaithful width ends u ms AnyState kept
+-- possible moves after a clean synchronization (`IsClean`) are faithful, for a client with a window of at most `WINDOW` requests,
+-- whenever it sends; no request has to be sent alone. `Good` says which states of the instrument are good, and `kept` what reply
+-- each of them retains
+abbrev pub MovesOnceBegunAreFaithful : {State : Type 0} → (ends : Ends State) → (Good : State → Type 0) → (kept : State → Option KeptReply) → Type 0
+MovesOnceBegunAreFaithful {State = State} ends Good kept =
+    (width : ℕ) → width ≤ WINDOW → (u : UnderWay State) → IsClean Good kept u →
+    (ms : List (Move State)) → ArePossible ends Good kept (by_ids width ends) ms (ids_begun u) → IsFaithful width ends u ms Good kept
 
--- `AnswersAreTheirOwnOnceBegun` for the simulated instrument: its `ends` and its retained reply, in any state that fits
+-- `MovesOnceBegunAreFaithful`, for any instrument, in any state
+abbrev pub AnswersAreTheirOwnOnceBegun : Type 0 → Type 0
+AnswersAreTheirOwnOnceBegun State = (ends : Ends State) (kept : State → Option KeptReply) → IsAnInstrument ends AnyState kept → MovesOnceBegunAreFaithful ends AnyState kept
+
+-- `MovesOnceBegunAreFaithful`, for the simulated instrument: its `ends` and its retained reply, in any state that fits
 abbrev pub SimulatorsAnswersAreTheirOwnOnceBegun : Type 0
-SimulatorsAnswersAreTheirOwnOnceBegun =
-    (width : ℕ) → width ≤ WINDOW → (u : UnderWay State) → IsClean IsFittingState kept_of u →
-    (ms : List (Move State)) → ArePossible ends IsFittingState kept_of (by_ids width ends) ms (ids_begun u) → IsFaithful width ends u ms IsFittingState kept_of
+SimulatorsAnswersAreTheirOwnOnceBegun = MovesOnceBegunAreFaithful ends IsFittingState kept_of

@@ -2,7 +2,7 @@
 use Rattle.std.specs.Prelude.{◌≡◌, ℕ, List, Option}
 use Rattle.gc_client.specs.declared.window.TheConstants.{WINDOW}
 use Rattle.gc_client.specs.Rule.{fresh}
-use Rattle.gc_instrument.specs.State.{KeptReply, State, IsFittingState}
+use Rattle.gc_instrument.specs.State.{KeptReply, IsFittingState}
 use Rattle.gc_links.specs.Acts.{Act}
 use Rattle.gc_world.specs.Clients.{by_ids}
 use Rattle.gc_field.specs.Simulator.{ends}
@@ -29,14 +29,16 @@ pub record IsStationFaithful {State : Type 0} (ends : Ends State) (Good : State 
   pub faithful : IsFaithful WINDOW ends u ms Good kept
   pub client : client_after fresh (seen ms) ≡ (behind WINDOW ends u ms).client
 
--- acts of a station that has synchronized cleanly (`IsCarried`) are faithful (`IsStationFaithful`), for any instrument, whenever
--- the station sends
-abbrev pub StationsAnswersAreTheirOwn : Type 0 → Type 0
-StationsAnswersAreTheirOwn State =
-    (ends : Ends State) (kept : State → Option KeptReply) → IsAnInstrument ends AnyState kept →
-    (u : UnderWay State) (rest : List ℕ) (acts : List Act) (ms : List (Move State)) → IsCarried ends AnyState kept u rest acts ms → IsStationFaithful ends AnyState kept u ms
+-- acts of a station that has synchronized cleanly (`IsCarried`) are faithful (`IsStationFaithful`), whenever the station sends.
+-- `Good` says which states of the instrument are good, and `kept` what reply each of them retains
+abbrev pub CarriedActsAreFaithful : {State : Type 0} → (ends : Ends State) → (Good : State → Type 0) → (kept : State → Option KeptReply) → Type 0
+CarriedActsAreFaithful {State = State} ends Good kept =
+    (u : UnderWay State) (rest : List ℕ) (acts : List Act) (ms : List (Move State)) → IsCarried ends Good kept u rest acts ms → IsStationFaithful ends Good kept u ms
 
--- `StationsAnswersAreTheirOwn` for the simulator, in any state that fits
+-- `CarriedActsAreFaithful`, for any instrument, in any state
+abbrev pub StationsAnswersAreTheirOwn : Type 0 → Type 0
+StationsAnswersAreTheirOwn State = (ends : Ends State) (kept : State → Option KeptReply) → IsAnInstrument ends AnyState kept → CarriedActsAreFaithful ends AnyState kept
+
+-- `CarriedActsAreFaithful`, for the simulator, in any state that fits
 abbrev pub SimulatorsStationsAnswersAreTheirOwn : Type 0
-SimulatorsStationsAnswersAreTheirOwn =
-    (u : UnderWay State) (rest : List ℕ) (acts : List Act) (ms : List (Move State)) → IsCarried ends IsFittingState kept_of u rest acts ms → IsStationFaithful ends IsFittingState kept_of u ms
+SimulatorsStationsAnswersAreTheirOwn = CarriedActsAreFaithful ends IsFittingState kept_of

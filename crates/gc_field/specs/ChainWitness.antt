@@ -1,6 +1,6 @@
 -- Some run of a chain is one in the field, this project's own: it points the telescope at a target, measures the distance, and
 -- reads angles and distance there.
-use Rattle.std.specs.Prelude.{◌≡◌, ℕ, true, false, List, [], ◌∷◌, take, codes, pos, Some, refl, None}
+use Rattle.std.specs.Prelude.{◌≡◌, ℕ, true, false, List, [], ◌∷◌, take, codes, pos, Some, refl}
 use Rattle.gc_lines.specs.Lines.{with_end}
 use Rattle.gc_values.specs.Decimals.{decimal}
 use Rattle.gc_values.specs.declared.decimal.Decimal.{Decimal}
@@ -95,7 +95,7 @@ acts_with answers a b c =
     ∷ []
     )
 
--- what the line does once the station has synchronized: each of the three requests reaches the instrument, and its reply (a, b,
+-- what happens once the station has synchronized: each of the three requests reaches the instrument, and its reply (a, b,
 -- c) comes
 abbrev pub moves_with : {S : Type 0} → (a b c : List ℕ) → List (Move S)
 moves_with a b c =
@@ -129,7 +129,7 @@ records_with a b c =
 abbrev pub acts : List Act
 acts = acts_with replies first_reply second_reply third_reply
 
--- what the line does meanwhile, once the run has synchronized
+-- what happens meanwhile, once the run has synchronized
 abbrev pub moves : List (Move State)
 moves = moves_with first_reply second_reply third_reply
 

@@ -13,20 +13,18 @@ use Rattle.gc_links.specs.Acts.{Act}
 use Rattle.gc_texts.specs.Endings.{line_of}
 use Rattle.gc_texts.specs.declared.near.Expected.{Expected}
 use Rattle.gc_texts.specs.declared.tasks.Task.{Task}
-use Rattle.gc_station.specs.Links.{AreChained, WasAnsweredWell}
-use Rattle.gc_station.specs.Parts.{Part, mark_of, parts_of}
+use Rattle.gc_station.specs.Links.{AreChained, WasAnsweredWell, parts}
+use Rattle.gc_station.specs.Parts.{Part, mark_of}
 use Rattle.gc_station.specs.Records.{Record}
 use Rattle.gc_station.specs.Runs.{state_after}
 use Rattle.gc_station.specs.Scopes.{Scope}
-use Rattle.gc_station.specs.Model.{opening}
 use Rattle.gc_station.specs.declared.plan.Plan.{Plan}
-use Rattle.gc_world.specs.Order.{Each}
 use Rattle.gc_field.specs.World.{Ends, Sent, Up_deliver, Wire}
 use Rattle.gc_field.specs.Begin.{UnderWay}
 use Rattle.gc_field.specs.Beginnings.{Run}
 use Rattle.gc_field.specs.Begun as begun
 use Rattle.gc_field.specs.Begun.{WasMadeOn}
-use Rattle.gc_field.specs.Field.{Move, Sends, Tells, Comes, Foreign, OnLine, Anew, Changes, Joins}
+use Rattle.gc_field.specs.Field.{Move, OnLine, Anew, Changes, Joins}
 use Rattle.gc_field.specs.Instrument.{IsAnInstrument, KeepsItsReply, AnyState}
 use Rattle.gc_field.specs.Once.{IsInOrder}
 use Rattle.gc_field.specs.Runs.{IsInField}
@@ -37,26 +35,16 @@ use Rattle.gc_field.specs.Shown.{Stretch, stretches}
 -- no start of the instrument is among these moves
 abbrev pub HasNoStartBetween : {State : Type 0} → List (Move State) → Type 0
 HasNoStartBetween [] = Unit {0}
-HasNoStartBetween (Sends target call deadline ∷ ms) = HasNoStartBetween ms
-HasNoStartBetween (Tells now ∷ ms) = HasNoStartBetween ms
-HasNoStartBetween (Comes line ∷ ms) = HasNoStartBetween ms
-HasNoStartBetween (Foreign line ∷ ms) = HasNoStartBetween ms
-HasNoStartBetween (OnLine step ∷ ms) = HasNoStartBetween ms
 HasNoStartBetween (Anew ∷ ms) = ⊥
-HasNoStartBetween (Changes state ∷ ms) = HasNoStartBetween ms
-HasNoStartBetween (Joins line ∷ ms) = HasNoStartBetween ms
+HasNoStartBetween (_ ∷ ms) = HasNoStartBetween ms
 
 -- among these moves the instrument neither starts again nor changes by itself, and no two requests reach it as one line (`Joins`)
 abbrev pub IsUndisturbed : {State : Type 0} → List (Move State) → Type 0
 IsUndisturbed [] = Unit {0}
-IsUndisturbed (Sends target call deadline ∷ ms) = IsUndisturbed ms
-IsUndisturbed (Tells now ∷ ms) = IsUndisturbed ms
-IsUndisturbed (Comes line ∷ ms) = IsUndisturbed ms
-IsUndisturbed (Foreign line ∷ ms) = IsUndisturbed ms
-IsUndisturbed (OnLine step ∷ ms) = IsUndisturbed ms
 IsUndisturbed (Anew ∷ ms) = ⊥
 IsUndisturbed (Changes state ∷ ms) = ⊥
 IsUndisturbed (Joins line ∷ ms) = ⊥
+IsUndisturbed (_ ∷ ms) = IsUndisturbed ms
 
 -- these are the calls of the requests with these numbers, one for one, in order
 abbrev pub AreCalls : List Sent → List ℕ → List Asked → Type 0
@@ -96,14 +84,14 @@ module _ {State : Type 0} (ends : Ends State) (Good : State → Type 0) (kept : 
     pub numbers : List ℕ
     pub executed : (stretch_wire ends s second.front).executed ≡ (stretch_wire ends s first.front).executed ++ m ∷ numbers
     pub in_order : IsInOrder numbers
-    pub within : Each (λ x. (m ≤ x) × (x ≤ n)) numbers
+    pub within : AllByRecursion (λ x. (m ≤ x) × (x ≤ n)) numbers
     -- if the instrument retains its reply to each request that it knows, and didn't start between, each of these was sent after
     -- m and before n
     pub strictly :
         (knows : Asked → Bool) → KeepsItsReply ends Good kept knows → HasNoStartBetween between →
-        Each (λ x. (r : Sent) → slice_get (stretch_wire ends s s.moves).sent x ≡ Some r → knows r.call ≡ true → (m < x) × (x < n)) numbers
-    -- if the instrument neither started nor changed by itself between, its state when n reached it is, apart from what it retains,
-    -- the state in which m reached it, changed by executing m and then the requests between (`HasEffect`)
+        AllByRecursion (λ x. (r : Sent) → slice_get (stretch_wire ends s s.moves).sent x ≡ Some r → knows r.call ≡ true → (m < x) × (x < n)) numbers
+    -- if the instrument neither started nor changed by itself between, its state when n reached it is, apart from what it
+    -- retains, the state in which m reached it, changed by executing m and then the requests between (`HasEffect`)
     pub calls : List Asked
     pub asked : AreCalls (stretch_wire ends s s.moves).sent numbers calls
     pub state :
@@ -112,39 +100,39 @@ module _ {State : Type 0} (ends : Ends State) (Good : State → Type 0) (kept : 
 
   -- A chain of a run.
 
-  -- in a run with the parts `ps` and the stretches `ss`, the command of record b was executed after the command at place a of the
-  -- same cycle. `records` are the run's records, `reads` gives what a reply says of its call, and `line_b` is the reply of record
-  -- b
-  pub record IsChainedTo (reads : Asked → List ℕ → Reading) (commands : List Task) (ps : List Part) (ss : List (Stretch State))
-      (records : List Record) (a : ℕ) (b : Record) (line_b : List ℕ) : Type 0 where
-    -- the command at place a has a record, too, which is an answer of a good quality: with both codes 0 and values that read, or
-    -- with a return code that is accepted of that command (`IsGoodAnswer`)
-    pub earlier : WasAnsweredWell reads commands records b.cycle a
-    -- both are requests of the client in one part of the run, number i, and so in one stretch: request m for place a, and
-    -- request n, which was sent later, for record b
-    pub i : ℕ
-    pub part : Part
-    pub stretch : Stretch State
-    pub of_parts : slice_get ps i ≡ Some part
-    pub of_stretches : slice_get ss i ≡ Some stretch
-    pub m : ℕ
-    pub n : ℕ
-    pub goes_on : m < n
-    pub expected_a : Expected
-    pub expected_b : Expected
-    pub mark_a : slice_get part.marks m ≡ Some (Some (mark_of expected_a earlier.answer))
-    pub mark_b : slice_get part.marks n ≡ Some (Some (mark_of expected_b b))
-    -- the commands that were sent between them are those of the places between them, of the same cycle
-    pub between : (x : ℕ) (mark : _) → m < x → x < n → slice_get part.marks x ≡ Some (Some mark) → (mark.cycle ≡ b.cycle) × (a < mark.place) × (mark.place < b.place)
-    -- and they were executed in this order, with these replies
-    pub executed : IsExecutedAfter stretch (8 + m) (8 + n) earlier.answer.command.call b.command.call earlier.good.line line_b
+  module _ (reads : Asked → List ℕ → Reading) (commands : List Task) (ps : List Part) (ss : List (Stretch State)) (records : List Record) where
+    -- in a run with the parts `ps` and the stretches `ss`, the command of record b was executed after the command at place a of
+    -- the same cycle. `records` are the run's records, `reads` gives what a reply says of its call, and `line_b` is the reply of
+    -- record b
+    pub record IsChainedTo (a : ℕ) (b : Record) (line_b : List ℕ) : Type 0 where
+      -- the command at place a has a record, too, which is an answer of a good quality: with both codes 0 and values that read,
+      -- or with a return code that is accepted of that command (`IsGoodAnswer`)
+      pub earlier : WasAnsweredWell reads commands records b.cycle a
+      -- both are requests of the client in one part of the run, number i, and so in one stretch: request m for place a, and
+      -- request n, which was sent later, for record b
+      pub i : ℕ
+      pub part : Part
+      pub stretch : Stretch State
+      pub of_parts : slice_get ps i ≡ Some part
+      pub of_stretches : slice_get ss i ≡ Some stretch
+      pub m : ℕ
+      pub n : ℕ
+      pub goes_on : m < n
+      pub expected_a : Expected
+      pub expected_b : Expected
+      pub mark_a : slice_get part.marks m ≡ Some (Some (mark_of expected_a earlier.answer))
+      pub mark_b : slice_get part.marks n ≡ Some (Some (mark_of expected_b b))
+      -- the commands that were sent between them are those of the places between them, of the same cycle
+      pub between : (x : ℕ) (mark : _) → m < x → x < n → slice_get part.marks x ≡ Some (Some mark) → (mark.cycle ≡ b.cycle) × (a < mark.place) × (mark.place < b.place)
+      -- and they were executed in this order, with these replies
+      pub executed : IsExecutedAfter stretch (8 + m) (8 + n) earlier.answer.command.call b.command.call earlier.good.line line_b
 
   -- if a reply in time ended the command of record b (`line_of`), which is of a cycle and not of the setup, each command of that
   -- cycle before it in its chain was executed before it (`IsChainedTo`)
   abbrev pub IsExecutedInChain : Plan → List Task → Scope → List Act → UnderWay State → List (Run State) → Record → Type 0
   IsExecutedInChain plan commands scope acts u rs b =
       (line : List ℕ) (a : ℕ) → line_of b.end ≡ Some line → 0 < b.cycle → plan.setup ≤ a → a < b.place → AreChained commands a b.place
-      → IsChainedTo scope.reads commands (parts_of plan commands (opening plan scope) acts) (stretches ends u rs) (state_after plan commands scope acts).records a b line
+      → IsChainedTo scope.reads commands (parts plan commands scope acts) (stretches ends u rs) (state_after plan commands scope acts).records a b line
 
   -- each record of a run is `IsExecutedInChain`
   abbrev pub AreExecutedInChain : Plan → List Task → Scope → List Act → UnderWay State → List (Run State) → Type 0

@@ -1,6 +1,6 @@
 -- A run of a chain over an instrument that isn't the simulator, this project's own: it counts what it executes, answers to each
 -- request with the count, and retains its reply. Each of its states is a good one, as the law of chains asks.
-use Rattle.std.specs.Prelude.{◌≡◌, ℕ, suc, true, false, List, [], ◌∷◌, take, codes, Option, Some, None}
+use Rattle.std.specs.Prelude.{◌≡◌, ℕ, suc, false, List, [], ◌∷◌, take, codes, Option, Some, None}
 use Rattle.gc_catalogue.specs.declared.asked.Asked.{Asked}
 use Rattle.gc_client.specs.declared.window.TheConstants.{WINDOW}
 use Rattle.gc_client.specs.Rule.{heard}
@@ -17,7 +17,7 @@ use Rattle.gc_field.specs.Begun.{WasMadeOn}
 use Rattle.gc_field.specs.Chains.{HasEffect, IsUndisturbed, stretch_wire}
 use Rattle.gc_field.specs.Field.{Move}
 use Rattle.gc_field.specs.Instrument.{IsAnInstrument, KeepsItsReply, AnyState, all_known}
-use Rattle.gc_field.specs.Needed.{Keeper, held, kept, giving}
+use Rattle.gc_field.specs.Needed.{Keeper, again_else, held, kept}
 use Rattle.gc_field.specs.Runs.{IsInField}
 use Rattle.gc_field.specs.Shown.{Stretch}
 use Rattle.gc_field.specs.Witness.{plan, eight_answered, run_and_end}
@@ -28,11 +28,14 @@ pub record Counter : Type 0 where
   pub count : ℕ
   pub keeps : Keeper
 
+-- the state once the instrument has executed a request with this id: it has counted it, and retains the count as the reply
+abbrev pub once_counted : Counter → ℕ → Counter
+once_counted s id = record { count = suc s.count; keeps = Some (id, suc s.count) }
+
 -- what the instrument does with a request, by the count that it retains for the request's id: it sends that count again; or, if
 -- there is none (None), it executes the request, counts it, and retains that reply
 abbrev pub counted_or : Counter → ℕ → Option ℕ → Handed Counter
-counted_or s id (Some n) = record { state = s; reply = giving id n; executed = false }
-counted_or s id None = record { state = record { count = suc s.count; keeps = Some (id, suc s.count) }; reply = giving id (suc s.count); executed = true }
+counted_or s id o = again_else (once_counted s id) (suc s.count) id s o
 
 -- the instrument, which starts with the count 0, and nothing kept
 abbrev pub counting : Ends Counter
@@ -72,7 +75,7 @@ third_reply = codes "%R1P,0,2:0,38"
 abbrev pub acts : List Act
 acts = acts_with null_replies first_reply second_reply third_reply
 
--- what the line does once the run has synchronized
+-- what happens once the run has synchronized
 abbrev pub moves : List (Move Counter)
 moves = moves_with first_reply second_reply third_reply
 

@@ -2,7 +2,7 @@
 -- itself. Its second command asks for a procedure that isn't in the table. The first null procedure is sent again, and the
 -- synchronization goes on over another connection; a reply is lost, and its request timed out; the instrument starts again, and
 -- its connection is made again.
-use Rattle.std.specs.Prelude.{◌≡◌, ℕ, true, false, List, [], ◌∷◌, codes, Some, None}
+use Rattle.std.specs.Prelude.{◌≡◌, ℕ, true, false, List, [], ◌∷◌, ◌++◌, codes, map, Some}
 use Rattle.std.specs.Fmt.{decimal}
 use Rattle.gc_lines.specs.Lines.{with_end}
 use Rattle.gc_lines.specs.Replies.{reply_text}
@@ -24,14 +24,14 @@ use Rattle.gc_station.specs.Runs.{state_after}
 use Rattle.gc_station.specs.Scopes.{Scope}
 use Rattle.gc_field.specs.Plain.{plain_task, plain_turn}
 use Rattle.gc_field.specs.World.{Ends, Up_deliver, Down_lose}
-use Rattle.gc_field.specs.Begin.{Turn, Asks, Reaches, UnderWay, begins, leaves, none_under_way, turned}
+use Rattle.gc_field.specs.Begin.{Turn, Asks, Reaches, begins, leaves, none_under_way, turned}
 use Rattle.gc_field.specs.Begin as turn
 use Rattle.gc_field.specs.Beginnings.{Run}
 use Rattle.gc_field.specs.Begun.{WasMadeOn}
 use Rattle.gc_field.specs.Field.{Move, Sends, Tells, Comes, OnLine, Anew, Changes}
 use Rattle.gc_field.specs.Instrument.{IsAnInstrument, AnyState, nothing}
 use Rattle.gc_field.specs.Runs.{IsInField}
-use Rattle.gc_field.specs.Witness.{null_lines, at, eight_answered, exchanged, run_and_end}
+use Rattle.gc_field.specs.Witness.{null_lines, at, eight_answered, exchanged, replies, run_and_end}
 
 -- the instrument: its state is the number that it measures, with which it answers every request; a start sets it to 0
 abbrev pub drifting : Ends ℕ
@@ -58,11 +58,9 @@ commands raw =
 abbrev pub scope : Scope
 scope = record { turns = 100; reads = λ call line. Value Nothing }
 
--- the replies to the null procedures
+-- the replies to the null procedures: those of the simulator, each with the number 12 behind it
 abbrev pub null_replies : List (List ℕ)
-null_replies =
-    codes "%R1P,0,6:0,12" ∷ codes "%R1P,0,5:0,12" ∷ codes "%R1P,0,4:0,12" ∷ codes "%R1P,0,3:0,12" ∷ codes "%R1P,0,2:0,12" ∷ codes "%R1P,0,1:0,12"
-    ∷ codes "%R1P,0,0:0,12" ∷ codes "%R1P,0,7:0,12" ∷ []
+null_replies = map (λ line. line ++ codes ",12") replies
 
 -- the reply to the second command
 abbrev pub answer : List ℕ
@@ -113,7 +111,7 @@ acts raw =
 abbrev pub turns : List (Turn ℕ)
 turns = Asks ∷ Reaches ∷ turn.Down_lose 0 ∷ Asks ∷ turn.Up_lose 0 ∷ turn.Changes 12 ∷ eight_answered
 
--- what the line does once the station has synchronized: the first command is answered, and that reply is lost; the second
+-- what happens once the station has synchronized: the first command is answered, and that reply is lost; the second
 -- command reaches the instrument after a start, and is answered with what it measures by then, over another connection
 abbrev pub moves : RawCall → List (Move ℕ)
 moves raw =

@@ -26,8 +26,8 @@ pub data Move (State : Type 0) : Type 0 where
   Anew : Move State
   -- the instrument's state changes by itself, to this one
   Changes : (state : State) → Move State
-  -- the line feed that clears the front of a request that was cut is lost: that front and the next request reach the instrument as
-  -- one line, and this is its reply
+  -- the line feed that clears the front of a request that was cut is lost: that front and the next request reach the instrument
+  -- as one line, and this is its reply
   Joins : (line : List ℕ) → Move State
 
 -- a step of the line alone: the client has no part in it, and nothing starts again
@@ -70,9 +70,9 @@ module _ {Client State : Type 0} where
   moved ends rule [] w = w
   moved ends rule (m ∷ ms) w = moved ends rule ms (moves ends rule w m)
 
-  -- a move is possible in a world. What comes is the whole reply at the front of those in flight, or no reply with an id: an echo,
-  -- noise, or what is left of a line that was cut. What the line does is a step of the line alone (`IsLineStep`), and the instrument
-  -- changes by itself only as `MayBecome` allows
+  -- a move is possible in a world. What comes is the whole reply at the front of those in flight, or no reply with an id: an
+  -- echo, noise, or what is left of a line that was cut. What the line does is a step of the line alone (`IsLineStep`), and the
+  -- instrument changes by itself only as `MayBecome` allows
   abbrev pub IsPossible : (State → Type 0) → (State → Option KeptReply) → World Client State → Move State → Type 0
   IsPossible Good kept w (Sends target call deadline) = Unit {0}
   IsPossible Good kept w (Tells now) = Unit {0}
@@ -106,25 +106,14 @@ seen (Joins line ∷ ms) = seen ms
 abbrev pub IsFirstAlone : {State : Type 0} → Bool → List (Move State) → Type 0
 IsFirstAlone out [] = Unit {0}
 IsFirstAlone out (Sends target call deadline ∷ ms) = (out ≡ false) × IsFirstAlone true ms
-IsFirstAlone out (Tells now ∷ ms) = IsFirstAlone out ms
 IsFirstAlone out (Comes line ∷ ms) = Unit {0}
-IsFirstAlone out (Foreign line ∷ ms) = IsFirstAlone out ms
-IsFirstAlone out (OnLine step ∷ ms) = IsFirstAlone out ms
-IsFirstAlone out (Anew ∷ ms) = IsFirstAlone out ms
-IsFirstAlone out (Changes state ∷ ms) = IsFirstAlone out ms
-IsFirstAlone out (Joins line ∷ ms) = IsFirstAlone out ms
+IsFirstAlone out (_ ∷ ms) = IsFirstAlone out ms
 
 -- each request that the client is handed, also one that it refuses, is one that `knows` names
 abbrev pub AsksOnly : {State : Type 0} → (Asked → Bool) → List (Move State) → Type 0
 AsksOnly knows [] = Unit {0}
 AsksOnly knows (Sends target call deadline ∷ ms) = (knows call ≡ true) × AsksOnly knows ms
-AsksOnly knows (Tells now ∷ ms) = AsksOnly knows ms
-AsksOnly knows (Comes line ∷ ms) = AsksOnly knows ms
-AsksOnly knows (Foreign line ∷ ms) = AsksOnly knows ms
-AsksOnly knows (OnLine step ∷ ms) = AsksOnly knows ms
-AsksOnly knows (Anew ∷ ms) = AsksOnly knows ms
-AsksOnly knows (Changes state ∷ ms) = AsksOnly knows ms
-AsksOnly knows (Joins line ∷ ms) = AsksOnly knows ms
+AsksOnly knows (_ ∷ ms) = AsksOnly knows ms
 
 -- each request that the client is handed, also one that it refuses, is a call of the table
 abbrev pub AsksTheTable : {State : Type 0} → List (Move State) → Type 0

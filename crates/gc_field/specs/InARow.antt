@@ -2,11 +2,11 @@
 -- plan and commands, and is killed at any moment, also while it synchronizes. Nothing here depends on a clock.
 use Rattle.std.specs.Prelude.{ℕ, ◌≤◌, List, [], ◌∷◌, Option}
 use Rattle.gc_client.specs.declared.window.TheConstants.{WINDOW}
-use Rattle.gc_instrument.specs.State.{KeptReply, State, IsFittingState}
+use Rattle.gc_instrument.specs.State.{KeptReply, IsFittingState}
 use Rattle.gc_links.specs.Acts.{Act}
 use Rattle.gc_texts.specs.declared.tasks.Task.{Task}
 use Rattle.gc_station.specs.declared.plan.Plan.{Plan}
-use Rattle.gc_station.specs.Parts.{parts_of}
+use Rattle.gc_station.specs.Links.{parts}
 use Rattle.gc_station.specs.Scopes.{Scope}
 use Rattle.gc_station.specs.Model.{Runs, opening}
 use Rattle.gc_field.specs.Simulator.{ends}
@@ -52,7 +52,7 @@ module _ {State : Type 0} (ends : Ends State) where
     -- row are, counted with those `n` (`AreFewKilledWithTurns`)
     pub record IsNextProgram (n : ℕ) (u : UnderWay State) (x : Program State) : Type 0 where
       pub runs : Runs x.plan x.commands (opening x.plan x.scope) x.acts
-      pub shown : AreShownAs ends u x.runs (parts_of x.plan x.commands (opening x.plan x.scope) x.acts)
+      pub shown : AreShownAs ends u x.runs (parts x.plan x.commands x.scope x.acts)
       pub possible : AreRuns WINDOW ends Good kept u x.runs
       pub few : AreFewKilledWithTurns n u x.runs
 
@@ -66,17 +66,17 @@ module _ {State : Type 0} (ends : Ends State) where
     AreFaithful u [] = Unit {0}
     AreFaithful u (x ∷ xs) = IsRunFaithful ends Good kept x.plan x.commands x.scope x.acts u x.runs × AreFaithful (left_by_runs WINDOW ends u x.runs) xs
 
--- for any instrument, after a run that had synchronized, or over a line with nothing in flight (`HasRisingIds`, `IsWellFormed`):
--- as long as fewer than six runs in a row end while they synchronize, each program of programs in a row (`AreInARow`) is a
--- faithful run
-abbrev pub StationsInARowAreFaithful : Type 0 → Type 0
-StationsInARowAreFaithful State =
-    (ends : Ends State) (kept : State → Option KeptReply) → IsAnInstrument ends AnyState kept →
-    (u : UnderWay State) → IsWellFormed AnyState u → HasRisingIds u →
-    (xs : List (Program State)) → AreInARow ends AnyState kept 0 u xs → AreFaithful ends AnyState kept u xs
+-- after a run that had synchronized, or over a line with nothing in flight (`HasRisingIds`, `IsWellFormed`): as long as fewer
+-- than six runs in a row end while they synchronize, each program of programs in a row (`AreInARow`) is a faithful run. `Good`
+-- says which states of the instrument are good, and `kept` what reply each of them retains
+abbrev pub ProgramsInARowAreFaithful : {State : Type 0} → (ends : Ends State) → (Good : State → Type 0) → (kept : State → Option KeptReply) → Type 0
+ProgramsInARowAreFaithful {State = State} ends Good kept =
+    (u : UnderWay State) → IsWellFormed Good u → HasRisingIds u → (xs : List (Program State)) → AreInARow ends Good kept 0 u xs → AreFaithful ends Good kept u xs
 
--- `StationsInARowAreFaithful` for the simulated instrument: its `ends` and its retained reply, in any state that fits
+-- `ProgramsInARowAreFaithful`, for any instrument, in any state
+abbrev pub StationsInARowAreFaithful : Type 0 → Type 0
+StationsInARowAreFaithful State = (ends : Ends State) (kept : State → Option KeptReply) → IsAnInstrument ends AnyState kept → ProgramsInARowAreFaithful ends AnyState kept
+
+-- `ProgramsInARowAreFaithful`, for the simulated instrument: its `ends` and its retained reply, in any state that fits
 abbrev pub SimulatorsStationsInARowAreFaithful : Type 0
-SimulatorsStationsInARowAreFaithful =
-    (u : UnderWay State) → IsWellFormed IsFittingState u → HasRisingIds u →
-    (xs : List (Program State)) → AreInARow ends IsFittingState kept_of 0 u xs → AreFaithful ends IsFittingState kept_of u xs
+SimulatorsStationsInARowAreFaithful = ProgramsInARowAreFaithful ends IsFittingState kept_of

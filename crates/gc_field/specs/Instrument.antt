@@ -79,8 +79,8 @@ module _ {State : Type 0} (ends : Ends State) where
       abbrev pub TreatsRawsAlike : Type 0
       TreatsRawsAlike = (state : State) (id : ℕ) (call : Asked) → Good state → id < IDS → KeepsItsOwn state id call
 
-      -- an instrument that retains its reply to each request that it knows (`knows`), and, as long as it retains that reply, sends
-      -- it again for a request that it knows with the same id
+      -- an instrument that retains its reply to each request that it knows (`knows`), and, as long as it retains that reply,
+      -- sends it again for a request that it knows with the same id
       pub record KeepsItsReply (knows : Asked → Bool) : Type 0 where
         -- it doesn't execute a request that it knows and that has the id of the line that it retains
         pub again :
@@ -112,7 +112,7 @@ nothing state = None
 -- each of its replies to a request with an id from 0 to 7 reads as one with that id
 abbrev pub KeepingNothingSuffices : Type 0 → Type 0
 KeepingNothingSuffices State =
-    (ends : Ends State) → ((line : List ℕ) → ends.heard line ≡ heard line) →
+    (ends : Ends State) → ReadsByGrammar ends →
     ((state : State) (id : ℕ) (call : Asked) → id < IDS → heard (ends.handed state id call).reply ≡ Some id) →
     ((state : State) (id : ℕ) (call : Asked) → (ends.handed state id call).executed ≡ true) →
     IsAnInstrument ends AnyState nothing

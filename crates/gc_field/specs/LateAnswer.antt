@@ -1,5 +1,5 @@
 -- Some run in the field has a late record, this project's own: a command has timed out, and its reply comes after that.
-use Rattle.std.specs.Prelude.{◌≡◌, ℕ, true, false, List, [], ◌∷◌, codes, pos, Some, None}
+use Rattle.std.specs.Prelude.{◌≡◌, ℕ, true, false, List, [], ◌∷◌, codes, pos, Some}
 use Rattle.gc_lines.specs.Lines.{with_end}
 use Rattle.gc_catalogue.specs.declared.answer.Answer.TheVariants.{Long}
 use Rattle.gc_catalogue.specs.declared.asked.Asked.TheVariants.{Table}
@@ -56,7 +56,7 @@ acts =
     ∷ []
     )
 
--- what the line does meanwhile: each request reaches the simulator, and each reply comes, that of the first command after
+-- what happens meanwhile: each request reaches the simulator, and each reply comes, that of the first command after
 -- its deadline
 abbrev pub moves : List (Move State)
 moves =
@@ -82,8 +82,8 @@ runs = run_and_end eight_answered moves
 abbrev pub from : UnderWay State
 from = leaves (turned ends eight_answered (begins at_start))
 
--- this is a run in the field over a line with nothing in flight, after which no act follows. It recorded the first command as late,
--- and the second one's answer; and each of these lines was made on executing its own request
+-- this is a run in the field over a line with nothing in flight, after which no act follows. It recorded the first command as
+-- late, and the second one's answer; and each of these lines was made on executing its own request
 pub record IsLateInField : Type 0 where
   pub field : IsInField ends IsFittingState kept_of plan commands scope acts at_start runs
   pub over : is_over (state_after plan commands scope acts).progress ≡ true

@@ -1,6 +1,6 @@
--- What holds in the field, whenever a client sends: this project's own. Requests are numbered from 0 on, in the order of
--- sending. The client that knows ids finds a reply's request by the reply's id; the one that is given numbers is given the
--- request's number, and serves for comparison alone.
+-- What holds in the field of a client that doesn't synchronize, this project's own; and the simulator as an instrument. Requests
+-- are numbered from 0 on, in the order of sending. The client that knows ids finds a reply's request by the reply's id; the one
+-- that is given numbers is given the request's number, and serves for comparison alone.
 use Rattle.std.specs.Prelude.{◌≡◌, ℕ, Bool, ◌-◌, ◌<◌, ◌≤◌, List, ◌∷◌, ◌++◌, length, map, Option, Some, slice_get}
 use Rattle.gc_catalogue.specs.declared.asked.Asked.{Asked}
 use Rattle.gc_catalogue.specs.declared.asked.Asked.TheVariants.{Raw}
@@ -75,12 +75,17 @@ module _ {State : Type 0} (width : ℕ) (ends : Ends State) (state : State) (ms 
         (n : ℕ) (line : List ℕ) (rest : List (Numbered (List ℕ))) → world_after.wire.down ≡ record { number = n; line = line } ∷ rest → length world_after.wire.settled ≤ n →
         (moves ends (by_ids width ends) world_after (Comes line)).wire.settled ≡ world_after.wire.settled ++ settle (n - length world_after.wire.settled) line world_after.client.waiting
 
--- moves that meet `IsField` are faithful: for any instrument in any state, whatever reply it retains, and a client with a window
--- of at most `WINDOW` requests
+-- moves that meet `IsField` are faithful, from a good state on, whatever reply it retains, and for a client with a window of at
+-- most `WINDOW` requests. `Good` says which states of the instrument are good, and `kept` what reply each of them retains
+abbrev pub MovesInFieldAreFaithful : {State : Type 0} → (ends : Ends State) → (Good : State → Type 0) → (kept : State → Option KeptReply) → Type 0
+MovesInFieldAreFaithful {State = State} ends Good kept =
+    (width : ℕ) → width ≤ WINDOW → (state : State) → Good state → (ms : List (Move State)) → IsField width ends Good kept state ms
+    → IsFaithfulUnsynchronized width ends state ms Good kept
+
+-- `MovesInFieldAreFaithful`, for any instrument, from any state on: the premise that the state is a good one, `AnyState state`,
+-- holds of every state
 abbrev pub AnswersAreTheirOwn : Type 0 → Type 0
-AnswersAreTheirOwn State =
-    (ends : Ends State) (kept : State → Option KeptReply) → IsAnInstrument ends AnyState kept →
-    (width : ℕ) → width ≤ WINDOW → (state : State) (ms : List (Move State)) → IsField width ends AnyState kept state ms → IsFaithfulUnsynchronized width ends state ms AnyState kept
+AnswersAreTheirOwn State = (ends : Ends State) (kept : State → Option KeptReply) → IsAnInstrument ends AnyState kept → MovesInFieldAreFaithful ends AnyState kept
 
 -- the simulator is an instrument, in any state that fits, and one that retains its reply to each call of its table. It refuses
 -- other requests, and these refusals leave the retained reply as it is
@@ -92,8 +97,6 @@ pub record SimulatorIsAnInstrument : Type 0 where
       (state : State) (id : ℕ) (raw : RawCall) → id < IDS
       → IsReplied state (asked_line (Some id) (Raw raw)) (handed state id (Raw raw)).state (Some (handed state id (Raw raw)).reply)
 
--- `AnswersAreTheirOwn` for the simulator, in any state that fits
+-- `MovesInFieldAreFaithful`, for the simulator, from any state on that fits (`IsFittingState`)
 abbrev pub SimulatorsAnswersAreTheirOwn : Type 0
-SimulatorsAnswersAreTheirOwn =
-    (width : ℕ) → width ≤ WINDOW → (state : State) → IsFittingState state → (ms : List (Move State)) → IsField width ends IsFittingState kept_of state ms
-    → IsFaithfulUnsynchronized width ends state ms IsFittingState kept_of
+SimulatorsAnswersAreTheirOwn = MovesInFieldAreFaithful ends IsFittingState kept_of

@@ -1,6 +1,7 @@
 -- What is asked of an instrument is needed, this project's own: for each clause an instrument that lacks that one alone, and a
--- run in which an answer is booked for a request that it never executed.
-use Rattle.std.specs.Prelude.{◌≡◌, ℕ, zero, suc, ◌+◌, ◌<◌, ◌≤◌, ◌⊎◌, Bool, true, false, List, [], ◌∷◌, Option, Some, None, slice_get, if◌then◌else◌, nat_eq}
+-- run in which an answer is booked for a request that it never executed, or, for the clauses of `KeepsItsReply`, a request is
+-- executed twice.
+use Rattle.std.specs.Prelude.{◌≡◌, ℕ, zero, suc, ◌+◌, ◌≤◌, ◌⊎◌, Bool, true, false, List, [], ◌∷◌, Option, Some, None, slice_get, if◌then◌else◌, nat_eq}
 use Rattle.std.specs.Fmt.{decimal}
 use Rattle.std.specs.Option.{option_map}
 use Rattle.gc_lines.specs.Replies.{reply_text}
@@ -42,23 +43,22 @@ pub record IsAllBut {State : Type 0} (x : Clause) (ends : Ends State) (Good : St
   pub stays_good : (x ≡ StaysGood) ⊎ StaysGoodOverRequests ends Good
   pub starts_good : (x ≡ StartsGood) ⊎ StaysGoodOverStarts ends Good
 
--- after a clean synchronization, with nothing in flight, these moves are possible, and request m of the client (from number 8
--- on), for target 7 and with this call, is answered with this line though it wasn't executed
-pub record IsBookedUnexecuted {State : Type 0} (ends : Ends State) (Good : State → Type 0) (kept : State → Option KeptReply) (state : State)
-    (ms : List (Move State)) (m : ℕ) (call : Asked) (line : List ℕ) : Type 0 where
-  pub beyond : 8 ≤ m
-  pub clean : IsClean Good kept (none_under_way state)
-  pub field : ArePossible ends Good kept (by_ids WINDOW ends) ms (ids_begun (none_under_way state))
-  pub settled : slice_get (behind WINDOW ends (none_under_way state) ms).wire.settled m ≡ Some (record { target = 7; call = call; outcome = Answered line })
-  pub executed : WasExecuted (behind WINDOW ends (none_under_way state) ms).wire.executed m → ⊥
+module _ {State : Type 0} (ends : Ends State) (Good : State → Type 0) (kept : State → Option KeptReply) (state : State) where
+  -- from this state on, after a clean synchronization, with nothing in flight, these moves are possible, and request m of the
+  -- client (from number 8 on), for target 7 and with this call, is answered with this line though it wasn't executed
+  pub record IsBookedUnexecuted (ms : List (Move State)) (m : ℕ) (call : Asked) (line : List ℕ) : Type 0 where
+    pub beyond : 8 ≤ m
+    pub clean : IsClean Good kept (none_under_way state)
+    pub field : ArePossible ends Good kept (by_ids WINDOW ends) ms (ids_begun (none_under_way state))
+    pub settled : slice_get (behind WINDOW ends (none_under_way state) ms).wire.settled m ≡ Some (record { target = 7; call = call; outcome = Answered line })
+    pub executed : WasExecuted (behind WINDOW ends (none_under_way state) ms).wire.executed m → ⊥
 
--- the clause x is needed: this instrument meets every other one, and in these moves, from this good state on, the client books
--- the instrument's line as the answer to request m, which the instrument never executed
-pub record IsNeeded {State : Type 0} (x : Clause) (ends : Ends State) (Good : State → Type 0) (kept : State → Option KeptReply) (state : State)
-    (ms : List (Move State)) (m : ℕ) (call : Asked) (line : List ℕ) : Type 0 where
-  pub all_but : IsAllBut x ends Good kept
-  pub good : Good state
-  pub booked : IsBookedUnexecuted ends Good kept state ms m call line
+  -- the clause x is needed: this instrument meets every other one, and in these moves, from this good state on, the client books
+  -- the instrument's line as the answer to request m, which the instrument never executed
+  pub record IsNeeded (x : Clause) (ms : List (Move State)) (m : ℕ) (call : Asked) (line : List ℕ) : Type 0 where
+    pub all_but : IsAllBut x ends Good kept
+    pub good : Good state
+    pub booked : IsBookedUnexecuted ms m call line
 
 -- a reply with this id that gives this number
 abbrev pub giving : (id n : ℕ) → List ℕ
@@ -92,11 +92,16 @@ abbrev pub held : Keeper → ℕ → Option ℕ
 held None id = None
 held (Some x) id = if nat_eq x.0 id then Some x.1 else None
 
--- what an instrument that retains a reply does with a request, by the number that it retains for the request's id: it sends that
--- number again; or, if there is none (None), it executes the request, answers 0, and retains that reply
+-- what an instrument in the state s does with a request, by the number that it retains for the request's id: it sends that number
+-- again; or, if there is none (None), it executes the request, answers `new`, and its state is `next` then
+abbrev pub again_else : {State : Type 0} → (next : State) → (new id : ℕ) → (s : State) → Option ℕ → Handed State
+again_else next new id s (Some n) = record { state = s; reply = giving id n; executed = false }
+again_else next new id s None = record { state = next; reply = giving id new; executed = true }
+
+-- what an instrument that retains a reply does with a request, as `again_else` says: if it executes the request, it answers 0,
+-- and retains that reply
 abbrev pub again_or : ℕ → Keeper → Option ℕ → Handed Keeper
-again_or id k (Some n) = record { state = k; reply = giving id n; executed = false }
-again_or id k None = record { state = Some (id, 0); reply = giving id 0; executed = true }
+again_or id k o = again_else (Some (id, 0)) 0 id k o
 
 -- an instrument that meets every clause: it retains its last reply, for a request with the same id, until it starts again
 abbrev pub keeper : Ends Keeper
@@ -184,8 +189,8 @@ sound = record mistaken { handed = λ b id call. answers_in b id b }
 
 -- Acts once.
 
--- the moves by which a null procedure is sent and answered, and then one request is sent, is repeated by the line, and reaches the
--- instrument twice
+-- the moves by which a null procedure is sent and answered, and then one request is sent, is repeated by the line, and reaches
+-- the instrument twice
 abbrev pub repeated_request : {State : Type 0} → List (Move State)
 repeated_request = one_answered (Table NullProc) (giving 0 0) (Sends 7 (Table InstrumentNo) 9 ∷ OnLine (Up_repeat 0) ∷ OnLine Up_deliver ∷ OnLine Up_deliver ∷ [])
 
@@ -198,8 +203,8 @@ abbrev pub forgets : Ends Bool
 forgets = record mistaken { handed = λ b id call. answers_in false id b }
 
 -- `ends` is an instrument that meets every clause, and yet, from this good state on, after a clean synchronization with nothing
--- in flight: if one request reaches it twice without a start between (the moves `repeated_request`, which are possible), it
--- executes that request both times
+-- in flight, `ActsOnce` fails after the moves `repeated_request`, which are possible, and by which one request reaches the
+-- instrument twice without a start between
 pub record IsExecutedTwice {State : Type 0} (ends : Ends State) (Good : State → Type 0) (kept : State → Option KeptReply) (state : State) : Type 0 where
   pub instrument : IsAnInstrument ends Good kept
   pub good : Good state
@@ -209,22 +214,22 @@ pub record IsExecutedTwice {State : Type 0} (ends : Ends State) (Good : State �
       ActsOnce is_of_table (behind WINDOW ends (none_under_way state) repeated_request).wire.sent (behind WINDOW ends (none_under_way state) repeated_request).wire.executed
       (behind WINDOW ends (none_under_way state) repeated_request).wire.starts → ⊥
 
--- each clause of what is asked of an instrument (`IsAnInstrumentFor`) is needed; and so are the rule when a client sends, the limits
--- of what may change by itself, and both clauses of `KeepsItsReply`
+-- each clause of what is asked of an instrument (`IsAnInstrumentFor`) is needed; and so are the rule when a client sends, the
+-- limits of what may change by itself, and both clauses of `KeepsItsReply`
 pub record IsAllNeeded : Type 0 where
-  pub hears : IsNeeded Hears misheard AnyState nothing false (one_answered (Table NullProc) (giving 0 0) (two_asked (giving 1 0))) 10 (Table InstrumentNo) (giving 1 0)
-  pub replies : IsNeeded Replies mistaken AnyState nothing false (one_answered (Table NullProc) (giving 0 0) (two_asked (giving 2 0))) 10 (Table InstrumentNo) (giving 2 0)
-  pub repeats : IsNeeded Repeats pretends AnyState nothing false (one_answered (Table NullProc) (giving 0 0) (one_answered (Table InstrumentNo) (giving 1 0) [])) 9 (Table InstrumentNo) (giving 1 0)
-  pub keeps : IsNeeded Keeps keeps_older AnyState kept None (nine_requests (Table InstrumentNo)) 16 (Table NullProc) (giving 0 0)
-  pub starts : IsNeeded Starts remembers AnyState kept None start_between 9 (Table InstrumentNo) (giving 1 27)
-  pub stays_good : IsNeeded StaysGood wears_out IsUnbroken nothing false (one_answered (Table NullProc) (giving 0 0) (two_asked (giving 2 0))) 10 (Table InstrumentNo) (giving 2 0)
-  pub starts_good : IsNeeded StartsGood starts_broken IsUnbroken nothing false (one_answered (Table NullProc) (giving 0 0) (Anew ∷ two_asked (giving 2 0))) 10 (Table InstrumentNo) (giving 2 0)
+  pub hears : IsNeeded misheard AnyState nothing false Hears (one_answered (Table NullProc) (giving 0 0) (two_asked (giving 1 0))) 10 (Table InstrumentNo) (giving 1 0)
+  pub replies : IsNeeded mistaken AnyState nothing false Replies (one_answered (Table NullProc) (giving 0 0) (two_asked (giving 2 0))) 10 (Table InstrumentNo) (giving 2 0)
+  pub repeats : IsNeeded pretends AnyState nothing false Repeats (one_answered (Table NullProc) (giving 0 0) (one_answered (Table InstrumentNo) (giving 1 0) [])) 9 (Table InstrumentNo) (giving 1 0)
+  pub keeps : IsNeeded keeps_older AnyState kept None Keeps (nine_requests (Table InstrumentNo)) 16 (Table NullProc) (giving 0 0)
+  pub starts : IsNeeded remembers AnyState kept None Starts start_between 9 (Table InstrumentNo) (giving 1 27)
+  pub stays_good : IsNeeded wears_out IsUnbroken nothing false StaysGood (one_answered (Table NullProc) (giving 0 0) (two_asked (giving 2 0))) 10 (Table InstrumentNo) (giving 2 0)
+  pub starts_good : IsNeeded starts_broken IsUnbroken nothing false StartsGood (one_answered (Table NullProc) (giving 0 0) (Anew ∷ two_asked (giving 2 0))) 10 (Table InstrumentNo) (giving 2 0)
   -- when a client sends is needed, too: an instrument meets every clause, and the last request, which wasn't sent after the
   -- table (`IsBehindTheTable`), has an answer booked though it was never executed
   pub rule_is : IsAnInstrument refuses_raws AnyState kept
   pub rule : (raw : RawCall) → IsBookedUnexecuted refuses_raws AnyState kept None (nine_requests (Raw raw)) 16 (Table NullProc) (giving 0 0)
-  -- two limits of what may change by itself are needed: what is retained may not change, as it does if another client sends;
-  -- and the new state has to be a good one. The moves keep to all other limits: `nothing` in place of what the instrument retains,
+  -- two limits of what may change by itself are needed: what is retained may not change, as it does if another client sends; and
+  -- the new state has to be a good one. The moves keep to all other limits: `nothing` in place of what the instrument retains,
   -- and `AnyState` in place of its good states, leave out one limit each
   pub shared_is : IsAnInstrument keeper AnyState kept
   pub changes_kept : IsBookedUnexecuted keeper AnyState nothing None changed_between 9 (Table InstrumentNo) (giving 1 27)

@@ -2,13 +2,13 @@
 -- which they were sent. `executed` has the numbers of the requests that were executed, in order; `starts` has, for each start,
 -- how many executions came before it; `sent` are all requests.
 use Rattle.std.specs.Prelude.{◌≡◌, ℕ, ◌<◌, ◌≤◌, ◌⊎◌, Bool, true, List, Some, slice_get}
+use Rattle.std.specs.List.{AllByRecursion}
 use Rattle.gc_catalogue.specs.declared.asked.Asked.{Asked}
-use Rattle.gc_world.specs.Order.{Each}
 use Rattle.gc_field.specs.World.{Sent}
 
 -- the instrument didn't start between executions j and k: each start had at most j executions before it, or more than k
 abbrev pub HasNoStart : List ℕ → (j k : ℕ) → Type 0
-HasNoStart starts j k = Each (λ s. (s ≤ j) ⊎ (k < s)) starts
+HasNoStart starts j k = AllByRecursion (λ s. (s ≤ j) ⊎ (k < s)) starts
 
 -- executions are in the order of sending, also over starts: of any two, the later one is of the same request, or of one that
 -- was sent later

@@ -1,5 +1,5 @@
--- Plain commands, this project's own: commands of which the station's text says what they ask, their deadline, and whether they are
--- chained, and nothing else. Runs that are computed have them.
+-- Plain commands, this project's own: commands of which the station's text says what they ask, their deadline, and whether they
+-- are chained, and nothing else. Runs that are computed have them.
 use Rattle.std.specs.Prelude.{ℕ, Bool, None, false}
 use Rattle.gc_texts.specs.Again.{no_again}
 use Rattle.gc_texts.specs.Codes.{no_codes}

@@ -14,12 +14,11 @@ use Rattle.gc_instrument.specs.State.{State, IsFittingState}
 use Rattle.gc_links.specs.Acts.{Act}
 use Rattle.gc_texts.specs.declared.tasks.Task.{Task}
 use Rattle.gc_texts.specs.Endings.{line_of}
-use Rattle.gc_station.specs.Links.{AreChained}
-use Rattle.gc_station.specs.Parts.{Part, parts_of}
+use Rattle.gc_station.specs.Links.{AreChained, parts}
+use Rattle.gc_station.specs.Parts.{Part}
 use Rattle.gc_station.specs.Records.{Record}
 use Rattle.gc_station.specs.Runs.{state_after}
 use Rattle.gc_station.specs.Scopes.{Scope}
-use Rattle.gc_station.specs.Model.{opening}
 use Rattle.gc_station.specs.declared.plan.Plan.{Plan}
 use Rattle.gc_field.specs.Simulator.{ends}
 use Rattle.gc_field.specs.Begin.{UnderWay}
@@ -52,10 +51,9 @@ pub record PointsAs (s t : State) : Type 0 where
 
 -- when the command of record b was executed, after the command at place a (by `h`), the telescope pointed where executing the
 -- latter had left it; and if the latter was a positioning, in the direction that it commanded, in the face in which the telescope
--- was before. `ps`, `ss` and `records` are the parts, the stretches and the records of the run, `reads` gives what a reply says
--- of its call, and `line` is the reply of record b
-pub record IsMeasuredWhereItPointed (reads : Asked → List ℕ → Reading) (commands : List Task) (ps : List Part) (ss : List (Stretch State))
-    (records : List Record) (a : ℕ) (b : Record) (line : List ℕ) (h : IsChainedTo ends IsFittingState kept_of reads commands ps ss records a b line) : Type 0 where
+-- was before
+pub record IsMeasuredWhereItPointed {reads : Asked → List ℕ → Reading} {commands : List Task} {ps : List Part} {ss : List (Stretch State)}
+    {records : List Record} {a : ℕ} {b : Record} {line : List ℕ} (h : IsChainedTo ends IsFittingState kept_of reads commands ps ss records a b line) : Type 0 where
   pub as_left : PointsAs (stretch_wire ends h.stretch h.executed.second.front).state (after_call (stretch_wire ends h.stretch h.executed.first.front).state h.earlier.answer.command.call)
   pub as_commanded :
       (hz v : Decimal) (pos_mode atr_mode dummy : _) → h.earlier.answer.command.call ≡ Table (Position hz v pos_mode atr_mode dummy)
@@ -69,10 +67,9 @@ pub record IsMeasuredWhereItPointed (reads : Asked → List ℕ → Reading) (co
 abbrev pub IsPointedInChain : Plan → List Task → Scope → List Act → UnderWay State → List (Run State) → Record → Type 0
 IsPointedInChain plan commands scope acts u rs b =
     (line : List ℕ) (a : ℕ) → line_of b.end ≡ Some line → 0 < b.cycle → plan.setup ≤ a → a < b.place → AreChained commands a b.place
-    → (h : IsChainedTo ends IsFittingState kept_of scope.reads commands (parts_of plan commands (opening plan scope) acts) (stretches ends u rs)
+    → (h : IsChainedTo ends IsFittingState kept_of scope.reads commands (parts plan commands scope acts) (stretches ends u rs)
     (state_after plan commands scope acts).records a b line)
-    × (AreStill commands a b.place → IsUndisturbed h.executed.between
-    → IsMeasuredWhereItPointed scope.reads commands (parts_of plan commands (opening plan scope) acts) (stretches ends u rs) (state_after plan commands scope acts).records a b line h)
+    × (AreStill commands a b.place → IsUndisturbed h.executed.between → IsMeasuredWhereItPointed h)
 
 -- each record is `IsPointedInChain`: for every plan, all commands, every run of the station in the field (`IsInField`) over the
 -- simulator, and all that the line and the simulator may do meanwhile

@@ -3,13 +3,13 @@
 -- from one synchronization to the next; a stretch is what happens on the line meanwhile, once it has synchronized. The word has
 -- the ids of a synchronization's null procedures.
 use Rattle.std.specs.Prelude.{◌≡◌, ℕ, ◌+◌, ◌<◌, ◌≤◌, Bool, true, false, ◌||◌, if◌then◌else◌, nat_le, List, [], ◌∷◌, ◌++◌, drop, length, map, Option, Some, slice_get}
-use Rattle.std.specs.List.{AllByRecursion}
+use Rattle.std.specs.List.{AllByRecursion, AllZip}
 use Rattle.gc_catalogue.specs.declared.answer.Reading.{Reading}
 use Rattle.gc_catalogue.specs.declared.asked.Asked.{Asked}
 use Rattle.gc_client.specs.Beginning.{IsSubsequence, the_word}
 use Rattle.gc_client.specs.declared.window.TheConstants.{WINDOW}
 use Rattle.gc_client.specs.Rule.{ById, Answered, Late, Settlement, lost}
-use Rattle.gc_instrument.specs.State.{KeptReply, State, IsFittingState}
+use Rattle.gc_instrument.specs.State.{KeptReply, IsFittingState}
 use Rattle.gc_texts.specs.declared.near.Expected.{Expected}
 use Rattle.gc_texts.specs.Tasks.{call_at}
 use Rattle.gc_texts.specs.declared.tasks.Task.{Task}
@@ -21,8 +21,9 @@ use Rattle.gc_station.specs.Beginnings.{unanswered_after}
 use Rattle.gc_station.specs.Begun.{AreBegun, heard_in}
 use Rattle.gc_station.specs.Deciding.{has_begun}
 use Rattle.gc_station.specs.EachOnce.{EachOnce}
+use Rattle.gc_station.specs.Links.{parts}
 use Rattle.gc_station.specs.Marks.{records_of}
-use Rattle.gc_station.specs.Parts.{Part, MarksAsk, part_of_act, mark_of, parts_of, sent_at, sent_of, timeless}
+use Rattle.gc_station.specs.Parts.{Part, MarksAsk, part_of_act, mark_of, sent_at, sent_of, timeless}
 use Rattle.gc_station.specs.Records.{Record}
 use Rattle.gc_station.specs.Requests.{asked_at}
 use Rattle.gc_station.specs.Runs.{state_after}
@@ -61,15 +62,13 @@ module _ {State : Type 0} (ends : Ends State) where
   abbrev pub own_settled : Stretch State → List (Settlement Asked)
   own_settled s = drop 8 (world s).wire.settled
 
-  -- the requests of each stretch are those of its part, one for one
+  -- there are as many stretches as parts, and the requests of each stretch are those of its part, one for one
   abbrev pub AreSentAs : List Task → List Part → List (Stretch State) → Type 0
-  AreSentAs commands [] [] = Unit {0}
-  AreSentAs commands (p ∷ ps) (s ∷ ss) = MarksAsk commands p.marks (map asked (own_sent s)) × AreSentAs commands ps ss
-  AreSentAs commands _ _ = ⊥
+  AreSentAs commands ps ss = AllZip (λ p s. MarksAsk commands p.marks (map asked (own_sent s))) ps ss
 
   -- in time: if a request is sent while fewer than seven are outstanding, and later a reply to it comes while it isn't settled,
-  -- that reply settles it. The request is answered by that line if no moment at or past its deadline was read in between, and else
-  -- it is late. `before` are the moves before it is sent, and `between` those from then on until the reply comes
+  -- that reply settles it. The request is answered by that line if no moment at or past its deadline was read in between, and
+  -- else it is late. `before` are the moves before it is sent, and `between` those from then on until the reply comes
   abbrev pub IsInTime : Stretch State → Type 0
   IsInTime s =
       (before between later : List (Move State)) (target : ℕ) (call : Asked) (deadline : ℕ) (line : List ℕ) (rest : List (Numbered (List ℕ)))
@@ -88,8 +87,8 @@ module _ {State : Type 0} (ends : Ends State) where
       records_of reads 0 p.marks (own_settled s ++ map lost (world s).client.waiting) ++ written_over reads (q ∷ ps) (t ∷ ss)
   written_over reads _ _ = []
 
--- the part p is what an act means that takes the station from the model s to t. While the station synchronizes (`false`), the part
--- has turns, as `MeansTurns` says, and the lines heard in them decide which ids of the word are left in t. Once it has
+-- the part p is what an act means that takes the station from the model s to t. While the station synchronizes (`false`), the
+-- part has turns, as `MeansTurns` says, and the lines heard in them decide which ids of the word are left in t. Once it has
 -- synchronized (`true`), the part has steps of the client, as `Means` says: a request is sent as the bytes of its line
 abbrev pub IsMeant : Bool → Model → Act → Part → Model → Type 0
 IsMeant true s act p t = (p.turns ≡ []) × Means s.client s.rest act p.steps t.rest
@@ -101,6 +100,20 @@ AreMeant plan commands s [] = Unit {0}
 AreMeant plan commands s (act ∷ acts) =
     IsMeant (has_begun s.progress) s act (part_of_act plan commands s (action_at plan s) act) (after plan commands s act) × AreMeant plan commands (after plan commands s act) acts
 
+-- the request of a record, in a run with the parts `ps` and the stretches `ss`: in stretch k, the client's request m is the
+-- command of the record's cycle and place
+pub record HasRequest {State : Type 0} (commands : List Task) (ps : List Part) (ss : List (Stretch State)) (r : Record) : Type 0 where
+  pub k : ℕ
+  pub part : Part
+  pub stretch : Stretch State
+  pub of_parts : slice_get ps k ≡ Some part
+  pub of_stretches : slice_get ss k ≡ Some stretch
+  pub m : ℕ
+  pub expected : Expected
+  pub mark : slice_get part.marks m ≡ Some (Some (mark_of expected r))
+  pub task : Task
+  pub listed : slice_get commands r.place ≡ Some task
+
 module _ {State : Type 0} (ends : Ends State) (Good : State → Type 0) (kept : State → Option KeptReply) where
   -- a run of a station, and for each of its parts what happens on the line and to an instrument: first while it synchronizes,
   -- then once it has synchronized. In flight at its start may be anything well formed (`IsWellFormed`) in which the word isn't
@@ -110,54 +123,34 @@ module _ {State : Type 0} (ends : Ends State) (Good : State → Type 0) (kept : 
     pub runs : Runs plan commands (opening plan scope) acts
     pub lines : IsWellFormed Good u
     pub none : IsSubsequence the_word (ids_under_way u) → ⊥
-    pub shown : AreShownAs ends u rs (parts_of plan commands (opening plan scope) acts)
+    pub shown : AreShownAs ends u rs (parts plan commands scope acts)
     pub possible : AreRuns WINDOW ends Good kept u rs
 
-  -- where the answer `line` of record `r` comes from, in a run with the parts `ps` and the stretches `ss`: in stretch k, the
-  -- client's request m is the command of the record's cycle and place; the instrument made this line on executing that very
-  -- request; and the line settled the request
+  -- where the answer `line` of record `r` comes from, in a run with the parts `ps` and the stretches `ss`: the instrument made
+  -- this line on executing the very request of the record's cycle and place (`of`); and the line settled that request
   pub record IsItsOwn (commands : List Task) (ps : List Part) (ss : List (Stretch State)) (r : Record) (line : List ℕ) : Type 0 where
-    pub k : ℕ
-    pub part : Part
-    pub stretch : Stretch State
-    pub of_parts : slice_get ps k ≡ Some part
-    pub of_stretches : slice_get ss k ≡ Some stretch
-    pub m : ℕ
-    pub expected : Expected
-    pub mark : slice_get part.marks m ≡ Some (Some (mark_of expected r))
+    pub of : HasRequest commands ps ss r
     pub request : Sent
-    pub sent : slice_get (own_sent ends stretch) m ≡ Some request
-    pub task : Task
-    pub listed : slice_get commands r.place ≡ Some task
-    pub asks : asked request ≡ asked_at (sent_at r) task
-    pub settled : slice_get (own_settled ends stretch) m ≡ Some (record { target = r.command.target; call = r.command.call; outcome = Answered line })
-    pub made : (j : ℕ) × (slice_get (world ends stretch).wire.made j ≡ Some (record { number = 8 + m; line = line }))
-    pub reply : IsReplyTo ends Good (call_at task (sent_at r)) line
-    pub executed : WasExecuted (world ends stretch).wire.executed (8 + m)
+    pub sent : slice_get (own_sent ends of.stretch) of.m ≡ Some request
+    pub asks : asked request ≡ asked_at (sent_at r) of.task
+    pub settled : slice_get (own_settled ends of.stretch) of.m ≡ Some (record { target = r.command.target; call = r.command.call; outcome = Answered line })
+    pub made : (j : ℕ) × (slice_get (world ends of.stretch).wire.made j ≡ Some (record { number = 8 + of.m; line = line }))
+    pub reply : IsReplyTo ends Good (call_at of.task (sent_at r)) line
+    pub executed : WasExecuted (world ends of.stretch).wire.executed (8 + of.m)
     -- the line was made on executing that very request: at one of the stretch's moves it, with what the command asks at the
     -- moment at which it was sent, reached the instrument, which executed it, and this line was its reply
-    pub made_on : WasMadeOn WINDOW ends stretch.from stretch.moves (8 + m) (call_at task (sent_at r)) line
+    pub made_on : WasMadeOn WINDOW ends of.stretch.from of.stretch.moves (8 + of.m) (call_at of.task (sent_at r)) line
 
   -- if a record is of a reply in time, its line was made on executing its own request: by `IsItsOwn`
   abbrev pub IsOwnAnswer : List Task → List Part → List (Stretch State) → Record → Type 0
   IsOwnAnswer commands ps ss r = (line : List ℕ) → line_of r.end ≡ Some line → IsItsOwn commands ps ss r line
 
-  -- the instrument executed the command of a late record `r`, in a run with the parts `ps` and the stretches `ss`: in stretch
-  -- k, the client's request m is the command of the record's cycle and place, and the instrument made a line on executing that
-  -- request
+  -- the instrument executed the command of a late record `r`, in a run with the parts `ps` and the stretches `ss`: it made a line
+  -- on executing the request of the record's cycle and place (`of`)
   pub record HasExecution (commands : List Task) (ps : List Part) (ss : List (Stretch State)) (r : Record) : Type 0 where
-    pub k : ℕ
-    pub part : Part
-    pub stretch : Stretch State
-    pub of_parts : slice_get ps k ≡ Some part
-    pub of_stretches : slice_get ss k ≡ Some stretch
-    pub m : ℕ
-    pub expected : Expected
-    pub mark : slice_get part.marks m ≡ Some (Some (mark_of expected r))
-    pub task : Task
-    pub listed : slice_get commands r.place ≡ Some task
+    pub of : HasRequest commands ps ss r
     pub line : List ℕ
-    pub made_on : WasMadeOn WINDOW ends stretch.from stretch.moves (8 + m) (call_at task (sent_at r)) line
+    pub made_on : WasMadeOn WINDOW ends of.stretch.from of.stretch.moves (8 + of.m) (call_at of.task (sent_at r)) line
 
   -- if a record is late, the instrument executed its command all the same: by `HasExecution`
   abbrev pub LateHasExecution : List Task → List Part → List (Stretch State) → Record → Type 0
@@ -170,20 +163,20 @@ module _ {State : Type 0} (ends : Ends State) (Good : State → Type 0) (kept : 
   -- what holds of a run in the field, from its records back to what the instrument executed
   pub record IsRunFaithful (plan : Plan) (commands : List Task) (scope : Scope) (acts : List Act) (u : UnderWay State) (rs : List (Run State)) : Type 0 where
     -- no command is sent before the eighth null procedure is answered: neither at first, nor when the run resynchronizes
-    pub begun : AreBegun the_word (parts_of plan commands (opening plan scope) acts)
+    pub begun : AreBegun the_word (parts plan commands scope acts)
     -- and where it has synchronized, it has synchronized cleanly: no request from before is in flight, nor a reply to one
     pub clean : AreOwn WINDOW ends Good kept u rs
     -- its own: the answer of each record was made on executing the request of that very cycle and place
-    pub own : AllByRecursion (IsOwnAnswer commands (parts_of plan commands (opening plan scope) acts) (stretches ends u rs)) (state_after plan commands scope acts).records
+    pub own : AllByRecursion (IsOwnAnswer commands (parts plan commands scope acts) (stretches ends u rs)) (state_after plan commands scope acts).records
     -- and if a reply came too late, the instrument executed the request all the same
-    pub late : AllByRecursion (LateHasExecution commands (parts_of plan commands (opening plan scope) acts) (stretches ends u rs)) (state_after plan commands scope acts).records
+    pub late : AllByRecursion (LateHasExecution commands (parts plan commands scope acts) (stretches ends u rs)) (state_after plan commands scope acts).records
     -- one for one: the records and what is outstanding, of cycles, are the commands of cycles that had their turn, sent or not,
     -- in order, each once, but for those of further attempts that were left out
     pub one_for_one : EachOnce plan commands scope acts
     -- the requests of the stretches are these commands, and null procedures; and the records, but for those of commands that
     -- weren't sent, are how they ended there, answered, late or lost
-    pub sent : AreSentAs ends commands (parts_of plan commands (opening plan scope) acts) (stretches ends u rs)
-    pub written : map timeless (sent_of (state_after plan commands scope acts).records) ≡ written_over ends scope.reads (parts_of plan commands (opening plan scope) acts) (stretches ends u rs)
+    pub sent : AreSentAs ends commands (parts plan commands scope acts) (stretches ends u rs)
+    pub written : map timeless (sent_of (state_after plan commands scope acts).records) ≡ written_over ends scope.reads (parts plan commands scope acts) (stretches ends u rs)
     -- the turns and steps of a run are what its acts are to a synchronization and to a client: the bytes that are sent are the
     -- lines of these requests, and line feeds that clear the receiver
     pub meant : AreMeant plan commands (opening plan scope) acts
@@ -194,16 +187,17 @@ module _ {State : Type 0} (ends : Ends State) (Good : State → Type 0) (kept : 
     -- request that it knows, between two of its starts each of these is executed at most once
     pub each : AllByRecursion IsFaithfulThroughout (stretches ends u rs)
 
--- every run in the field is faithful: for any instrument, every plan, all commands, every run of the station, and all that the
--- line and the instrument may do meanwhile
-abbrev pub RunsAreFaithful : Type 0 → Type 0
-RunsAreFaithful State =
-    (ends : Ends State) (kept : State → Option KeptReply) → IsAnInstrument ends AnyState kept →
-    (plan : Plan) (commands : List Task) (scope : Scope) (acts : List Act) (u : UnderWay State) (rs : List (Run State)) → IsInField ends AnyState kept plan commands scope acts u rs →
-    IsRunFaithful ends AnyState kept plan commands scope acts u rs
+-- every run in the field is faithful, whatever the plan and the commands are, and whatever the line and the instrument do
+-- meanwhile. `Good` says which states of the instrument are good, and `kept` what reply each of them retains
+abbrev pub RunsInFieldAreFaithful : {State : Type 0} → (ends : Ends State) → (Good : State → Type 0) → (kept : State → Option KeptReply) → Type 0
+RunsInFieldAreFaithful {State = State} ends Good kept =
+    (plan : Plan) (commands : List Task) (scope : Scope) (acts : List Act) (u : UnderWay State) (rs : List (Run State)) → IsInField ends Good kept plan commands scope acts u rs →
+    IsRunFaithful ends Good kept plan commands scope acts u rs
 
--- `RunsAreFaithful` for the simulator, in any state whose values lie in their types (`IsFittingState`)
+-- `RunsInFieldAreFaithful`, for any instrument, in any state
+abbrev pub RunsAreFaithful : Type 0 → Type 0
+RunsAreFaithful State = (ends : Ends State) (kept : State → Option KeptReply) → IsAnInstrument ends AnyState kept → RunsInFieldAreFaithful ends AnyState kept
+
+-- `RunsInFieldAreFaithful`, for the simulator, in any state whose values lie in their types (`IsFittingState`)
 abbrev pub SimulatorsRunsAreFaithful : Type 0
-SimulatorsRunsAreFaithful =
-    (plan : Plan) (commands : List Task) (scope : Scope) (acts : List Act) (u : UnderWay State) (rs : List (Run State)) → IsInField ends IsFittingState kept_of plan commands scope acts u rs →
-    IsRunFaithful ends IsFittingState kept_of plan commands scope acts u rs
+SimulatorsRunsAreFaithful = RunsInFieldAreFaithful ends IsFittingState kept_of

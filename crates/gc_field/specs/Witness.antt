@@ -1,6 +1,6 @@
 -- There is a run in the field, this project's own: the station synchronizes over a line with an older request and an older
 -- reply in flight, and a command is asked and answered. So what is said of all such runs is said of some.
-use Rattle.std.specs.Prelude.{◌≡◌, ℕ, true, false, List, [], ◌∷◌, codes, drop, pos, Some, None}
+use Rattle.std.specs.Prelude.{◌≡◌, ℕ, true, false, List, [], ◌∷◌, codes, drop, pos, Some}
 use Rattle.gc_lines.specs.Lines.{with_end}
 use Rattle.gc_catalogue.specs.declared.answer.Answer.TheVariants.{Long}
 use Rattle.gc_catalogue.specs.declared.answer.Reading.TheVariants.{Value}
@@ -67,7 +67,7 @@ exchanged now _ _ acts = acts
 abbrev pub begun_with : List (List ℕ) → List Act → List Act
 begun_with answers acts = Opened ∷ Put (10 ∷ []) ∷ Told (at 0) ∷ exchanged 10 null_lines answers acts
 
--- what the line does in a synchronization: each null procedure reaches the instrument, and its reply comes
+-- what happens in a synchronization: each null procedure reaches the instrument, and its reply comes
 abbrev pub eight_answered : {S : Type 0} → List (Turn S)
 eight_answered =
     Asks ∷ Reaches ∷ turn.Comes ∷ Asks ∷ Reaches ∷ turn.Comes ∷ Asks ∷ Reaches ∷ turn.Comes ∷ Asks ∷ Reaches ∷ turn.Comes
@@ -106,12 +106,12 @@ acts =
     ∷ []
     )
 
--- what the line does while the station synchronizes: each request reaches the simulator, the old one first, and each reply
+-- what happens while the station synchronizes: each request reaches the simulator, the old one first, and each reply
 -- comes
 abbrev pub turns : List (Turn State)
 turns = Asks ∷ turn.Comes ∷ Reaches ∷ turn.Comes ∷ Reaches ∷ turn.Comes ∷ drop 3 eight_answered
 
--- what the line does once the station has synchronized: the command reaches the simulator, and its reply comes
+-- what happens once the station has synchronized: the command reaches the simulator, and its reply comes
 abbrev pub moves : List (Move State)
 moves = Tells 15 ∷ Sends 7 (Table InstrumentNo) 115 ∷ Tells 15 ∷ OnLine Up_deliver ∷ Tells 20 ∷ Comes answer ∷ []
 

@@ -9,7 +9,7 @@ use Rattle.gc_files.specs.Sinks.{known_content}
 use Rattle.gc_files.proofs.Moments.{behind_two}
 use Rattle.gc_files.specs.Files.{Step, Append, Cut, Sync, Life, has_sync, content, later_by, Adds}
 use Rattle.gc_files.specs.Runs.{synced}
-use Rattle.gc_files.specs.Rows.{whole, is_empty, mended, cuts_none, appended, MendedAndPut, IsFront, Opens, OpensInPart, PutsAll, IsEndOfRows, IsMended, IsMendedInPart}
+use Rattle.gc_files.specs.Rows.{whole, is_empty, mended, cuts_none, appended, MendedAndPut, IsFront, Did, Opens, OpensInPart, PutsAll, IsEndOfRows, IsMended, IsMendedInPart}
 
 -- adding the steps `xs` to a life, and then `ys`, is adding `xs ++ ys`
 pub later_two : (xs ys : List Step) (life : Life) → later_by ys (later_by xs life) ≡ later_by (xs ++ ys) life
@@ -66,12 +66,12 @@ pub mend_all : (old mid new : Option Life) (known : Life) (end len : ℕ)
 mend_all old mid new known end len less is ends cut sync =
     subst (λ (steps : List Step). Adds old new steps) (sym (mended_by_cut (content known) end len less is ends)) (adds_two old mid new (Cut end ∷ []) (Sync ∷ []) cut sync)
 
--- after whole rows no head is written
+-- where l, the whole rows of a file, isn't empty, an opening writes no head: what `start_of` has is nothing
 no_head_after_rows : (head l : List ℕ) → 0 < length l → (if is_empty l then head else []) ≡ []
 no_head_after_rows head [] more = absurd (omega (arith, more))
 no_head_after_rows head (b ∷ l) more = refl
 
--- where no row is whole the head is written
+-- where l, the whole rows of a file, is empty, an opening writes the head: this is what `start_of` has
 head_without_rows : (head l : List ℕ) → length l ≡ 0 → (if is_empty l then head else []) ≡ head
 head_without_rows head [] none = refl
 head_without_rows head (b ∷ l) none = absurd (omega (arith, none))
@@ -88,9 +88,9 @@ opens_whole head old new end more ends adds life is = (
   },
 )
 
--- a file that was mended, and to which these bytes were then appended, has added to its life such steps as `MendedAndPut` asks for
+-- where a file was mended, and these bytes were then appended to it, all that was done to it is as `MendedAndPut` has it
 pub ran_more : (old mid new : Option Life) (bytes : List ℕ) → IsMended old mid → PutsAll mid new bytes
-    → (life : Life) → old ≡ Some life → (steps : List Step) × (new ≡ Some (later_by steps life)) × MendedAndPut (content life) steps bytes
+    → Did old new (λ held steps. MendedAndPut held steps bytes)
 ran_more old mid new bytes adds puts life is =
     let second = puts (later_by (mended (content life)) life) (adds life is life is) in (
       mended (content life) ++ second.0,
@@ -119,7 +119,7 @@ opens_head_part head old mid new end none ends adds part life is =
     let ran = ran_more old mid new part.0 adds part.2 life is in
     (ran.0, ran.1, inr (part.0, ran.2, subst (λ (all : List ℕ). IsFront part.0 all) (sym (head_without_rows head (whole (content life)) (omega (arith, none, ends life is)))) part.1))
 
--- the known content of a file grows by what is appended
+-- where a file's content was known, it is what it was and then what was appended
 pub content_more : (old new : Option Life) (bytes : List ℕ)
     → Adds old new (Append bytes ∷ []) → Appends (known_content old) (known_content new) bytes
 content_more None new bytes adds = tt

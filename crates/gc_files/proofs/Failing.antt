@@ -1,15 +1,15 @@
 -- Over failed syncs a table stays, where a copy takes the file's place before a run goes on. A file has two sides: what a
 -- read returns, and what is on the disk. `Lasts` says of a side that whatever a crash leaves of it has the rows of some runs
 -- after the table from before them.
-use Rattle.std.proofs.Common.{◌≡◌, inl, inr, ℕ, Bool, true, false, List, [], ◌∷◌, ◌++◌, refl, sym, ◌∙◌, ap, subst, append_assoc, if◌then◌else◌}
+use Rattle.std.proofs.Common.{◌≡◌, inl, inr, ℕ, Bool, true, false, List, [], ◌∷◌, ◌++◌, refl, sym, ◌∙◌, ap, subst, append_assoc}
 use Rattle.std.proofs.lemmas.List.{append-nil}
 use Rattle.gc_files.specs.Files.{Life, content, later_by}
-use Rattle.gc_files.specs.Rows.{has_feed, table, is_empty}
+use Rattle.gc_files.specs.Rows.{has_feed, table}
 use Rattle.gc_files.specs.Runs.{Run, IsHead, IsRun, HasRows}
 use Rattle.gc_files.specs.Failing.{Sides, settled, same_sides, done_by, Loses, Event, Ran, Failed, Copied, Crashed, sides_after, Occur, runs_of, IsTrusted, IsFound, TablesOutlastFailures}
 use Rattle.gc_files.proofs.Whole.{whole_front}
 use Rattle.gc_files.proofs.Moments.{may_stay}
-use Rattle.gc_files.proofs.Lasting.{Lasts, one_more}
+use Rattle.gc_files.proofs.Lasting.{Lasts, one_more, same_table}
 
 -- both sides of a file have the rows of these runs after the table `before`, and the sides are the same where the file isn't
 -- in doubt
@@ -20,7 +20,7 @@ record HasRowsOnBothSides (head before : List ℕ) (runs : List Run) (sides : Si
 
 -- bytes at the end that end no row are no part of the table
 hole_is_none : (head front hole : List ℕ) → has_feed hole ≡ false → table head (front ++ hole) ≡ table head front
-hole_is_none head front hole none = ap (λ (l : List ℕ). l ++ (if is_empty l then head else [])) (whole_front front hole none)
+hole_is_none head front hole none = same_table head (front ++ hole) front (whole_front front hole none)
 
 -- where a file that holds `held` has the rows of these runs, a file that holds `left` and has the same table has these rows,
 -- too
@@ -41,21 +41,20 @@ lost_has head before runs life now lasts lost =
 
 -- for a file with this head, and `before` as its table before all runs
 module _ (head before : List ℕ) (heads : IsHead head) where
-  -- where the side on the disk has the rows of some runs (`Lasts`), both sides are the same, and one more run is over what a read
-  -- returns (`IsRun`), then after the steps of that run the side on the disk has the rows of all these runs
+  -- where both sides have the rows of some runs, the file isn't in doubt, and one more run is over what a read returns (`IsRun`),
+  -- then after the steps of that run the side on the disk has the rows of all these runs (`Lasts`)
   run_lasts : (runs : List Run) (sides : Sides) (run : Run)
-      → Lasts head before runs sides.disk → sides.read ≡ sides.disk → IsRun head (content sides.read) run
+      → HasRowsOnBothSides head before runs sides false → IsRun head (content sides.read) run
       → Lasts head before (runs ++ run ∷ []) (later_by run.steps sides.disk)
-  run_lasts runs sides run lasts same is = one_more head before heads runs sides.disk run lasts (subst (λ (life : Life). IsRun head (content life) run) same is)
+  run_lasts runs sides run has is = one_more head before heads runs sides.disk run has.disk (subst (λ (life : Life). IsRun head (content life) run) (has.same refl) is)
 
-  -- where the side on the disk has the rows of some runs (`Lasts`), both sides are the same, and one more run is over what a read
-  -- returns (`IsRun`), then after the steps of that run both sides have the rows of all these runs, and are the same
+  -- as `run_lasts`, of both sides: after the steps of that run both have the rows of all these runs, and the file isn't in doubt
   after_run : (runs : List Run) (sides : Sides) (run : Run)
-      → Lasts head before runs sides.disk → sides.read ≡ sides.disk → IsRun head (content sides.read) run
+      → HasRowsOnBothSides head before runs sides false → IsRun head (content sides.read) run
       → HasRowsOnBothSides head before (runs ++ run ∷ []) (done_by run.steps sides) false
-  after_run runs sides run lasts same is =
-      let more = run_lasts runs sides run lasts same is in
-      let both : later_by run.steps sides.read ≡ later_by run.steps sides.disk = ap (later_by run.steps) same in
+  after_run runs sides run has is =
+      let more = run_lasts runs sides run has is in
+      let both : later_by run.steps sides.read ≡ later_by run.steps sides.disk = ap (later_by run.steps) (has.same refl) in
       record {
         read = subst (λ (life : Life). HasRows head before (runs ++ run ∷ []) (content life)) (sym both)
             (more (content (later_by run.steps sides.disk)) (may_stay sides.disk.start (later_by run.steps sides.disk).steps));
@@ -63,17 +62,16 @@ module _ (head before : List ℕ) (heads : IsHead head) where
         same = λ _. both;
       }
 
-  -- where the side on the disk has the rows of some runs (`Lasts`), both sides are the same, and one more run is over what a read
-  -- returns (`IsRun`), then after the steps of that run, and whatever a failed sync made of each side (`Loses`), both sides have
-  -- the rows of all these runs; here the file is in doubt
+  -- as `after_run`, where the last sync of that run failed, which made of each side what `Loses` allows: both sides have the rows
+  -- of all these runs, and the file is in doubt
   after_failed_sync : (runs : List Run) (sides : Sides) (run : Run) (read disk : List ℕ)
-      (lasts : Lasts head before runs sides.disk) (same : sides.read ≡ sides.disk) (is : IsRun head (content sides.read) run)
-      (loses_read : Loses (later_by run.steps sides.read) read) (loses_disk : Loses (later_by run.steps sides.disk) disk)
+      → HasRowsOnBothSides head before runs sides false → IsRun head (content sides.read) run
+      → Loses (later_by run.steps sides.read) read → Loses (later_by run.steps sides.disk) disk
       → HasRowsOnBothSides head before (runs ++ run ∷ []) (record { read = settled read; disk = settled disk }) true
-  after_failed_sync runs sides run read disk lasts same is loses_read loses_disk =
+  after_failed_sync runs sides run read disk has is loses_read loses_disk =
       let all = runs ++ run ∷ [] in
-      let more = run_lasts runs sides run lasts same is in
-      let there = subst (λ (life : Life). Loses life read) (ap (later_by run.steps) same) loses_read in
+      let more = run_lasts runs sides run has is in
+      let there = subst (λ (life : Life). Loses life read) (ap (later_by run.steps) (has.same refl)) loses_read in
       record {
         read = lost_has head before all (later_by run.steps sides.disk) read more there;
         disk = settled_lasts head before all disk (lost_has head before all (later_by run.steps sides.disk) disk more loses_disk);
@@ -91,11 +89,13 @@ module _ (head before : List ℕ) (heads : IsHead head) where
         | inr may ↦ good.disk left may
       ])
   lasts_over_events done sides doubted (Ran run ∷ events) good occur left found =
-      let next = subst (HasRowsOnBothSides head before (done ++ run ∷ []) (done_by run.steps sides)) (sym occur.0) (after_run done sides run good.disk (good.same occur.0) occur.1) in
+      let trusted = subst (HasRowsOnBothSides head before done sides) occur.0 good in
+      let next = subst (HasRowsOnBothSides head before (done ++ run ∷ []) (done_by run.steps sides)) (sym occur.0) (after_run done sides run trusted occur.1) in
       subst (λ (rs : List Run). HasRows head before rs left) (append_assoc done (run ∷ []) (runs_of events))
       (lasts_over_events (done ++ run ∷ []) (done_by run.steps sides) doubted events next occur.2 left found)
   lasts_over_events done sides doubted (Failed run read disk ∷ events) good occur left found =
-      let next = after_failed_sync done sides run read disk good.disk (good.same occur.0) occur.1 occur.2 occur.3 in
+      let trusted = subst (HasRowsOnBothSides head before done sides) occur.0 good in
+      let next = after_failed_sync done sides run read disk trusted occur.1 occur.2 occur.3 in
       subst (λ (rs : List Run). HasRows head before rs left) (append_assoc done (run ∷ []) (runs_of events))
       (lasts_over_events (done ++ run ∷ []) (record { read = settled read; disk = settled disk }) true events next occur.4 left found)
   lasts_over_events done sides doubted (Copied true ∷ events) good occur left found =

@@ -50,28 +50,26 @@ pub puts_synced : (old mid new : Option Life) (xs : List ℕ) → PutsAll old mi
 puts_synced old mid new xs puts sync =
     subst (PutsAll old new) (append-nil xs) (puts_two old mid new xs [] puts (λ life is. (Sync ∷ [], sync life is, record { none_cut = refl; all = refl })))
 
+-- where a block is the `size` bytes after the first `at`, the first `at + size` bytes are the first `at` and then the block
+taken_block : (held block : List ℕ) (at size : ℕ) → block ≡ take (length block) (drop at held) → length block ≡ size
+    → take (at + size) held ≡ take at held ++ block
+taken_block held block at size is long = take-add at size held ∙ ap (λ (l : List ℕ). take at held ++ l) (sym (is ∙ ap (λ n. take n (drop at held)) long))
+
 -- where the first `at` bytes were appended, and then the block of the `size` bytes after them, the first `at + size` bytes were
 pub puts_block : (old mid new : Option Life) (held block : List ℕ) (at size : ℕ) → block ≡ take (length block) (drop at held) → length block ≡ size
     → PutsAll old mid (take at held) → PutsAll mid new block → PutsAll old new (take (at + size) held)
 puts_block old mid new held block at size is long first second =
-    subst (PutsAll old new) (ap (λ (l : List ℕ). take at held ++ l) (is ∙ ap (λ n. take n (drop at held)) long) ∙ sym (take-add at size held))
-    (puts_two old mid new (take at held) block first second)
+    subst (PutsAll old new) (sym (taken_block held block at size is long)) (puts_two old mid new (take at held) block first second)
 
 -- where `lines` is the number of line feeds in the first `at` bytes, and `more` that of the block of the `size` bytes after them,
 -- their sum is that of the first `at + size`
 pub counts_block : (held block : List ℕ) (at size lines more : ℕ) → block ≡ take (length block) (drop at held) → length block ≡ size
     → lines ≡ feeds (take at held) → more ≡ feeds block → lines + more ≡ feeds (take (at + size) held)
 counts_block held block at size lines more is long first second =
-    let whole : take (at + size) held ≡ take at held ++ block = take-add at size held ∙ ap (λ (l : List ℕ). take at held ++ l) (sym (is ∙ ap (λ n. take n (drop at held)) long)) in
-    omega (arith, first, second, ap feeds whole, feeds_two (take at held) block)
+    omega (arith, first, second, ap feeds (taken_block held block at size is long), feeds_two (take at held) block)
 
 -- where the first `at` bytes of a file, which are all that it holds, were appended to a copy, and the copy was synced, all that
 -- the file holds was appended to the copy
 pub puts_all : (old mid new : Option Life) (held : List ℕ) (at : ℕ)
     → length held ≤ at → PutsAll old mid (take at held) → Adds mid new (Sync ∷ []) → PutsAll old new held
 puts_all old mid new held at all puts sync = subst (PutsAll old new) (take_all at held all) (puts_synced old mid new (take at held) puts sync)
-
--- where `lines` is the number of line feeds in the first `at` bytes of a file, and these are all its bytes, `lines` is the number
--- of line feeds in the file
-pub counts_all : (held : List ℕ) (at lines : ℕ) → length held ≤ at → lines ≡ feeds (take at held) → lines ≡ feeds held
-counts_all held at lines all is = is ∙ ap feeds (take_all at held all)

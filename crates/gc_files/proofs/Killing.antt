@@ -1,9 +1,9 @@
 -- Runs that a kill ends, and what the calls of a run do.
-use Rattle.std.proofs.Common.{◌≡◌, inl, inr, ℕ, ◌≤◌, true, false, List, [], ◌∷◌, ◌++◌, length, take, refl, sym, ◌∙◌, ap, subst, arith, append_assoc, Option}
+use Rattle.std.proofs.Common.{◌≡◌, inl, inr, ℕ, List, [], ◌∷◌, ◌++◌, take, refl, sym, ◌∙◌, ap, subst, arith, append_assoc, Option}
 use Rattle.std.proofs.lemmas.List.{append-nil}
-use Rattle.gc_files.specs.Files.{Step, Append, Cut, Sync, Life, has_sync, held_after, content, later_by}
-use Rattle.gc_files.specs.Rows.{table, start_of, mended, cuts_none, appended, Puts, MendedAndPut, IsFront, ComesTo}
-use Rattle.gc_files.specs.Runs.{synced, Run, lines, AreRows, IsHead, WereKept, IsRun, life_after, life_once_ended, HasRows, IsKilled, AreKilled, KillsLoseNothing}
+use Rattle.gc_files.specs.Files.{Step, Sync, Life, held_after, content, later_by}
+use Rattle.gc_files.specs.Rows.{table, start_of, mended, appended, MendedAndPut, IsFront, ComesTo}
+use Rattle.gc_files.specs.Runs.{synced, Run, lines, IsHead, IsRun, life_after, life_once_ended, HasRows, IsKilled, AreKilled, KillsLoseNothing, OpeningsAreRuns, FailedOpeningsAreRuns}
 use Rattle.gc_files.proofs.Adding.{cuts_two, appended_two, synced_all}
 use Rattle.gc_files.proofs.Lasting.{RunHas, run_moments, has_more}
 use Rattle.gc_files.proofs.Moments.{may_stay, behind_two, two_steps, mend_synced}
@@ -15,12 +15,8 @@ ran_synced held steps bytes ran =
     ap (λ (xs : List Step). xs ++ Sync ∷ []) ran.split ∙ append_assoc (mended held) ran.later (Sync ∷ []) ∙ ap (λ (xs : List Step). xs ++ (ran.later ++ Sync ∷ [])) (sym (two_steps held)) in
     ap synced at ∙ mend_synced held 2 (ran.later ++ Sync ∷ []) ∙ synced_all ran.later ∙ ran.puts.all
 
--- an opening, and after it appends and syncs of a front of the lines of some rows, of which the first `kept` were kept, are a run of these
--- rows
-pub calls_opened : (head held : List ℕ) (opening later : List Step) (front : List ℕ) (rows : List (List ℕ)) (kept : ℕ) (left : Option (List ℕ))
-    (ran : MendedAndPut held opening (start_of head held)) (puts : Puts later front) (is_front : IsFront front (lines rows))
-    (are : AreRows rows) (few : kept ≤ length rows) (were : WereKept head held rows kept (opening ++ later))
-    → IsRun head held (record { rows = rows; steps = opening ++ later; kept = kept; left = left })
+-- an opening, and what is written after it, are a run, as `OpeningsAreRuns` has it
+pub calls_opened : OpeningsAreRuns
 calls_opened head held opening later front rows kept left ran puts is_front are few were = record {
   rows = are;
   steps = inr (
@@ -42,9 +38,8 @@ calls_opened head held opening later front rows kept left ran puts is_front are 
   kept = were;
 }
 
--- the steps of an opening, as far as it came (`ComesTo`), are a run without rows
-pub calls_failed : (head held : List ℕ) (steps : List Step) (left : Option (List ℕ)) → ComesTo held (start_of head held) steps
-    → IsRun head held (record { rows = []; steps = steps; kept = 0; left = left })
+-- an opening that failed is a run, as `FailedOpeningsAreRuns` has it
+pub calls_failed : FailedOpeningsAreRuns
 calls_failed head held steps left comes = record {
   rows = tt;
   steps = subst (λ (all : List ℕ). ComesTo held all steps) (sym (append-nil (start_of head held))) comes;

@@ -3,14 +3,15 @@
 use Rattle.std.proofs.Common.{◌≡◌, ◌⊎◌, inl, inr, ℕ, zero, suc, ◌≤◌, Bool, true, false, List, [], ◌∷◌, ◌++◌, length, take, refl, sym, ◌∙◌, ap, subst, arith, append_assoc, length-append, if◌then◌else◌, Option, Some, None}
 use Rattle.std.proofs.lemmas.Bool.{cases_Bool}
 use Rattle.std.proofs.lemmas.List.{append-nil}
+use Rattle.std.proofs.lemmas.List.Prefix.{front_fits}
 use Rattle.gc_files.specs.Files.{Step, Append, Cut, Sync, Life, settled, has_sync, content, later_by, MayLeave}
 use Rattle.gc_files.specs.Rows.{whole, line, is_empty, start_of, table, mended, appended, MendedAndPut, IsFront}
 use Rattle.gc_files.specs.Runs.{synced, Run, lines, AreRows, IsHead, IsRun, life_once_ended, CrashMayLeave, Happen, life_after, rows_of, AreRowCounts, HasRows, TablesLast}
-use Rattle.gc_files.proofs.Whole.{whole_whole, whole_more, within}
+use Rattle.gc_files.proofs.Whole.{whole_whole, whole_more, Within, within}
 use Rattle.gc_files.proofs.Moments.{may_stay, leaves_two, no_sync, mended_leaves_whole, mend_moments, two_steps, mend_synced, front_take, put_moments}
 
--- the table of a file that holds `left` is the one from before a run and the first `count` of the run's rows, at least all that end within
--- the first k bytes of what the run appends
+-- the table of a file that holds `left` is the one from before a run and the first `count` of the run's rows, at least all that
+-- end within the first k bytes of what the run appends
 pub record HasRowsWithin (head held : List ℕ) (rows : List (List ℕ)) (k : ℕ) (left : List ℕ) : Type 0 where
   pub count : ℕ
   pub few : count ≤ length rows
@@ -83,30 +84,34 @@ behind_nothing held rows k left are none is =
     plain : (l : List ℕ) → table [] l ≡ whole l
     plain l = ap (λ (e : List ℕ). whole l ++ e) (either_same [] (is_empty (whole l))) ∙ append-nil (whole l)
 
--- where a file held no whole row before a run, the head is the line of `row`, and the whole rows of `left` are the first `count`
--- of the lines of `row` and of the run's rows, at least all that end within k bytes, `left` has the run's rows that end within
--- the first k bytes that the run appends (`HasRowsWithin`)
-head_first : (row held : List ℕ) (rows : List (List ℕ)) (k : ℕ) (left : List ℕ) → whole held ≡ []
-    → (count : ℕ) → count ≤ length (row ∷ rows) → whole left ≡ lines (take count (row ∷ rows))
-    → ((m : ℕ) → m ≤ length (row ∷ rows) → length (lines (take m (row ∷ rows))) ≤ k → m ≤ count) → HasRowsWithin (line row) held rows k left
-head_first row held rows k left none zero few is least =
-    let start : start_of (line row) held ≡ line row = ap (λ (l : List ℕ). if is_empty l then line row else []) none in
-    record {
-      count = 0;
-      few = omega arith;
-      is = table_by (line row) left [] is ∙ sym (append-nil (table (line row) held) ∙ table_by (line row) held [] none);
-      least = λ m few le. absurd (omega (arith, least (suc m) (omega (arith, few)) (subst (λ (l : List ℕ). length (l ++ lines (take m rows)) ≤ k) start le)));
-    }
-head_first row held rows k left none (suc n) few is least =
-    let start : start_of (line row) held ≡ line row = ap (λ (l : List ℕ). if is_empty l then line row else []) none in
-    let f = line_first row in
-    let first : whole left ≡ f.0 ∷ (f.1 ++ lines (take n rows)) = is ∙ ap (λ (l : List ℕ). l ++ lines (take n rows)) f.2 in
-    record {
-      count = n;
-      few = omega (arith, few);
-      is = table_of_rows (line row) f.0 (f.1 ++ lines (take n rows)) left first ∙ ap (λ (l : List ℕ). l ++ lines (take n rows)) (sym f.2 ∙ sym (table_by (line row) held [] none));
-      least = λ m few le. omega (arith, least (suc m) (omega (arith, few)) (subst (λ (l : List ℕ). length (l ++ lines (take m rows)) ≤ k) start le));
-    }
+-- where a file held no whole row before a run, the head is the line of `row`, and the whole rows of `left` are those of the first
+-- k bytes of the lines of `row` and of the run's rows (`Within`), `left` has the run's rows that end within the first k bytes
+-- that the run appends (`HasRowsWithin`)
+head_first : (row held : List ℕ) (rows : List (List ℕ)) (k : ℕ) (left : List ℕ) → whole held ≡ [] → (w : Within (row ∷ rows) k)
+    → whole left ≡ lines (take w.count (row ∷ rows)) → HasRowsWithin (line row) held rows k left
+head_first row held rows k left none w is = by w.count refl where
+  -- by how many of these lines are whole: none, or the head and some rows
+  by : (count : ℕ) → w.count ≡ count → HasRowsWithin (line row) held rows k left
+  by zero e =
+      let start : start_of (line row) held ≡ line row = ap (λ (l : List ℕ). if is_empty l then line row else []) none in
+      let nothing : whole left ≡ [] = is ∙ ap (λ n. lines (take n (row ∷ rows))) e in
+      record {
+        count = 0;
+        few = omega arith;
+        is = table_by (line row) left [] nothing ∙ sym (append-nil (table (line row) held) ∙ table_by (line row) held [] none);
+        least = λ m few le. absurd (omega (arith, e, w.least (suc m) (omega (arith, few)) (subst (λ (l : List ℕ). length (l ++ lines (take m rows)) ≤ k) start le)));
+      }
+  by (suc n) e =
+      let start : start_of (line row) held ≡ line row = ap (λ (l : List ℕ). if is_empty l then line row else []) none in
+      let some : whole left ≡ line row ++ lines (take n rows) = is ∙ ap (λ c. lines (take c (row ∷ rows))) e in
+      let f = line_first row in
+      let first : whole left ≡ f.0 ∷ (f.1 ++ lines (take n rows)) = some ∙ ap (λ (l : List ℕ). l ++ lines (take n rows)) f.2 in
+      record {
+        count = n;
+        few = omega (arith, e, w.few);
+        is = table_of_rows (line row) f.0 (f.1 ++ lines (take n rows)) left first ∙ ap (λ (l : List ℕ). l ++ lines (take n rows)) (sym f.2 ∙ sym (table_by (line row) held [] none));
+        least = λ m few le. omega (arith, e, w.least (suc m) (omega (arith, few)) (subst (λ (l : List ℕ). length (l ++ lines (take m rows)) ≤ k) start le));
+      }
 
 -- a list is empty, or has a first item
 list_cases : (xs : List ℕ) → (xs ≡ []) ⊎ ((b : ℕ) × (bs : List ℕ) × (xs ≡ b ∷ bs))
@@ -127,7 +132,7 @@ reached head held rows k left heads are is = elim (list_cases (whole held)) [
         let w = within (row ∷ rows) k (one.1, are) in
         let start : start_of head held ≡ line row = ap (λ (l : List ℕ). if is_empty l then head else []) none ∙ one.2 in
         let at : left ≡ take k (lines (row ∷ rows)) = is ∙ ap (λ (l : List ℕ). l ++ take k (start_of head held ++ lines rows)) none ∙ ap (λ (l : List ℕ). take k (l ++ lines rows)) start in
-        subst (λ (h : List ℕ). HasRowsWithin h held rows k left) (sym one.2) (head_first row held rows k left none w.count w.few (ap whole at ∙ w.is) w.least)
+        subst (λ (h : List ℕ). HasRowsWithin h held rows k left) (sym one.2) (head_first row held rows k left none w (ap whole at ∙ w.is))
   ]
 ]
 
@@ -139,10 +144,6 @@ pub record RunHas (head held : List ℕ) (run : Run) (left : List ℕ) : Type 0 
   pub few : count ≤ length run.rows
   pub is : table head left ≡ table head held ++ lines (take count run.rows)
 
--- a front is no longer than the whole
-front_length : (front all : List ℕ) → IsFront front all → length front ≤ length all
-front_length front all f = omega (arith, ap length f.split, length-append front f.rest)
-
 -- where a run is one over `held` (`IsRun`), at most k of the bytes that it appended were synced, and `left` has the rows that end
 -- within the first k bytes that the run appends (`HasRowsWithin`), `left` has first rows of the run, at least the kept ones
 -- (`RunHas`)
@@ -152,7 +153,7 @@ kept_within head held run left k one enough has = record {
   count = has.count;
   least = elim one.kept [
     | inl none ↦ omega (arith, none)
-    | inr front ↦ has.least run.kept one.few (omega (arith, enough, front_length _ _ front))
+    | inr front ↦ has.least run.kept one.few (omega (arith, enough, front_fits _ _ front.rest front.split))
   ];
   few = has.few;
   is = has.is;
@@ -168,15 +169,15 @@ no_row_kept head held run left one nothing =
       least = elim one.kept [
         | inl none ↦ omega (arith, none)
         | inr front ↦
-            w.least run.kept one.few (omega (arith, front_length _ _ front, ap length nothing, length-append (start_of head held) (lines (take run.kept run.rows))))
+            w.least run.kept one.few (omega (arith, front_fits _ _ front.rest front.split, ap length nothing, length-append (start_of head held) (lines (take run.kept run.rows))))
       ];
       few = w.few;
       is = sym (ap (λ (l : List ℕ). table head left ++ l) (sym w.is) ∙ append-nil (table head left));
     }
 
 -- files with the same whole rows have the same table
-same_table : (head left held : List ℕ) → whole left ≡ whole held → table head left ≡ table head held
-same_table head left held same = ap (λ (l : List ℕ). l ++ (if is_empty l then head else [])) same
+pub same_table : (head left held : List ℕ) → whole left ≡ whole held → table head left ≡ table head held
+same_table head left held same = table_by head left (whole held) same
 
 -- no more bytes were synced than were appended
 pub synced_length : (steps : List Step) → length (synced steps) ≤ length (appended steps)

@@ -21,7 +21,8 @@ pub fits_none : (sign : List ℕ) → fits sign [] ≡ true
 fits_none [] = refl
 fits_none (a ∷ sign) = refl
 
--- where a file and a sign have the same first k bytes, the file fits the sign exactly if what follows in it fits the rest of the sign
+-- where a file and a sign have the same first k bytes, the file fits the sign exactly if what follows in it fits the rest of the
+-- sign
 pub fits_from : (k : ℕ) (sign held : List ℕ) → take k sign ≡ take k held → fits sign held ≡ fits (drop k sign) (drop k held)
 fits_from k sign held same =
     ap (λ (s : List ℕ). fits s held) (sym (take-append-drop k sign)) ∙ ap (λ (h : List ℕ). fits (take k sign ++ drop k sign) h)
@@ -39,7 +40,8 @@ fits_not (suc k) (a ∷ sign) (b ∷ held) one two differ = elim (cases_Bool (a 
   | inr isnt ↦ ap (λ t. t && fits sign held) isnt
 ]
 
--- where the next k bytes of the file are those of the sign, the file fits the sign from there exactly if it does from k bytes later
+-- where the next k bytes of the file are those of the sign, the file fits the sign from there exactly if it does from k bytes
+-- later
 pub looked_on : (at k : ℕ) (sign held rest : List ℕ) → rest ≡ drop at sign → take k rest ≡ take k (drop at held)
     → fits (drop at sign) (drop at held) ≡ fits (drop (at + k) sign) (drop (at + k) held)
 looked_on at k sign held rest is same =
@@ -56,8 +58,8 @@ looked_not at k sign held rest is one two differ =
 pub looked_all : (at : ℕ) (sign held : List ℕ) → length held ≤ at → fits (drop at sign) (drop at held) ≡ true
 looked_all at sign held past = ap (fits (drop at sign)) (drop_all at held past) ∙ fits_none (drop at sign)
 
--- where the first `done` bytes of a buffer are the file's from place `at` on, and in place of the k bytes after them `ys` is put, of which
--- the first n are the file's bytes that follow, the first `done + n` bytes of the buffer are then the file's
+-- where the first `done` bytes of a buffer are the file's from place `at` on, and in place of the k bytes after them `ys` is put,
+-- of which the first n are the file's bytes that follow, the first `done + n` bytes of the buffer are then the file's
 pub read_more : (done n at k : ℕ) (buf ys held : List ℕ) → done ≤ length buf → n ≤ length ys
     → take done buf ≡ take done (drop at held) → take n ys ≡ take n (drop (at + done) held)
     → take (done + n) (put_mid done k buf ys) ≡ take (done + n) (drop at held)
@@ -125,13 +127,10 @@ last_some block last h = omega (arith, last_feed block last h.0.high h.1 (λ j a
 pub last_none : (block : List ℕ) → IsLastByte (is_byte 10) block None → 0 ≡ length (whole block)
 last_none block h = sym (ap length (whole_none block (none_feed block (λ j below. h j (omega arith) below))))
 
--- a file is its first `at` bytes, the block of the `size` bytes after them, or of those that there are, and what follows the
--- block
-split_at : (at size : ℕ) (held block : List ℕ) → block ≡ take size (drop at held) → held ≡ take at held ++ (block ++ drop (at + size) held)
-split_at at size held block is =
-    sym (take-append-drop at held) ∙ ap (λ (l : List ℕ). take at held ++ l)
-    (sym (take-append-drop size (drop at held)) ∙ ap (λ (l : List ℕ). l ++ drop size (drop at held)) (sym is)
-    ∙ ap (λ (l : List ℕ). block ++ l) (drop-drop size at held))
+-- what a file holds from place `at` on is the block of `size` bytes there, or of those that there are, and what follows the block
+block_and_rest : (at size : ℕ) (held block : List ℕ) → block ≡ take size (drop at held) → drop at held ≡ block ++ drop (at + size) held
+block_and_rest at size held block is =
+    sym (take-append-drop size (drop at held)) ∙ ap (λ (l : List ℕ). l ++ drop size (drop at held)) (sym is) ∙ ap (λ (l : List ℕ). block ++ l) (drop-drop size at held)
 
 -- bytes without a whole row have no line feed
 none_whole : (xs : List ℕ) → length (whole xs) ≡ 0 → has_feed xs ≡ false
@@ -156,9 +155,7 @@ some_whole xs some = elim (cases_Bool (has_feed xs)) [
 pub block_none : (at size end : ℕ) (held block : List ℕ) → block ≡ take size (drop at held) → at + size ≡ end → has_feed (drop end held) ≡ false
     → length (whole block) ≤ 0 → has_feed (drop at held) ≡ false
 block_none at size end held block is ends none no_rows =
-    let rest : drop at held ≡ block ++ drop (at + size) held = sym (take-append-drop size (drop at held))
-    ∙ ap (λ (l : List ℕ). l ++ drop size (drop at held)) (sym is) ∙ ap (λ (l : List ℕ). block ++ l) (drop-drop size at held) in
-    ap has_feed rest ∙ feed_front block (drop (at + size) held) (ap (λ n. has_feed (drop n held)) ends ∙ none) ∙ none_whole block (omega (arith, no_rows))
+    ap has_feed (block_and_rest at size held block is) ∙ feed_front block (drop (at + size) held) (ap (λ n. has_feed (drop n held)) ends ∙ none) ∙ none_whole block (omega (arith, no_rows))
 
 -- where a block of a file has a whole row, and no line feed follows the block, the file's whole rows end where the block's
 -- do
@@ -167,8 +164,10 @@ pub block_some : (at size end : ℕ) (held block : List ℕ)
     (none : has_feed (drop end held) ≡ false) (rows : 0 < length (whole block)) → at + length (whole block) ≡ length (whole held)
 block_some at size end held block is ends within none rows =
     let behind : has_feed (drop (at + size) held) ≡ false = ap (λ n. has_feed (drop n held)) ends ∙ none in
+    let split : held ≡ take at held ++ (block ++ drop (at + size) held) =
+    sym (take-append-drop at held) ∙ ap (λ (l : List ℕ). take at held ++ l) (block_and_rest at size held block is) in
     let whole_is : whole held ≡ take at held ++ whole block =
-    ap whole (split_at at size held block is ∙ sym (append_assoc (take at held) block (drop (at + size) held)))
+    ap whole (split ∙ sym (append_assoc (take at held) block (drop (at + size) held)))
     ∙ whole_front (take at held ++ block) (drop (at + size) held) behind ∙ whole_behind (take at held) block (some_whole block rows) in
     omega (arith, ap length whole_is, length-append (take at held) (whole block), length-take-le at held within)
 

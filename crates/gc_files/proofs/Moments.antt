@@ -1,6 +1,6 @@
 -- What a file holds at each moment of a run. To mend a file is to cut off what follows its last line feed, and to sync that.
 use Rattle.std.proofs.Common.{◌≡◌, ◌⊎◌, inl, inr, ℕ, zero, suc, ◌+◌, ◌≤◌, ◌==◌, true, false, List, [], ◌∷◌, ◌++◌, length, take, refl, sym, ◌∙◌, ap, subst, arith, append_assoc, length-append}
-use Rattle.std.proofs.Math.Seq.{take-append-add}
+use Rattle.std.proofs.Math.Seq.{take-append-add, take-nil}
 use Rattle.std.proofs.lemmas.Bool.{cases_Bool, cases_lt, eqb-true, true≢false}
 use Rattle.std.proofs.lemmas.List.{append-nil, take_all, take_at, take-append-le}
 use Rattle.gc_files.specs.Files.{Step, Append, Cut, Sync, stepped, held_after, has_sync, MayLeave}
@@ -17,10 +17,6 @@ may_stay held (step ∷ steps) = inr (may_stay (stepped held step) steps)
 pub behind_two : (held : List ℕ) (xs ys : List Step) → held_after held (xs ++ ys) ≡ held_after (held_after held xs) ys
 behind_two held [] ys = refl
 behind_two held (step ∷ xs) ys = behind_two (stepped held step) xs ys
-
--- the first n of no steps are no steps
-take_nil : (n : ℕ) → take {A = Step} n [] ≡ []
-take_nil n = take_all n [] (omega arith)
 
 -- where there is no sync in `xs ++ ys`, there is none in `xs`, and none in `ys`
 sync_two : (xs ys : List Step) → has_sync (xs ++ ys) ≡ false → (has_sync xs ≡ false) × (has_sync ys ≡ false)
@@ -77,14 +73,14 @@ cut_moments held (suc zero) left (inr next) = ap whole next ∙ whole_take held 
 cut_moments held (suc (suc n)) left (inl now) = absurd (true≢false now.0)
 cut_moments held (suc (suc n)) left (inr (inl now)) = absurd (true≢false now.0)
 cut_moments held (suc (suc n)) left (inr (inr next)) =
-    ap whole (subst (λ (steps : List Step). MayLeave (take (length (whole held)) held) steps left) (take_nil n) next) ∙ whole_take held (length (whole held)) (omega arith)
+    ap whole (subst (λ (steps : List Step). MayLeave (take (length (whole held)) held) steps left) (take-nil n) next) ∙ whole_take held (length (whole held)) (omega arith)
 
 -- at each moment of mending a file, in part or to the end, whatever a crash leaves has the same whole rows as the file
 pub mend_moments : (held : List ℕ) (count : ℕ) (left : List ℕ) → MayLeave held (take count (mended held)) left → whole left ≡ whole held
 mend_moments held count left may = elim (cases_Bool (length (whole held) == length held)) [
   | inl same ↦
       let none : mended held ≡ [] = rw (same) refl in
-      let there : MayLeave held [] left = subst (λ (steps : List Step). MayLeave held steps left) (ap (take count) none ∙ take_nil count) may in
+      let there : MayLeave held [] left = subst (λ (steps : List Step). MayLeave held steps left) (ap (take count) none ∙ take-nil count) may in
       ap whole there
   | inr less ↦
       let two : mended held ≡ Cut (length (whole held)) ∷ Sync ∷ [] = rw (less) refl in
@@ -94,7 +90,7 @@ mend_moments held count left may = elim (cases_Bool (length (whole held) == leng
 -- a file is mended by two steps at most
 pub two_steps : (held : List ℕ) → take 2 (mended held) ≡ mended held
 two_steps held = elim (cases_Bool (length (whole held) == length held)) [
-  | inl same ↦ rw (same) (take_nil 2)
+  | inl same ↦ rw (same) (take-nil 2)
   | inr less ↦ rw (less) refl
 ]
 
@@ -104,7 +100,7 @@ pub mend_synced : (held : List ℕ) (count : ℕ) (later : List Step) → synced
 mend_synced held count later = elim (cases_Bool (length (whole held) == length held)) [
   | inl same ↦
       let none : mended held ≡ [] = rw (same) refl in
-      ap (λ (steps : List Step). synced (take count steps ++ later)) none ∙ ap (λ (steps : List Step). synced (steps ++ later)) (take_nil count)
+      ap (λ (steps : List Step). synced (take count steps ++ later)) none ∙ ap (λ (steps : List Step). synced (steps ++ later)) (take-nil count)
   | inr less ↦
       let two : mended held ≡ Cut (length (whole held)) ∷ Sync ∷ [] = rw (less) refl in
       ap (λ (steps : List Step). synced (take count steps ++ later)) two ∙ none_in later count
@@ -114,7 +110,7 @@ mend_synced held count later = elim (cases_Bool (length (whole held) == length h
     none_in : (later : List Step) (n : ℕ) → synced (take n (Cut (length (whole held)) ∷ Sync ∷ []) ++ later) ≡ synced later
     none_in later zero = refl
     none_in later (suc zero) = refl
-    none_in later (suc (suc n)) = ap (λ (steps : List Step). synced (steps ++ later)) (take_nil n)
+    none_in later (suc (suc n)) = ap (λ (steps : List Step). synced (steps ++ later)) (take-nil n)
 
 -- `left` is `held` and the first `count` bytes of `all` after it, and `count` is at least the length of `least`
 pub record Reached (held all least left : List ℕ) : Type 0 where
@@ -122,8 +118,8 @@ pub record Reached (held all least left : List ℕ) : Type 0 where
   pub is : left ≡ held ++ take count all
   pub enough : length least ≤ count
 
--- after `held`, the first k bytes of a front are the first `count` bytes of the whole, and `count` is at least k or at least the front's
--- length
+-- where `bytes` are a front of `all`, `held` and then the first k of `bytes` are `held` and then the first `count` of `all`, for
+-- a `count` that is at least k or at least the length of `bytes`
 pub front_take : (held all bytes : List ℕ) (k : ℕ) (f : IsFront bytes all)
     → (count : ℕ) × (k ≤ count ⊎ length bytes ≤ count) × (held ++ take k bytes ≡ held ++ take count all)
 front_take held all bytes k f = elim (cases_lt k (length bytes)) [

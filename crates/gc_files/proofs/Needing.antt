@@ -1,4 +1,4 @@
--- Where a run goes on in a file in which a sync failed, and no copy took its place, a table doesn't last: such runs, computed.
+-- Where a run goes on in a file in which a sync failed, and no copy took its place, a table may not last: such runs, computed.
 use Rattle.std.proofs.Common.{◌≡◌, inl, inr, ℕ, false, List, [], ◌∷◌, refl, arith, None}
 use Rattle.gc_files.specs.Files.{Append, Sync}
 use Rattle.gc_files.specs.Runs.{Run, IsRun, rows_of}
@@ -49,7 +49,7 @@ events_occur = (
   (tt, second_is_a_run, tt),
 )
 
--- the law: where runs go on in any file, in doubt or not, the table doesn't last
+-- the law: it isn't so that tables last where runs go on in any file, in doubt or not
 pub copies_are_needed : CopiesAreNeeded
 copies_are_needed lasts =
     let has = lasts line_feed_head [] (inr ([], refl, refl)) events events_occur (0 ∷ 65 ∷ 10 ∷ []) (inr (inr (inr refl))) in

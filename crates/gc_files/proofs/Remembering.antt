@@ -2,21 +2,17 @@
 -- (`IsKept`).
 use Rattle.std.proofs.Common.{◌≡◌, inl, inr, ℕ, List, [], ◌∷◌, ◌++◌, refl, sym, ◌∙◌, ap, Option, None, Some, subst}
 use Rattle.std.proofs.lemmas.Bool.{true≢false}
+use Rattle.std.proofs.lemmas.List.{map_push}
 use Rattle.std.proofs.lemmas.Option.{same_Some}
 use Rattle.gc_files.specs.declared.memory_file.Call.{Call}
-use Rattle.gc_files.specs.Calls.{step_of, steps_of, life_by}
+use Rattle.gc_files.specs.Calls.{step_of, life_by}
 use Rattle.gc_files.specs.Files.{Step, Sync, Life, stepped, held_after, content, MayLeave, IsKept, later_by, Adds}
 use Rattle.gc_files.proofs.Moments.{behind_two, leaves_two}
-
--- the steps of `calls` and then c are those of `calls`, and then that of c
-steps_more : (calls : List Call) (c : Call) → steps_of (calls ++ c ∷ []) ≡ steps_of calls ++ step_of c ∷ []
-steps_more [] c = refl
-steps_more (d ∷ calls) c = ap (λ (steps : List Step). step_of d ∷ steps) (steps_more calls c)
 
 -- where `new` are `calls` and then c, the life after `new` is the life after `calls` with the step of c at its end
 pub life_more : (start : List ℕ) (calls new : List Call) (c : Call)
     → new ≡ calls ++ c ∷ [] → life_by start new ≡ later_by (step_of c ∷ []) (life_by start calls)
-life_more start calls new c is = ap (life_by start) is ∙ ap (λ (steps : List Step). record { start = start; steps = steps }) (steps_more calls c)
+life_more start calls new c is = ap (life_by start) is ∙ ap (λ (steps : List Step). record { start = start; steps = steps }) (map_push step_of calls c)
 
 -- after one more step a file holds what that step makes of what it held
 pub content_step : (life : Life) (step : Step) → content (later_by (step ∷ []) life) ≡ stepped (content life) step
@@ -41,7 +37,7 @@ noted_step start calls new c is life same =
     after None = None
     after (Some l) = Some (later_by (step_of c ∷ []) l)
 
--- where the last step was a sync, the file is kept
+-- where the last step was a sync, the file is kept, as `IsKept` has it
 kept_behind : (old : Life) → IsKept (later_by (Sync ∷ []) old)
 kept_behind old left may = elim (leaves_two old.start old.steps (Sync ∷ []) left may) [
   | inl earlier ↦ absurd (true≢false earlier.0)

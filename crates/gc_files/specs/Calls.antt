@@ -1,5 +1,5 @@
 -- What the calls of a file in memory stand for: this project's own.
-use Rattle.std.specs.Prelude.{◌≡◌, ℕ, List, [], ◌∷◌, Some, Result}
+use Rattle.std.specs.Prelude.{◌≡◌, ℕ, List, map, Some, Result}
 use Rattle.gc_files.specs.declared.memory_file.Call.{Call}
 use Rattle.gc_files.specs.declared.memory_file.Call.TheVariants as call
 use Rattle.gc_files.specs.Files.{Step, Append, Cut, Sync, Life, Makes, content}
@@ -12,8 +12,7 @@ step_of call.Sync = Sync
 
 -- the steps that these calls are
 abbrev pub steps_of : List Call → List Step
-steps_of [] = []
-steps_of (c ∷ calls) = step_of c ∷ steps_of calls
+steps_of calls = map step_of calls
 
 -- the life of a file that held `start` at first, after these calls
 abbrev pub life_by : List ℕ → List Call → Life

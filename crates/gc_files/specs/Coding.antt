@@ -1,5 +1,5 @@
--- The coding of a file's steps as numbers and bytes, from which the steps come back. A field for proofs alone has to have a coding
--- (`Coded`) of what it holds; nothing of it is on the disk.
+-- The coding of a file's steps as numbers and bytes, from which the steps come back. A field for proofs alone has to have a
+-- coding (`Coded`) of what it holds; nothing of it is on the disk.
 use Rattle.std.specs.Prelude.{◌≡◌, ℕ, List, [], cond, ◌==◌, refl}
 use Rattle.std.specs.Coded.{Coded, code_by, coded×, coded_ℕ, coded_list}
 use Rattle.gc_files.specs.Files.{Step, Append, Cut, Sync}

@@ -109,6 +109,6 @@ IsTrusted doubted = doubted ≡ false
 abbrev pub TablesOutlastFailures : Type 0
 TablesOutlastFailures = TablesLastWhere IsTrusted
 
--- where runs go on in any file, tables don't last
+-- it isn't so that tables last where runs go on in any file, in doubt or not
 abbrev pub CopiesAreNeeded : Type 0
 CopiesAreNeeded = TablesLastWhere (λ doubted. Unit {0}) → ⊥

@@ -70,8 +70,8 @@ later_by steps life = record { start = life.start; steps = life.steps ++ steps }
 abbrev pub Adds : (old new : Option Life) → List Step → Type 0
 Adds old new steps = (life : Life) → old ≡ Some life → new ≡ Some (later_by steps life)
 
--- a call made this step, and none where it failed. Outside of this are an append that failed and wrote a part all the same, and a cut that
--- failed and was made, or made in part
+-- a call made this step, and none where it failed. Outside of this are an append that failed and wrote a part all the same, and a
+-- cut that failed and was made, or made in part
 abbrev pub Makes : {X E : Type 0} → (old new : Option Life) → Result X E → (X → Step) → Type 0
 Makes old new (Ok x) step = Adds old new (step x ∷ [])
 Makes old new (Err _) step = new ≡ old

@@ -81,22 +81,22 @@ pub record IsFront (front all : List ℕ) : Type 0 where
 abbrev pub ComesTo : (held all : List ℕ) → List Step → Type 0
 ComesTo held all steps = Mending held steps ⊎ ((bytes : List ℕ) × MendedAndPut held steps bytes × IsFront bytes all)
 
+-- if a file's life was known, some steps were done to it, and `claim` holds of what the file held before and of these steps
+abbrev pub Did : (old new : Option Life) (claim : (held : List ℕ) → List Step → Type 0) → Type 0
+Did old new claim = (life : Life) → old ≡ Some life → (steps : List Step) × (new ≡ Some (later_by steps life)) × claim (content life) steps
+
 -- an opening mended the file, and wrote the head where no whole row was there
 abbrev pub Opens : (head : List ℕ) (old new : Option Life) → Type 0
-Opens head old new =
-    (life : Life) → old ≡ Some life
-    → (steps : List Step) × (new ≡ Some (later_by steps life)) × MendedAndPut (content life) steps (start_of head (content life))
+Opens head old new = Did old new (λ held steps. MendedAndPut held steps (start_of head held))
 
 -- an opening did a front of what an opening does, as far as it came: it mended the file, whole, in part or not at all, and did
 -- nothing else; or it mended the file whole, and then wrote a front of the head, where no whole row was there
 abbrev pub OpensInPart : (head : List ℕ) (old new : Option Life) → Type 0
-OpensInPart head old new =
-    (life : Life) → old ≡ Some life
-    → (steps : List Step) × (new ≡ Some (later_by steps life)) × ComesTo (content life) (start_of head (content life)) steps
+OpensInPart head old new = Did old new (λ held. ComesTo held (start_of head held))
 
 -- these bytes were appended, in some pieces, and nothing else was done but syncs
 abbrev pub PutsAll : (old new : Option Life) (bytes : List ℕ) → Type 0
-PutsAll old new bytes = (life : Life) → old ≡ Some life → (steps : List Step) × (new ≡ Some (later_by steps life)) × Puts steps bytes
+PutsAll old new bytes = Did old new (λ held steps. Puts steps bytes)
 
 -- The file with this life, if that is known.
 
@@ -118,11 +118,11 @@ Fits sign life is = (known : Life) → life ≡ Some known → fits sign (conten
 
 -- What was done to a file.
 
--- the file was mended
+-- the file was mended, by the steps of `mended`
 abbrev pub IsMended : (old new : Option Life) → Type 0
 IsMended old new = (known : Life) → old ≡ Some known → Adds old new (mended (content known))
 
--- the file was mended, whole, in part or not at all
+-- the file was mended, whole, in part or not at all: the first of the steps of `mended` were done to it
 abbrev pub IsMendedInPart : (old new : Option Life) → Type 0
 IsMendedInPart old new = (known : Life) → old ≡ Some known → (count : ℕ) × Adds old new (take count (mended (content known)))
 

@@ -19,7 +19,7 @@ pub record Run : Type 0 where
   pub kept : ℕ
   pub left : Option (List ℕ)
 
--- the lines of rows
+-- the rows, each with its line feed, one after the other
 abbrev pub lines : List (List ℕ) → List ℕ
 lines [] = []
 lines (row ∷ rows) = line row ++ lines rows
@@ -46,14 +46,14 @@ pub record IsRun (head held : List ℕ) (run : Run) : Type 0 where
   pub few : run.kept ≤ length run.rows
   pub kept : WereKept head held run.rows run.kept run.steps
 
--- the file's life once the run has ended: the life before with the run's steps; or, where a crash of the machine ended the run, a new life
--- that starts with what the crash left
+-- the file's life once the run has ended: the life before with the run's steps; or, where a crash of the machine ended the run, a
+-- new life that starts with what the crash left
 abbrev pub life_once_ended : Life → Run → Option (List ℕ) → Life
 life_once_ended life run None = later_by run.steps life
 life_once_ended life run (Some left) = settled left
 
--- where a crash of the machine ended the run, what the crash left of the file is something that a crash at that moment may leave; of a run
--- that no crash ended (`None`) nothing is claimed
+-- where a crash of the machine ended the run, what the crash left of the file is something that a crash at that moment may leave;
+-- of a run that no crash ended (`None`) nothing is claimed
 abbrev pub CrashMayLeave : Life → Run → Option (List ℕ) → Type 0
 CrashMayLeave life run None = Unit {0}
 CrashMayLeave life run (Some left) = MayLeave life.start (life.steps ++ run.steps) left
@@ -93,8 +93,8 @@ TablesLast = (head held : List ℕ) → IsHead head → (runs : List Run) → Ha
     → (left : List ℕ) → MayLeave (life_after (settled held) runs).start (life_after (settled held) runs).steps left
     → HasRows head (table head held) runs left
 
--- the first `count` rows of a run went out whole: what was appended after the mending begins with the head, where the run
--- wrote it, and these rows; or `count` is 0
+-- the first `count` rows of a run went out whole: what was appended after the mending, `bytes`, begins with them, and with the
+-- head before them where the run wrote it, and is a front of that head and all rows of the run; or `count` is 0
 abbrev pub WereWritten : (head held : List ℕ) (rows : List (List ℕ)) (count : ℕ) → List Step → Type 0
 WereWritten head held rows count steps =
     (count ≡ 0)
@@ -121,14 +121,21 @@ abbrev pub KillsLoseNothing : Type 0
 KillsLoseNothing = (head : List ℕ) → IsHead head → (life : Life) (runs : List Run) → AreKilled head life runs
     → HasRows head (table head (content life)) runs (content (life_after life runs))
 
--- What the calls do to a file is a run. `opened`: an opening, and after it writes and syncs of rows as far as they came; the
--- first `kept` of the rows, if these were kept (`WereKept`), count as kept. `failed`: an opening that failed. `kept`: a sync
--- after an opening and writes keeps all that was appended.
+-- an opening, and after it writes and syncs of rows as far as they came, are a run of these rows; the first `kept` of the rows,
+-- if these were kept (`WereKept`), count as kept
+abbrev pub OpeningsAreRuns : Type 0
+OpeningsAreRuns = (head held : List ℕ) (opening later : List Step) (front : List ℕ) (rows : List (List ℕ)) (kept : ℕ) (left : Option (List ℕ))
+    (ran : MendedAndPut held opening (start_of head held)) (puts : Puts later front) (is_front : IsFront front (lines rows))
+    (are : AreRows rows) (few : kept ≤ length rows) (were : WereKept head held rows kept (opening ++ later))
+    → IsRun head held (record { rows = rows; steps = opening ++ later; kept = kept; left = left })
+
+-- an opening that failed, as far as it came (`ComesTo`), is a run without rows
+abbrev pub FailedOpeningsAreRuns : Type 0
+FailedOpeningsAreRuns = (head held : List ℕ) (steps : List Step) (left : Option (List ℕ)) → ComesTo held (start_of head held) steps
+    → IsRun head held (record { rows = []; steps = steps; kept = 0; left = left })
+
+-- what the calls do to a file is a run; `kept`: a sync after an opening and writes keeps all that was appended
 pub record CallsAreRuns : Type 0 where
-  pub opened : (head held : List ℕ) (opening later : List Step) (front : List ℕ) (rows : List (List ℕ)) (kept : ℕ) (left : Option (List ℕ))
-      (ran : MendedAndPut held opening (start_of head held)) (puts : Puts later front) (is_front : IsFront front (lines rows))
-      (are : AreRows rows) (few : kept ≤ length rows) (were : WereKept head held rows kept (opening ++ later))
-      → IsRun head held (record { rows = rows; steps = opening ++ later; kept = kept; left = left })
-  pub failed : (head held : List ℕ) (steps : List Step) (left : Option (List ℕ)) → ComesTo held (start_of head held) steps
-      → IsRun head held (record { rows = []; steps = steps; kept = 0; left = left })
+  pub opened : OpeningsAreRuns
+  pub failed : FailedOpeningsAreRuns
   pub kept : (held : List ℕ) (steps : List Step) (bytes : List ℕ) → MendedAndPut held steps bytes → synced (steps ++ Sync ∷ []) ≡ bytes

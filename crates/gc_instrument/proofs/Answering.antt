@@ -1,21 +1,19 @@
 -- What the code wrote for a request is the reply that the definitions give to it (`AnswersRequest`, `IsReplied`, `handed`), and
 -- it reads as the outcome of carrying out the call (`IsAnswered`). Below, a state *fits* if `IsFittingState` holds of it, and a
 -- reply is *plain* if it has neither CR nor LF.
-use Rattle.std.proofs.Common.{◌≡◌, ◌≢◌, ◌⊎◌, inl, inr, ℕ, ◌<◌, arith, List, cond, ◌==◌, if◌then◌else◌, Some, None, Result, Ok, Err, refl, sym, ap, ◌∙◌, subst, Bool, [], true, false, Option}
+use Rattle.std.proofs.Common.{◌≡◌, ◌≢◌, ◌⊎◌, inl, inr, ℕ, ◌<◌, arith, List, cond, ◌==◌, if◌then◌else◌, Some, None, refl, sym, ap, ◌∙◌, subst, Bool, [], true, false, Option}
 use Rattle.std.specs.Prelude.{unwrap_or}
 use Rattle.gc_lines.specs.Lines.{IsPlain}
 use Rattle.std.proofs.lemmas.Bool.{cases_eq, ne_eqb}
 use Rattle.gc_lines.specs.Answering.{AppendsAnswer}
-use Rattle.gc_lines.specs.Headers.{Gives}
-use Rattle.gc_lines.specs.Requests.{RequestFields, IsRequest}
-use Rattle.gc_lines.specs.declared.fault.LineFault.{LineFault}
-use Rattle.gc_lines.specs.declared.request.Request.{Request}
+use Rattle.gc_lines.specs.Requests.{RequestFields, IsRequest, IsNoRequest}
+use Rattle.gc_lines.proofs.AnsweringLines.{appended_alone}
 use Rattle.gc_lines.proofs.Replies.{reply_found}
 use Rattle.gc_lines.proofs.Requests.{request_found, one_request}
 use Rattle.gc_catalogue.proofs.CallLaws.{one_call, no_refusal}
 use Rattle.gc_catalogue.proofs.LineLaws.{call_again, answer_again, refusal_again, rounded_fits}
-use Rattle.gc_catalogue.specs.Answers.{IsAnswerOf, rounded_answer}
-use Rattle.gc_catalogue.specs.Laws.{ReadsBackAnswer}
+use Rattle.gc_catalogue.specs.Answers.{rounded_answer}
+use Rattle.gc_catalogue.specs.Laws.{ReadsBackAnswer, ReadsBackValue, ReadsBackRefusal}
 use Rattle.gc_catalogue.specs.declared.answer.Reading.{Reading}
 use Rattle.gc_catalogue.specs.declared.answer.Reading.TheVariants.{Value, Refused}
 use Rattle.gc_catalogue.specs.Calls.{IsCall, IsFitting, IsRefusal}
@@ -27,7 +25,7 @@ use Rattle.gc_catalogue.specs.declared.call.Call.{Call}
 use Rattle.gc_instrument.proofs.Executions.{IsSoundOutcome, exec_outcome}
 use Rattle.gc_instrument.specs.State.{State, IsFittingState}
 use Rattle.gc_instrument.specs.Execution.{Executed, Executes, exec}
-use Rattle.gc_instrument.specs.Replying.{IsReplied, silent, answers, AnswersCall, repeats, executes, AnswersRequest, refuses, answers_call, AppendsCall, AppendsReply, IsAnswered, IsExchanged, Handed, handed, again_or_new, kept_line, with_kept, reading_of, refusal_line, executed_line, reply_id}
+use Rattle.gc_instrument.specs.Replying.{IsReplied, answers, AnswersCall, repeats, executes, AnswersRequest, refuses, answers_call, AppendsCall, AppendsReply, IsAnswered, IsExchanged, Handed, handed, again_or_new, kept_line, with_kept, reading_of, refusal_line, executed_line, reply_id}
 
 -- the reply line written of the code and the answer that a call gave, with the precision after it, is
 -- `executed_line` of the call's outcome
@@ -40,18 +38,6 @@ executed_is before after call number code places answer done precision =
 pub refused_reply : (state : State) (q : RequestFields) (fault : CallFault) (number : ℕ) (line : List ℕ)
     → IsRefusal q.rpc q.params fault → number ≡ reply_id q → line ≡ refusal_line number fault → AnswersRequest state q state line
 refused_reply state q fault number line is same made = refuses fault is refl (made ∙ ap (λ n. refusal_line n fault) same)
-
--- where a line reads as this request, what an instrument does with the request is what it does with the line
-pub request_replied : (before after : State) (line bytes : List ℕ) (q : RequestFields) (text : List ℕ) → bytes ≡ line → IsRequest bytes q
-    → AnswersRequest before q after text → IsReplied before line after (Some text)
-request_replied before after line bytes q text same is made = answers q (subst (λ (x : List ℕ). IsRequest x q) same is) text made refl
-
--- a line that doesn't read as a request gets no reply, and changes nothing. The premise about `view` is the contract of the
--- reading that failed
-pub silence_replied : (state : State) (line bytes : List ℕ) (fault : LineFault) (view : Request → RequestFields) → bytes ≡ line
-    → ((q : RequestFields) → IsRequest bytes q → Gives view (Err fault) (Ok q)) → IsReplied state line state None
-silence_replied state line bytes fault view same only =
-    silent (λ q is. let wrong : ◌≡◌ {A = Result RequestFields LineFault} (Ok q) (Err fault) = only q (subst (λ (x : List ℕ). IsRequest x q) (sym same) is) in cc) refl refl
 
 -- a choice by whether n is 0 gives a, where n is 0
 at_zero : (n : ℕ) (a b : Reading) → n ≡ 0 → (if n == 0 then a else b) ≡ a
@@ -71,28 +57,27 @@ reads_as before number call x reading e same back = record {
   reading = subst (λ (r : Reading). IsReading call (reply_of number x.rc x.answer x.state.precision) r) (sym (ap reading_of e ∙ same)) back.is_reading;
 }
 
--- where the reply line of a call's outcome reads back as the answer with its doubles rounded, if the code is 0, and else as the
--- refusal, `IsAnswered` holds of that line
+-- where the reply line of a call's outcome reads back as the answer with its doubles rounded (`ReadsBackValue`), or as the
+-- refusal (`ReadsBackRefusal`), `IsAnswered` holds of that line
 pub reads_executed : (before : State) (number : ℕ) (call : Call) (x : Executed) → exec before call ≡ x
-    → (x.rc ≡ 0 → ReadsBackAnswer call number x.rc x.answer x.state.precision (Value (rounded_answer x.state.precision x.answer)))
-    → (x.rc ≢ 0 → ReadsBackAnswer call number x.rc x.answer x.state.precision (Refused x.rc)) → IsAnswered before number call (executed_line number x)
-reads_executed before number call x e done refused = elim (cases_eq x.rc 0) [
-  | inl h ↦ reads_as before number call x (Value (rounded_answer x.state.precision x.answer)) e (at_zero x.rc _ _ h) (done h)
-  | inr h ↦ reads_as before number call x (Refused x.rc) e (past_zero x.rc _ _ h) (refused h)
-]
+    → ReadsBackValue number x.rc x.answer x.state.precision → ReadsBackRefusal number x.rc x.answer x.state.precision
+    → IsAnswered before number call (executed_line number x)
+reads_executed before number call x e back refused =
+    let outcome : IsSoundOutcome before call x = subst (λ (y : Executed). IsSoundOutcome before call y) e (exec_outcome before call) in
+    elim (cases_eq x.rc 0) [
+      | inl h ↦ reads_as before number call x (Value (rounded_answer x.state.precision x.answer)) e (at_zero x.rc _ _ h) (back call h (outcome.answers h))
+      | inr h ↦ reads_as before number call x (Refused x.rc) e (past_zero x.rc _ _ h) (refused call h)
+    ]
 
 -- where the line written of the code and the answer that a call gave, with the precision after it, reads back as that answer with
--- its doubles rounded, or as the refusal where the code isn't 0, `IsAnswered` holds of that line
-pub made_answered : (before after : State) (call : Call) (number code places : ℕ) (answer : Answer)
-    → (done : Executes before call after code answer) → (precision : places ≡ after.precision)
-    → (back : code ≡ 0 → IsAnswerOf call answer → ReadsBackAnswer call number code answer places (Value (rounded_answer places answer)))
-    → (refused : code ≢ 0 → ReadsBackAnswer call number code answer places (Refused code))
+-- its doubles rounded (`ReadsBackValue`), or as the refusal (`ReadsBackRefusal`), `IsAnswered` holds of that line
+pub made_answered : (before after : State) (call : Call) (number code places : ℕ) (answer : Answer) → Executes before call after code answer
+    → places ≡ after.precision → ReadsBackValue number code answer places → ReadsBackRefusal number code answer places
     → IsAnswered before number call (reply_line number code answer places)
 made_answered before after call number code places answer done precision back refused =
     let x : Executed = record { state = after; rc = code; answer = answer } in
-    let outcome : IsSoundOutcome before call x = subst (λ (y : Executed). IsSoundOutcome before call y) done (exec_outcome before call) in
-    let value = λ (h : code ≡ 0). subst (λ (p : ℕ). ReadsBackAnswer call number code answer p (Value (rounded_answer p answer))) precision (back h (outcome.answers h)) in
-    let refusal = λ (h : code ≢ 0). subst (λ (p : ℕ). ReadsBackAnswer call number code answer p (Refused code)) precision (refused h) in
+    let value = subst (λ (p : ℕ). ReadsBackValue number code answer p) precision back in
+    let refusal = subst (λ (p : ℕ). ReadsBackRefusal number code answer p) precision refused in
     let whole : reply_line number code answer places ≡ executed_line number x = ap (λ (p : ℕ). reply_line number code answer p) precision in
     subst (λ (l : List ℕ). IsAnswered before number call l) (sym whole) (reads_executed before number call x done value refusal)
 
@@ -127,26 +112,27 @@ handed_does before after id call text (executes e state line) =
       line ∙ sym (ap (λ (x : Handed State). x.reply) h),
     )
 
--- where a request names this call, and has this id, an instrument did with the request what `AnswersRequest` says, and the reply
--- is plain and, if no line was stored for the id, reads as the outcome, `IsExchanged` holds of the call
-pub exchanged : (before after : State) (q : RequestFields) (id : ℕ) (call : Call) (text : List ℕ)
-    → (same : q.id ≡ Some id) → (is : IsCall q.rpc q.params call) → (made : AnswersRequest before q after text) → (plain : IsPlain text)
-    → (answered : kept_line before.kept q.id ≡ None → IsAnswered before (reply_id q) call text)
-    → IsExchanged before id call after (Some text)
-exchanged before after q id call text same is (refuses fault refusal state line) plain answered = absurd (no_refusal q.rpc q.params call fault is refusal)
-exchanged before after q id call text same is (answers_call made is_made does) plain answered =
-    let one : made ≡ call = one_call q.rpc q.params made call is_made is in
-    let own : AnswersCall before (Some id) call after text = subst (λ (c : Call). AnswersCall before (Some id) c after text) one
-    (subst (λ (o : Option ℕ). AnswersCall before o made after text) same does) in
-    let h = handed_does before after id call text own in
-    record {
-      state = h.0;
-      line = ap (λ (l : List ℕ). Some l) h.1;
-      plain = subst IsPlain h.1 plain;
-      answered = λ new.
-          subst (λ (l : List ℕ). IsAnswered before id call l) h.1
-          (subst (λ (n : ℕ). IsAnswered before n call text) (ap (λ (o : Option ℕ). unwrap_or o 0) same) (answered (ap (kept_line before.kept) same ∙ new)));
-    }
+-- where a request names this call, and has this id, and the reply to the request was appended (`AppendsReply`), `IsExchanged`
+-- holds of the call and that reply
+pub exchanged : (before after : State) (q : RequestFields) (id : ℕ) (call : Call) (old new : List ℕ) → q.id ≡ Some id
+    → IsCall q.rpc q.params call → (made : AppendsReply before q after old new) → IsExchanged before id call after (Some made.text)
+exchanged before after q id call old new same is made = by_answer made.answers where
+  -- the request names a call, so the instrument answered that one
+  by_answer : AnswersRequest before q after made.text → IsExchanged before id call after (Some made.text)
+  by_answer (refuses fault refusal state line) = absurd (no_refusal q.rpc q.params call fault is refusal)
+  by_answer (answers_call other is_other does) =
+      let one : other ≡ call = one_call q.rpc q.params other call is_other is in
+      let own : AnswersCall before (Some id) call after made.text = subst (λ (c : Call). AnswersCall before (Some id) c after made.text) one
+      (subst (λ (o : Option ℕ). AnswersCall before o other after made.text) same does) in
+      let h = handed_does before after id call made.text own in
+      record {
+        state = h.0;
+        line = ap (λ (l : List ℕ). Some l) h.1;
+        plain = subst IsPlain h.1 (made.plain call is);
+        answered = λ new_id.
+            subst (λ (l : List ℕ). IsAnswered before id call l) h.1
+            (subst (λ (n : ℕ). IsAnswered before n call made.text) (ap (λ (o : Option ℕ). unwrap_or o 0) same) (made.says call is (ap (kept_line before.kept) same ∙ new_id)));
+      }
 
 -- in a state that fits, `IsAnswered` holds of the reply line of the outcome of a call with values in range and an id below 8
 pub executed_answered : (s : State) (id : ℕ) (call : Call) → IsFittingState s → id < 8 → IsFitting call
@@ -155,10 +141,10 @@ executed_answered s id call good small fits =
     let x = exec s call in
     let outcome = exec_outcome s call in
     reads_executed s id call x refl
-    (λ h. subst (λ (c : ℕ). ReadsBackAnswer call id c x.answer x.state.precision (Value (rounded_answer x.state.precision x.answer))) (sym h)
-    (answer_again call id x.answer x.state.precision small (outcome.answers h) (rounded_fits x.state.precision x.answer (outcome.answer_fits good fits))))
-    (λ h. subst (λ (a : Answer). ReadsBackAnswer call id x.rc a x.state.precision (Refused x.rc)) (sym (outcome.refuses h))
-    (refusal_again call id x.rc x.state.precision small (omega (arith, h)) outcome.code))
+    (λ c h of_call. subst (λ (n : ℕ). ReadsBackAnswer c id n x.answer x.state.precision (Value (rounded_answer x.state.precision x.answer))) (sym h)
+    (answer_again c id x.answer x.state.precision small of_call (rounded_fits x.state.precision x.answer (outcome.answer_fits good fits))))
+    (λ c h. subst (λ (a : Answer). ReadsBackAnswer c id x.rc a x.state.precision (Refused x.rc)) (sym (outcome.refuses h))
+    (refusal_again c id x.rc x.state.precision small (omega (arith, h)) outcome.code))
 
 -- in a state that fits, `IsAnswered` holds of the reply to a call with values in range and an id below 8 that isn't the stored
 -- one
@@ -171,29 +157,22 @@ handed_answered s id call good small fits new =
 own_request : (id : ℕ) (call : Call) → id < 8 → IsFitting call → IsRequest (request_line (Some id) call) (request_of (Some id) call)
 own_request id call small fits = request_found (request_line (Some id) call) (request_of (Some id) call) (call_again (Some id) call small fits).line
 
--- where a line is the request line of this call, with an id below 8 and values in range, an instrument did with the request what
--- `AnswersRequest` says, and the reply is plain and, if no line was stored for the id, reads as the outcome, `IsExchanged` holds
--- of the call
-pub line_exchanged : (before after : State) (line bytes : List ℕ) (q : RequestFields) (id : ℕ) (call : Call) (text : List ℕ)
-    → (same : bytes ≡ line) → (is : IsRequest bytes q) → (small : id < 8) → (fits : IsFitting call) → (own : line ≡ request_line (Some id) call)
-    → (made : AnswersRequest before q after text) → (plain : (d : Call) → IsCall q.rpc q.params d → IsPlain text)
-    → (answered : (d : Call) → IsCall q.rpc q.params d → kept_line before.kept q.id ≡ None → IsAnswered before (reply_id q) d text)
-    → IsExchanged before id call after (Some text)
-line_exchanged before after line bytes q id call text same is small fits own made plain answered =
-    let q_is : q ≡ request_of (Some id) call = read_of bytes q id call small fits (same ∙ own) is in
+-- where a line is the request line of this call, with an id below 8 and values in range, and the reply to the request was
+-- appended (`AppendsReply`), `IsExchanged` holds of the call and that reply
+pub line_exchanged : (before after : State) (line : List ℕ) (q : RequestFields) (id : ℕ) (call : Call) (old new : List ℕ)
+    → IsRequest line q → id < 8 → IsFitting call → line ≡ request_line (Some id) call → (made : AppendsReply before q after old new)
+    → IsExchanged before id call after (Some made.text)
+line_exchanged before after line q id call old new is small fits own made =
+    let q_is : q ≡ request_of (Some id) call = read_of line q id call small fits own is in
     let call_is : IsCall q.rpc q.params call = subst (λ (p : RequestFields). IsCall p.rpc p.params call) (sym q_is) (call_again (Some id) call small fits).is_call in
-    exchanged before after q id call text (ap (λ (p : RequestFields). p.id) q_is) call_is made (plain call call_is) (answered call call_is)
+    exchanged before after q id call old new (ap (λ (p : RequestFields). p.id) q_is) call_is made
 
--- a line that doesn't read as a request isn't a call's request line: the premises contradict each other, so `IsExchanged`
--- follows. The premise about `view` is the contract of the reading that failed
-pub silence_exchanged : (state : State) (line bytes : List ℕ) (fault : LineFault) (view : Request → RequestFields) (id : ℕ) (call : Call)
-    → (same : bytes ≡ line) → (only : (q : RequestFields) → IsRequest bytes q → Gives view (Err fault) (Ok q)) → (small : id < 8)
-    → (fits : IsFitting call) → (own : line ≡ request_line (Some id) call) → IsExchanged state id call state None
-silence_exchanged state line bytes fault view id call same only small fits own =
+-- a line that is no request isn't a call's request line: the premises contradict each other, so `IsExchanged` follows
+pub silence_exchanged : (state : State) (line : List ℕ) (id : ℕ) (call : Call) → IsNoRequest line → id < 8 → IsFitting call
+    → line ≡ request_line (Some id) call → IsExchanged state id call state None
+silence_exchanged state line id call none small fits own =
     let q = request_of (Some id) call in
-    let wrong : ◌≡◌ {A = Result RequestFields LineFault} (Ok q) (Err fault) = only q (subst (λ (x : List ℕ). IsRequest x q) (sym (same ∙ own)) (own_request id call small fits)) in
-    let never : ⊥ = cc in
-    absurd never
+    absurd (none q (subst (λ (x : List ℕ). IsRequest x q) (sym own) (own_request id call small fits)))
 
 -- an optional line is some line, or none
 pub some_line_or_none : (o : Option (List ℕ)) → ((line : List ℕ) × (o ≡ Some line)) ⊎ (o ≡ None)
@@ -216,12 +195,12 @@ handed_replied s id call small fits =
 
 -- where `new` is the empty text with a reply to a line (`IsReplied`) appended, `new` is this reply
 pub replied_alone : (s t : State) (line new : List ℕ) → AppendsAnswer (IsReplied s line t) [] new true → IsReplied s line t (Some new)
-replied_alone s t line new h = subst (λ (text : List ℕ). IsReplied s line t (Some text)) (sym h.2) h.1
+replied_alone s t line new h = appended_alone (IsReplied s line t) new h
 
 -- where `new` is the empty text with a reply to a call (`IsExchanged`) appended, `new` is this reply
 pub exchanged_alone : (s t : State) (id : ℕ) (call : Call) (new : List ℕ) → AppendsAnswer (IsExchanged s id call t) [] new true
     → IsExchanged s id call t (Some new)
-exchanged_alone s t id call new h = subst (λ (text : List ℕ). IsExchanged s id call t (Some text)) (sym h.2) h.1
+exchanged_alone s t id call new h = appended_alone (IsExchanged s id call t) new h
 
 -- where the reply to a call that a request names was appended (`AppendsCall`), the reply to the request was (`AppendsReply`)
 pub request_call : (before after : State) (q : RequestFields) (call : Call) (old new : List ℕ) → IsCall q.rpc q.params call

@@ -81,12 +81,12 @@ set_outcome false s t call same fits of_call = refused_outcome s s call 2 refl (
 -- the outcome of a call that answers with the distance d, or is refused if there is none, is sound if serial number, name and
 -- scene stay, the state after it, t, fits where s does, and the answer with any distance is one of the call, and has its values
 -- in range where the call's are
-with_outcome : (s t : State) (call : Call) (answer_with : Decimal → Answer) (d : Option Decimal) → opening_of t ≡ opening_of s
+distance_sound : (s t : State) (call : Call) (answer_with : Decimal → Answer) (d : Option Decimal) → opening_of t ≡ opening_of s
     → (IsFittingState s → IsFittingState t)
     → ((x : Decimal) → IsAnswerOf call (answer_with x)) → ((x : Decimal) → IsFitting call → IsFittingAnswer (answer_with x))
     → IsSoundOutcome s call (distance_outcome t answer_with d)
-with_outcome s t call answer_with (Some d) same fits of_call answer_fits = done_outcome s t call (answer_with d) same fits (of_call d) (λ _ c. answer_fits d c)
-with_outcome s t call answer_with None same fits of_call answer_fits = refused_outcome s t call 1285 same fits (omega arith) (omega arith)
+distance_sound s t call answer_with (Some d) same fits of_call answer_fits = done_outcome s t call (answer_with d) same fits (of_call d) (λ _ c. answer_fits d c)
+distance_sound s t call answer_with None same fits of_call answer_fits = refused_outcome s t call 1285 same fits (omega arith) (omega arith)
 
 -- the outcome of a measuring command is sound, for a call that is answered without values
 commanded_outcome : (s : State) (call : Call) (command : ℤ) → IsAnswerOf call Nothing → IsSoundOutcome s call (commanded s command)
@@ -176,19 +176,19 @@ pub restarted_fits : (s : State) → IsFittingState s → IsFittingState (restar
 restarted_fits s f = record { precision = f.precision; serial = f.serial; name = f.name; date = date_fits first_date refl; prism = (omega (arith, ints), omega (arith, ints)); kept = tt }
 
 -- a state that fits does so with a new precision that is allowed
-precise : (s : State) (n : ℤ) → is_precision n ≡ true → IsFittingState s → IsFittingState (record s { precision = unsigned_abs n })
-precise s n h f = record { precision = precision_few n h; serial = f.serial; name = f.name; date = f.date; prism = f.prism; kept = f.kept }
+new_places : (s : State) (n : ℤ) → is_precision n ≡ true → IsFittingState s → IsFittingState (record s { precision = unsigned_abs n })
+new_places s n h f = record { precision = precision_few n h; serial = f.serial; name = f.name; date = f.date; prism = f.prism; kept = f.kept }
 
 -- a state that fits does so with a new date that the clock takes
-dated : (s : State) (d : DateTime) → is_date d ≡ true → IsFittingState s → IsFittingState (record s { date = d })
-dated s d h f = record { precision = f.precision; serial = f.serial; name = f.name; date = date_fits d h; prism = f.prism; kept = f.kept }
+new_date : (s : State) (d : DateTime) → is_date d ≡ true → IsFittingState s → IsFittingState (record s { date = d })
+new_date s d h f = record { precision = f.precision; serial = f.serial; name = f.name; date = date_fits d h; prism = f.prism; kept = f.kept }
 
 -- a state that fits does so with a new prism type that is allowed
-prismed : (s : State) (n : ℤ) → is_prism n ≡ true → IsFittingState s → IsFittingState (record s { prism = n })
-prismed s n h f = record { precision = f.precision; serial = f.serial; name = f.name; date = f.date; prism = prism_fits n h; kept = f.kept }
+new_prism : (s : State) (n : ℤ) → is_prism n ≡ true → IsFittingState s → IsFittingState (record s { prism = n })
+new_prism s n h f = record { precision = f.precision; serial = f.serial; name = f.name; date = f.date; prism = prism_fits n h; kept = f.kept }
 
 -- the lemmas of which the search proves each row of the execution table
-ruleset row_rules = (answered_outcome, done_outcome, set_outcome, with_outcome, commanded_outcome, searched_outcome, fits_likewise, precise, dated, prismed, face_fits, precision_fits, arith)
+ruleset row_rules = (answered_outcome, done_outcome, set_outcome, distance_sound, commanded_outcome, searched_outcome, fits_likewise, new_places, new_date, new_prism, face_fits, precision_fits, arith)
 
 -- the outcome of every call in every state is sound. A new row of the table is made of the same parts, so it needs nothing here
 pub exec_outcome : (s : State) (call : Call) → IsSoundOutcome s call (exec s call)

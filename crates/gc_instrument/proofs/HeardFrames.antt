@@ -1,12 +1,12 @@
 -- Frames that an instrument answered are lines that it was handed; frames that are no lines are ignored.
-use Rattle.std.proofs.Common.{◌≡◌, ℕ, ◌+◌, ◌<◌, List, [], ◌∷◌, ◌++◌, length, map, take, Option, Some, None, Result, Ok, Err, refl, sym, ap, ◌∙◌, subst, true, false, append_assoc}
+use Rattle.std.proofs.Common.{◌≡◌, ℕ, ◌+◌, ◌<◌, List, [], ◌∷◌, ◌++◌, length, map, take, Option, Some, None, Result, Ok, Err, refl, sym, ap, ◌∙◌, subst, true, false}
 use Rattle.std.specs.List.{filter_map}
 use Rattle.std.specs.Option.{option_map, option_to_list}
 use Rattle.std.proofs.lemmas.List.{length-map}
 use Rattle.std.proofs.lemmas.Option.{none-some}
 use Rattle.std.proofs.lemmas.List.Elements.{filter_map-append}
 use Rattle.std.proofs.lemmas.List.Folds.{flat_map-map}
-use Rattle.gc_lines.specs.Answering.{AnswersInOrder, AnswersAll, AnswersPart, AnswersFrames, AppendsAnswer, all_of}
+use Rattle.gc_lines.specs.Answering.{AnswersInOrder, AnswersAll, AnswersPart, AnswersFrames, AppendsAnswer, Progress, all_of, progress}
 use Rattle.gc_lines.specs.Frames.{frames, line_in, lines, rest_of, rest_behind}
 use Rattle.gc_lines.specs.Lines.{with_end}
 use Rattle.gc_lines.specs.Passing.{frames_behind}
@@ -15,6 +15,7 @@ use Rattle.gc_lines.specs.declared.frame.Frame.TheVariants.{Line, Cleared, Overl
 use Rattle.gc_lines.specs.declared.served.Served.{Served}
 use Rattle.gc_lines.specs.declared.served.ServeFault.{ServeFault}
 use Rattle.gc_lines.specs.declared.served.ServeFault.TheVariants.{Read, Write, TooManyReads}
+use Rattle.gc_lines.proofs.AnsweringLines.{line_answered, line_unanswered}
 use Rattle.gc_lines.proofs.Known.{Appends-is}
 use Rattle.gc_lines.proofs.Passing.{frames-append}
 use Rattle.gc_instrument.specs.State.{State}
@@ -26,12 +27,12 @@ use Rattle.gc_instrument.specs.Serving.{AnswersFrame, ServesAll, ServesPart, Ser
 pub answered_line : (before after : State) (line old between new : List ℕ) → AppendsAnswer (IsReplied before line after) old between true
     → new ≡ between ++ 13 ∷ 10 ∷ []
     → AppendsAnswer (AnswersFrame before (Line (record { items = line })) after) old new true
-answered_line before after line old between new h e = (with_end h.0, (Some h.0, h.1, refl), e ∙ ap (λ (xs : List ℕ). xs ++ 13 ∷ 10 ∷ []) h.2 ∙ append_assoc old h.0 (13 ∷ 10 ∷ []))
+answered_line before after line old between new h e = line_answered IsReplied before after line old between new h e
 
 -- where a line has no reply, appending nothing is how an instrument answers the frame of that line
 pub unanswered_line : (before after : State) (line old new : List ℕ) → AppendsAnswer (IsReplied before line after) old new false
     → AppendsAnswer (AnswersFrame before (Line (record { items = line })) after) old new false
-unanswered_line before after line old new h = ((None, h.0, refl), h.1)
+unanswered_line before after line old new h = line_unanswered IsReplied before after line old new h
 
 -- the lines of frames
 abbrev pub lines_of : List Frame → List (List ℕ)
@@ -90,15 +91,14 @@ heard_frames s t (Overlong ∷ later) texts h = heard_same_lines s t later (Over
 heard_frames s t (More ∷ later) texts h = heard_same_lines s t later (More ∷ later) texts refl (heard_silence s h.0 t h.1 later h.2 texts h.3.0 h.3.1 (heard_frames h.0 t later h.2 h.4) h.5)
 
 -- where frames were all answered, the lines among them were all served
-all_serves : (s t : State) (seen : List Frame) (a b : Option (List ℕ)) (i j : ℕ) → AnswersAll AnswersFrame s t seen a b i j
-    → ServesAll s t (lines_of seen) a b i j
-all_serves s t seen a b i j all =
-    let h = heard_frames s t seen all.texts all.answers in
+all_serves : (s t : Progress State) (seen : List Frame) → AnswersAll AnswersFrame s t seen → ServesAll s t (lines_of seen)
+all_serves s t seen all =
+    let h = heard_frames s.state t.state seen all.texts all.answers in
     record {
       replies = h.replies;
       hears = h.hears;
-      counts = all.counts ∙ ap (λ (texts : List (List ℕ)). i + length texts) h.texts_are ∙ ap (λ n. i + n) (length-map h.replies with_end);
-      took = Appends-is a b _ _ (ap all_of h.texts_are ∙ flat_map-map (λ (text : List ℕ). text) with_end h.replies) all.took;
+      counts = all.counts ∙ ap (λ (texts : List (List ℕ)). s.whole + length texts) h.texts_are ∙ ap (λ n. s.whole + n) (length-map h.replies with_end);
+      took = Appends-is s.taken t.taken _ _ (ap all_of h.texts_are ∙ flat_map-map (λ (text : List ℕ). text) with_end h.replies) all.took;
     }
 
 -- the frame is a line with a reply, and the text is that reply with its CR LF
@@ -124,11 +124,10 @@ replied_frame s t More text h = absurd (none-some text (sym h.1))
 
 -- where frames were answered up to a part of a text, the lines among them were served up to the same part of a reply with its CR
 -- LF
-part_serves : (s t : State) (seen : List Frame) (a b : Option (List ℕ)) (i j bytes : ℕ) → AnswersPart AnswersFrame s t seen a b i j bytes
-    → ServesPart s t (lines_of seen) a b i j bytes
-part_serves s t seen a b i j bytes part =
-    let h = heard_frames s part.state part.earlier part.texts part.answers in
-    let d = replied_frame part.state t part.frame part.text part.gives in
+part_serves : (s t : Progress State) (seen : List Frame) (bytes : ℕ) → AnswersPart AnswersFrame s t seen bytes → ServesPart s t (lines_of seen) bytes
+part_serves s t seen bytes part =
+    let h = heard_frames s.state part.state part.earlier part.texts part.answers in
+    let d = replied_frame part.state t.state part.frame part.text part.gives in
     record {
       earlier = lines_of part.earlier;
       line = d.line;
@@ -139,19 +138,19 @@ part_serves s t seen a b i j bytes part =
       hears = h.hears;
       reply = d.reply;
       gives = d.replied;
-      counts = part.counts ∙ ap (λ (texts : List (List ℕ)). i + length texts) h.texts_are ∙ ap (λ n. i + n) (length-map h.replies with_end);
+      counts = part.counts ∙ ap (λ (texts : List (List ℕ)). s.whole + length texts) h.texts_are ∙ ap (λ n. s.whole + n) (length-map h.replies with_end);
       not_all = subst (λ (text : List ℕ). bytes < length text) d.text_is part.not_all;
-      took = Appends-is a b _ _ (ap (λ (xs : List ℕ). xs ++ take bytes part.text) (ap all_of h.texts_are ∙ flat_map-map (λ (text : List ℕ). text) with_end h.replies)
+      took = Appends-is s.taken t.taken _ _ (ap (λ (xs : List ℕ). xs ++ take bytes part.text) (ap all_of h.texts_are ∙ flat_map-map (λ (text : List ℕ). text) with_end h.replies)
           ∙ ap (λ (xs : List ℕ). replies_text h.replies ++ take bytes xs) d.text_is) part.took;
     }
 
 -- answering the frames with some result is serving their lines with that result
 pub serves_frames : (s t : State) (seen : List Frame) (a b : Option (List ℕ)) (r : Result Served ServeFault)
     → AnswersFrames AnswersFrame s t seen a b r → Serves s t (lines_of seen) a b r
-serves_frames s t seen a b (Ok served) h = all_serves s t seen a b 0 served.replies h
-serves_frames s t seen a b (Err (Read n)) h = all_serves s t seen a b 0 n h
-serves_frames s t seen a b (Err (Write n bytes)) h = part_serves s t seen a b 0 n bytes h
-serves_frames s t seen a b (Err (TooManyReads n)) h = all_serves s t seen a b 0 n h
+serves_frames s t seen a b (Ok served) h = all_serves (progress s a 0) (progress t b served.replies) seen h
+serves_frames s t seen a b (Err (Read n)) h = all_serves (progress s a 0) (progress t b n) seen h
+serves_frames s t seen a b (Err (Write n bytes)) h = part_serves (progress s a 0) (progress t b n) seen bytes h
+serves_frames s t seen a b (Err (TooManyReads n)) h = all_serves (progress s a 0) (progress t b n) seen h
 
 -- the lines of two streams, one after the other, of which the first is empty or ends in a line feed, are those of the first
 -- and then those of the second

@@ -1,10 +1,10 @@
--- The stored reply: for which id it is found, that no call's outcome depends on it, and what is stored after an execution.
+-- The stored reply: for which id it is found, that no call's outcome depends on it, and what is stored after an execution. Below,
+-- a line is *plain* if it has neither CR nor LF, and a state *fits* if `IsFittingState` holds of it.
 use Rattle.std.proofs.Common.{◌≡◌, ℤ, pos, ◌||◌, Bool, true, false, cond, ℕ, List, Option, Some, None, refl, sym, ap, ◌∙◌, subst, eqb, ◌+◌, ◌-◌, ◌++◌, length, take, drop, arith, length-append}
 use Rattle.std.specs.Prelude.{int_lt, unwrap_or}
 use Rattle.std.proofs.lemmas.List.{take_all}
 use Rattle.std.proofs.Math.Seq.{drop-append_seam}
 use Rattle.gc_lines.specs.Lines.{IsPlain}
-use Rattle.gc_lines.specs.Replies.{ReplyFields, IsReply}
 use Rattle.std.specs.Ordering.{int_eq}
 use Rattle.std.specs.Option.{option_map}
 use Rattle.gc_values.specs.declared.decimal.Decimal.{Decimal}
@@ -14,7 +14,7 @@ use Rattle.gc_catalogue.specs.declared.call.Call.{Call}
 use Rattle.gc_catalogue.specs.declared.call.Call.TheVariants.{NullProc}
 use Rattle.gc_instrument.specs.Execution.{Executed, exec, done, refused, set_if, distance_outcome, commanded, searched, adjusted, measured, unmeasured}
 use Rattle.gc_instrument.specs.Laws.{ExecutesApart}
-use Rattle.gc_instrument.specs.Replying.{AppendsCall, AppendsExecuted, executes, IsAnswered, executed_line, kept_after, kept_line, with_kept, executed_with}
+use Rattle.gc_instrument.specs.Replying.{AppendsCall, AppendsExecuted, executes, IsAnswered, kept_after, kept_line, with_kept, executed_with}
 use Rattle.gc_instrument.specs.Seen.{IsPlainKept}
 use Rattle.gc_instrument.specs.State.{State, KeptReply, IsFittingState, IsFittingKept, kept_in}
 use Rattle.gc_instrument.specs.Targets.{first_within}
@@ -36,22 +36,21 @@ pub none_kept : (id asked : Option ℕ) (line : List ℕ) → id ≡ None → No
 none_kept None asked line e = refl
 none_kept (Some n) asked line e = let never : ⊥ = cc in absurd never
 
--- where b is c, a choice by c is the choice by b
-cond_same : (b : Bool) (o p : Option (List ℕ)) (c : Bool) → b ≡ c → cond c o p ≡ cond b o p
-cond_same b o p c e = ap (λ x. cond x o p) (sym e)
+-- where b is whether the id asked for is the stored one, the stored line is found if b is true, and none if it is false
+kept_as : (b : Bool) (id asked : Option ℕ) (k n : ℕ) (line : List ℕ) → id ≡ Some k → asked ≡ Some n → eqb k n ≡ b
+    → cond b (Some line) None ≡ kept_line (kept_in id line) asked
+kept_as b id asked k n line e f is =
+    sym (ap (λ (o : Option ℕ). kept_line (kept_in o line) asked) e ∙ ap (kept_line (Some (record { id = k; line = line }))) f ∙ ap (λ (c : Bool). cond c (Some line) None) is)
 
 -- where the id asked for is the stored one, the stored line is found
 pub same_kept : (id asked : Option ℕ) (k n : ℕ) (line : List ℕ) → id ≡ Some k → asked ≡ Some n → eqb k n ≡ true
     → Some line ≡ kept_line (kept_in id line) asked
-same_kept id asked k n line e f same =
-    subst (λ o. Some line ≡ kept_line (kept_in o line) asked) (sym e) (subst (λ o. Some line ≡ kept_line (Some (record { id = k; line = line })) o) (sym f)
-    (cond_same (eqb k n) (Some line) None true same))
+same_kept = kept_as true
 
 -- where the id asked for isn't the stored one, no stored line is found
 pub other_kept : (id asked : Option ℕ) (k n : ℕ) (line : List ℕ) → id ≡ Some k → asked ≡ Some n → eqb k n ≡ false
     → None ≡ kept_line (kept_in id line) asked
-other_kept id asked k n line e f other =
-    subst (λ o. None ≡ kept_line (kept_in o line) asked) (sym e) (subst (λ o. None ≡ kept_line (Some (record { id = k; line = line })) o) (sym f) (cond_same (eqb k n) (Some line) None false other))
+other_kept = kept_as false
 
 -- The outcome of a call doesn't depend on the stored reply. On the left of each equation is the outcome in the state `s` itself,
 -- by which the search finds the equation.
@@ -117,50 +116,43 @@ pub kept_stays : (s : State) (call : Call) → (exec s call).state.kept ≡ s.ke
 kept_stays s call = ap (λ (x : Executed). x.state.kept) (executes_apart s s.kept call)
 
 -- the bytes from the old length on are what was appended
-appended_bytes_at : (old new text : List ℕ) (start : ℕ) → new ≡ old ++ text → start ≡ length old → take (length new - start) (drop start new) ≡ text
-appended_bytes_at old new text start is first =
+pub appended_bytes : (old new text : List ℕ) (start : ℕ) → new ≡ old ++ text → start ≡ length old → take (length new - start) (drop start new) ≡ text
+appended_bytes old new text start is first =
     let whole : drop start new ≡ text = ap (λ n. drop n new) first ∙ ap (drop (length old)) is ∙ drop-append_seam old text in
     let size : length new ≡ length old + length text = ap length is ∙ length-append old text in
     let enough : length new - start ≡ length text = omega (arith, size, first) in
     ap (take (length new - start)) whole ∙ ap (λ n. take n text) enough ∙ take_all (length text) text (omega arith)
 
--- the bytes from the old length on, of a list that equals the new one, are what was appended
-pub appended_bytes : (old new all text : List ℕ) (start : ℕ) → all ≡ new → new ≡ old ++ text → start ≡ length old
-    → take (length all - start) (drop start all) ≡ text
-appended_bytes old new all text start same is first = ap (λ xs. take (length xs - start) (drop start xs)) same ∙ appended_bytes_at old new text start is first
-
 -- a state that fits (`IsFittingState`) does so with another stored reply, if that fits, too
 pub fits_kept : (s : State) (kept : Option KeptReply) → IsFittingState s → IsFittingKept kept → IsFittingState (with_kept kept s)
 fits_kept s kept h k = record { precision = h.precision; serial = h.serial; name = h.name; date = h.date; prism = h.prism; kept = k }
 
--- where a state fits, and its stored line, if there is one, has neither CR nor LF, the state still fits once the reply `line` to
--- a request is stored, as `kept_after` has it, and the line that is then stored still has neither CR nor LF: `line` reads as a
--- reply with the request's id, or 0 without one, and has neither CR nor LF
-pub sound_keeping : (s : State) (id : Option ℕ) (kept : Option KeptReply) (number : ℕ) (line : List ℕ) (fields : ReplyFields)
-    → (fits : IsFittingState s) → (plain : IsPlainKept s.kept) → (is : kept ≡ kept_after s.kept id line) → (same : number ≡ unwrap_or id 0)
-    → (reply : IsReply line fields) → (own : fields.id ≡ Some number) → (one : IsPlain line)
+-- where a state fits, and its stored line, if there is one, is plain, and `line` is the plain reply to a call (`IsAnswered`) with
+-- this id, or with 0 without one, the state still fits once `line` is stored as `kept_after` has it, and the line that is then
+-- stored is plain
+pub sound_keeping : (s before : State) (id : Option ℕ) (kept : Option KeptReply) (call : Call) (line : List ℕ) → IsFittingState s
+    → IsPlainKept s.kept → kept ≡ kept_after s.kept id line → IsAnswered before (unwrap_or id 0) call line → IsPlain line
     → IsFittingState (with_kept kept s) × IsPlainKept kept
-sound_keeping s None kept number line fields h plain is same reply own one =
+sound_keeping s before None kept call line h plain is says one =
     (fits_kept s kept h (subst IsFittingKept (sym is) h.kept), subst IsPlainKept (sym is) plain)
-sound_keeping s (Some n) kept number line fields h plain is same reply own one = (
-  fits_kept s kept h (subst IsFittingKept (sym is) (record { fields = fields; is_reply = reply; same_id = own ∙ ap Some same })),
+sound_keeping s before (Some n) kept call line h plain is says one = (
+  fits_kept s kept h (subst IsFittingKept (sym is) (record { fields = says.fields; is_reply = says.is_reply; same_id = says.same_id })),
   subst IsPlainKept (sym is) one,
 )
 
--- carrying out a call for whose id no line is stored, and storing the reply if there is an id (`kept_after`), is what
--- `AppendsCall` says of that call
-pub kept_anew : (before after : State) (id : Option ℕ) (number : ℕ) (call : Call) (old new line : List ℕ) (kept : Option KeptReply)
-    → (same : number ≡ unwrap_or id 0) → (none : kept_line before.kept id ≡ None) → (h : AppendsExecuted before number call after old new)
-    → (line_is : line ≡ h.text) → (kept_is : kept ≡ kept_after after.kept id line)
-    → AppendsCall before id call (with_kept kept after) old new
-kept_anew before after id number call old new line kept same none h line_is kept_is =
+-- carrying out a call for whose id no line is stored (`AppendsExecuted`), with the id or with 0 without one, and storing the
+-- reply if there is an id (`kept_after`), is what `AppendsCall` says of that call
+pub kept_anew : (before after : State) (id : Option ℕ) (call : Call) (old new : List ℕ) (kept : Option KeptReply)
+    → kept_line before.kept id ≡ None → (h : AppendsExecuted before (unwrap_or id 0) call after old new)
+    → kept ≡ kept_after after.kept id h.text → AppendsCall before id call (with_kept kept after) old new
+kept_anew before after id call old new kept none h kept_is =
     let state : after ≡ (exec before call).state = h.state in
     let stays : after.kept ≡ before.kept = ap (λ (s : State). s.kept) state ∙ kept_stays before call in
-    let all : kept ≡ kept_after before.kept id h.text = kept_is ∙ ap (λ k. kept_after k id line) stays ∙ ap (kept_after before.kept id) line_is in
+    let all : kept ≡ kept_after before.kept id h.text = kept_is ∙ ap (λ k. kept_after k id h.text) stays in
     record {
       text = h.text;
       appended = h.appended;
       plain = h.plain;
-      answers = executes none (ap (λ k. with_kept k after) all ∙ ap (with_kept (kept_after before.kept id h.text)) state) (h.line ∙ ap (λ n. executed_line n (exec before call)) same);
-      says = λ new_id. subst (λ n. IsAnswered before n call h.text) same h.says;
+      answers = executes none (ap (λ k. with_kept k after) all ∙ ap (with_kept (kept_after before.kept id h.text)) state) h.line;
+      says = λ new_id. h.says;
     }

@@ -4,14 +4,14 @@ use Rattle.std.proofs.Common.{◌≡◌, ℕ, List, [], ◌∷◌, ◌++◌, Opt
 use Rattle.std.specs.Option.{option_to_list}
 use Rattle.gc_lines.specs.Frames.{lines, rest_of}
 use Rattle.gc_lines.specs.Requests.{RequestFields}
-use Rattle.gc_lines.proofs.Requests.{one_request}
+use Rattle.gc_lines.proofs.AnsweringLines.{replies_once}
 use Rattle.gc_catalogue.specs.declared.fault.CallFault.{CallFault}
 use Rattle.gc_catalogue.specs.declared.call.Call.{Call}
 use Rattle.gc_catalogue.proofs.CallLaws.{one_call, one_refusal, no_refusal}
 use Rattle.gc_instrument.specs.Execution.{exec}
 use Rattle.gc_instrument.specs.Hearing.{Hears, IsOutput, replies_text}
 use Rattle.gc_instrument.specs.Laws.{OneReply}
-use Rattle.gc_instrument.specs.Replying.{silent, answers, AnswersCall, repeats, executes, AnswersRequest, refuses, answers_call, kept_after, with_kept, refusal_line, reply_id}
+use Rattle.gc_instrument.specs.Replying.{AnswersCall, repeats, executes, AnswersRequest, refuses, answers_call, kept_after, with_kept, refusal_line, reply_id}
 use Rattle.gc_instrument.specs.State.{State}
 use Rattle.gc_instrument.proofs.Hearing.{hears_then, replies_text-append}
 use Rattle.gc_instrument.proofs.HeardFrames.{lines-next}
@@ -36,12 +36,7 @@ one_answer s t u q x y (answers_call c is does) (answers_call d other makes) =
 
 -- a state and a line determine the state after the line, and the reply or that there is none
 pub one_reply : OneReply
-one_reply s t u line p q (silent none same quiet) (silent never again mute) = (same ∙ sym again, quiet ∙ sym mute)
-one_reply s t u line p q (silent none same quiet) (answers r is text does told) = absurd (none r is)
-one_reply s t u line p q (answers r is text does told) (silent none same quiet) = absurd (none r is)
-one_reply s t u line p q (answers a is x does told) (answers b other y makes said) =
-    let same = one_answer s t u a x y does (subst (λ (r : RequestFields). AnswersRequest s r u y) (one_request line b a other is) makes) in
-    (same.0, told ∙ ap (λ (text : List ℕ). Some text) same.1 ∙ sym said)
+one_reply = replies_once AnswersRequest one_answer
 
 -- a state and lines determine the state after them, and their replies
 pub one_hearing : (s t u : State) (heard : List (List ℕ)) (ps qs : List (List ℕ)) → Hears s heard t ps → Hears s heard u qs → (t ≡ u) × (ps ≡ qs)

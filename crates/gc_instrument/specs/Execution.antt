@@ -28,8 +28,8 @@ done s a = record { state = s; rc = 0; answer = a }
 abbrev pub refused : State → (code : ℕ) → Executed
 refused s code = record { state = s; rc = code; answer = answer.Nothing }
 
--- the outcome of a call that sets values: the new state if these are allowed (true), else the old state and code 2, the manual's "invalid
--- parameter"
+-- the outcome of a call that sets values: the new state if these are allowed (true), else the old state and code 2, the manual's
+-- "invalid parameter"
 abbrev pub set_if : (allowed : Bool) (old new : State) → Executed
 set_if true old new = done new answer.Nothing
 set_if false old new = refused old 2
@@ -53,7 +53,8 @@ is_date d =
     int_le (pos 1) d.year && int_le d.year (pos 9999) && nat_le 1 d.month && nat_le d.month 12 && nat_le 1 d.day && nat_le d.day 31
     && nat_le d.hour 23 && nat_le d.minute 59 && nat_le d.second 59
 
--- the state after a measurement: the distance is that of the first target exactly where the telescope points, or none if none is there
+-- the state after a measurement: the distance is that of the first target exactly where the telescope points, or none if none is
+-- there
 abbrev pub measured : State → State
 measured s = record s { distance = option_map (λ t. t.distance) (first_at s.pointing s.scene) }
 
@@ -69,21 +70,22 @@ pointed s hz v = record s { pointing = record { hz = hz; v = v }; distance = Non
 abbrev pub turned_over : State → State
 turned_over s = record s { face = turned s.face; distance = None }
 
--- the outcome of TMC_DoMeasure with this command: 0 does nothing, 1 measures, 3 clears the distance, and any other is refused with code 2
+-- the outcome of TMC_DoMeasure with this command: 0 does nothing, 1 measures, 3 clears the distance, and any other is refused
+-- with code 2
 abbrev pub commanded : State → (command : ℤ) → Executed
 commanded s command =
     if int_eq command (pos 0) then done s answer.Nothing
     else (if int_eq command (pos 1) then done (measured s) answer.Nothing
     else (if int_eq command (pos 3) then done (unmeasured s) answer.Nothing else refused s 2))
 
--- the outcome of a search for a target: code 0, pointing at the target that was found, without a distance; or code 8710, with the state as
--- it is, if none was found
+-- the outcome of a search for a target: code 0, pointing at the target that was found, without a distance; or code 8710, with the
+-- state as it is, if none was found
 abbrev pub adjusted : State → Option Target → Executed
 adjusted s (Some t) = done (pointed s t.hz t.v) answer.Nothing
 adjusted s None = refused s 8710
 
--- the outcome of a search within the areas: code 2 if one of the areas is below zero, else that of `adjusted` with the first target within
--- them
+-- the outcome of a search within the areas: code 2 if one of the areas is below zero, else that of `adjusted` with the first
+-- target within them
 abbrev pub searched : State → (area_hz area_v : Decimal) → Executed
 searched s area_hz area_v =
     if int_lt area_hz.digits (pos 0) || int_lt area_v.digits (pos 0) then refused s 2

@@ -7,8 +7,8 @@ use Rattle.gc_lines.specs.Frames.{lines}
 use Rattle.gc_instrument.specs.State.{State}
 use Rattle.gc_instrument.specs.Replying.{IsReplied}
 
--- the lines, one after the other, lead the instrument from the state `before` to `after`, and these are its replies in order; lines that
--- get no reply have none in the list
+-- the lines, one after the other, lead the instrument from the state `before` to `after`, and these are its replies in order;
+-- lines that get no reply have none in the list
 abbrev pub Hears : (before : State) → (heard : List (List ℕ)) → (after : State) → (replies : List (List ℕ)) → Type 0
 Hears before [] after replies = (after ≡ before) × (replies ≡ [])
 Hears before (line ∷ later) after replies =
@@ -19,8 +19,8 @@ Hears before (line ∷ later) after replies =
 abbrev pub replies_text : List (List ℕ) → List ℕ
 replies_text replies = flat_map with_end replies
 
--- the bytes are all that an instrument in the state `before` writes for the lines of the stream, and `after` is its state after them. What
--- follows the last line feed of the stream is no line yet
+-- the bytes are all that an instrument in the state `before` writes for the lines of the stream, and `after` is its state after
+-- them. What follows the last line feed of the stream is no line yet
 pub record IsOutput (before : State) (stream : List ℕ) (after : State) (bytes : List ℕ) : Type 0 where
   pub replies : List (List ℕ)
   pub hears : Hears before (lines stream) after replies

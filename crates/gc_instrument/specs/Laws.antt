@@ -1,6 +1,7 @@
 -- What is claimed of the definitions themselves, apart from any call of a function: this project's own.
 use Rattle.std.specs.Prelude.{◌≡◌, ◌↔◌, ◌⊎◌, ℕ, ◌<◌, List, [], ◌∷◌, ◌++◌, Option, Some, None}
 use Rattle.std.specs.List.{AllByRecursion}
+use Rattle.gc_lines.specs.AnsweringLines.{HasOneReply}
 use Rattle.gc_lines.specs.Frames.{lines, rest_of}
 use Rattle.gc_lines.specs.Requests.{IsNoRequest}
 use Rattle.gc_catalogue.specs.Calls.{IsFitting}
@@ -27,11 +28,11 @@ pub record Restarts : Type 0 where
 
 -- a state and a line determine the state after the line, and the reply or that there is none
 abbrev pub OneReply : Type 0
-OneReply = (s t u : State) (line : List ℕ) (p q : Option (List ℕ)) → IsReplied s line t p → IsReplied s line u q → (t ≡ u) × (p ≡ q)
+OneReply = HasOneReply IsReplied
 
--- the request line of a call whose values are in range, with an id below 8, gets the reply that `handed` gives, and leads to the state that
--- it gives (`replied`); if the id isn't the stored one, and the values of the state are in range, that reply reads as the outcome of the
--- call (`answered`)
+-- the request line of a call whose values are in range, with an id below 8, gets the reply that `handed` gives, and leads to the
+-- state that it gives (`replied`); if the id isn't the stored one, and the values of the state are in range, that reply reads as
+-- the outcome of the call (`answered`)
 pub record ExchangesCalls : Type 0 where
   pub replied : (s : State) (id : ℕ) (call : Call) → id < 8 → IsFitting call
       → IsReplied s (request_line (Some id) call) (handed s id call).state (Some (handed s id call).reply)
@@ -60,8 +61,8 @@ AreForeign heard = AllByRecursion IsNoRequest heard
 abbrev pub HasNoRequest : List ℕ → Type 0
 HasNoRequest stream = AreForeign (lines stream)
 
--- a whole stream (`IsWhole`) without a request (`HasNoRequest`), inserted into another stream after a whole front part of it, changes
--- nothing: what is written, and the state after it, are the same without the inserted one
+-- a whole stream (`IsWhole`) without a request (`HasNoRequest`), inserted into another stream after a whole front part of it,
+-- changes nothing: what is written, and the state after it, are the same without the inserted one
 abbrev pub ForeignLinesAreSilent : Type 0
 ForeignLinesAreSilent = (s t : State) (front foreign back bytes : List ℕ) → IsWhole front → IsWhole foreign → HasNoRequest foreign
     → IsOutput s (front ++ (foreign ++ back)) t bytes ↔ IsOutput s (front ++ back) t bytes

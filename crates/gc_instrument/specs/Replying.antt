@@ -2,9 +2,11 @@
 -- is this project's own. A parameter `number` is an id.
 use Rattle.std.specs.Prelude.{◌≡◌, ◌<◌, ℕ, List, [], ◌++◌, Bool, true, false, Option, Some, None, if◌then◌else◌, ◌==◌, nat_eq, unwrap_or}
 use Rattle.gc_lines.specs.Answering.{AppendsAnswer}
+use Rattle.gc_lines.specs.AnsweringLines.{RepliesTo}
+pub use Rattle.gc_lines.specs.AnsweringLines.{silent, answers}
 use Rattle.gc_lines.specs.Lines.{IsPlain}
 use Rattle.gc_lines.specs.Replies.{ReplyFields, IsReply, reply_text}
-use Rattle.gc_lines.specs.Requests.{RequestFields, IsNoRequest, IsRequest}
+use Rattle.gc_lines.specs.Requests.{RequestFields}
 use Rattle.gc_catalogue.specs.Answers.{rounded_answer}
 use Rattle.gc_catalogue.specs.Calls.{IsCall, IsFitting, IsRefusal}
 use Rattle.gc_catalogue.specs.Readings.{IsReading}
@@ -21,8 +23,8 @@ use Rattle.gc_instrument.specs.Execution.{Executed, exec}
 abbrev pub reply_id : RequestFields → ℕ
 reply_id q = unwrap_or q.id 0
 
--- the communication code of a request that names no call: 3081 for a procedure that isn't in the table, 3080 for parameters that can't be
--- read
+-- the communication code of a request that names no call: 3081 for a procedure that isn't in the table, 3080 for parameters that
+-- can't be read
 abbrev pub com_code : CallFault → ℕ
 com_code Unknown = 3081
 com_code (Parameters _) = 3080
@@ -80,12 +82,8 @@ pub data AnswersRequest (before : State) (q : RequestFields) (after : State) (re
   answers_call : (call : Call) → IsCall q.rpc q.params call → AnswersCall before q.id call after reply → AnswersRequest before q after reply
 
 -- what the instrument does with a line, and its reply, if there is one
-pub data IsReplied (before : State) (line : List ℕ) (after : State) (reply : Option (List ℕ)) : Type 0 where
-  -- the line is no request: nothing changes
-  silent : IsNoRequest line → after ≡ before → reply ≡ None → IsReplied before line after reply
-  -- the line is a request
-  answers : (q : RequestFields) → IsRequest line q → (text : List ℕ) → AnswersRequest before q after text → reply ≡ Some text
-      → IsReplied before line after reply
+abbrev pub IsReplied : (before : State) → (line : List ℕ) → (after : State) → (reply : Option (List ℕ)) → Type 0
+IsReplied before line after reply = RepliesTo AnswersRequest before line after reply
 
 -- what an instrument does with a request: the state after it, the reply, and whether the request counts as executed
 pub record Handed (State : Type 0) : Type 0 where
@@ -93,8 +91,8 @@ pub record Handed (State : Type 0) : Type 0 where
   pub reply : List ℕ
   pub executed : Bool
 
--- what an instrument does with a call's request line: it sends the line that is stored for the id again, and carries out nothing; or, if
--- there is no such line, it carries out the call and stores the reply
+-- what an instrument does with a call's request line: it sends the line that is stored for the id again, and carries out nothing;
+-- or, if there is no such line, it carries out the call and stores the reply
 abbrev pub again_or_new : State → (number : ℕ) → Call → (stored : Option (List ℕ)) → Handed State
 again_or_new s number call (Some line) = record { state = s; reply = line; executed = false }
 again_or_new s number call None =
@@ -120,8 +118,8 @@ pub record IsAnswered (before : State) (number : ℕ) (call : Call) (line : List
   pub same_id : fields.id ≡ Some number
   pub reading : IsReading call fields (reading_of (exec before call))
 
--- the request line of a call led to the state and the reply of `handed`; the reply has neither CR nor LF, and if the request's id isn't the
--- stored one, the reply reads as the outcome of carrying out the call
+-- the request line of a call led to the state and the reply of `handed`; the reply has neither CR nor LF, and if the request's id
+-- isn't the stored one, the reply reads as the outcome of carrying out the call
 pub record IsExchanged (before : State) (number : ℕ) (call : Call) (after : State) (reply : Option (List ℕ)) : Type 0 where
   pub state : after ≡ (handed before number call).state
   pub line : reply ≡ Some (handed before number call).reply
@@ -138,8 +136,8 @@ pub record AppendsExecuted (before : State) (number : ℕ) (call : Call) (after 
   pub line : text ≡ executed_line number (exec before call)
   pub says : IsAnswered before number call text
 
--- the reply to a call, without CR or LF, was appended to `old`; unless the request carries the stored id, the reply reads as the outcome
--- of carrying out the call
+-- the reply to a call (`AnswersCall`), without CR or LF, was appended to `old`; unless the request carries the stored id, the reply
+-- reads as the outcome of carrying out the call
 pub record AppendsCall (before : State) (id : Option ℕ) (call : Call) (after : State) (old new : List ℕ) : Type 0 where
   pub text : List ℕ
   pub appended : new ≡ old ++ text
@@ -147,8 +145,8 @@ pub record AppendsCall (before : State) (id : Option ℕ) (call : Call) (after :
   pub answers : AnswersCall before id call after text
   pub says : kept_line before.kept id ≡ None → IsAnswered before (unwrap_or id 0) call text
 
--- the reply to a request was appended to `old`; if the request names a call, the reply has neither CR nor LF, and, unless the request
--- carries the stored id, reads as the outcome of carrying out the call
+-- the reply to a request (`AnswersRequest`) was appended to `old`; if the request names a call, the reply has neither CR nor LF,
+-- and, unless the request carries the stored id, reads as the outcome of carrying out the call
 pub record AppendsReply (before : State) (q : RequestFields) (after : State) (old new : List ℕ) : Type 0 where
   pub text : List ℕ
   pub appended : new ≡ old ++ text
@@ -156,9 +154,9 @@ pub record AppendsReply (before : State) (q : RequestFields) (after : State) (ol
   pub plain : (call : Call) → IsCall q.rpc q.params call → IsPlain text
   pub says : (call : Call) → IsCall q.rpc q.params call → kept_line before.kept q.id ≡ None → IsAnswered before (reply_id q) call text
 
--- for each id below 8 and each call with values in range: if the line is the call's request line with that id, `IsExchanged` holds of the
--- call, the states before and after, and the reply, which was appended to `old`; `has_reply`, which says whether there is a reply, is true
--- then
+-- for each id below 8 and each call with values in range: if the line is the call's request line with that id, `IsExchanged`
+-- holds of the call, the states before and after, and the reply, which was appended to `old`; `has_reply`, which says whether
+-- there is a reply, is true then
 abbrev pub AppendsExchange : (before : State) → (line : List ℕ) → (after : State) → (old new : List ℕ) → (has_reply : Bool) → Type 0
 AppendsExchange before line after old new has_reply = (id : ℕ) (call : Call) → id < 8 → IsFitting call
     → line ≡ request_line (Some id) call → AppendsAnswer (IsExchanged before id call after) old new has_reply

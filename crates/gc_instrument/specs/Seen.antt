@@ -1,5 +1,5 @@
 -- What a contract sees of an instrument, and what is known of every one: this project's own.
-use Rattle.std.specs.Prelude.{Option, Some, None, ⊤}
+use Rattle.std.specs.Prelude.{Option, IfSome}
 use Rattle.gc_lines.specs.Lines.{IsPlain}
 use Rattle.gc_instrument.specs.State.{State, KeptReply, IsFittingState}
 use Rattle.gc_instrument.specs.declared.instrument.Instrument.TheInside.{Inside}
@@ -23,8 +23,7 @@ state_of i = record {
 
 -- the stored line, if there is one, has neither CR nor LF
 abbrev pub IsPlainKept : Option KeptReply → Type 0
-IsPlainKept None = ⊤
-IsPlainKept (Some k) = IsPlain k.line
+IsPlainKept kept = IfSome kept (λ k. IsPlain k.line)
 
 -- what is known of every instrument: its values are in range (`IsFittingState`), and its stored line has neither CR nor LF
 abbrev pub IsSound : Inside → Type 0

@@ -1,5 +1,5 @@
 -- The state of a simulated instrument, as it is at the start and after a restart: this project's own.
-use Rattle.std.specs.Prelude.{◌≡◌, ◌≤◌, ℕ, ℤ, pos, List, [], ◌∷◌, Option, Some, None, codes, refl, ⊤}
+use Rattle.std.specs.Prelude.{◌≡◌, ◌≤◌, ℕ, ℤ, pos, List, [], ◌∷◌, Option, Some, None, IfSome, codes, refl}
 use Rattle.gc_lines.specs.Replies.{ReplyFields, IsReply}
 use Rattle.gc_values.specs.Decimals.{decimal, zero}
 use Rattle.gc_values.specs.declared.decimal.Decimal.{Decimal}
@@ -54,11 +54,10 @@ pub record IsFittingReply (k : KeptReply) : Type 0 where
 
 -- `IsFittingReply` holds of the stored reply, if there is one
 abbrev pub IsFittingKept : Option KeptReply → Type 0
-IsFittingKept None = ⊤
-IsFittingKept (Some k) = IsFittingReply k
+IsFittingKept kept = IfSome kept IsFittingReply
 
--- what is known of every instrument's state: the precision is at most 15, the other values are in the ranges of their types, and the stored
--- reply is a reply with the stored id
+-- what is known of every instrument's state: the precision is at most 15, the other values are in the ranges of their types, and
+-- the stored reply is a reply with the stored id
 pub record IsFittingState (s : State) : Type 0 where
   pub precision : s.precision ≤ 15
   pub serial : FitsLong s.serial

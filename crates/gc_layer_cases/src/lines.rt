@@ -45,21 +45,28 @@ fn tell_written(written: Result<Line, LineFault>, came: &mut Told) {
     }
 }
 
-// Reads a request, and reports its line, written again; the fault; or that its parameters aren't plain.
-fn rewrite_request(line: &[u8], came: &mut Told) {
-    match read_request(line) {
-        Ok(request) if is_plain(request.params) => tell_written(write_request(&request), came),
-        Ok(_) => came.text("not plain"),
-        Err(fault) => came.titled("fault ", &fault.number()),
+// Reports why a line that was read wasn't written again: the fault of reading it, or if there is none, that its parameters aren't
+// plain.
+fn tell_unwritten(fault: Option<LineFault>, came: &mut Told) {
+    match fault {
+        Some(fault) => came.titled("fault ", &fault.number()),
+        None => came.text("not plain"),
     }
 }
 
-// Reads a reply, and reports its line, written again; the fault; or that its parameters aren't plain.
+// Reads a request, and reports its line, written again, or why it wasn't.
+fn rewrite_request(line: &[u8], came: &mut Told) {
+    match read_request(line) {
+        Ok(request) if is_plain(request.params) => tell_written(write_request(&request), came),
+        read => tell_unwritten(read.err(), came),
+    }
+}
+
+// Reads a reply, and reports its line, written again, or why it wasn't.
 fn rewrite_reply(line: &[u8], came: &mut Told) {
     match read_reply(line) {
         Ok(reply) if is_plain(reply.params) => tell_written(write_reply(&reply), came),
-        Ok(_) => came.text("not plain"),
-        Err(fault) => came.titled("fault ", &fault.number()),
+        read => tell_unwritten(read.err(), came),
     }
 }
 

@@ -36,16 +36,16 @@ cut_later r bs b n e c = record {
 }
 
 -- `CutAt` is true of xs after r, where n is how many bytes of xs come before its first line feed: all, if it has none
-is_cut : (r xs : List ℕ) → CutAt r xs (prefix_len goes_on xs)
-is_cut r [] = record { ends = λ _. (refl, sym (append-nil r)); goes = λ h. absurd (omega arith) }
-is_cut r (b ∷ bs) = elim (is_line_feed b) as (λ v. is_line_feed b ≡ v → CutAt r (b ∷ bs) (cond (not v) (1 + prefix_len goes_on bs) 0)) [
+cut_at_feed : (r xs : List ℕ) → CutAt r xs (prefix_len goes_on xs)
+cut_at_feed r [] = record { ends = λ _. (refl, sym (append-nil r)); goes = λ h. absurd (omega arith) }
+cut_at_feed r (b ∷ bs) = elim (is_line_feed b) as (λ v. is_line_feed b ≡ v → CutAt r (b ∷ bs) (cond (not v) (1 + prefix_len goes_on bs) 0)) [
   | true ↦ λ e. cut_here r bs b e
-  | false ↦ λ e. cut_later r bs b (prefix_len goes_on bs) e (is_cut (r ++ b ∷ []) bs)
+  | false ↦ λ e. cut_later r bs b (prefix_len goes_on bs) e (cut_at_feed (r ++ b ∷ []) bs)
 ] refl
 
 -- where `position` finds no line feed in xs, xs after r makes no piece, and `r ++ xs` is the rest
 pub cut_none : (r xs : List ℕ) → position is_line_feed xs ≡ None → (pieces_behind r xs ≡ []) × (rest_behind r xs ≡ r ++ xs)
-cut_none r xs e = (is_cut r xs).ends (elim (ltb (prefix_len goes_on xs) (length xs)) as
+cut_none r xs e = (cut_at_feed r xs).ends (elim (ltb (prefix_len goes_on xs) (length xs)) as
     (λ v. ltb (prefix_len goes_on xs) (length xs) ≡ v → cond v (Some (prefix_len goes_on xs)) None ≡ None → length xs ≤ prefix_len goes_on xs) [
       | true ↦ λ _ f. (cc)
       | false ↦ λ f _. ltb-false _ _ f
@@ -57,7 +57,7 @@ pub cut_some : (r xs : List ℕ) (at : ℕ) → position is_line_feed xs ≡ Som
     (pieces_behind r xs ≡ (r ++ take at xs) ∷ pieces_behind [] (drop (at + 1) xs)) × (rest_behind r xs ≡ rest_behind [] (drop (at + 1) xs))
 cut_some r xs at e = elim (ltb (prefix_len goes_on xs) (length xs)) as (λ v. ltb (prefix_len goes_on xs) (length xs) ≡ v → cond v (Some (prefix_len goes_on xs)) None ≡ Some at →
     (pieces_behind r xs ≡ (r ++ take at xs) ∷ pieces_behind [] (drop (at + 1) xs)) × (rest_behind r xs ≡ rest_behind [] (drop (at + 1) xs))) [
-      | true ↦ λ t f. let same : prefix_len goes_on xs ≡ at = cc in rw (← same) ((is_cut r xs).goes (ltb-true _ _ t))
+      | true ↦ λ t f. let same : prefix_len goes_on xs ≡ at = cc in rw (← same) ((cut_at_feed r xs).goes (ltb-true _ _ t))
       | false ↦ λ _ f. (cc)
     ] refl e
 

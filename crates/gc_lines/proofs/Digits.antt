@@ -67,15 +67,14 @@ no_run (b ∷ bs) h = rw h refl
 is_digit : (c : ℕ) → digit_value c < 10 → is_ascii_digit c ≡ true
 is_digit c h = let r = digit_from_value c h in grind (arith, nat_tests)
 
--- where `text` is digits, and `rest` doesn't begin with a digit, the longest prefix of digits of `text ++ rest` is as long as
--- `text`
-prefix_length : (text rest : List ℕ) → AllDigits 10 text → NoDigitFirst rest → prefix_len is_ascii_digit (text ++ rest) ≡ length text
-prefix_length [] rest a h = no_run rest h
-prefix_length (c ∷ cs) rest a h = rw (is_digit c a.0) (omega (arith, prefix_length cs rest a.1 h))
+-- where `text` is digits, the longest prefix of digits of `text ++ rest` is as long as `text` and that of `rest` together
+prefix_run : (text rest : List ℕ) → AllDigits 10 text → prefix_len is_ascii_digit (text ++ rest) ≡ length text + prefix_len is_ascii_digit rest
+prefix_run [] rest a = omega arith
+prefix_run (c ∷ cs) rest a = rw (is_digit c a.0) (omega (arith, prefix_run cs rest a.1))
 
 -- where `text` is digits, and `rest` doesn't begin with a digit, the run of `text ++ rest` is as long as `text`
 pub run_length : (text rest : List ℕ) → AllDigits 10 text → NoDigitFirst rest → digits_len (text ++ rest) ≡ length text
-run_length text rest a h = run_is (text ++ rest) ∙ prefix_length text rest a h
+run_length text rest a h = omega (arith, run_is (text ++ rest), prefix_run text rest a, no_run rest h)
 
 -- where the run of b and then bs has length 1, b is from 48 to 57, and bs doesn't begin with a digit
 pub run_of_one : (b : ℕ) (bs : List ℕ) → digits_len (b ∷ bs) ≡ 1 → (48 ≤ b) × (b ≤ 57) × NoDigitFirst bs
@@ -111,22 +110,23 @@ pub record AreWrittenAfter (digits : List ℕ) (at left n : ℕ) : Type 0 where
   pub size : length digits ≡ 5
   pub text : decimal left ++ drop (at + 1) digits ≡ decimal n
 
--- A step of `push_digits`, where `AreWrittenAfter` is true, and `left` fits into the places through `at`, is below 2^16, and is
--- from ten on: once its last digit is written at place `at`, there is a place before `at`, there are still five places in all,
--- left / 10 fits into the places before `at`, and the digits of left / 10 and then those from `at` on are those of n.
+-- a step of `push_digits`, where `AreWrittenAfter` is true, and `left` fits into the places through `at`, is below 2^16, and is
+-- from ten on: once its last digit is written at place `at`, left / 10 fits into the places before `at`, and `AreWrittenAfter` is
+-- true of left / 10 and the place before `at`
 pub digit_written : (digits : List ℕ) (at left n : ℕ) → AreWrittenAfter digits at left n → left < 10 ^ (at + 1) → left < 2 ^ 16 → 10 ≤ left
-    → (0 < at) × (length (slice_set digits at (48 + left % 10)) ≡ 5) × (left / 10 < 10 ^ (at - 1 + 1))
-    × (decimal (left / 10) ++ drop (at - 1 + 1) (slice_set digits at (48 + left % 10)) ≡ decimal n)
+    → (left / 10 < 10 ^ (at - 1 + 1)) × AreWrittenAfter (slice_set digits at (48 + left % 10)) (at - 1) (left / 10) n
 digit_written digits at left n so below range more =
     let room : at ≤ 4 = so.room in
     let size : length digits ≡ 5 = so.size in
     let some : 0 < at = some_place at left below more in
     let same : at - 1 + 1 ≡ at = omega arith in (
-      some,
-      length-set digits at (48 + left % 10) ∙ size,
       subst (λ (m : ℕ). left / 10 < 10 ^ m) (sym same) ((div-lt_iff_lt-mul (lit< tt)).1 (subst (λ (m : ℕ). left < m) (pow-suc 10 at) (subst (λ (m : ℕ). left < 10 ^ m) (add-one at) below))),
-      rw (same, drop-set digits at (48 + left % 10) (omega (arith, size)))
-          (sym (append_assoc (decimal (left / 10)) ((48 + left % 10) ∷ []) (drop (at + 1) digits)) ∙ ap (λ ds. ds ++ drop (at + 1) digits) (sym (decimal_step left more (omega arith))) ∙ so.text),
+      record {
+        room = omega (arith, room);
+        size = length-set digits at (48 + left % 10) ∙ size;
+        text = rw (same, drop-set digits at (48 + left % 10) (omega (arith, size)))
+            (sym (append_assoc (decimal (left / 10)) ((48 + left % 10) ∷ []) (drop (at + 1) digits)) ∙ ap (λ ds. ds ++ drop (at + 1) digits) (sym (decimal_step left more (omega arith))) ∙ so.text);
+      },
     )
 
 -- the last step of `push_digits`, where `AreWrittenAfter` is true and `left` is below ten: once its one digit is written at place
@@ -154,11 +154,6 @@ value_next bytes i within digit = let r = digit_range (get_or bytes i 0) digit i
 -- where the first i bytes are digits, and i is at most 5, their value is below 100000
 pub value_small : (bytes : List ℕ) (i : ℕ) → AllDigits 10 (take i bytes) → i ≤ 5 → digits_value 10 (take i bytes) < 100000
 value_small bytes i all few = omega (arith, digits_value_short digits_are_numerals (take i bytes) 5 all (omega (arith, few, length-take i bytes)))
-
--- where `text` is digits, the longest prefix of digits of `text ++ rest` is as long as `text` and that of `rest` together
-prefix_run : (text rest : List ℕ) → AllDigits 10 text → prefix_len is_ascii_digit (text ++ rest) ≡ length text + prefix_len is_ascii_digit rest
-prefix_run [] rest a = omega arith
-prefix_run (c ∷ cs) rest a = rw (is_digit c a.0) (omega (arith, prefix_run cs rest a.1))
 
 -- where the first i bytes are digits, and there are at least i bytes, the run has at least i digits
 pub run_long : (bytes : List ℕ) (i : ℕ) → i ≤ length bytes → AllDigits 10 (take i bytes) → i ≤ digits_len bytes

@@ -1,4 +1,4 @@
--- What the end of answering says of the ports, and what the ports say of it.
+-- The end of a run of answering: `HasEnded`, from what the result says of the ports.
 use Rattle.std.proofs.Common.{ℕ, Result, Err, OnOk, rules}
 use Rattle.std.specs.Io.KnownBytes.{IsAtEnd}
 use Rattle.gc_lines.specs.Answering.{Ports, EndsBecause, HasEnded}

@@ -1,5 +1,5 @@
 -- Each field's reader finds just what has the field's form.
-use Rattle.std.proofs.Common.{◌≡◌, ℕ, ◌+◌, ◌-◌, ◌<◌, ◌&&◌, Bool, true, false, cond, List, [], ◌∷◌, ◌++◌, length, take, drop, get_or, Option, Some, None, Result, Ok, Err, IfSome, refl, sym, ap, ◌∙◌, subst, arith, eqb}
+use Rattle.std.proofs.Common.{◌≡◌, ℕ, ◌+◌, ◌-◌, ◌&&◌, true, false, cond, List, [], ◌∷◌, ◌++◌, length, take, drop, get_or, Option, Some, None, Result, Ok, Err, refl, sym, ap, ◌∙◌, subst, arith, eqb}
 use Rattle.std.specs.Str.Parse.{digits_value}
 use Rattle.std.proofs.lemmas.List.{take-append-drop, take_at, drop_at}
 use Rattle.std.proofs.lemmas.Bool.{ltb-true, lt-ltb, eqb-true, eq-eqb, and_parts}
@@ -8,7 +8,7 @@ use Rattle.std.proofs.Math.Dec.{ltb}
 use Rattle.gc_lines.specs.declared.fault.LineFault.{LineFault}
 use Rattle.gc_lines.specs.declared.fault.LineFault.TheVariants.{Signature, Id, Colon}
 use Rattle.gc_lines.specs.Numbers.{IsNumber, HasNumber, NoDigitFirst}
-use Rattle.gc_lines.specs.Headers.{HasId, EndsId, id_text, PastSignature}
+use Rattle.gc_lines.specs.Headers.{HasId, EndsId, IsIdInRange, id_text, PastSignature}
 use Rattle.gc_lines.specs.Readers.{number_at, digits_len, signature_at, id_at, colon_at}
 use Rattle.gc_lines.proofs.Digits.{run_is, run_digits, run_stops, run_length, run_of_one, one_digit_runs}
 use Rattle.gc_lines.proofs.Reading.{ReadsField, guard_ok, guard_err}
@@ -137,7 +137,7 @@ no_comma (b ∷ bs) h = elim (eqb b 44) as (λ v. eqb b 44 ≡ v → v ≡ false
 
 -- where an id is below 8, or is none, and its field ends before `rest`, as `EndsId` has it, `id_at` gives the id and `rest` for
 -- the id's text and then `rest`
-id_of_text : (id : Option ℕ) (rest : List ℕ) → IfSome id (λ i. i < 8) → EndsId id rest → id_at (id_text id ++ rest) ≡ Ok (id, rest)
+id_of_text : (id : Option ℕ) (rest : List ℕ) → IsIdInRange id → EndsId id rest → id_at (id_text id ++ rest) ≡ Ok (id, rest)
 id_of_text None rest below ends = rw (no_comma rest ends) refl
 id_of_text (Some i) rest below ends =
     rw (one_digit_runs i rest (omega arith) ends, lt-ltb (48 + i) 56 (omega arith)) (ap (λ n. Ok (Some n, rest)) (omega arith))

@@ -6,8 +6,8 @@ use Rattle.std.proofs.lemmas.Bool.{ltb-true, ltb-false, lt-ltb}
 use Rattle.std.proofs.lemmas.List.{append-nil, length-map, map-append, take-append-le}
 use Rattle.std.proofs.Math.Seq.{take-append-add}
 use Rattle.std.proofs.KnownBytes.{Appends-nil}
-use Rattle.gc_lines.specs.Answering.{AnswerRule, AnswersInOrder, AnswersAll, AnswersPart, all_of}
-use Rattle.gc_lines.specs.Passing.{Gathering, GathersPart, whole_and_part, Progress}
+use Rattle.gc_lines.specs.Answering.{AnswerRule, AnswersInOrder, AnswersAll, AnswersPart, Progress, all_of, progress}
+use Rattle.gc_lines.specs.Passing.{Gathering, GathersPart, TakesTextsPart, whole_and_part}
 use Rattle.gc_lines.specs.Ports.{TakesFront}
 use Rattle.gc_lines.specs.declared.frame.Frame.{Frame}
 use Rattle.gc_lines.proofs.InOrder.{in_order_then, in_order_one, all_of-append, all_then, part_then, one_part}
@@ -15,7 +15,7 @@ use Rattle.gc_lines.proofs.Known.{Appends-is}
 
 -- where all frames `seen` were answered and their texts went out, `Gathering` is true of `seen`, with no text that waits
 pub gathering_start : {State : Type 0} (rule : AnswerRule State) (from to : Progress State) (seen : List Frame)
-    → AnswersAll rule from.state to.state seen from.taken to.taken from.whole to.whole → Gathering rule from to seen [] []
+    → AnswersAll rule from to seen → Gathering rule from to seen [] []
 gathering_start rule from to seen all = record {
   state = to.state;
   done = seen;
@@ -33,74 +33,76 @@ no_texts : (texts : List (List ℕ)) → [] ≡ map length texts → texts ≡ [
 no_texts [] e = refl
 no_texts (t ∷ ts) e = cc
 
--- where `Gathering` is true of the frames `seen`, and the list of the lengths is empty, so that no text waits, all of `seen` were
--- answered and their texts went out
-pub gathering_end : {State : Type 0} (rule : AnswerRule State) (from to : Progress State) (seen : List Frame) (text lengths : List ℕ)
-    → lengths ≡ [] → Gathering rule from to seen text lengths → AnswersAll rule from.state to.state seen from.taken to.taken from.whole to.whole
-gathering_end {State} rule from to seen text lengths none g =
-    let nothing : g.texts ≡ [] = no_texts g.texts (sym none ∙ g.lengths_are) in
-    let silent : AnswersAll rule g.state to.state g.held to.taken to.taken to.whole to.whole = record {
-      texts = [];
-      answers = subst (λ (ts : List (List ℕ)). AnswersInOrder State rule g.state g.held to.state ts) nothing g.holds;
-      counts = omega arith;
-      took = Appends-nil to.taken;
-    } in
-    subst (λ (fs : List Frame). AnswersAll rule from.state to.state fs from.taken to.taken from.whole to.whole) (sym g.order)
-    (all_then rule from.state g.state to.state g.done g.held from.taken to.taken to.taken from.whole to.whole to.whole g.all silent)
+-- the text `more` joined the texts that wait, and its length theirs: they were `text` and `lengths`, and are now `text'` and
+-- `lengths'`
+pub record Joins (text lengths more text' lengths' : List ℕ) : Type 0 where
+  pub longer : text' ≡ text ++ more
+  pub counted : lengths' ≡ lengths ++ length more ∷ []
 
--- where `Gathering` is true of the frames `seen`, and the rule answers the next frame without a text, it is true of `seen` and
--- then that frame, with the same texts waiting, and with the state after that frame
-pub gathering_silent : {State : Type 0} (rule : AnswerRule State) (from to : Progress State) (next : State) (seen : List Frame)
-    (frame : Frame) (text lengths : List ℕ)
-    → rule to.state frame next None → Gathering rule from to seen text lengths
-    → Gathering rule from (record { state = next; taken = to.taken; whole = to.whole }) (seen ++ frame ∷ []) text lengths
-gathering_silent rule from to next seen frame text lengths gives g =
-    let same = append-nil g.texts in
-    record {
-      state = g.state;
-      done = g.done;
-      held = g.held ++ frame ∷ [];
-      texts = g.texts ++ [];
-      order = ap (λ (fs : List Frame). fs ++ frame ∷ []) g.order ∙ append_assoc g.done g.held (frame ∷ []);
-      all = g.all;
-      holds = in_order_then rule g.state to.state next g.held (frame ∷ []) g.texts [] g.holds (in_order_one rule to.state next frame None gives);
-      text_is = g.text_is ∙ sym (ap all_of same);
-      lengths_are = g.lengths_are ∙ sym (ap (λ (ts : List (List ℕ)). map length ts) same);
-    }
+-- Here `Gathering` is true of the frames `seen`, with the texts that wait in `text`, and their lengths in `lengths`.
+module _ {State : Type 0} (rule : AnswerRule State) (from to : Progress State) (seen : List Frame) (text lengths : List ℕ)
+    (g : Gathering rule from to seen text lengths) where
+  -- where the list of the lengths is empty, so that no text waits, all of `seen` were answered and their texts went out
+  pub gathering_end : lengths ≡ [] → AnswersAll rule from to seen
+  gathering_end none =
+      let nothing : g.texts ≡ [] = no_texts g.texts (sym none ∙ g.lengths_are) in
+      let same : to.whole ≡ to.whole + 0 = omega arith in
+      let silent : AnswersAll rule (progress g.state to.taken to.whole) to g.held = record {
+        texts = [];
+        answers = subst (λ (ts : List (List ℕ)). AnswersInOrder State rule g.state g.held to.state ts) nothing g.holds;
+        counts = same;
+        took = Appends-nil to.taken;
+      } in
+      subst (λ (fs : List Frame). AnswersAll rule from to fs) (sym g.order) (all_then rule from (progress g.state to.taken to.whole) to g.done g.held g.all silent)
 
--- where `Gathering` is true of the frames `seen`, and the rule answers the next frame with the text `more`, it is true of `seen`
--- and then that frame, with `more` after the texts that wait, its length after theirs, and the state after that frame
-pub gathering_more : {State : Type 0} (rule : AnswerRule State) (from to : Progress State) (next : State) (seen : List Frame)
-    (frame : Frame) (text lengths more text' lengths' : List ℕ)
-    → rule to.state frame next (Some more) → Gathering rule from to seen text lengths → text' ≡ text ++ more → lengths' ≡ lengths ++ length more ∷ []
-    → Gathering rule from (record { state = next; taken = to.taken; whole = to.whole }) (seen ++ frame ∷ []) text' lengths'
-gathering_more rule from to next seen frame text lengths more text' lengths' gives g longer counted = record {
-  state = g.state;
-  done = g.done;
-  held = g.held ++ frame ∷ [];
-  texts = g.texts ++ more ∷ [];
-  order = ap (λ (fs : List Frame). fs ++ frame ∷ []) g.order ∙ append_assoc g.done g.held (frame ∷ []);
-  all = g.all;
-  holds = in_order_then rule g.state to.state next g.held (frame ∷ []) g.texts (more ∷ []) g.holds (in_order_one rule to.state next frame (Some more) gives);
-  text_is = longer ∙ ap (λ (xs : List ℕ). xs ++ more) g.text_is ∙ ap (λ (xs : List ℕ). all_of g.texts ++ xs) (sym (append-nil more)) ∙ sym (all_of-append g.texts (more ∷ []));
-  lengths_are = counted ∙ ap (λ (ns : List ℕ). ns ++ length more ∷ []) g.lengths_are ∙ sym (map-append length g.texts (more ∷ []));
-}
+  -- where the rule answers the next frame without a text, `Gathering` is true of `seen` and then that frame, with the same texts
+  -- waiting, and with the state after that frame
+  pub gathering_silent : (next : State) (frame : Frame) → rule to.state frame next None
+      → Gathering rule from (progress next to.taken to.whole) (seen ++ frame ∷ []) text lengths
+  gathering_silent next frame gives =
+      let same = append-nil g.texts in
+      record {
+        state = g.state;
+        done = g.done;
+        held = g.held ++ frame ∷ [];
+        texts = g.texts ++ [];
+        order = ap (λ (fs : List Frame). fs ++ frame ∷ []) g.order ∙ append_assoc g.done g.held (frame ∷ []);
+        all = g.all;
+        holds = in_order_then rule g.state to.state next g.held (frame ∷ []) g.texts [] g.holds (in_order_one rule to.state next frame None gives);
+        text_is = g.text_is ∙ sym (ap all_of same);
+        lengths_are = g.lengths_are ∙ sym (ap (λ (ts : List (List ℕ)). map length ts) same);
+      }
 
--- where `Gathering` is true of the frames `seen`, and then the sink took all texts that waited, all of `seen` were answered and
--- their texts went out; `total` counts the texts that had gone out before and those that waited
-pub gathering_written : {State : Type 0} (rule : AnswerRule State) (from to : Progress State) (seen : List Frame) (text lengths : List ℕ)
-    (after : Option (List ℕ)) (total : ℕ)
-    → Gathering rule from to seen text lengths → Appends to.taken after text → total ≡ to.whole + length lengths
-    → AnswersAll rule from.state to.state seen from.taken after from.whole total
-gathering_written rule from to seen text lengths after total g took counts =
-    let out : AnswersAll rule g.state to.state g.held to.taken after to.whole total = record {
-      texts = g.texts;
-      answers = g.holds;
-      counts = counts ∙ ap (λ (ns : List ℕ). to.whole + length ns) g.lengths_are ∙ ap (λ n. to.whole + n) (length-map g.texts length);
-      took = Appends-is to.taken after text (all_of g.texts) g.text_is took;
-    } in
-    subst (λ (fs : List Frame). AnswersAll rule from.state to.state fs from.taken after from.whole total) (sym g.order)
-    (all_then rule from.state g.state to.state g.done g.held from.taken to.taken after from.whole to.whole total g.all out)
+  -- where the rule answers the next frame with the text `more`, which joins the texts that wait, `Gathering` is true of `seen`
+  -- and then that frame, with the texts that wait then, and with the state after that frame
+  pub gathering_more : (next : State) (frame : Frame) (more text' lengths' : List ℕ) → rule to.state frame next (Some more)
+      → Joins text lengths more text' lengths' → Gathering rule from (progress next to.taken to.whole) (seen ++ frame ∷ []) text' lengths'
+  gathering_more next frame more text' lengths' gives joins = record {
+    state = g.state;
+    done = g.done;
+    held = g.held ++ frame ∷ [];
+    texts = g.texts ++ more ∷ [];
+    order = ap (λ (fs : List Frame). fs ++ frame ∷ []) g.order ∙ append_assoc g.done g.held (frame ∷ []);
+    all = g.all;
+    holds = in_order_then rule g.state to.state next g.held (frame ∷ []) g.texts (more ∷ []) g.holds (in_order_one rule to.state next frame (Some more) gives);
+    text_is = joins.longer ∙ ap (λ (xs : List ℕ). xs ++ more) g.text_is ∙ ap (λ (xs : List ℕ). all_of g.texts ++ xs) (sym (append-nil more))
+        ∙ sym (all_of-append g.texts (more ∷ []));
+    lengths_are = joins.counted ∙ ap (λ (ns : List ℕ). ns ++ length more ∷ []) g.lengths_are ∙ sym (map-append length g.texts (more ∷ []));
+  }
+
+  -- where the sink then took all texts that waited, all of `seen` were answered and their texts went out; `total` counts the
+  -- texts that had gone out before and those that waited
+  pub gathering_written : (after : Option (List ℕ)) (total : ℕ) → Appends to.taken after text → total ≡ to.whole + length lengths
+      → AnswersAll rule from (progress to.state after total) seen
+  gathering_written after total took counts =
+      let out : AnswersAll rule (progress g.state to.taken to.whole) (progress to.state after total) g.held = record {
+        texts = g.texts;
+        answers = g.holds;
+        counts = counts ∙ ap (λ (ns : List ℕ). to.whole + length ns) g.lengths_are ∙ ap (λ n. to.whole + n) (length-map g.texts length);
+        took = Appends-is to.taken after text (all_of g.texts) g.text_is took;
+      } in
+      subst (λ (fs : List Frame). AnswersAll rule from (progress to.state after total) fs) (sym g.order)
+      (all_then rule from (progress g.state to.taken to.whole) (progress to.state after total) g.done g.held g.all out)
 
 -- the first n bytes of the texts end within one of them: where the sink took just these, `AnswersPart` says which frames were
 -- answered, and `whole_and_part` gives its numbers
@@ -108,70 +110,69 @@ record EndsWithin {State : Type 0} (rule : AnswerRule State) (from : State) (see
   reached : State
   count : ℕ
   bytes : ℕ
-  part : AnswersPart rule from reached seen (Some []) (Some (take n (all_of texts))) whole count bytes
+  part : AnswersPart rule (progress from (Some []) whole) (progress reached (Some (take n (all_of texts))) count) seen bytes
   counts : whole_and_part whole n (map length texts) ≡ (count, bytes)
 
--- `EndsWithin` is true where the rule answers the first frame with the first text, and the n bytes end within that text
-ends_in_first : {State : Type 0} (rule : AnswerRule State) (s u : State) (frame : Frame) (later : List Frame) (t : List ℕ)
-    (rest : List (List ℕ)) (whole n : ℕ)
-    → rule s frame u (Some t) → nat_lt n (length t) ≡ true → EndsWithin rule s (frame ∷ later) (t ∷ rest) whole n
-ends_in_first rule s u frame later t rest whole n gives e =
-    let less : n < length t = ltb-true n (length t) e in
-    let within : n ≤ length t = omega arith in
-    let same : whole ≡ whole + 0 = omega arith in
-    record {
-      reached = u;
-      count = whole;
-      bytes = n;
-      part = record {
-        earlier = [];
-        frame = frame;
-        later = later;
-        order = refl;
-        state = s;
-        texts = [];
-        answers = (refl, refl);
-        text = t;
-        gives = gives;
-        counts = same;
-        not_all = less;
-        took = take-append-le n t (all_of rest) within;
-      };
-      counts = ap (λ (b : Bool). cond b (whole, n) (whole_and_part (whole + 1) (n - length t) (map length rest))) e;
-    }
+-- Here the rule answers the first frame with the first text.
+module _ {State : Type 0} (rule : AnswerRule State) (s u : State) (frame : Frame) (later : List Frame) (t : List ℕ) (rest : List (List ℕ)) (whole n : ℕ)
+    (gives : rule s frame u (Some t)) where
+  -- where the n bytes end within the first text, `EndsWithin` is true
+  ends_in_first : nat_lt n (length t) ≡ true → EndsWithin rule s (frame ∷ later) (t ∷ rest) whole n
+  ends_in_first e =
+      let less : n < length t = ltb-true n (length t) e in
+      let within : n ≤ length t = omega arith in
+      let same : whole ≡ whole + 0 = omega arith in
+      record {
+        reached = u;
+        count = whole;
+        bytes = n;
+        part = record {
+          earlier = [];
+          frame = frame;
+          later = later;
+          order = refl;
+          state = s;
+          texts = [];
+          answers = (refl, refl);
+          text = t;
+          gives = gives;
+          counts = same;
+          not_all = less;
+          took = take-append-le n t (all_of rest) within;
+        };
+        counts = ap (λ (b : Bool). cond b (whole, n) (whole_and_part (whole + 1) (n - length t) (map length rest))) e;
+      }
 
--- `EndsWithin` is true where the rule answers the first frame with the first text, the n bytes hold that text whole, and
--- `EndsWithin` is true of the later frames and texts, of the bytes after that text, and of one text more that was taken whole
-ends_in_later : {State : Type 0} (rule : AnswerRule State) (s u : State) (frame : Frame) (later : List Frame) (t : List ℕ)
-    (rest : List (List ℕ)) (whole n : ℕ)
-    → rule s frame u (Some t) → nat_lt n (length t) ≡ false → EndsWithin rule u later rest (whole + 1) (n - length t)
-    → EndsWithin rule s (frame ∷ later) (t ∷ rest) whole n
-ends_in_later rule s u frame later t rest whole n gives e k =
-    let more : length t ≤ n = ltb-false n (length t) e in
-    let sizes : n ≡ length t + (n - length t) = omega arith in
-    let counted : (whole + 1) + length k.part.texts ≡ whole + length (t ∷ k.part.texts) = omega arith in
-    let front : take (n - length t) (all_of rest) ≡ all_of k.part.texts ++ take k.bytes k.part.text = k.part.took in
-    record {
-      reached = k.reached;
-      count = k.count;
-      bytes = k.bytes;
-      part = record {
-        earlier = frame ∷ k.part.earlier;
-        frame = k.part.frame;
-        later = k.part.later;
-        order = ap (λ (fs : List Frame). frame ∷ fs) k.part.order;
-        state = k.part.state;
-        texts = t ∷ k.part.texts;
-        answers = (u, Some t, k.part.texts, gives, k.part.answers, refl);
-        text = k.part.text;
-        gives = k.part.gives;
-        counts = k.part.counts ∙ counted;
-        not_all = k.part.not_all;
-        took = ap (λ (m : ℕ). take m (t ++ all_of rest)) sizes ∙ take-append-add t (all_of rest) (n - length t) ∙ ap (λ (xs : List ℕ). t ++ xs) front
-            ∙ sym (append_assoc t (all_of k.part.texts) (take k.bytes k.part.text));
-      };
-      counts = ap (λ (b : Bool). cond b (whole, n) (whole_and_part (whole + 1) (n - length t) (map length rest))) e ∙ k.counts;
-    }
+  -- where the n bytes hold the first text whole, and `EndsWithin` is true of the later frames and texts, of the bytes after that
+  -- text, and of one text more that was taken whole, `EndsWithin` is true
+  ends_in_later : nat_lt n (length t) ≡ false → EndsWithin rule u later rest (whole + 1) (n - length t)
+      → EndsWithin rule s (frame ∷ later) (t ∷ rest) whole n
+  ends_in_later e k =
+      let more : length t ≤ n = ltb-false n (length t) e in
+      let sizes : n ≡ length t + (n - length t) = omega arith in
+      let counted : (whole + 1) + length k.part.texts ≡ whole + length (t ∷ k.part.texts) = omega arith in
+      let front : take (n - length t) (all_of rest) ≡ all_of k.part.texts ++ take k.bytes k.part.text = k.part.took in
+      record {
+        reached = k.reached;
+        count = k.count;
+        bytes = k.bytes;
+        part = record {
+          earlier = frame ∷ k.part.earlier;
+          frame = k.part.frame;
+          later = k.part.later;
+          order = ap (λ (fs : List Frame). frame ∷ fs) k.part.order;
+          state = k.part.state;
+          texts = t ∷ k.part.texts;
+          answers = (u, Some t, k.part.texts, gives, k.part.answers, refl);
+          text = k.part.text;
+          gives = k.part.gives;
+          counts = k.part.counts ∙ counted;
+          not_all = k.part.not_all;
+          took = ap (λ (m : ℕ). take m (t ++ all_of rest)) sizes ∙ take-append-add t (all_of rest) (n - length t) ∙ ap (λ (xs : List ℕ). t ++ xs) front
+              ∙ sym (append_assoc t (all_of k.part.texts) (take k.bytes k.part.text));
+        };
+        counts = ap (λ (b : Bool). cond b (whole, n) (whole_and_part (whole + 1) (n - length t) (map length rest))) e ∙ k.counts;
+      }
 
 -- where the rule answers a frame without a text, and `EndsWithin` is true of the later frames, `EndsWithin` is true of that frame
 -- and the later ones, with the same texts and bytes
@@ -226,78 +227,75 @@ ends_within rule from to (frame ∷ later) texts whole n h less =
     subst (λ (ts : List (List ℕ)). EndsWithin rule from (frame ∷ later) ts whole n) (sym h.5)
     (ends_at_text rule from h.0 frame later h.1 h.2 whole n h.3 (subst (λ (ts : List (List ℕ)). n < length (all_of ts)) h.5 less) (λ w m fewer. ends_within rule h.0 to later h.2 w m h.4 fewer))
 
--- where `Gathering` is true of the frames `seen`, the sink took only the first n bytes of the texts that wait, and `total` and
--- `bytes` are as `whole_and_part` has them, `AnswersPart` is true: the frames were answered up to one whose text went out in
--- part, with `total` texts whole and `bytes` bytes of that text
-pub gathering_part : {State : Type 0} (rule : AnswerRule State) (from to : Progress State) (seen : List Frame) (text lengths : List ℕ)
-    (after : Option (List ℕ)) (total bytes n : ℕ)
-    → Gathering rule from to seen text lengths → TakesFront to.taken after n text → (total, bytes) ≡ whole_and_part to.whole n lengths
-    → (reached : State) × AnswersPart rule from.state reached seen from.taken after from.whole total bytes
-gathering_part rule from to seen text lengths after total bytes n g took counts =
-    let k = ends_within rule g.state to.state g.held g.texts to.whole n g.holds (subst (λ (xs : List ℕ). n < length xs) g.text_is took.0) in
-    let front : take n (all_of g.texts) ≡ all_of k.part.texts ++ take k.bytes k.part.text = k.part.took in
-    let same : (total, bytes) ≡ (k.count, k.bytes) = counts ∙ ap (λ (ns : List ℕ). whole_and_part to.whole n ns) g.lengths_are ∙ k.counts in
-    let out : AnswersPart rule g.state k.reached g.held to.taken after to.whole total bytes = record {
-      earlier = k.part.earlier;
-      frame = k.part.frame;
-      later = k.part.later;
-      order = k.part.order;
-      state = k.part.state;
-      texts = k.part.texts;
-      answers = k.part.answers;
-      text = k.part.text;
-      gives = k.part.gives;
-      counts = ap (λ (p : ℕ × ℕ). p.0) same ∙ k.part.counts;
-      not_all = rw (ap (λ (p : ℕ × ℕ). p.1) same) k.part.not_all;
-      took = Appends-is to.taken after _ _
-          (ap (λ (xs : List ℕ). take n xs) g.text_is ∙ front ∙ ap (λ (b : ℕ). all_of k.part.texts ++ take b k.part.text) (sym (ap (λ (p : ℕ × ℕ). p.1) same))) took.1;
-    } in (
-      k.reached,
-      subst (λ (fs : List Frame). AnswersPart rule from.state k.reached fs from.taken after from.whole total bytes) (sym g.order)
-          (part_then rule from.state g.state k.reached g.done g.held from.taken to.taken after from.whole to.whole total bytes g.all out),
-    )
+-- Here `Gathering` is true of the frames `seen`, with the texts that wait in `text`, and their lengths in `lengths`. A second
+-- block, because the next one uses its lemma at other frames.
+module _ {State : Type 0} (rule : AnswerRule State) (from to : Progress State) (seen : List Frame) (text lengths : List ℕ)
+    (g : Gathering rule from to seen text lengths) where
+  -- where the sink took only a part of the texts that wait, as `TakesTextsPart` has it, `AnswersPart` is true: the frames were
+  -- answered up to one whose text went out in part, with `total` texts whole and `bytes` bytes of that text
+  pub gathering_part : (after : Option (List ℕ)) (total bytes : ℕ) → TakesTextsPart to.taken after to.whole total text lengths bytes
+      → (reached : State) × AnswersPart rule from (progress reached after total) seen bytes
+  gathering_part after total bytes (n, took, counts) =
+      let k = ends_within rule g.state to.state g.held g.texts to.whole n g.holds (subst (λ (xs : List ℕ). n < length xs) g.text_is took.0) in
+      let front : take n (all_of g.texts) ≡ all_of k.part.texts ++ take k.bytes k.part.text = k.part.took in
+      let same : (total, bytes) ≡ (k.count, k.bytes) = counts ∙ ap (λ (ns : List ℕ). whole_and_part to.whole n ns) g.lengths_are ∙ k.counts in
+      let out : AnswersPart rule (progress g.state to.taken to.whole) (progress k.reached after total) g.held bytes = record {
+        earlier = k.part.earlier;
+        frame = k.part.frame;
+        later = k.part.later;
+        order = k.part.order;
+        state = k.part.state;
+        texts = k.part.texts;
+        answers = k.part.answers;
+        text = k.part.text;
+        gives = k.part.gives;
+        counts = ap (λ (p : ℕ × ℕ). p.0) same ∙ k.part.counts;
+        not_all = rw (ap (λ (p : ℕ × ℕ). p.1) same) k.part.not_all;
+        took = Appends-is to.taken after _ _
+            (ap (λ (xs : List ℕ). take n xs) g.text_is ∙ front ∙ ap (λ (b : ℕ). all_of k.part.texts ++ take b k.part.text) (sym (ap (λ (p : ℕ × ℕ). p.1) same))) took.1;
+      } in (
+        k.reached,
+        subst (λ (fs : List Frame). AnswersPart rule from (progress k.reached after total) fs bytes) (sym g.order)
+            (part_then rule from (progress g.state to.taken to.whole) (progress k.reached after total) g.done g.held bytes g.all out),
+      )
 
--- where no text waits unless texts are gathered, the rule answers one more frame with the text `more`, `Gathering` is true of the
--- frames `seen` before it, the sink took only the first n bytes of the texts that waited and then `more`, and the count of whole
--- texts and `bytes` are as `whole_and_part` has them, `GathersPart` is true of `seen` and then that frame
-pub answered_part : {State : Type 0} (rule : AnswerRule State) (from to last : Progress State) (seen : List Frame) (frame : Frame)
-    (text lengths more text' lengths' : List ℕ) (bytes n : ℕ) (gathers : Bool)
-    → (alone : gathers ≡ false → lengths ≡ []) → (gives : rule to.state frame last.state (Some more))
-    → (before : Gathering rule from to seen text lengths) → (longer : text' ≡ text ++ more) → (counted : lengths' ≡ lengths ++ length more ∷ [])
-    → (took : TakesFront to.taken last.taken n text') → (counts : (last.whole, bytes) ≡ whole_and_part to.whole n lengths')
-    → GathersPart rule from last (seen ++ frame ∷ []) bytes gathers
-answered_part rule from to last seen frame text lengths more text' lengths' bytes n true alone gives g longer counted took counts =
-    let it = gathering_part rule from (record { state = last.state; taken = to.taken; whole = to.whole }) (seen ++ frame ∷ []) text' lengths' last.taken last.whole bytes n
-    (gathering_more rule from to last.state seen frame text lengths more text' lengths' gives g longer counted) took counts in
-    record { reached = it.0; part = it.1; alone = λ e. cc }
-answered_part rule from to last seen frame text lengths more text' lengths' bytes n false alone gives g longer counted took counts =
-    let none = alone refl in
-    let nothing : text ≡ [] = g.text_is ∙ ap all_of (no_texts g.texts (sym none ∙ g.lengths_are)) in
-    let took_more : TakesFront to.taken last.taken n more = subst (λ (xs : List ℕ). TakesFront to.taken last.taken n xs) (longer ∙ ap (λ (xs : List ℕ). xs ++ more) nothing) took in
-    let less : nat_lt n (length more) ≡ true = lt-ltb n (length more) took_more.0 in
-    let same : (last.whole, bytes) ≡ (to.whole, n) = counts ∙ ap (λ (ns : List ℕ). whole_and_part to.whole n ns) (counted ∙ ap (λ (ns : List ℕ). ns ++ length more ∷ []) none)
-    ∙ ap (λ (b : Bool). cond b (to.whole, n) (to.whole + 1, n - length more)) less in
-    let part : AnswersPart rule to.state last.state (frame ∷ []) to.taken last.taken to.whole to.whole n =
-    one_part rule to.state last.state frame more to.taken last.taken to.whole n gives took_more in
-    let all = gathering_end rule from to seen text lengths none g in
-    let told = part_then rule from.state to.state last.state seen (frame ∷ []) from.taken to.taken last.taken from.whole to.whole to.whole n all part in
-    record {
-      reached = last.state;
-      part = subst (λ (p : ℕ × ℕ). AnswersPart rule from.state last.state (seen ++ frame ∷ []) from.taken last.taken from.whole p.0 p.1) (sym same) told;
-      alone = λ _. refl;
-    }
+-- The same as above. Both lemmas assume that no text waits unless texts are gathered.
+module _ {State : Type 0} (rule : AnswerRule State) (from to : Progress State) (seen : List Frame) (text lengths : List ℕ)
+    (g : Gathering rule from to seen text lengths) where
+  -- where the rule answers one more frame with the text `more`, which joins the texts that wait, and the sink took only a part of
+  -- the texts that wait then, `GathersPart` is true of `seen` and then that frame
+  pub answered_part : (last : Progress State) (frame : Frame) (more text' lengths' : List ℕ) (bytes : ℕ) (gathers : Bool)
+      → (gathers ≡ false → lengths ≡ []) → rule to.state frame last.state (Some more) → Joins text lengths more text' lengths'
+      → TakesTextsPart to.taken last.taken to.whole last.whole text' lengths' bytes → GathersPart rule from last (seen ++ frame ∷ []) bytes gathers
+  answered_part last frame more text' lengths' bytes true alone gives joins took =
+      let it = gathering_part rule from (progress last.state to.taken to.whole) (seen ++ frame ∷ []) text' lengths'
+      (gathering_more rule from to seen text lengths g last.state frame more text' lengths' gives joins) last.taken last.whole bytes took in
+      record { reached = it.0; part = it.1; alone = λ e. cc }
+  answered_part last frame more text' lengths' bytes false alone gives joins (n, took, counts) =
+      let none = alone refl in
+      let nothing : text ≡ [] = g.text_is ∙ ap all_of (no_texts g.texts (sym none ∙ g.lengths_are)) in
+      let took_more : TakesFront to.taken last.taken n more =
+      subst (λ (xs : List ℕ). TakesFront to.taken last.taken n xs) (joins.longer ∙ ap (λ (xs : List ℕ). xs ++ more) nothing) took in
+      let less : nat_lt n (length more) ≡ true = lt-ltb n (length more) took_more.0 in
+      let same : (last.whole, bytes) ≡ (to.whole, n) = counts ∙ ap (λ (ns : List ℕ). whole_and_part to.whole n ns) (joins.counted ∙ ap (λ (ns : List ℕ). ns ++ length more ∷ []) none)
+      ∙ ap (λ (b : Bool). cond b (to.whole, n) (to.whole + 1, n - length more)) less in
+      let part : AnswersPart rule to (progress last.state last.taken to.whole) (frame ∷ []) n =
+      one_part rule to (progress last.state last.taken to.whole) frame more n gives took_more refl in
+      let all = gathering_end rule from to seen text lengths g none in
+      let told = part_then rule from to (progress last.state last.taken to.whole) seen (frame ∷ []) n all part in
+      record {
+        reached = last.state;
+        part = subst (λ (p : ℕ × ℕ). AnswersPart rule from (progress last.state last.taken p.0) (seen ++ frame ∷ []) p.1) (sym same) told;
+        alone = λ _. refl;
+      }
 
--- where no text waits unless texts are gathered, `Gathering` is true of the frames `seen`, the sink took only the first n bytes
--- of the texts that wait, and `total` and `bytes` are as `whole_and_part` has them, `GathersPart` is true of `seen`
-pub rest_part : {State : Type 0} (rule : AnswerRule State) (from to : Progress State) (seen : List Frame) (text lengths : List ℕ)
-    (after : Option (List ℕ)) (total bytes n : ℕ) (gathers : Bool)
-    → (gathers ≡ false → lengths ≡ []) → Gathering rule from to seen text lengths
-    → TakesFront to.taken after n text → (total, bytes) ≡ whole_and_part to.whole n lengths
-    → GathersPart rule from (record { state = to.state; taken = after; whole = total }) seen bytes gathers
-rest_part rule from to seen text lengths after total bytes n true alone g took counts =
-    let it = gathering_part rule from to seen text lengths after total bytes n g took counts in
-    record { reached = it.0; part = it.1; alone = λ e. cc }
-rest_part rule from to seen text lengths after total bytes n false alone g took counts =
-    let nothing : text ≡ [] = g.text_is ∙ ap all_of (no_texts g.texts (sym (alone refl) ∙ g.lengths_are)) in
-    let wrong : ⊥ = omega (arith, ap (λ (xs : List ℕ). length xs) nothing, took.0) in
-    absurd wrong
+  -- where the sink took only a part of the texts that wait, `GathersPart` is true of `seen`
+  pub rest_part : (after : Option (List ℕ)) (total bytes : ℕ) (gathers : Bool) → (gathers ≡ false → lengths ≡ [])
+      → TakesTextsPart to.taken after to.whole total text lengths bytes → GathersPart rule from (progress to.state after total) seen bytes gathers
+  rest_part after total bytes true alone took =
+      let it = gathering_part rule from to seen text lengths g after total bytes took in
+      record { reached = it.0; part = it.1; alone = λ e. cc }
+  rest_part after total bytes false alone (n, took, counts) =
+      let nothing : text ≡ [] = g.text_is ∙ ap all_of (no_texts g.texts (sym (alone refl) ∙ g.lengths_are)) in
+      let wrong : ⊥ = omega (arith, ap (λ (xs : List ℕ). length xs) nothing, took.0) in
+      absurd wrong

@@ -1,10 +1,10 @@
 -- Reading a header finds the fields of its form, or the first that is bad.
-use Rattle.std.proofs.Common.{◌≡◌, ℕ, ◌<◌, inl, inr, List, ◌∷◌, ◌++◌, Option, Some, None, Result, Ok, Err, IfSome, refl, ap, ◌∙◌, subst, get_or}
+use Rattle.std.proofs.Common.{◌≡◌, ℕ, inl, inr, List, ◌∷◌, ◌++◌, Option, Some, None, Result, Ok, Err, refl, ap, ◌∙◌, subst, get_or}
 use Rattle.std.proofs.lemmas.Bool.{eq-eqb}
 use Rattle.gc_lines.specs.declared.fault.LineFault.{LineFault}
 use Rattle.gc_lines.specs.declared.fault.LineFault.TheVariants.{Signature, Number, Id, Colon, Code, TooLong}
 use Rattle.gc_lines.specs.Numbers.{IsNumber, NoDigitFirst}
-use Rattle.gc_lines.specs.Headers.{EndsId, id_text, PastSignature, PastNumber, PastId, PastColon, FirstBadField}
+use Rattle.gc_lines.specs.Headers.{EndsId, IsIdInRange, id_text, PastSignature, PastNumber, PastId, PastColon, FirstBadField}
 use Rattle.gc_lines.specs.Readers.{number_at, HeaderFields, signature_at, id_at, colon_at, header_at, ◌>>=◌}
 use Rattle.gc_lines.proofs.Reading.{none_means_fault, fault_means_none, bind_ok, bind_err, bind_on, bind_stop}
 use Rattle.gc_lines.proofs.Fields.{signature_reads, number_reads, id_reads, colon_reads}
@@ -13,7 +13,7 @@ use Rattle.gc_lines.proofs.Fields.{signature_reads, number_reads, id_reads, colo
 pub record IsHeader (signature line : List ℕ) (header : HeaderFields) : Type 0 where
   pub number : List ℕ
   pub is_number : IsNumber number header.number
-  pub is_id : IfSome header.id (λ i. i < 8)
+  pub is_id : IsIdInRange header.id
   pub whole : line ≡ signature ++ (number ++ (id_text header.id ++ 58 ∷ header.rest))
 
 -- what follows a header's number doesn't begin with a digit: the id's text, which may be empty, then a colon and any rest

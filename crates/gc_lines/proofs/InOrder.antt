@@ -1,12 +1,11 @@
 -- Lists of frames that are answered one after the other: the state after them, and what is written. In the lemmas, in the
--- order of the run: s, t, u are the answerer's states, a, b, c the bytes that the sink took, and i, j, k how many texts went
--- out whole.
+-- order of the run: s, t, u are the answerer's states, or how far the run has come (`Progress`).
 use Rattle.std.proofs.Common.{◌≡◌, ℕ, ◌+◌, List, [], ◌∷◌, ◌++◌, take, Option, Some, refl, sym, ap, ◌∙◌, subst, arith, append_assoc, length-append}
 use Rattle.std.specs.Option.{option_to_list}
 use Rattle.std.proofs.lemmas.List.{append-nil}
 use Rattle.std.proofs.lemmas.Grind.{flat_map-append}
 use Rattle.std.proofs.KnownBytes.{Appends-trans, Appends-nil}
-use Rattle.gc_lines.specs.Answering.{AnswerRule, AnswersInOrder, AnswersAll, AnswersPart, all_of}
+use Rattle.gc_lines.specs.Answering.{AnswerRule, AnswersInOrder, AnswersAll, AnswersPart, Progress, all_of}
 use Rattle.gc_lines.specs.Ports.{TakesFront}
 use Rattle.gc_lines.specs.declared.frame.Frame.{Frame}
 use Rattle.gc_lines.proofs.Known.{Appends-is}
@@ -36,26 +35,25 @@ in_order_one rule s t frame text h = (t, text, [], h, (refl, refl), sym (append-
 pub all_of-append : (xs ys : List (List ℕ)) → all_of (xs ++ ys) ≡ all_of xs ++ all_of ys
 all_of-append xs ys = flat_map-append (λ text. text) xs ys
 
--- `AnswersAll` is true of no frames, where the state, what the sink took, and the count of texts are the same before and after
-pub all_none : {State : Type 0} (rule : AnswerRule State) (state : State) (known : Option (List ℕ)) (count : ℕ)
-    → AnswersAll rule state state [] known known count count
-all_none rule state known count = record { texts = []; answers = (refl, refl); counts = omega arith; took = Appends-nil known }
+-- `AnswersAll` is true of no frames, where the progress is the same before and after
+pub all_none : {State : Type 0} (rule : AnswerRule State) (here : Progress State) → AnswersAll rule here here []
+all_none rule here = record { texts = []; answers = (refl, refl); counts = omega arith; took = Appends-nil here.taken }
 
 -- where all frames xs were answered, and then all frames ys, all frames `xs ++ ys` were answered
-pub all_then : {State : Type 0} (rule : AnswerRule State) (s t u : State) (xs ys : List Frame) (a b c : Option (List ℕ)) (i j k : ℕ)
-    → AnswersAll rule s t xs a b i j → AnswersAll rule t u ys b c j k → AnswersAll rule s u (xs ++ ys) a c i k
-all_then rule s t u xs ys a b c i j k first next = record {
+pub all_then : {State : Type 0} (rule : AnswerRule State) (s t u : Progress State) (xs ys : List Frame)
+    → AnswersAll rule s t xs → AnswersAll rule t u ys → AnswersAll rule s u (xs ++ ys)
+all_then rule s t u xs ys first next = record {
   texts = first.texts ++ next.texts;
-  answers = in_order_then rule s t u xs ys first.texts next.texts first.answers next.answers;
+  answers = in_order_then rule s.state t.state u.state xs ys first.texts next.texts first.answers next.answers;
   counts = omega (arith, first.counts, next.counts, length-append first.texts next.texts);
-  took = Appends-is a c _ _ (sym (all_of-append first.texts next.texts)) (Appends-trans a b c _ _ first.took next.took);
+  took = Appends-is s.taken u.taken _ _ (sym (all_of-append first.texts next.texts)) (Appends-trans s.taken t.taken u.taken _ _ first.took next.took);
 }
 
 -- where all frames xs were answered, and then the frames ys up to one whose text went out in part, the frames `xs ++ ys` were
 -- answered up to that one
-pub part_then : {State : Type 0} (rule : AnswerRule State) (s t u : State) (xs ys : List Frame) (a b c : Option (List ℕ)) (i j k bytes : ℕ)
-    → AnswersAll rule s t xs a b i j → AnswersPart rule t u ys b c j k bytes → AnswersPart rule s u (xs ++ ys) a c i k bytes
-part_then rule s t u xs ys a b c i j k bytes first part =
+pub part_then : {State : Type 0} (rule : AnswerRule State) (s t u : Progress State) (xs ys : List Frame) (bytes : ℕ)
+    → AnswersAll rule s t xs → AnswersPart rule t u ys bytes → AnswersPart rule s u (xs ++ ys) bytes
+part_then rule s t u xs ys bytes first part =
     let end = take bytes part.text in
     record {
       earlier = xs ++ part.earlier;
@@ -64,19 +62,20 @@ part_then rule s t u xs ys a b c i j k bytes first part =
       order = ap (λ zs. xs ++ zs) part.order ∙ sym (append_assoc xs part.earlier (part.frame ∷ part.later));
       state = part.state;
       texts = first.texts ++ part.texts;
-      answers = in_order_then rule s t part.state xs part.earlier first.texts part.texts first.answers part.answers;
+      answers = in_order_then rule s.state t.state part.state xs part.earlier first.texts part.texts first.answers part.answers;
       text = part.text;
       gives = part.gives;
       counts = omega (arith, first.counts, part.counts, length-append first.texts part.texts);
       not_all = part.not_all;
-      took = Appends-is a c _ _ (sym (ap (λ zs. zs ++ end) (all_of-append first.texts part.texts) ∙ append_assoc (all_of first.texts) (all_of part.texts) end))
-          (Appends-trans a b c _ _ first.took part.took);
+      took = Appends-is s.taken u.taken _ _
+          (sym (ap (λ zs. zs ++ end) (all_of-append first.texts part.texts) ∙ append_assoc (all_of first.texts) (all_of part.texts) end))
+          (Appends-trans s.taken t.taken u.taken _ _ first.took part.took);
     }
 
 -- where `AnswersPart` is true of the frames xs, it is true of `xs ++ ys`: frames after the one whose text was cut change nothing
-pub part_before : {State : Type 0} (rule : AnswerRule State) (s u : State) (xs ys : List Frame) (a c : Option (List ℕ)) (i k bytes : ℕ)
-    → AnswersPart rule s u xs a c i k bytes → AnswersPart rule s u (xs ++ ys) a c i k bytes
-part_before rule s u xs ys a c i k bytes part = record {
+pub part_before : {State : Type 0} (rule : AnswerRule State) (s u : Progress State) (xs ys : List Frame) (bytes : ℕ)
+    → AnswersPart rule s u xs bytes → AnswersPart rule s u (xs ++ ys) bytes
+part_before rule s u xs ys bytes part = record {
   earlier = part.earlier;
   frame = part.frame;
   later = part.later ++ ys;
@@ -91,21 +90,21 @@ part_before rule s u xs ys a c i k bytes part = record {
   took = part.took;
 }
 
--- where the rule answers a frame with a text, of which the sink took only the first `bytes` bytes, `AnswersPart` is true of the
--- list of that frame alone, and no text more went out whole
-pub one_part : {State : Type 0} (rule : AnswerRule State) (s t : State) (frame : Frame) (text : List ℕ) (a b : Option (List ℕ)) (count bytes : ℕ)
-    → rule s frame t (Some text) → TakesFront a b bytes text → AnswersPart rule s t (frame ∷ []) a b count count bytes
-one_part rule s t frame text a b count bytes gives took = record {
+-- where the rule answers a frame with a text, of which the sink took only the first `bytes` bytes, and no more text went out
+-- whole, `AnswersPart` is true of the list of that frame alone
+pub one_part : {State : Type 0} (rule : AnswerRule State) (s u : Progress State) (frame : Frame) (text : List ℕ) (bytes : ℕ)
+    → rule s.state frame u.state (Some text) → TakesFront s.taken u.taken bytes text → u.whole ≡ s.whole → AnswersPart rule s u (frame ∷ []) bytes
+one_part rule s u frame text bytes gives took same = record {
   earlier = [];
   frame = frame;
   later = [];
   order = refl;
-  state = s;
+  state = s.state;
   texts = [];
   answers = (refl, refl);
   text = text;
   gives = gives;
-  counts = omega arith;
+  counts = omega (arith, same);
   not_all = took.0;
   took = took.1;
 }

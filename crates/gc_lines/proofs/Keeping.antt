@@ -31,33 +31,33 @@ all_kept old rest s room = omega (arith, ap length s.front, length-take 513 rest
 pub front_length : (old : Kept) (rest : List ℕ) → StandsFor old rest → 513 - length old.front ≡ 513 - length rest
 front_length old rest s = omega (arith, ap length s.front, length-take 513 rest)
 
--- where an assembler stands for `rest`, and further bytes, at least one, fit after its `front` within 513, the assembler with
--- these bytes after its `front`, with their last one as `last`, and with `long` as it was, stands for `rest ++ bytes`
-pub keeps_all : (old : Kept) (rest bytes front : List ℕ) (last : ℕ) → (stands : StandsFor old rest) → (some : 0 < length bytes)
-    → (fits : length bytes ≤ 513 - length old.front) → (front_is : front ≡ old.front ++ bytes) → (last_is : last ≡ get_or bytes (length bytes - 1) 0)
-    → StandsFor (record { front = front; last = last; long = old.long }) (rest ++ bytes)
-keeps_all old rest bytes front last s some fits f l =
-    let short : length rest ≡ length old.front = all_kept old rest s (omega arith) in
-    let room : length bytes ≤ 513 - length rest = omega arith in
-    record {
-      front = f ∙ ap (λ xs. xs ++ bytes) s.front ∙ ap (λ xs. take 513 rest ++ xs) (sym (take_all (513 - length rest) bytes room)) ∙ sym (take-append 513 rest bytes);
-      last = l ∙ sym (last-append rest bytes some);
-      long = s.long ∙ le-ltb 513 (length rest) (omega arith) ∙ sym (le-ltb 513 (length (rest ++ bytes)) (omega (arith, length-append rest bytes)));
-    }
+-- An assembler that stands for `rest` gets further bytes, of which `last` is the last one; `front` is what it then keeps in
+-- front.
+module _ (old : Kept) (rest bytes front : List ℕ) (last : ℕ) (s : StandsFor old rest) (last_is : last ≡ get_or bytes (length bytes - 1) 0) where
+  -- where the bytes, at least one, fit after the old `front` within 513, the assembler with these bytes after it, with `last`,
+  -- and with `long` as it was, stands for `rest ++ bytes`
+  pub keeps_all : 0 < length bytes → length bytes ≤ 513 - length old.front → front ≡ old.front ++ bytes
+      → StandsFor (record { front = front; last = last; long = old.long }) (rest ++ bytes)
+  keeps_all some fits f =
+      let short : length rest ≡ length old.front = all_kept old rest s (omega arith) in
+      let room : length bytes ≤ 513 - length rest = omega arith in
+      record {
+        front = f ∙ ap (λ xs. xs ++ bytes) s.front ∙ ap (λ xs. take 513 rest ++ xs) (sym (take_all (513 - length rest) bytes room)) ∙ sym (take-append 513 rest bytes);
+        last = last_is ∙ sym (last-append rest bytes some);
+        long = s.long ∙ le-ltb 513 (length rest) (omega arith) ∙ sym (le-ltb 513 (length (rest ++ bytes)) (omega (arith, length-append rest bytes)));
+      }
 
--- where an assembler stands for `rest`, and further bytes don't all fit after its `front` within 513, the assembler with as many
--- of these bytes as fit after its `front`, with the last of all of them as `last`, and with `long` true, stands for
--- `rest ++ bytes`
-pub keeps_part : (old : Kept) (rest bytes front : List ℕ) (last : ℕ) → StandsFor old rest → 513 - length old.front < length bytes
-    → front ≡ old.front ++ take (513 - length old.front) bytes → last ≡ get_or bytes (length bytes - 1) 0
-    → StandsFor (record { front = front; last = last; long = true }) (rest ++ bytes)
-keeps_part old rest bytes front last s more f l =
-    let room = front_length old rest s in
-    record {
-      front = f ∙ ap (λ n. old.front ++ take n bytes) room ∙ ap (λ xs. xs ++ take (513 - length rest) bytes) s.front ∙ sym (take-append 513 rest bytes);
-      last = l ∙ sym (last-append rest bytes (omega arith));
-      long = sym (lt-ltb 513 (length (rest ++ bytes)) (omega (arith, room, length-append rest bytes)));
-    }
+  -- where the bytes don't all fit after the old `front` within 513, the assembler with as many of them as fit after it, with
+  -- `last`, and with `long` true, stands for `rest ++ bytes`
+  pub keeps_part : 513 - length old.front < length bytes → front ≡ old.front ++ take (513 - length old.front) bytes
+      → StandsFor (record { front = front; last = last; long = true }) (rest ++ bytes)
+  keeps_part more f =
+      let room = front_length old rest s in
+      record {
+        front = f ∙ ap (λ n. old.front ++ take n bytes) room ∙ ap (λ xs. xs ++ take (513 - length rest) bytes) s.front ∙ sym (take-append 513 rest bytes);
+        last = last_is ∙ sym (last-append rest bytes (omega arith));
+        long = sym (lt-ltb 513 (length (rest ++ bytes)) (omega (arith, room, length-append rest bytes)));
+      }
 
 -- where `rest` is at most 512 bytes and then a CR, and `line` holds the bytes before the CR, the frame of `rest` is `line`
 pub line_frame : (rest : List ℕ) (line : ArrayVec ℕ) → 0 < length rest → get_or rest (length rest - 1) 0 ≡ 13 → length rest ≤ 513

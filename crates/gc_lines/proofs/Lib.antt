@@ -9,6 +9,7 @@ pub mod Replies
 pub mod Written
 pub mod Plain
 pub mod Known
+pub mod AnsweringLines
 pub mod Finding
 pub mod InOrder
 pub mod Gathering

@@ -3,12 +3,13 @@ use Rattle.std.proofs.Common.{◌≡◌, ℕ, ◌+◌, ◌<◌, Bool, true, fals
 use Rattle.std.specs.List.{position}
 use Rattle.std.proofs.lemmas.Bool.Decides.{nat_tests}
 use Rattle.std.proofs.lemmas.List.{append-nil, drop_all, map-append}
-use Rattle.gc_lines.specs.Answering.{AnswerRule, AnswersPart}
+use Rattle.gc_lines.specs.Answering.{AnswerRule, AnswersPart, Progress, progress}
 use Rattle.gc_lines.specs.Assembler.{Kept, StandsFor}
 use Rattle.gc_lines.specs.Frames.{is_line_feed, ends_in_return, frame_of, frames, pieces_behind, rest_behind}
-use Rattle.gc_lines.specs.Passing.{completed, frames_behind, Gathering, GathersPart, Progress}
+use Rattle.gc_lines.specs.Passing.{completed, frames_behind, Gathering, GathersPart, NoneWait}
 use Rattle.gc_lines.specs.declared.frame.Frame.{Frame}
 use Rattle.gc_lines.specs.declared.frame.Frame.TheVariants.{Line, Cleared, Overlong, More}
+use Rattle.gc_lines.specs.declared.session.Session.{Session}
 use Rattle.gc_lines.proofs.Cutting.{cut_none, cut_some, pieces-append}
 use Rattle.gc_lines.proofs.Gathering.{gathering_start}
 use Rattle.gc_lines.proofs.InOrder.{all_none, part_before}
@@ -27,9 +28,9 @@ frame_is_completed bytes = by_tests (ends_in_return bytes) _ where
   by_tests true false = refl
   by_tests false b = refl
 
--- an assembler that stood for `rest` used the first `used` bytes of `left`, returned `frame`, and now keeps `kept`, which stands
--- for `now`: the frames of `rest` and `left` are `frame`, where it is complete, and then those of `now` and the bytes that
--- weren't used
+-- after the bytes `rest`, an assembler used the first `used` bytes of `left`, returned `frame`, and now keeps `kept`, which stands
+-- for `now`. The frames that `left` completes after `rest` are `frame`, where it is complete, and then those that the unused bytes
+-- complete after `now`; and in both cases the same bytes follow the last line feed
 pub record Takes (rest left : List ℕ) (used : ℕ) (frame : Frame) (kept : Kept) : Type 0 where
   pub now : List ℕ
   pub stands : StandsFor kept now
@@ -75,28 +76,27 @@ takes rest left used frame kept more whole = elim (position is_line_feed left) a
   | Some at ↦ λ e. let m = whole at e in takes_with_feed rest left at used frame kept e m.0 m.1 m.2
 ] refl
 
--- some frames of a piece after `rest` were answered, and some of their texts wait; `left` is what is left of the piece
-pub record PieceAnswered {State : Type 0} (rule : AnswerRule State) (rest piece left : List ℕ) (kept : Kept) (from to : Progress State)
-    (text lengths : List ℕ) : Type 0 where
+-- of a piece that came after the bytes `rest`, only `left` isn't used yet: the frames that the used part completed were answered,
+-- texts of theirs may wait in the session, and its assembler stands for the bytes since the last line feed (`now`)
+pub record PieceAnswered {State : Type 0} (rule : AnswerRule State) (rest piece left : List ℕ) (from to : Progress State) (session : Session) : Type 0 where
   pub now : List ℕ
   pub answered : List Frame
-  pub stands : StandsFor kept now
+  pub stands : StandsFor session.assembler now
   pub seen : frames_behind rest piece ≡ answered ++ frames_behind now left
   pub rests : rest_behind rest piece ≡ rest_behind now left
-  pub gathered : Gathering rule from to answered text lengths
+  pub gathered : Gathering rule from to answered session.text.items session.lengths
 
 -- `PieceAnswered` is true before the first frame, where the assembler stands for `rest`, nothing of the piece was used, and no
 -- text waits
-pub piece_start : {State : Type 0} (rule : AnswerRule State) (rest piece : List ℕ) (kept : Kept) (start : Progress State)
-    (text lengths : List ℕ) → text ≡ [] → lengths ≡ [] → StandsFor kept rest
-    → PieceAnswered rule rest piece piece kept start start text lengths
-piece_start rule rest piece kept start text lengths empty none s = record {
+pub piece_start : {State : Type 0} (rule : AnswerRule State) (rest piece : List ℕ) (start : Progress State) (session : Session)
+    → NoneWait session → StandsFor session.assembler rest → PieceAnswered rule rest piece piece start start session
+piece_start rule rest piece start session nothing s = record {
   now = rest;
   answered = [];
   stands = s;
   seen = refl;
   rests = refl;
-  gathered = rw (empty, none) (gathering_start rule start start [] (all_none rule start.state start.taken start.whole));
+  gathered = rw (nothing.0, nothing.1) (gathering_start rule start start [] (all_none rule start));
 }
 
 -- where `all` is `answered` and then `left`, and `left` is `frame` and then `later`, `all` is `answered ++ frame` and then
@@ -104,47 +104,45 @@ piece_start rule rest piece kept start text lengths empty none s = record {
 seen_more : (answered frame later all left : List Frame) → all ≡ answered ++ left → left ≡ frame ++ later → all ≡ (answered ++ frame) ++ later
 seen_more answered frame later all left e f = e ∙ ap (λ zs. answered ++ zs) f ∙ sym (append_assoc answered frame later)
 
--- where `PieceAnswered` is true, the assembler takes more of the piece, as `Takes` has it, and `Gathering` is true of the frames
--- answered before and then the one that this completed, if any, `PieceAnswered` is true with what is left of the piece now
-pub piece_goes_on : {State : Type 0} (rule : AnswerRule State) (rest piece left : List ℕ) (used : ℕ) (frame : Frame) (kept kept' : Kept)
-    (from to next : Progress State) (text lengths text' lengths' : List ℕ)
-    → (g : PieceAnswered rule rest piece left kept from to text lengths) → Takes g.now left used frame kept'
-    → Gathering rule from next (g.answered ++ completed frame) text' lengths'
-    → PieceAnswered rule rest piece (drop used left) kept' from next text' lengths'
-piece_goes_on rule rest piece left used frame kept kept' from to next text lengths text' lengths' g taken more = record {
-  now = taken.now;
-  answered = g.answered ++ completed frame;
-  stands = taken.stands;
-  seen = seen_more g.answered (completed frame) (frames_behind taken.now (drop used left)) (frames_behind rest piece) (frames_behind g.now left) g.seen taken.seen;
-  rests = g.rests ∙ taken.rests;
-  gathered = more;
-}
+-- Here `PieceAnswered` is true, and the assembler takes more of the piece, as `Takes` has it.
+module _ {State : Type 0} (rule : AnswerRule State) (rest piece left : List ℕ) (from to : Progress State) (session : Session)
+    (g : PieceAnswered rule rest piece left from to session) (used : ℕ) (frame : Frame) (kept : Kept) (taken : Takes g.now left used frame kept) where
+  -- where the next session has this assembler, and `Gathering` is true, with the texts that wait in it, of the frames answered
+  -- before and then the one that this completed, if any, `PieceAnswered` is true with what is left of the piece now
+  pub piece_goes_on : (to' : Progress State) (next : Session) → next.assembler ≡ kept
+      → Gathering rule from to' (g.answered ++ completed frame) next.text.items next.lengths
+      → PieceAnswered rule rest piece (drop used left) from to' next
+  piece_goes_on to' next same more = record {
+    now = taken.now;
+    answered = g.answered ++ completed frame;
+    stands = subst (λ (k : Kept). StandsFor k taken.now) (sym same) taken.stands;
+    seen = seen_more g.answered (completed frame) (frames_behind taken.now (drop used left)) (frames_behind rest piece) (frames_behind g.now left) g.seen taken.seen;
+    rests = g.rests ∙ taken.rests;
+    gathered = more;
+  }
 
--- where `PieceAnswered` is true, the assembler takes more of the piece, as `Takes` has it, and `GathersPart` is true of the
--- frames answered before and then the one that this completed, if any, `GathersPart` is true of all frames of the piece
-pub piece_cut : {State : Type 0} (rule : AnswerRule State) (rest piece left : List ℕ) (used : ℕ) (frame : Frame) (kept kept' : Kept)
-    (from to last : Progress State) (text lengths : List ℕ) (bytes : ℕ) (gathers : Bool)
-    → (g : PieceAnswered rule rest piece left kept from to text lengths) → Takes g.now left used frame kept'
-    → GathersPart rule from last (g.answered ++ completed frame) bytes gathers
-    → GathersPart rule from last (frames_behind rest piece) bytes gathers
-piece_cut rule rest piece left used frame kept kept' from to last text lengths bytes gathers g taken part =
-    let later = frames_behind taken.now (drop used left) in
-    let all = seen_more g.answered (completed frame) later (frames_behind rest piece) (frames_behind g.now left) g.seen taken.seen in
-    record {
-      reached = part.reached;
-      part = subst (λ (seen : List Frame). AnswersPart rule from.state part.reached seen from.taken last.taken from.whole last.whole bytes) (sym all)
-          (part_before rule from.state part.reached (g.answered ++ completed frame) later from.taken last.taken from.whole last.whole bytes part.part);
-      alone = part.alone;
-    }
+  -- where `GathersPart` is true of the frames answered before and then the one that this completed, if any, it is true of all
+  -- frames of the piece
+  pub piece_cut : (last : Progress State) (bytes : ℕ) (gathers : Bool) → GathersPart rule from last (g.answered ++ completed frame) bytes gathers
+      → GathersPart rule from last (frames_behind rest piece) bytes gathers
+  piece_cut last bytes gathers part =
+      let later = frames_behind taken.now (drop used left) in
+      let all = seen_more g.answered (completed frame) later (frames_behind rest piece) (frames_behind g.now left) g.seen taken.seen in
+      record {
+        reached = part.reached;
+        part = subst (λ (seen : List Frame). AnswersPart rule from (progress part.reached last.taken last.whole) seen bytes) (sym all)
+            (part_before rule from (progress part.reached last.taken last.whole) (g.answered ++ completed frame) later bytes part.part);
+        alone = part.alone;
+      }
 
 -- where `PieceAnswered` is true with nothing left of the piece, the assembler stands for what follows the last line feed of
 -- `rest` and the piece, and `Gathering` is true of all frames that the piece completes: they were answered, though texts may wait
-pub piece_end : {State : Type 0} (rule : AnswerRule State) (rest piece : List ℕ) (kept : Kept) (from to : Progress State) (text lengths : List ℕ)
-    → PieceAnswered rule rest piece [] kept from to text lengths
-    → StandsFor kept (rest_behind rest piece) × Gathering rule from to (frames_behind rest piece) text lengths
-piece_end rule rest piece kept from to text lengths g = (
-  subst (λ (xs : List ℕ). StandsFor kept xs) (sym g.rests) g.stands,
-  subst (λ (xs : List Frame). Gathering rule from to xs text lengths) (sym (g.seen ∙ append-nil g.answered)) g.gathered,
+pub piece_end : {State : Type 0} (rule : AnswerRule State) (rest piece : List ℕ) (from to : Progress State) (session : Session)
+    → PieceAnswered rule rest piece [] from to session
+    → StandsFor session.assembler (rest_behind rest piece) × Gathering rule from to (frames_behind rest piece) session.text.items session.lengths
+piece_end rule rest piece from to session g = (
+  subst (λ (xs : List ℕ). StandsFor session.assembler xs) (sym g.rests) g.stands,
+  subst (λ (xs : List Frame). Gathering rule from to xs session.text.items session.lengths) (sym (g.seen ∙ append-nil g.answered)) g.gathered,
 )
 
 -- a length that fails the test for 0 is above 0

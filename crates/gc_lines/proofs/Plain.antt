@@ -81,7 +81,7 @@ plain_has_no_feed [] h = ((λ e. absurd (omega arith)), tt)
 plain_has_no_feed (b ∷ bs) h = (h.0.0, plain_has_no_feed bs h.1)
 
 -- the frame of at most 512 bytes and a CR is the line of these bytes
-plain_frame : (bytes : List ℕ) → length bytes ≤ 512 → Line (record { items = bytes }) ≡ frame_of (bytes ++ 13 ∷ [])
+pub plain_frame : (bytes : List ℕ) → length bytes ≤ 512 → Line (record { items = bytes }) ≡ frame_of (bytes ++ 13 ∷ [])
 plain_frame bytes fits =
     let long : length (bytes ++ 13 ∷ []) ≡ length bytes + 1 = length-append bytes (13 ∷ []) in
     let one : length (bytes ++ 13 ∷ []) - 1 ≡ length bytes = omega arith in

@@ -1,7 +1,7 @@
 -- A reader of one field, and what it finds where the field has its form, or hasn't. A chain is `r >>= f`: r is its first part.
 use Rattle.std.proofs.Common.{◌≡◌, ℕ, ◌⊎◌, inl, inr, Bool, true, false, cond, List, Result, Ok, Err, IfOk, IfErr, refl, sym, ap, subst}
 use Rattle.gc_lines.specs.declared.fault.LineFault.{LineFault}
-use Rattle.gc_lines.specs.Headers.{Gives}
+use Rattle.gc_lines.specs.Headers.{Gives, GivesEach, FailsEach}
 use Rattle.gc_lines.specs.Readers.{◌>>=◌}
 
 -- a reader finds just what has the form, and has one fault
@@ -68,9 +68,9 @@ pub record ReadsLines {F : Type 0} (read : List ℕ → Result F LineFault) (Is 
 pub record KnowsResult {F X : Type 0} (Is : List ℕ → F → Type 0) (Bad : List ℕ → LineFault → Type 0) (view : X → F) (line : List ℕ)
     (r : Result X LineFault) : Type 0 where
   pub found : IfOk r (λ x. Is line (view x))
-  pub only : (y : F) → Is line y → Gives view r (Ok y)
+  pub only : GivesEach Is view line r
   pub fault : IfErr r (λ d. Bad line d)
-  pub faulty : (d : LineFault) → Bad line d → r ≡ Err d
+  pub faulty : FailsEach Bad line r
 
 -- where a result, seen by a view, is what a reader of lines (`ReadsLines`) gives of the line, the caller learns what
 -- `KnowsResult` says

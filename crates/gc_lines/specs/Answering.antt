@@ -32,7 +32,8 @@ fault_text (Read _) = numbered 42
 fault_text (Write replies bytes) = numbered 43 ++ how_far replies bytes
 fault_text (TooManyReads _) = numbered 44
 
--- what answering may do: the state before a frame, the frame, the state after it, and the text that is written for it, if there is one
+-- what answering may do: the state before a frame, the frame, the state after it, and the text that is written for it, if there
+-- is one
 abbrev pub AnswerRule : Type 0 → Type 1
 AnswerRule State = State → Frame → State → Option (List ℕ) → Type 0
 
@@ -49,21 +50,27 @@ AnswersInOrder State rule before (frame ∷ later) after texts =
 abbrev pub all_of : List (List ℕ) → List ℕ
 all_of texts = flat_map (λ text. text) texts
 
--- all of the frames `seen` were answered by the rule, which took the answerer from the state `from` to `to`, and the sink took
--- all of their texts, so that what the sink has taken, where that is known, grew from `old` to `new`. `before` is how many texts
--- of the run the sink had taken earlier, and `count` how many it has taken by now, these included
-pub record AnswersAll {State : Type 0} (rule : AnswerRule State) (from to : State) (seen : List Frame) (old new : Option (List ℕ))
-    (before count : ℕ) : Type 0 where
-  pub texts : List (List ℕ)
-  pub answers : AnswersInOrder State rule from seen to texts
-  pub counts : count ≡ before + length texts
-  pub took : Appends old new (all_of texts)
+-- how far a run has come: the answerer's state, the bytes that the sink took, where they are known, and how many texts it took
+-- whole
+pub record Progress (State : Type 0) : Type 0 where
+  pub state : State
+  pub taken : Option (List ℕ)
+  pub whole : ℕ
 
--- by the rule, answering the frames `seen` up to one, `frame`, and including it, took the answerer from the state `from` to `to`.
--- Of the text of `frame` the sink took only the first `bytes` bytes, and not all. `count` is how many texts the sink has taken
--- whole, the `before` earlier ones included; `old` and `new` are as in `AnswersAll`
-pub record AnswersPart {State : Type 0} (rule : AnswerRule State) (from to : State) (seen : List Frame) (old new : Option (List ℕ))
-    (before count bytes : ℕ) : Type 0 where
+-- the progress with this state, these bytes, and this many texts
+abbrev pub progress : {State : Type 0} → State → (taken : Option (List ℕ)) → (whole : ℕ) → Progress State
+progress state taken whole = record { state = state; taken = taken; whole = whole }
+
+-- between the progress `from` and `to` all of the frames `seen` were answered by the rule, and the sink took all of their texts
+pub record AnswersAll {State : Type 0} (rule : AnswerRule State) (from to : Progress State) (seen : List Frame) : Type 0 where
+  pub texts : List (List ℕ)
+  pub answers : AnswersInOrder State rule from.state seen to.state texts
+  pub counts : to.whole ≡ from.whole + length texts
+  pub took : Appends from.taken to.taken (all_of texts)
+
+-- between the progress `from` and `to` the frames `seen` were answered by the rule up to one, `frame`, and including it. Of the
+-- text of `frame` the sink took only the first `bytes` bytes, and not all
+pub record AnswersPart {State : Type 0} (rule : AnswerRule State) (from to : Progress State) (seen : List Frame) (bytes : ℕ) : Type 0 where
   -- the frames whose texts were taken whole, the one whose text was cut, and those after it
   pub earlier : List Frame
   pub frame : Frame
@@ -72,22 +79,24 @@ pub record AnswersPart {State : Type 0} (rule : AnswerRule State) (from to : Sta
   -- the state after the earlier frames, and their texts
   pub state : State
   pub texts : List (List ℕ)
-  pub answers : AnswersInOrder State rule from earlier state texts
+  pub answers : AnswersInOrder State rule from.state earlier state texts
   -- the text that was cut
   pub text : List ℕ
-  pub gives : rule state frame to (Some text)
-  pub counts : count ≡ before + length texts
+  pub gives : rule state frame to.state (Some text)
+  pub counts : to.whole ≡ from.whole + length texts
   pub not_all : bytes < length text
-  pub took : Appends old new (all_of texts ++ take bytes text)
+  pub took : Appends from.taken to.taken (all_of texts ++ take bytes text)
 
 -- which of the frames `seen`, all that were read, were answered, by the result of the run: all of them, or after a failed write
--- those up to the one whose text was cut. `from`, `to`, `old` and `new` are as in `AnswersAll`
+-- those up to the one whose text was cut. That took the answerer from the state `from` to `to`, and what the sink has taken,
+-- where that is known, grew from `old` to `new`
 abbrev pub AnswersFrames : {State : Type 0} → AnswerRule State → (from to : State) → (seen : List Frame) → (old new : Option (List ℕ))
     → Result Served ServeFault → Type 0
-AnswersFrames rule from to seen old new (Ok served) = AnswersAll rule from to seen old new 0 served.replies
-AnswersFrames rule from to seen old new (Err (Read count)) = AnswersAll rule from to seen old new 0 count
-AnswersFrames rule from to seen old new (Err (Write count bytes)) = AnswersPart rule from to seen old new 0 count bytes
-AnswersFrames rule from to seen old new (Err (TooManyReads count)) = AnswersAll rule from to seen old new 0 count
+AnswersFrames rule from to seen old new (Ok served) = AnswersAll rule (progress from old 0) (progress to new served.replies) seen
+AnswersFrames rule from to seen old new (Err (Read count)) = AnswersAll rule (progress from old 0) (progress to new count) seen
+AnswersFrames rule from to seen old new (Err (Write count bytes)) =
+    AnswersPart rule (progress from old 0) (progress to new count) seen bytes
+AnswersFrames rule from to seen old new (Err (TooManyReads count)) = AnswersAll rule (progress from old 0) (progress to new count) seen
 
 -- what is seen of a source and a sink: the bytes that are still to come and those that were taken, where they are known, how many
 -- reads were answered and whether the last was the end, and whether each port has failed
@@ -141,20 +150,20 @@ pub record HasEnded (old new : Ports) (most : ℕ) (result : Result Served Serve
   -- of a port that hadn't failed before: the fault is 42 exactly where the source failed, and 43 exactly where the sink did
   pub read : old.source_failed ≡ false → IsErrAnd result (λ fault. fault_number fault ≡ 42) ↔ (new.source_failed ≡ true)
   pub write : old.sink_failed ≡ false → IsErrAnd result (λ fault. fault_number fault ≡ 43) ↔ (new.sink_failed ≡ true)
-  -- of ports that hadn't failed before: the fault is 44 exactly where all reads were answered, none was the end, and no port failed
+  -- of ports that hadn't failed before: the fault is 44 exactly where all reads were answered, none was the end, and no port
+  -- failed
   pub too_many : old.source_failed ≡ false → old.sink_failed ≡ false → IsErrAnd result (λ fault. fault_number fault ≡ 44)
       ↔ ((new.reads ≡ old.reads + most) × (old.reads < new.reads → new.ended ≡ false) × (new.source_failed ≡ false) × (new.sink_failed ≡ false))
 
 -- the source gave at most 256 bytes a read, the frames of these bytes were answered, and the sink took the texts: how far,
--- `AnswersFrames` says by the result. `old` and `new` are the ports before and after the run; `from` and `to` are as in
--- `AnswersAll`, or after a failed write as in `AnswersPart`
+-- `AnswersFrames` says by the result. `old` and `new` are the ports before and after the run; `from` and `to` are as there
 abbrev pub AnswersGiven : {State : Type 0} → AnswerRule State → (from to : State) → (old new : Ports) → Result Served ServeFault → Type 0
 AnswersGiven rule from to old new result =
     (given : List ℕ) × Consumes old.remaining new.remaining given
     × (length given ≤ 256 * (new.reads - old.reads)) × AnswersFrames rule from to (frames given) old.taken new.taken result
 
--- a run answered as `AnswersGiven` says, which took the answerer from the state `from` to one that it reached. Without `gathers` that is
--- its state at the end, `to`; with `gathers` the answerer may have got later frames after it
+-- a run answered as `AnswersGiven` says, which took the answerer from the state `from` to one that it reached. Without `gathers`
+-- that is its state at the end, `to`; with `gathers` the answerer may have got later frames after it
 abbrev pub AnswersRun : {State : Type 0} → AnswerRule State → (from to : State) → (old new : Ports) → (gathers : Bool)
     → Result Served ServeFault → Type 0
 AnswersRun {State} rule from to old new gathers result =

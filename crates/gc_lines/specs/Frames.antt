@@ -1,4 +1,5 @@
--- The frames and lines of a stream. The manual ends a line by CR LF and lets a lone LF clear the receiver; the rest is this project's own.
+-- The frames and lines of a stream. The manual ends a line by CR LF and lets a lone LF clear the receiver; the rest is this
+-- project's own.
 use Rattle.std.specs.Prelude.{◌≡◌, ◌≢◌, ℕ, ◌-◌, ◌==◌, ◌&&◌, Bool, List, [], ◌∷◌, ◌++◌, length, take, nat_lt, slice_index, if◌then◌else◌, map, Option, Some, None}
 pub use Rattle.std.specs.Char.{is_newline as is_line_feed}
 use Rattle.std.specs.List.{flat_map, filter_map, AllByRecursion}
@@ -17,14 +18,14 @@ frame_of bytes =
     then (if nat_lt 512 (length bytes - 1) then Overlong else Line (record { items = take (length bytes - 1) bytes }))
     else Cleared
 
--- the pieces of a stream that a line feed ends, each without it, where the bytes `before`, which have no line feed, come before the
--- stream and belong to its first piece
+-- the pieces of a stream that a line feed ends, each without it, where the bytes `before`, which have no line feed, come before
+-- the stream and belong to its first piece
 abbrev pub pieces_behind : (before stream : List ℕ) → List (List ℕ)
 pieces_behind before [] = []
 pieces_behind before (b ∷ bs) = if is_line_feed b then before ∷ pieces_behind [] bs else pieces_behind (before ++ b ∷ []) bs
 
--- what follows the last line feed of a stream. Where the stream has none, that is the bytes `before`, which have none either and come
--- before the stream, and then the whole stream
+-- what follows the last line feed of a stream. Where the stream has none, that is the bytes `before`, which have none either and
+-- come before the stream, and then the whole stream
 abbrev pub rest_behind : (before stream : List ℕ) → List ℕ
 rest_behind before [] = before
 rest_behind before (b ∷ bs) = if is_line_feed b then rest_behind [] bs else rest_behind (before ++ b ∷ []) bs

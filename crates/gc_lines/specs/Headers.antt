@@ -1,5 +1,5 @@
--- What requests and replies share: a signature, a number, an id where there is one, and a colon. The forms are the manual's, the ids from
--- 0 to 7 are this project's own.
+-- What requests and replies share: a signature, a number, an id where there is one, and a colon. The forms are the manual's, the
+-- ids from 0 to 7 are this project's own.
 use Rattle.std.specs.Prelude.{◌≡◌, ◌≢◌, ℕ, ◌+◌, ◌<◌, List, [], ◌∷◌, ◌++◌, Option, Some, None, Result, Ok, Err, IfSome}
 use Rattle.std.specs.Fmt.{decimal}
 use Rattle.gc_lines.specs.declared.fault.LineFault.{LineFault}
@@ -11,6 +11,10 @@ abbrev pub id_text : Option ℕ → List ℕ
 id_text None = []
 id_text (Some id) = 44 ∷ (48 + id) ∷ []
 
+-- the id, where there is one, is from 0 to 7
+abbrev pub IsIdInRange : Option ℕ → Type 0
+IsIdInRange id = IfSome id (λ i. i < 8)
+
 -- the field of an id ends before the bytes `rest`: no further digit follows an id, and no comma comes where there is no id
 abbrev pub EndsId : Option ℕ → (rest : List ℕ) → Type 0
 EndsId None rest = (after : List ℕ) → rest ≢ 44 ∷ after
@@ -19,7 +23,7 @@ EndsId (Some id) rest = NoDigitFirst rest
 -- the bytes begin with a comma and an id from 0 to 7, and the rest, which doesn't begin with a digit, follows; or the id is none,
 -- and the rest is all of the bytes, which don't begin with a comma
 pub record HasId (bytes : List ℕ) (id : Option ℕ) (rest : List ℕ) : Type 0 where
-  pub below : IfSome id (λ i. i < 8)
+  pub below : IsIdInRange id
   pub whole : bytes ≡ id_text id ++ rest
   pub ends : EndsId id rest
 
@@ -66,8 +70,8 @@ FirstBadField signature Body line TooLong = ⊥
 
 -- What a reader answers.
 
--- a function's result is the one that the definition `read` has: the same fault, or a value `x` where `read` is `Ok (view x)`. `view`
--- gives what contracts see of a value
+-- a function's result is the one that the definition `read` has: the same fault, or a value `x` where `read` is `Ok (view x)`.
+-- `view` gives what contracts see of a value
 abbrev pub Gives : {X Y : Type 0} → (view : X → Y) → Result X LineFault → (read : Result Y LineFault) → Type 0
 Gives view (Ok x) read = read ≡ Ok (view x)
 Gives view (Err e) read = read ≡ Err e

@@ -1,7 +1,8 @@
 -- What is claimed of the definitions themselves, apart from any call: this project's own.
-use Rattle.std.specs.Prelude.{◌≡◌, ◌↔◌, ℕ, ◌<◌, ◌≤◌, List, [], ◌∷◌, ◌++◌, length, IfSome, Ok, Err}
+use Rattle.std.specs.Prelude.{◌≡◌, ◌↔◌, ℕ, ◌<◌, ◌≤◌, List, [], ◌∷◌, ◌++◌, length, Ok, Err}
 use Rattle.gc_lines.specs.declared.fault.LineFault.{LineFault}
 use Rattle.gc_lines.specs.declared.frame.Frame.TheVariants.{Line}
+use Rattle.gc_lines.specs.Headers.{IsIdInRange}
 use Rattle.gc_lines.specs.Lines.{IsPlain}
 use Rattle.gc_lines.specs.Frames.{IsCut, pieces, rest_of, frames}
 use Rattle.gc_lines.specs.Requests.{RequestFields, IsRequest, IsWrittenRequest, FirstBadOfRequest, request_text}
@@ -13,8 +14,8 @@ abbrev pub OneCut : Type 0
 OneCut = (stream : List ℕ) (parts : List (List ℕ)) (rest : List ℕ)
     → IsCut stream parts rest ↔ ((parts ≡ pieces stream) × (rest ≡ rest_of stream))
 
--- wherever a stream is cut in two, its frames are those of the front, and then those of the front's rest with the back after it; and its
--- rest is that of the front's rest with the back after it
+-- wherever a stream is cut in two, its frames are those of the front, and then those of the front's rest with the back after it;
+-- and its rest is that of the front's rest with the back after it
 abbrev pub FramesHoweverCut : Type 0
 FramesHoweverCut = (front back : List ℕ)
     → (frames (front ++ back) ≡ frames front ++ frames (rest_of front ++ back)) × (rest_of (front ++ back) ≡ rest_of (rest_of front ++ back))
@@ -41,12 +42,12 @@ pub record ReadsReplies : Type 0 where
 -- a request's number is below 65536, and its id, where it has one, below 8: a line can have them
 pub record IsRequestInRange (q : RequestFields) : Type 0 where
   pub rpc : q.rpc < 65536
-  pub id : IfSome q.id (λ id. id < 8)
+  pub id : IsIdInRange q.id
 
 -- a reply's numbers are below 65536, and its id, where it has one, is below 8: a line can have them
 pub record IsReplyInRange (r : ReplyFields) : Type 0 where
   pub rc_com : r.rc_com < 65536
-  pub id : IfSome r.id (λ id. id < 8)
+  pub id : IsIdInRange r.id
   pub rc : r.rc < 65536
 
 -- a request has a written line exactly where it is in range. Its text is then the one written line with its fields, reads back,

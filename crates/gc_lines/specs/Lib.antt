@@ -13,4 +13,5 @@ pub mod Faults
 pub mod Laws
 pub mod Lent
 pub mod Answering
+pub mod AnsweringLines
 pub mod Passing

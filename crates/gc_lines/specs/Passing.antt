@@ -1,9 +1,9 @@
--- No part of a promise: what the functions inside the answering loop say of a piece of the stream. Their parameters `from` and `to` are the
--- answerer's states before and after the call, `old` and `new` the sessions, and `sink_old` and `sink_new` the sinks.
+-- No part of a promise: what the functions inside the answering loop say of a piece of the stream. Their parameters `from` and
+-- `to` are the progress before and after the call, `old` and `new` the sessions, and `sink_old` and `sink_new` the sinks.
 use Rattle.std.specs.Prelude.{◌≡◌, ℕ, ◌+◌, ◌-◌, ◌<◌, ◌≤◌, Bool, false, List, [], ◌∷◌, ◌++◌, length, map, nat_lt, if◌then◌else◌, Option}
 use Rattle.std.specs.List.{filter_map}
 use Rattle.std.specs.Io.KnownBytes.{Appends}
-use Rattle.gc_lines.specs.Answering.{AnswerRule, AnswersInOrder, AnswersAll, AnswersPart, all_of}
+use Rattle.gc_lines.specs.Answering.{AnswerRule, AnswersInOrder, AnswersAll, AnswersPart, Progress, all_of, progress}
 use Rattle.gc_lines.specs.Assembler.{StandsFor}
 use Rattle.gc_lines.specs.Frames.{frame_of, line_in, pieces_behind, rest_behind}
 use Rattle.gc_lines.specs.Ports.{TakesFront}
@@ -27,15 +27,9 @@ completed (Line line) = Line line ∷ []
 completed Cleared = Cleared ∷ []
 completed Overlong = Overlong ∷ []
 
--- how far a run has come: the answerer's state, the bytes that the sink took, where they are known, and how many texts went out whole
-pub record Progress (State : Type 0) : Type 0 where
-  pub state : State
-  pub taken : Option (List ℕ)
-  pub whole : ℕ
-
 -- the progress of an answerer in this state, of this sink, and of a session
 abbrev pub session_progress : {State K : Type 0} → Sink K → State → K → Session → Progress State
-session_progress of_sink state sink session = record { state = state; taken = of_sink.taken sink; whole = session.replies }
+session_progress of_sink state sink session = progress state (of_sink.taken sink) session.replies
 
 -- between the progress `from` and `to` the frames `seen` were answered; the texts of the first ones, `done`, went out, and those
 -- of the others, `held`, wait in `text`, with these lengths. `state` is the answerer's state after the frames `done`
@@ -45,7 +39,7 @@ pub record Gathering {State : Type 0} (rule : AnswerRule State) (from to : Progr
   pub held : List Frame
   pub texts : List (List ℕ)
   pub order : seen ≡ done ++ held
-  pub all : AnswersAll rule from.state state done from.taken to.taken from.whole to.whole
+  pub all : AnswersAll rule from (progress state to.taken to.whole) done
   pub holds : AnswersInOrder State rule state held to.state texts
   pub text_is : text ≡ all_of texts
   pub lengths_are : lengths ≡ map length texts
@@ -56,49 +50,42 @@ pub record Gathering {State : Type 0} (rule : AnswerRule State) (from to : Progr
 pub record GathersPart {State : Type 0} (rule : AnswerRule State) (from to : Progress State) (seen : List Frame) (bytes : ℕ)
     (gathers : Bool) : Type 0 where
   pub reached : State
-  pub part : AnswersPart rule from.state reached seen from.taken to.taken from.whole to.whole bytes
+  pub part : AnswersPart rule from (progress reached to.taken to.whole) seen bytes
   pub alone : gathers ≡ false → reached ≡ to.state
 
 -- one more frame was answered, or none where `frame` is `More`: if, from some `start`, `Gathering` was true of the frames `seen`
 -- before the call, then after the call `Gathering` is true, from that `start`, of `seen` and then `frame`, or of `seen` alone
 -- where `frame` is `More`
-abbrev pub GathersFrame : {State K : Type 0} → AnswerRule State → Sink K → (from to : State) → (sink_old sink_new : K)
-    → (old new : Session) → Frame → Type 0
-GathersFrame {State} {K} rule of_sink from to sink_old sink_new old new frame =
+abbrev pub GathersFrame : {State : Type 0} → AnswerRule State → (from to : Progress State) → (old new : Session) → Frame → Type 0
+GathersFrame {State} rule from to old new frame =
     (start : Progress State) (seen : List Frame)
-    → Gathering rule start (session_progress of_sink from sink_old old) seen old.text.items old.lengths
-    → Gathering rule start (session_progress of_sink to sink_new new) (seen ++ completed frame) new.text.items new.lengths
+    → Gathering rule start from seen old.text.items old.lengths
+    → Gathering rule start to (seen ++ completed frame) new.text.items new.lengths
 
 -- one more frame was answered, or none where `frame` is `More`, and of some text the sink took only the first `bytes` bytes: if,
 -- from some `start`, `Gathering` was true of the frames `seen` before the call, then after the call `GathersPart` is true, from
 -- that `start`, of `seen` and then `frame`, or of `seen` alone where `frame` is `More`
-abbrev pub GathersFramePart : {State K : Type 0} → AnswerRule State → Sink K → (from to : State) → (sink_old sink_new : K)
-    → (old new : Session) → Frame → (bytes : ℕ)
-    → Type 0
-GathersFramePart {State} {K} rule of_sink from to sink_old sink_new old new frame bytes =
+abbrev pub GathersFramePart : {State : Type 0} → AnswerRule State → (from to : Progress State) → (old : Session) → Frame → (bytes : ℕ) → Type 0
+GathersFramePart {State} rule from to old frame bytes =
     (start : Progress State) (seen : List Frame)
-    → Gathering rule start (session_progress of_sink from sink_old old) seen old.text.items old.lengths
-    → GathersPart rule start (session_progress of_sink to sink_new new) (seen ++ completed frame) bytes old.gathers
+    → Gathering rule start from seen old.text.items old.lengths
+    → GathersPart rule start to (seen ++ completed frame) bytes old.gathers
 
 -- for whatever bytes `rest` the assembler stood for before the piece: all frames that the piece completes were answered, and all
 -- of their texts went out; and the assembler then stands for what follows the piece's last line feed, or, where the piece has
 -- none, for `rest` and then the whole piece
-abbrev pub AnswersPiece : {State K : Type 0} → AnswerRule State → Sink K → (from to : State) → (sink_old sink_new : K)
-    → (old new : Session) → (piece : List ℕ) → Type 0
-AnswersPiece rule of_sink from to sink_old sink_new old new piece =
+abbrev pub AnswersPiece : {State : Type 0} → AnswerRule State → (from to : Progress State) → (old new : Session) → (piece : List ℕ) → Type 0
+AnswersPiece rule from to old new piece =
     (rest : List ℕ) → StandsFor old.assembler rest
-    → StandsFor new.assembler (rest_behind rest piece)
-    × AnswersAll rule from to (frames_behind rest piece) (of_sink.taken sink_old) (of_sink.taken sink_new) old.replies new.replies
+    → StandsFor new.assembler (rest_behind rest piece) × AnswersAll rule from to (frames_behind rest piece)
 
 -- for whatever bytes `rest` the assembler stood for before the piece: the frames that the piece completes were answered up to one
 -- of whose text the sink took only the first `bytes` bytes; where texts are gathered, the answerer may also have got frames after
 -- that one (`GathersPart`)
-abbrev pub AnswersPiecePart : {State K : Type 0} → AnswerRule State → Sink K → (from to : State) → (sink_old sink_new : K)
-    → (old new : Session) → (piece : List ℕ)
+abbrev pub AnswersPiecePart : {State : Type 0} → AnswerRule State → (from to : Progress State) → (old : Session) → (piece : List ℕ)
     → (bytes : ℕ) → Type 0
-AnswersPiecePart rule of_sink from to sink_old sink_new old new piece bytes =
-    (rest : List ℕ) → StandsFor old.assembler rest
-    → GathersPart rule (session_progress of_sink from sink_old old) (session_progress of_sink to sink_new new) (frames_behind rest piece) bytes old.gathers
+AnswersPiecePart rule from to old piece bytes =
+    (rest : List ℕ) → StandsFor old.assembler rest → GathersPart rule from to (frames_behind rest piece) bytes old.gathers
 
 -- no text waits
 abbrev pub NoneWait : Session → Type 0
@@ -114,8 +101,8 @@ pub record HasRoom (text lengths : List ℕ) (gathers : Bool) : Type 0 where
   pub for_length : length lengths < 256
   pub alone : gathers ≡ false → lengths ≡ []
 
--- where a sink took the first `taken` bytes of texts with these lengths: how many texts it took whole, `whole` earlier ones included, and
--- how many bytes of the next text it took
+-- where a sink took the first `taken` bytes of texts with these lengths: how many texts it took whole, `whole` earlier ones
+-- included, and how many bytes of the next text it took
 abbrev pub whole_and_part : (whole taken : ℕ) → List ℕ → ℕ × ℕ
 whole_and_part whole taken [] = (whole, taken)
 whole_and_part whole taken (n ∷ ns) = if nat_lt taken n then (whole, taken) else whole_and_part (whole + 1) (taken - n) ns
@@ -125,9 +112,14 @@ abbrev pub WritesWaiting : {K : Type 0} → Sink K → (sink_old sink_new : K) �
 WritesWaiting of_sink sink_old sink_new old new =
     Appends (of_sink.taken sink_old) (of_sink.taken sink_new) old.text.items × (new.replies ≡ old.replies + length old.lengths)
 
--- of the texts that waited the sink took only the first n bytes, and not all: the texts that it took whole were counted, and of
+-- of texts with these lengths, one after the other in `text`, a sink took only the first bytes, some number n of them, and not
+-- all: with the texts that it took whole their count grew from `whole` to `total`, and of the next one it took `bytes` bytes.
+-- `old` and `new` are what it has taken, before and after
+abbrev pub TakesTextsPart : (old new : Option (List ℕ)) → (whole total : ℕ) → (text lengths : List ℕ) → (bytes : ℕ) → Type 0
+TakesTextsPart old new whole total text lengths bytes = (n : ℕ) × TakesFront old new n text × ((total, bytes) ≡ whole_and_part whole n lengths)
+
+-- of the texts that waited the sink took only a first part, which may be empty: the texts that it took whole were counted, and of
 -- the next one it took `bytes` bytes
 abbrev pub WritesWaitingPart : {K : Type 0} → Sink K → (sink_old sink_new : K) → (old new : Session) → (bytes : ℕ) → Type 0
 WritesWaitingPart of_sink sink_old sink_new old new bytes =
-    (n : ℕ) × TakesFront (of_sink.taken sink_old) (of_sink.taken sink_new) n old.text.items
-    × ((new.replies, bytes) ≡ whole_and_part old.replies n old.lengths)
+    TakesTextsPart (of_sink.taken sink_old) (of_sink.taken sink_new) old.replies new.replies old.text.items old.lengths bytes

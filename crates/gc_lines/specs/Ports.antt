@@ -25,8 +25,8 @@ abbrev pub TakesBytes : {E : Type 0} → (old new : Option (List ℕ)) → Resul
 TakesBytes old new (Ok n) bytes = (n ≤ length bytes) × (0 < length bytes → 0 < n) × Appends old new (take n bytes)
 TakesBytes old new (Err _) bytes = Keeps old new
 
--- a call that fails leaves the sink failed, and any other leaves it as it was. Unlike `Fails`, that is also true of a call that has
--- nothing to write, and so succeeds over a sink that has failed
+-- a call that fails leaves the sink failed, and any other leaves it as it was. Unlike `Fails`, that is also true of a call that
+-- has nothing to write, and so succeeds over a sink that has failed
 abbrev pub FailsWith : {X E : Type 0} → Result X E → (old new : Bool) → Type 0
 FailsWith (Ok _) old new = new ≡ old
 FailsWith (Err _) old new = new ≡ true

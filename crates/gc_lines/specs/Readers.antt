@@ -1,5 +1,5 @@
--- No part of a promise: a line read from the left, field by field, as the code reads it. The laws say that this finds just what has the
--- grammar, and names just the first bad field.
+-- No part of a promise: a line read from the left, field by field, as the code reads it. The laws say that this finds just what
+-- has the grammar, and names just the first bad field.
 use Rattle.std.specs.Prelude.{ℕ, ◌-◌, ◌==◌, ◌&&◌, List, [], ◌∷◌, length, take, drop, nat_lt, nat_eq, slice_index, if◌then◌else◌, Option, Some, None, Result, Ok, Err}
 use Rattle.std.specs.List.{take_while}
 use Rattle.std.specs.Char.{is_ascii_digit}

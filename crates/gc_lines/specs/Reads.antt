@@ -1,4 +1,5 @@
--- What a read does to a source, and to a reader that reads ahead: this project's own. `old` and `new` are before and after the read.
+-- What a read does to a source, and to a reader that reads ahead: this project's own. `old` and `new` are before and after the
+-- read.
 use Rattle.std.specs.Prelude.{◌≡◌, ℕ, ◌<◌, List, length, min, Result, Ok}
 use Rattle.gc_lines.specs.Ports.{GivesBytes, CountsRead, Fails}
 use Rattle.gc_lines.specs.declared.ports.Source.{Ghosts as Source}

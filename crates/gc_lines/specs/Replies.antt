@@ -1,10 +1,10 @@
 -- Reply lines: %R1P,<RC_COM>[,<TrId>]:<RC>[,<P0>,<P1>,...], as the manual's chapter on the ASCII protocol has them.
-use Rattle.std.specs.Prelude.{◌≡◌, ◌↔◌, ℕ, ◌<◌, ◌⊎◌, List, [], ◌∷◌, ◌++◌, Option, IfSome, codes}
+use Rattle.std.specs.Prelude.{◌≡◌, ◌↔◌, ℕ, ◌⊎◌, List, [], ◌∷◌, ◌++◌, Option, codes}
 use Rattle.std.specs.Fmt.{decimal}
 use Rattle.gc_lines.specs.declared.fault.LineFault.{LineFault}
 use Rattle.gc_lines.specs.declared.reply.Reply.{Reply}
 use Rattle.gc_lines.specs.Numbers.{IsNumber, NoLeadingZero}
-use Rattle.gc_lines.specs.Headers.{id_text, FirstBadField}
+use Rattle.gc_lines.specs.Headers.{id_text, FirstBadField, IsIdInRange}
 
 -- the fields of a reply: the return code of the communication, the transaction id where there is one, the return code of the
 -- procedure, and all bytes after the comma that follows it, or none without a comma
@@ -28,7 +28,7 @@ pub record IsReply (line : List ℕ) (fields : ReplyFields) : Type 0 where
   pub code : List ℕ
   pub tail : List ℕ
   pub is_number : IsNumber number fields.rc_com
-  pub is_id : IfSome fields.id (λ id. id < 8)
+  pub is_id : IsIdInRange fields.id
   pub is_code : IsNumber code fields.rc
   pub is_tail : EndsCode tail fields.params
   pub whole : line ≡ reply_signature ++ (number ++ (id_text fields.id ++ 58 ∷ (code ++ tail)))

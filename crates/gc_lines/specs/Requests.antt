@@ -1,10 +1,10 @@
 -- Request lines: %R1Q,<RPC>[,<TrId>]:[<P0>][,<P1>,...], as the manual's chapter on the ASCII protocol has them.
-use Rattle.std.specs.Prelude.{◌≡◌, ℕ, ◌<◌, List, ◌∷◌, ◌++◌, Option, IfSome, codes}
+use Rattle.std.specs.Prelude.{◌≡◌, ℕ, List, ◌∷◌, ◌++◌, Option, codes}
 use Rattle.std.specs.Fmt.{decimal}
 use Rattle.gc_lines.specs.declared.fault.LineFault.{LineFault}
 use Rattle.gc_lines.specs.declared.request.Request.{Request}
 use Rattle.gc_lines.specs.Numbers.{IsNumber, NoLeadingZero}
-use Rattle.gc_lines.specs.Headers.{id_text, FirstBadField}
+use Rattle.gc_lines.specs.Headers.{id_text, FirstBadField, IsIdInRange}
 
 -- the fields of a request: the procedure's number, the transaction id where there is one, and all bytes after the colon
 pub record RequestFields : Type 0 where
@@ -24,7 +24,7 @@ request_signature = codes "%R1Q,"
 pub record IsRequest (line : List ℕ) (fields : RequestFields) : Type 0 where
   pub number : List ℕ
   pub is_number : IsNumber number fields.rpc
-  pub is_id : IfSome fields.id (λ id. id < 8)
+  pub is_id : IsIdInRange fields.id
   pub whole : line ≡ request_signature ++ (number ++ (id_text fields.id ++ 58 ∷ fields.params))
 
 -- the line is no request

@@ -1,4 +1,5 @@
--- What an assembler does with a piece of a stream: this project's own. `old` and `new` are what it keeps before and after the call.
+-- What an assembler does with a piece of a stream: this project's own. `old` and `new` are what it keeps before and after the
+-- call.
 use Rattle.std.specs.Prelude.{◌≡◌, ℕ, ◌+◌, ◌<◌, ◌≤◌, List, [], ◌++◌, length, take, Some, None}
 use Rattle.std.specs.List.{position}
 use Rattle.gc_lines.specs.Assembler.{Kept, StandsFor}
@@ -10,8 +11,8 @@ use Rattle.gc_lines.specs.declared.frame.Frame.TheVariants.{More}
 abbrev pub IsUsedOf : (piece : List ℕ) → (used : ℕ) → Type 0
 IsUsedOf piece used = (used ≤ length piece) × (0 < length piece → 0 < used)
 
--- of a piece without a line feed all bytes are used, and the frame is `More`. Where the assembler stood for some bytes, it then stands for
--- these with the piece after them
+-- of a piece without a line feed all bytes are used, and the frame is `More`. Where the assembler stood for some bytes, it then
+-- stands for these with the piece after them
 abbrev pub KeepsPiece : (old new : Kept) → (piece : List ℕ) → (used : ℕ) → Frame → Type 0
 KeepsPiece old new piece used frame =
     position is_line_feed piece ≡ None → (used ≡ length piece) × (frame ≡ More)

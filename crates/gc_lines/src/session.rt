@@ -5,7 +5,7 @@ ghost use Rattle.std.specs.Prelude.{◌≡◌, ◌+◌, ◌<◌, ◌≤◌, ◌^
 ghost use Rattle.gc_lines.specs.Assembler.{StandsFor};
 ghost use Rattle.gc_lines.specs.Lent.{lent_seen};
 ghost use Rattle.gc_lines.specs.Passing.{AnswersPiece, AnswersPiecePart, GathersFrame, GathersFramePart, WritesWaiting, WritesWaitingPart};
-ghost use Rattle.gc_lines.specs.Passing.{ChangesTextsAlone, HasRoom, NoneWait, whole_and_part};
+ghost use Rattle.gc_lines.specs.Passing.{ChangesTextsAlone, HasRoom, NoneWait, session_progress, whole_and_part};
 ghost use Rattle.gc_lines.specs.Ports.{FailsWith};
 
 use crate::answering::{Answers, Outgoing};
@@ -61,10 +61,10 @@ impl Session {
         ensures gathers { self.new.gathers ≡ self.old.gathers }
         ensures nothing { OnOk result (NoneWait self.new) }
         ensures failed { FailsWith result (K.failed sink.old) (K.failed sink.new) }
-        ensures ok { OnOk result (AnswersPiece A.answers K.Sink answerer.old answerer.new sink.old sink.new
-            self.old self.new piece.now) }
-        ensures err { IfErr result (λ bytes. AnswersPiecePart A.answers K.Sink answerer.old answerer.new sink.old sink.new
-            self.old self.new piece.now bytes) }
+        ensures ok { OnOk result (AnswersPiece A.answers (session_progress K.Sink answerer.old sink.old self.old)
+            (session_progress K.Sink answerer.new sink.new self.new) self.old self.new piece.now) }
+        ensures err { IfErr result (λ bytes. AnswersPiecePart A.answers (session_progress K.Sink answerer.old sink.old self.old)
+            (session_progress K.Sink answerer.new sink.new self.new) self.old piece.now bytes) }
     {
         let mut left = piece;
         while !left.is_empty() {
@@ -96,10 +96,10 @@ impl Session {
         ensures room { OnOk result (HasRoom self.new.text.items self.new.lengths self.new.gathers) }
         ensures same { ChangesTextsAlone self.old self.new }
         ensures failed { FailsWith result (K.failed sink.old) (K.failed sink.new) }
-        ensures ok { OnOk result (GathersFrame A.answers K.Sink answerer.old answerer.new sink.old sink.new
-            self.old self.new (lent_seen frame.entry)) }
-        ensures err { IfErr result (λ bytes. GathersFramePart A.answers K.Sink answerer.old answerer.new sink.old sink.new
-            self.old self.new (lent_seen frame.entry) bytes) }
+        ensures ok { OnOk result (GathersFrame A.answers (session_progress K.Sink answerer.old sink.old self.old)
+            (session_progress K.Sink answerer.new sink.new self.new) self.old self.new (lent_seen frame.entry)) }
+        ensures err { IfErr result (λ bytes. GathersFramePart A.answers (session_progress K.Sink answerer.old sink.old self.old)
+            (session_progress K.Sink answerer.new sink.new self.new) self.old (lent_seen frame.entry) bytes) }
     {
         if let Lent::More = frame {
             return Ok(());

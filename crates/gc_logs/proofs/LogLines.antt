@@ -1,15 +1,15 @@
 -- The lines that a log has of more and more bytes, what is pending after these, and the bytes that the lines stand for
 -- (`wire`). `Takes` says that a log's sink, if it hasn't failed, took a text: a, b and c are what the sink has taken at first, then and at
 -- last, and fa, fb and fc whether it had failed by then. `p` is what is pending.
-use Rattle.std.proofs.Common.{◌≡◌, ℕ, ◌+◌, ◌-◌, ◌<◌, ◌==◌, ◌&&◌, Bool, true, false, cond, not, List, [], ◌∷◌, ◌++◌, length, take, get_or, Option, refl, sym, ap, subst, ◌∙◌, arith, append_assoc, append-nil}
+use Rattle.std.proofs.Common.{◌≡◌, ℕ, ◌+◌, ◌-◌, ◌<◌, ◌==◌, ◌&&◌, Bool, true, inl, inr, not, List, [], ◌∷◌, ◌++◌, length, take, get_or, Option, refl, sym, ap, subst, ◌∙◌, arith, append_assoc, append-nil}
 use Rattle.std.specs.Prelude.{nat_lt}
-use Rattle.std.proofs.lemmas.Bool.{cond_both, eqb-true, ltb-true, and_parts}
+use Rattle.std.proofs.lemmas.Bool.{cases_Bool, cond_both, eqb-true, ltb-true, and_parts}
 use Rattle.std.proofs.lemmas.List.{take_all, take_more}
 use Rattle.std.proofs.lemmas.List.Concat.{flat_map-append}
 use Rattle.std.proofs.KnownBytes.{Appends-trans}
 use Rattle.gc_lines.specs.Frames.{ends_in_return}
 use Rattle.gc_texts.specs.Logs.{log_line}
-use Rattle.gc_logs.specs.Logging.{Entry, entry, nothing, pending, line_mark, part_mark, entry_of_line, entries_at, pending_at, entries, pending_behind, log_text_of, Takes, wire_of, wire, LogKeepsAll}
+use Rattle.gc_logs.specs.Logging.{Entry, entry, line_mark, part_mark, entry_of_line, entries_at, pending_at, entries, pending_behind, log_text_of, Takes, wire_of, wire, LogKeepsAll}
 use Rattle.gc_logs.specs.declared.logging.Unwritten.{Unwritten}
 use Rattle.gc_logs.specs.declared.logging.Direction.{Direction}
 use Rattle.gc_logs.specs.declared.logging.Direction.TheVariants.{Went, Came}
@@ -38,32 +38,22 @@ takes_both a b c fa fb fc xs ys one next = record {
   stood = λ stands. one.stood (next.stood stands);
 }
 
--- in `Takes`, the text may be replaced by one that equals it
-takes_is : (a b : Option (List ℕ)) (fa fb : Bool) (xs ys : List ℕ) → xs ≡ ys → Takes a b fa fb xs → Takes a b fa fb ys
-takes_is a b fa fb xs ys e h = subst (Takes a b fa fb) e h
-
--- one turn of the loop over the bytes `bs`, at byte i: `p` is pending before the loop, `q` before this byte, and `r` after it
-module _
-    (a b c : Option (List ℕ)) (fa fb fc : Bool) (utc : ℕ) (way : Direction) (p q r : Unwritten)
-    (bs : List ℕ) (i : ℕ) (within : i < length bs) where
-  -- the first i + 1 bytes are the first i and byte i
-  more : take (i + 1) bs ≡ take i bs ++ get_or bs i 0 ∷ []
-  more = take_more bs i 0 within
-
+-- one turn of the loop over the bytes `bs`, at byte i: `p` is pending before the loop, and `q` before this byte
+module _ (p q : Unwritten) (bs : List ℕ) (i : ℕ) (within : i < length bs) (behind : q ≡ pending_behind p (take i bs)) where
   -- if a log took the lines of the first i bytes, and then those of byte i, it took the lines of the first i + 1
-  pub took_more : q ≡ pending_behind p (take i bs)
+  pub took_more : (a b c : Option (List ℕ)) (fa fb fc : Bool) (utc : ℕ) (way : Direction)
       → Takes a b fa fb (log_text_of utc (entries way p (take i bs))) → Takes b c fb fc (log_text_of utc (entries_at way q (get_or bs i 0)))
       → Takes a c fa fc (log_text_of utc (entries way p (take (i + 1) bs)))
-  took_more behind one next =
+  took_more a b c fa fb fc utc way one next =
       let es = entries way p (take i bs) in
       let fs = entries_at way (pending_behind p (take i bs)) (get_or bs i 0) in
-      let whole : es ++ fs ≡ entries way p (take (i + 1) bs) = sym (ap (entries way p) more ∙ entries_more way p (take i bs) (get_or bs i 0)) in
+      let whole : es ++ fs ≡ entries way p (take (i + 1) bs) = sym (ap (entries way p) (take_more bs i 0 within) ∙ entries_more way p (take i bs) (get_or bs i 0)) in
       let last : Takes b c fb fc (log_text_of utc fs) = subst (λ z. Takes b c fb fc (log_text_of utc (entries_at way z (get_or bs i 0)))) behind next in
-      takes_is a c fa fc _ _ (sym (text_more utc es fs) ∙ ap (log_text_of utc) whole) (takes_both a b c fa fb fc (log_text_of utc es) (log_text_of utc fs) one last)
+      subst (Takes a c fa fc) (sym (text_more utc es fs) ∙ ap (log_text_of utc) whole) (takes_both a b c fa fb fc (log_text_of utc es) (log_text_of utc fs) one last)
 
-  -- where `q` is pending after the first i bytes, and byte i makes `r` of it, `r` is pending after the first i + 1
-  pub is_behind : q ≡ pending_behind p (take i bs) → r ≡ pending_at q (get_or bs i 0) → r ≡ pending_behind p (take (i + 1) bs)
-  is_behind behind next = next ∙ ap (λ z. pending_at z (get_or bs i 0)) behind ∙ sym (ap (pending_behind p) more ∙ pending_more p (take i bs) (get_or bs i 0))
+  -- if byte i makes `r` of what is pending before it, `r` is pending after the first i + 1
+  pub is_behind : (r : Unwritten) → r ≡ pending_at q (get_or bs i 0) → r ≡ pending_behind p (take (i + 1) bs)
+  is_behind r next = next ∙ ap (λ z. pending_at z (get_or bs i 0)) behind ∙ sym (ap (pending_behind p) (take_more bs i 0 within) ∙ pending_more p (take i bs) (get_or bs i 0))
 
 -- bytes that end in a CR are the bytes before the CR, and the CR
 last_return : (bytes : List ℕ) → ends_in_return bytes ≡ true → bytes ≡ take (length bytes - 1) bytes ++ 13 ∷ []
@@ -95,26 +85,15 @@ line_wire way p =
     whole_wire way front ∙ sym (append_assoc front (13 ∷ []) (10 ∷ [])) ∙ ap (λ bs. bs ++ 10 ∷ []) (sym cut))
     (λ _. part_wire way (p.bytes.items ++ 10 ∷ []))
 
--- of a byte that is taken as no line feed: the lines that it gives, and what is pending then, stand for what was pending and the byte,
--- whether there was room for it (`short`), or what was pending became a part
-in_line : (way : Direction) (p : Unwritten) (b : ℕ) (short : Bool)
-    → wire (cond short [] (entry (part_mark way) p.bytes.items ∷ [])) ++
-    (cond short (pending (p.bytes.items ++ b ∷ []) p.is_long) (pending (b ∷ []) true)).bytes.items ≡ p.bytes.items ++ b ∷ []
-in_line way p b true = refl
-in_line way p b false = ap (λ w. w ++ b ∷ []) (part_wire way p.bytes.items)
-
--- of any byte, by whether it is a line feed (`feed`): the lines that it gives, and what is pending then, stand for what was
--- pending and the byte
-at_end : (way : Direction) (p : Unwritten) (b : ℕ) (feed : Bool) → (b == 10) ≡ feed
-    → wire (cond feed (entry_of_line way p ∷ []) (cond (nat_lt (length p.bytes.items) 513) [] (entry (part_mark way) p.bytes.items ∷ [])))
-    ++ (cond feed nothing (cond (nat_lt (length p.bytes.items) 513) (pending (p.bytes.items ++ b ∷ []) p.is_long) (pending (b ∷ []) true))).bytes.items
-    ≡ p.bytes.items ++ b ∷ []
-at_end way p b true is = append-nil (wire (entry_of_line way p ∷ [])) ∙ line_wire way p ∙ ap (λ c. p.bytes.items ++ c ∷ []) (sym (eqb-true b 10 is))
-at_end way p b false is = in_line way p b (nat_lt (length p.bytes.items) 513)
-
 -- the lines that one more byte gives, and what is pending then, stand for what was pending and that byte
 byte_wire : (way : Direction) (p : Unwritten) (b : ℕ) → wire (entries_at way p b) ++ (pending_at p b).bytes.items ≡ p.bytes.items ++ b ∷ []
-byte_wire way p b = at_end way p b (b == 10) refl
+byte_wire way p b = elim (cases_Bool (b == 10)) [
+  | inl feed ↦ rw feed (append-nil (wire (entry_of_line way p ∷ [])) ∙ line_wire way p ∙ ap (λ c. p.bytes.items ++ c ∷ []) (sym (eqb-true b 10 feed)))
+  | inr other ↦ rw other (elim (cases_Bool (nat_lt (length p.bytes.items) 513)) [
+    | inl short ↦ rw short refl
+    | inr full ↦ rw full (ap (λ w. w ++ b ∷ []) (part_wire way p.bytes.items))
+  ])
+]
 
 -- the lines that bytes give, and what is pending then, stand for what was pending and those bytes: nothing is lost, and nothing
 -- is added
@@ -132,13 +111,9 @@ keeps way p (b ∷ bs) =
 pub keeps_all : LogKeepsAll
 keeps_all way p bytes = sym (keeps way p bytes)
 
--- if a log took the lines of one list, and then those of another, it took those of both
-pub takes_then : (a b c : Option (List ℕ)) (fa fb fc : Bool) (utc : ℕ) (es fs : List Entry) → Takes a b fa fb (log_text_of utc es)
-    → Takes b c fb fc (log_text_of utc fs) → Takes a c fa fc (log_text_of utc (es ++ fs))
-takes_then a b c fa fb fc utc es fs one next =
-    takes_is a c fa fc _ _ (sym (text_more utc es fs)) (takes_both a b c fa fb fc (log_text_of utc es) (log_text_of utc fs) one next)
-
 -- if a log took the lines of one list, and then those of another, written at an equal moment, it took those of both
 pub takes_last : (a b c : Option (List ℕ)) (fa fb fc : Bool) (utc now : ℕ) (es fs : List Entry) → now ≡ utc → Takes a b fa fb (log_text_of utc es)
     → Takes b c fb fc (log_text_of now fs) → Takes a c fa fc (log_text_of utc (es ++ fs))
-takes_last a b c fa fb fc utc now es fs same one next = takes_then a b c fa fb fc utc es fs one (subst (λ u. Takes b c fb fc (log_text_of u fs)) same next)
+takes_last a b c fa fb fc utc now es fs same one next =
+    subst (Takes a c fa fc) (sym (text_more utc es fs))
+    (takes_both a b c fa fb fc (log_text_of utc es) (log_text_of utc fs) one (subst (λ u. Takes b c fb fc (log_text_of u fs)) same next))

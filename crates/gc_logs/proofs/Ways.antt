@@ -5,7 +5,7 @@ use Rattle.std.specs.List.{AllByRecursion}
 use Rattle.std.proofs.lemmas.Bool.{cond_both}
 use Rattle.gc_lines.proofs.Lists.{all_append}
 use Rattle.gc_lines.specs.Frames.{ends_in_return}
-use Rattle.gc_logs.specs.Logging.{Entry, entry, line_mark, part_mark, entry_of_line, entries_at, pending_at, entries, entries_of_pending}
+use Rattle.gc_logs.specs.Logging.{entry, line_mark, part_mark, entry_of_line, entries_at, pending_at, entries, entries_of_pending}
 use Rattle.gc_logs.specs.Ways.{sign_of, IsSigned, MarksTellTheWay}
 use Rattle.gc_logs.specs.declared.logging.Unwritten.{Unwritten}
 use Rattle.gc_logs.specs.declared.logging.Direction.{Direction}

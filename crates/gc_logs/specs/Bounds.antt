@@ -10,9 +10,13 @@ use Rattle.gc_logs.specs.declared.logged.Logged.{Logged}
 abbrev pub full_line : List ℕ → List ℕ
 full_line line = take (min (length line) 24) line ++ codes " - full: what went or came from here on is left out\n"
 
+-- a sink took all of the text, or a front of it
+abbrev pub TakesSome : (old new : Option (List ℕ)) → (text : List ℕ) → Type 0
+TakesSome old new text = Appends old new text ⊎ ((n : ℕ) × TakesFront old new n text)
+
 -- a sink took all of the line that replaces `line`, or a front of that line
 abbrev pub TakesFull : (old new : Option (List ℕ)) → (line : List ℕ) → Type 0
-TakesFull old new line = Appends old new (full_line line) ⊎ ((n : ℕ) × TakesFront old new n (full_line line))
+TakesFull old new line = TakesSome old new (full_line line)
 
 -- what is seen of a sink with a bound: what the one below it took, how many more bytes have room, and whether it has ended
 pub record BoundSeen : Type 0 where
@@ -24,7 +28,7 @@ pub record BoundSeen : Type 0 where
 abbrev pub bound_seen : {K : Type 0} → Sink K → Bounded K → BoundSeen
 bound_seen of_sink bounded = record { taken = of_sink.taken bounded.sink; left = bounded.left; ended = bounded.is_ended }
 
--- a write of bytes that have room goes to the sink below, and the room gets less by as many bytes as that sink takes
+-- a write of bytes that have room goes to the sink below; if it succeeds, the room gets less by as many bytes as that sink took
 pub record TakesInRoom {E : Type 0} (old new : BoundSeen) (result : Result ℕ E) (bytes : List ℕ) : Type 0 where
   pub took : TakesBytes old.taken new.taken result bytes
   pub left : IfOk result (λ n. new.left + n ≡ old.left)

@@ -37,7 +37,7 @@ part_mark Came = mark.CamePart
 abbrev pub nothing : Unwritten
 nothing = record { bytes = record { items = [] }; is_long = false }
 
--- these bytes are pending; `long` says whether a front of their line was written already
+-- the state of a direction of which these bytes are pending; `long` says whether a front of their line was written already
 abbrev pub pending : (bytes : List ℕ) (long : Bool) → Unwritten
 pending bytes long = record { bytes = record { items = bytes }; is_long = long }
 

@@ -81,19 +81,20 @@ fn full_line(line: &[u8]) -> ArrayVec<u8, 100>
     text
 }
 
-// Writes the line that replaces `line`. `Err(n)`: the sink took the first n bytes of it, which aren't all, and failed.
-fn write_full_line<K: Sink>(sink: &mut K, line: &[u8]) -> Result<(), usize>
+// Writes the notice that the log is full, in place of `line`. `Err(n)`: the sink took the first n bytes of it, which aren't all, and
+// failed.
+fn write_notice<K: Sink>(sink: &mut K, line: &[u8]) -> Result<(), usize>
     ensures ok { OnOk result (Appends (K.taken sink.old) (K.taken sink.new) (full_line line.now)) }
     ensures err { IfErr result (λ n. TakesFront (K.taken sink.old) (K.taken sink.new) n (full_line line.now)) }
 {
     write_whole(sink, &full_line(line))
 }
 
-// Writes the line that replaces `line`. If the sink fails at that, only a part of the line is written, or nothing.
+// Writes the notice that the log is full, in place of `line`. If the sink fails at that, only a part of it is written, or nothing.
 fn note_full<K: Sink>(sink: &mut K, line: &[u8])
     ensures { TakesFull (K.taken sink.old) (K.taken sink.new) line.now }
 {
-    let _ = write_full_line(sink, line);
+    let _ = write_notice(sink, line);
 }
 
 impl<K: Sink> Sink for Bounded<K> {

@@ -1,7 +1,5 @@
--- What a station's status and messages report of its run, and what it measured then: this project's own. Throughout, `shown`
--- gives what was written on the messages, if that is known, and `lasts` says whether all that the sink took lasts. `turns` is
--- what was seen of link and sink at each act. An apostrophe (as in acts') marks what holds at the end, in place of at the
--- start.
+-- What a station's status and messages report of its run, and what it measured then: this project's own. `old` and `new` are the run
+-- at its start and at its end.
 use Rattle.std.specs.Prelude.{◌≡◌, ℕ, Bool, true, ◌⊎◌, List, [], Option, Some, None, Result, Err}
 use Rattle.std.specs.Io.KnownBytes.{Appends}
 use Rattle.gc_measuring.specs.Logging.{ReportsLoss}
@@ -36,74 +34,102 @@ abbrev pub acts_of : {L : Type 0} → Option (Telling L) → Option (List Act)
 acts_of None = None
 acts_of (Some link) = Some link.history.acts
 
--- a text was refused, or its commands were measured, over a link that recorded these acts, with what was seen at each; and the status and
--- the messages report how that ended. All records last, as `AllLast` has it, and the sink has failed if the run ended with `Output`, else
--- only if it had before. `between` are the messages before the report
-pub record ReportsMeasuring {S K E : Type 0} (source : Source S) (sink : Sink K) (lasts : K → Bool) (shown : E → Option (List ℕ)) (station : Settings)
-    (acts acts' : Option (List Act)) (turns turns' : List Snapshot) (old new : Streams S K E) (status : ℕ) : Type 0 where
+-- how the ports of a run are seen: its source and its sink by the ghost members of their traits; `lasts` says whether all that the
+-- sink took lasts, and `shown` gives what was written on the messages, if that is known
+pub record Views (S K E : Type 0) : Type 1 where
+  pub source : Source S
+  pub sink : Sink K
+  pub lasts : K → Bool
+  pub shown : E → Option (List ℕ)
+
+-- the views by these members
+abbrev pub views_by : {S K E : Type 0} → Source S → Sink K → (lasts : K → Bool) → (shown : E → Option (List ℕ)) → Views S K E
+views_by source sink lasts shown = record { source = source; sink = sink; lasts = lasts; shown = shown }
+
+-- a run at one moment: its streams, the acts that its link recorded, if there is a link and they are known, and what was seen of
+-- link and sink at each act so far (`turns`)
+pub record Stage (S K E : Type 0) : Type 0 where
+  pub streams : Streams S K E
+  pub acts : Option (List Act)
+  pub turns : List Snapshot
+
+-- the moment of a run with these streams, acts and turns
+abbrev pub stage : {S K E : Type 0} → Streams S K E → Option (List Act) → (turns : List Snapshot) → Stage S K E
+stage streams acts turns = record { streams = streams; acts = acts; turns = turns }
+
+-- the same moment, with these messages
+abbrev pub with_messages : {S K E : Type 0} → Stage S K E → E → Stage S K E
+with_messages at messages = record at { streams = record at.streams { messages = messages } }
+
+-- what is seen of a run's ports at this moment
+abbrev pub seen_at : {S K E : Type 0} → Views S K E → Stage S K E → PortsSeen
+seen_at views at = ports_seen views.source views.sink views.shown at.streams at.acts at.turns
+
+-- a text was refused, or its commands were measured, from `old` to `new`; and the status and the messages report how that ended.
+-- All records last, as `AllLast` has it, and the sink has failed if the run ended with `Output`, else only if it had before.
+-- `between` are the messages before the report
+pub record ReportsMeasuring {S K E : Type 0} (views : Views S K E) (station : Settings) (old new : Stage S K E) (status : ℕ)
+    : Type 0 where
   pub end : Result Tally Stop
   pub between : E
-  pub measured : MeasuresGiven station (ports_seen source sink shown old acts turns) (ports_seen source sink shown (record new { messages = between }) acts' turns') end
-  pub all_last : AllLast (lasts new.output) end
-  pub fails : FailsAtOutput (sink.failed old.output) (sink.failed new.output) (with_fault end)
-  pub counts : ReportsEndOfRun end status (shown between) (shown new.messages)
+  pub measured : MeasuresGiven station (seen_at views old) (seen_at views (with_messages new between)) end
+  pub all_last : AllLast (views.lasts new.streams.output) end
+  pub fails : FailsAtOutput (views.sink.failed old.streams.output) (views.sink.failed new.streams.output) (with_fault end)
+  pub counts : ReportsEndOfRun end status (views.shown between) (views.shown new.streams.messages)
 
 -- as `ReportsMeasuring` says; and then, if the log isn't complete (`is_lost`), the messages report that (`ReportsLoss`). `behind`
 -- are the messages before the report of the log
-abbrev pub ReportsLogged : {S K E : Type 0} → Source S → Sink K → (lasts : K → Bool) → (shown : E → Option (List ℕ)) → Settings → (acts acts' : Option (List Act))
-    → (turns turns' : List Snapshot) → (old new : Streams S K E) → (is_lost : Bool) → (status : ℕ) → Type 0
-ReportsLogged {S = S} {K = K} {E = E} source sink lasts shown station acts acts' turns turns' old new is_lost status =
-    (behind : E) × ReportsMeasuring source sink lasts shown station acts acts' turns turns' old (record new { messages = behind }) status
-    × ReportsLoss is_lost (shown behind) (shown new.messages)
+abbrev pub ReportsLogged : {S K E : Type 0} → Views S K E → Settings → (old new : Stage S K E) → (is_lost : Bool) → (status : ℕ) → Type 0
+ReportsLogged {S = S} {K = K} {E = E} views station old new is_lost status =
+    (behind : E) × ReportsMeasuring views station old (with_messages new behind) status
+    × ReportsLoss is_lost (views.shown behind) (views.shown new.streams.messages)
 
--- a source gave a text to its end, and the run over its commands is done, or its end was asked for, over a link that recorded these acts.
+-- a source gave a text to its end, and the run over its commands, from `old` to `new`, is done, or its end was asked for.
 -- `between` are the messages as the run left them
-pub record MeasuresAll {S K E : Type 0} (source : Source S) (sink : Sink K) (shown : E → Option (List ℕ)) (station : Settings)
-    (acts acts' : Option (List Act)) (turns turns' : List Snapshot) (old new : Streams S K E) : Type 0 where
+pub record MeasuresAll {S K E : Type 0} (views : Views S K E) (station : Settings) (old new : Stage S K E) : Type 0 where
   pub between : E
-  pub is : IsMeasured station (ports_seen source sink shown old acts turns) (ports_seen source sink shown (record new { messages = between }) acts' turns')
+  pub is : IsMeasured station (seen_at views old) (seen_at views (with_messages new between))
 
 -- a run can't begin, for this fault: there is no link, or, if a log was asked for (`has_log`), the log can't be had
 abbrev pub CannotBegin : (has_log : Bool) → RunFault → Type 0
 CannotBegin has_log fault = IsFaultWithoutLink fault ⊎ ((has_log ≡ true) × (fault ≡ Log))
 
 -- a run didn't begin, and ended with a fault for which it can't (`CannotBegin`); then there was no link, and nothing was read or written
-abbrev pub IsUnbegun : {S K E : Type 0} → (has_log : Bool) → (old new : Streams S K E) → (acts : Option (List Act)) → (turns turns' : List Snapshot)
-    → (end : Result Tally Stop) → Type 0
-IsUnbegun has_log old new acts turns turns' end = (fault : RunFault) × (end ≡ Err (Run fault)) × CannotBegin has_log fault
-    × (new.input ≡ old.input) × (new.output ≡ old.output) × (new.messages ≡ old.messages) × (acts ≡ None) × (turns' ≡ turns)
+abbrev pub IsUnbegun : {S K E : Type 0} → (has_log : Bool) → (old new : Stage S K E) → (end : Result Tally Stop) → Type 0
+IsUnbegun has_log old new end = (fault : RunFault) × (end ≡ Err (Run fault)) × CannotBegin has_log fault
+    × (new.streams.input ≡ old.streams.input) × (new.streams.output ≡ old.streams.output) × (new.streams.messages ≡ old.streams.messages)
+    × (new.acts ≡ None) × (new.turns ≡ old.turns)
 
--- a text was refused, or its commands were measured, by these acts, which the link recorded from none on, with what was seen at
--- each. All records last; nothing is said of that if the text was refused or the sink failed
-pub record MeasuresFromNone {S K E : Type 0} (source : Source S) (sink : Sink K) (lasts : K → Bool) (shown : E → Option (List ℕ)) (station : Settings)
-    (old new : Streams S K E) (acts : Option (List Act)) (turns turns' : List Snapshot) (end : Result Tally Stop) : Type 0 where
+-- a text was refused, or its commands were measured, from `old` to `new`, in a run that began at some moment, over a link that has
+-- then recorded the acts `told`. All records last; nothing is said of that if the text was refused or the sink failed
+pub record MeasuresAtLink {S K E : Type 0} (views : Views S K E) (station : Settings) (old new : Stage S K E) (end : Result Tally Stop)
+    : Type 0 where
   pub told : List Act
-  pub is : acts ≡ Some told
-  pub measured : MeasuresBegun station (ports_seen source sink shown old (Some []) turns) (ports_seen source sink shown new (Some told) turns') end
-  pub all_last : AllLast (lasts new.output) end
+  pub is : new.acts ≡ Some told
+  pub measured : MeasuresBegun station (seen_at views old) (seen_at views (record new { acts = Some told })) end
+  pub all_last : AllLast (views.lasts new.streams.output) end
 
--- a run measured by these acts of its link, with what was seen at each, or it didn't begin; and the status and the messages report how it
--- ended, and then whether the log, if one was asked for (`has_log`), isn't complete (`is_lost`). The sink has failed if the run ended with
--- `Output`, else only if it had before. `between` are the messages before the report of the end, and `behind` those after it
-pub record ReportsRun {S K E : Type 0} (source : Source S) (sink : Sink K) (lasts : K → Bool) (shown : E → Option (List ℕ)) (has_log : Bool) (station : Settings)
-    (old new : Streams S K E) (acts : Option (List Act)) (turns turns' : List Snapshot) (status : ℕ) : Type 0 where
+-- a run measured over its link, or it didn't begin; and the status and the messages report how it ended, and then whether the log,
+-- if one was asked for (`has_log`), isn't complete (`is_lost`). The sink has failed if the run ended with `Output`, else only if it
+-- had before. `between` are the messages before the report of the end, and `behind` those after it
+pub record ReportsRun {S K E : Type 0} (views : Views S K E) (has_log : Bool) (station : Settings) (old new : Stage S K E) (status : ℕ)
+    : Type 0 where
   pub end : Result Tally Stop
   pub between : E
   pub behind : E
   pub is_lost : Bool
   pub logged : is_lost ≡ true → has_log ≡ true
-  pub ran : MeasuresFromNone source sink lasts shown station old (record new { messages = between }) acts turns turns' end
-      ⊎ IsUnbegun has_log old (record new { messages = between }) acts turns turns' end
-  pub fails : FailsAtOutput (sink.failed old.output) (sink.failed new.output) (with_fault end)
-  pub counts : ReportsEndOfRun end status (shown between) (shown behind)
-  pub loss : ReportsLoss is_lost (shown behind) (shown new.messages)
+  pub ran : MeasuresAtLink views station old (with_messages new between) end
+      ⊎ IsUnbegun has_log old (with_messages new between) end
+  pub fails : FailsAtOutput (views.sink.failed old.streams.output) (views.sink.failed new.streams.output) (with_fault end)
+  pub counts : ReportsEndOfRun end status (views.shown between) (views.shown behind)
+  pub loss : ReportsLoss is_lost (views.shown behind) (views.shown new.streams.messages)
 
--- a source gave a text to its end, and the run over its commands is done, or its end was asked for, by these acts, which its
--- link recorded from none on
-abbrev pub MeasuresAllFromNone : {S K E : Type 0} → Source S → Sink K → (shown : E → Option (List ℕ)) → Settings → (old new : Streams S K E)
-    → (acts : Option (List Act)) → (turns turns' : List Snapshot) → Type 0
-MeasuresAllFromNone source sink shown station old new acts turns turns' =
-    (told : List Act) × (acts ≡ Some told) × ((run : ℕ) × MeasuresAll source sink shown (begun_at run station) (Some []) (Some told) turns turns' old new)
+-- a source gave a text to its end, and the run over its commands, from `old` to `new`, is done, or its end was asked for, over a
+-- link that has then recorded the acts `told`
+abbrev pub MeasuresAllAtLink : {S K E : Type 0} → Views S K E → Settings → (old new : Stage S K E) → Type 0
+MeasuresAllAtLink views station old new =
+    (told : List Act) × (new.acts ≡ Some told) × ((run : ℕ) × MeasuresAll views (begun_at run station) old (record new { acts = Some told }))
 
 -- a file of records can't be had, which is reported with status 1, and nothing was read
 pub record RefusesFile {S K E : Type 0} (shown : E → Option (List ℕ)) (old new : Streams S K E) (status : ℕ) : Type 0 where
@@ -122,26 +148,29 @@ pub record IsFiled {S F K E : Type 0} (sink : Sink F) (old new : Streams S K E) 
   pub read : new.input ≡ ended.input
   pub messages : new.messages ≡ ended.messages
 
--- a run that appends to a file is reported after what was written of the file's opening, and the file has the rows of what was measured.
--- `old` and `new` are the streams of the run's caller; `begun` and `ended` are the run's own, with the file as output (`IsFiled`)
-pub record ReportsAppended {S F K E : Type 0} (source : Source S) (sink : Sink F) (lasts : F → Bool) (shown : E → Option (List ℕ)) (has_log : Bool) (station : Settings)
-    (old new : Streams S K E) (file : Option F) (acts : Option (List Act)) (turns turns' : List Snapshot) (status : ℕ) : Type 0 where
+-- a run that appends to a file is reported after what was written of the file's opening, and the file has the rows of what was
+-- measured. `old` and `new` are the run with the streams of its caller; `begun` and `ended` are the run's own streams, with the file
+-- as output (`IsFiled`)
+pub record ReportsAppended {S F K E : Type 0} (views : Views S F E) (has_log : Bool) (station : Settings) (old new : Stage S K E)
+    (file : Option F) (status : ℕ) : Type 0 where
   pub begun : Streams S F E
   pub ended : Streams S F E
-  pub filed : IsFiled sink old new begun ended file
-  pub run : ReportsRun source sink lasts shown has_log (appended station) begun ended acts turns turns' status
+  pub filed : IsFiled views.sink old.streams new.streams begun ended file
+  pub run : ReportsRun views has_log (appended station) (stage begun old.acts old.turns) (stage ended new.acts new.turns) status
 
--- a file of records can't be had, which is reported (`RefusesFile`); or a run appended to it, and its end is reported (`ReportsAppended`)
-abbrev pub ReportsAppending : {S F K E : Type 0} → Source S → Sink F → (lasts : F → Bool) → (shown : E → Option (List ℕ)) → (has_log : Bool) → Settings
-    → (old new : Streams S K E) → (file : Option F) → (acts : Option (List Act)) → (turns turns' : List Snapshot) → (status : ℕ) → Type 0
-ReportsAppending source sink lasts shown has_log station old new file acts turns turns' status =
-    RefusesFile shown old new status ⊎ ReportsAppended source sink lasts shown has_log station old new file acts turns turns' status
+-- a file of records can't be had, which is reported (`RefusesFile`); or a run appended to it, and its end is reported
+-- (`ReportsAppended`)
+abbrev pub ReportsAppending : {S F K E : Type 0} → Views S F E → (has_log : Bool) → Settings → (old new : Stage S K E)
+    → (file : Option F) → (status : ℕ) → Type 0
+ReportsAppending views has_log station old new file status =
+    RefusesFile views.shown old.streams new.streams status ⊎ ReportsAppended views has_log station old new file status
 
 -- a source gave a text to its end, and the run over its commands, which appended to a file, is done, or its end was asked for.
--- `old` and `new` are the streams of the run's caller; `begun` and `ended` are the run's own, with the file as output (`IsFiled`)
-pub record AppendsAll {S F K E : Type 0} (source : Source S) (sink : Sink F) (shown : E → Option (List ℕ)) (station : Settings)
-    (old new : Streams S K E) (file : Option F) (acts : Option (List Act)) (turns turns' : List Snapshot) : Type 0 where
+-- `old` and `new` are the run with the streams of its caller; `begun` and `ended` are the run's own streams, with the file as
+-- output (`IsFiled`)
+pub record AppendsAll {S F K E : Type 0} (views : Views S F E) (station : Settings) (old new : Stage S K E) (file : Option F)
+    : Type 0 where
   pub begun : Streams S F E
   pub ended : Streams S F E
-  pub filed : IsFiled sink old new begun ended file
-  pub all : MeasuresAllFromNone source sink shown (appended station) begun ended acts turns turns'
+  pub filed : IsFiled views.sink old.streams new.streams begun ended file
+  pub all : MeasuresAllAtLink views (appended station) (stage begun old.acts old.turns) (stage ended new.acts new.turns)

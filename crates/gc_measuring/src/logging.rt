@@ -5,7 +5,7 @@ ghost use Rattle.std.specs.Option.{is_some};
 ghost use Rattle.std.specs.Process.{exit_status};
 ghost use Rattle.gc_texts.specs.declared.fault.RunFault.{RunFault};
 ghost use Rattle.gc_measuring.specs.Logging.{ReportsLoss};
-ghost use Rattle.gc_measuring.specs.Telling.{ReportsLogged, MeasuresAll};
+ghost use Rattle.gc_measuring.specs.Telling.{ReportsLogged, MeasuresAll, stage, views_by};
 ghost use Rattle.gc_logs.specs.Bounds.{has_ended, sink_of};
 
 use crate::spot::Spot;
@@ -172,13 +172,13 @@ pub(crate) fn measure_logged<L: Link, G: Sink, S: Source, K: Durable, E: Write>(
     kept: &mut Kept,
 ) -> (Streams<S, K, E>, io::Result<ExitCode>)
     // As without a log; and after that the messages say that the log isn't complete exactly if its sink has ended or failed.
-    ensures told { IfOk result.1 (λ status. ReportsLogged S.Source K.Sink K.is_durable E.contents station
-        (L.acts logged.old.link) (L.acts logged.new.link) kept.old.turns kept.new.turns streams result.0
+    ensures told { IfOk result.1 (λ status. ReportsLogged (views_by S.Source K.Sink K.is_durable E.contents) station
+        (stage streams (L.acts logged.old.link) kept.old.turns) (stage result.0 (L.acts logged.new.link) kept.new.turns)
         (G.failed (sink_of logged.new)) (exit_status status)) }
 
     // Status 0 only if the source gave a text to its end, and the run over its commands is done, or its end was asked for.
-    ensures done { IfOk result.1 (λ status. exit_status status ≡ 0 → MeasuresAll S.Source K.Sink E.contents station
-        (L.acts logged.old.link) (L.acts logged.new.link) kept.old.turns kept.new.turns streams result.0) }
+    ensures done { IfOk result.1 (λ status. exit_status status ≡ 0 → MeasuresAll (views_by S.Source K.Sink K.is_durable E.contents) station
+        (stage streams (L.acts logged.old.link) kept.old.turns) (stage result.0 (L.acts logged.new.link) kept.new.turns)) }
     ensures bound { IfOk result.1 (λ status. exit_status status ≤ 1) }
 {
     let (mut streams, ended) = measure_over(alloc, logged, station, spot, streams, kept);

@@ -1,12 +1,12 @@
 //! A station that appends its records, as rows, to a file that outlasts the program.
 
-ghost use Rattle.std.specs.Prelude.{◌≡◌, ◌≤◌, [], Ok, IfOk, OnOk, OnErr};
+ghost use Rattle.std.specs.Prelude.{◌≡◌, ◌≤◌, [], Some, Ok, IfOk, OnOk, OnErr};
 ghost use Rattle.std.specs.Io.KnownBytes.{Appends};
 ghost use Rattle.std.specs.Option.{is_some};
 ghost use Rattle.std.specs.Process.{exit_status};
 ghost use Rattle.gc_measuring.specs.Recording.{IsOpenedFor, ReportsOpening, fault_of_unfit, opened_lines, rotation_line, unfit_text};
 ghost use Rattle.gc_measuring.specs.Appending.{file_of, acts_in};
-ghost use Rattle.gc_measuring.specs.Telling.{ReportsAppending, AppendsAll};
+ghost use Rattle.gc_measuring.specs.Telling.{ReportsAppending, AppendsAll, stage, views_by};
 ghost use Rattle.gc_files.specs.Sinks.{steps_in};
 
 use crate::counts::report_end_of_run;
@@ -163,12 +163,13 @@ pub fn append_at<
     // opening and then, with the status, how the run ended; and the file that is handed back has the run's rows: those of the
     // acts that the link recorded. At each act the file had all rows that the acts before it settled, and they lasted.
     ensures told { IfOk result.1 (λ status. ReportsAppending
-        S.Source ⟦<Followed<'a, R> as Sink>⟧ ⟦<Followed<'a, R> as Durable>⟧.is_durable E.contents (is_some spot.entry.site.log) station
-        streams result.0 (file_of result.2) (acts_in result.2) kept.old.turns kept.new.turns (exit_status status)) }
+        (views_by S.Source ⟦<Followed<'a, R> as Sink>⟧ ⟦<Followed<'a, R> as Durable>⟧.is_durable E.contents) (is_some spot.entry.site.log) station
+        (stage streams (Some []) kept.old.turns) (stage result.0 (acts_in result.2) kept.new.turns) (file_of result.2) (exit_status status)) }
 
     // Status 0 only if the source gave a text to its end, and the run over its commands is done, or its end was asked for.
     ensures done { IfOk result.1 (λ status. exit_status status ≡ 0
-        → AppendsAll S.Source ⟦<Followed<'a, R> as Sink>⟧ E.contents station streams result.0 (file_of result.2) (acts_in result.2) kept.old.turns kept.new.turns) }
+        → AppendsAll (views_by S.Source ⟦<Followed<'a, R> as Sink>⟧ ⟦<Followed<'a, R> as Durable>⟧.is_durable E.contents) station
+        (stage streams (Some []) kept.old.turns) (stage result.0 (acts_in result.2) kept.new.turns) (file_of result.2)) }
 
     // Nothing is written on the output.
     ensures output { result.0.output ≡ streams.output }

@@ -1,10 +1,10 @@
 //! A station at a place: it opens its log and its link, measures, and reports how that ended.
 
-ghost use Rattle.std.specs.Prelude.{◌≡◌, ◌≤◌, IfOk, IfErr};
+ghost use Rattle.std.specs.Prelude.{◌≡◌, ◌≤◌, [], Some, IfOk, IfErr};
 ghost use Rattle.std.specs.Option.{is_some};
 ghost use Rattle.std.specs.Process.{exit_status};
 ghost use Rattle.gc_measuring.specs.Stops.{fault_without_link, IsFaultWithoutLink};
-ghost use Rattle.gc_measuring.specs.Telling.{ReportsMeasuring, MeasuresAll, ReportsRun, MeasuresAllFromNone, CannotBegin, acts_of};
+ghost use Rattle.gc_measuring.specs.Telling.{ReportsMeasuring, MeasuresAll, ReportsRun, MeasuresAllAtLink, CannotBegin, acts_of, stage, views_by};
 
 use crate::counts::report_end_of_run;
 use crate::logging::{LogSink, log_at, measure_logged};
@@ -57,12 +57,13 @@ pub fn measure_at<
     // or the output failed before the records, or the text's commands were measured: the link that is handed back has recorded
     // all acts of the run and no other, the sink its records, and at each act all that was settled before lasted. Or log, link or
     // clock couldn't be had, and nothing was done.
-    ensures told { IfOk result.1 (λ status. ReportsRun S.Source K.Sink K.is_durable E.contents (is_some spot.entry.site.log) station
-        streams result.0 (acts_of result.2) kept.old.turns kept.new.turns (exit_status status)) }
+    ensures told { IfOk result.1 (λ status. ReportsRun (views_by S.Source K.Sink K.is_durable E.contents) (is_some spot.entry.site.log) station
+        (stage streams (Some []) kept.old.turns) (stage result.0 (acts_of result.2) kept.new.turns) (exit_status status)) }
 
     // Status 0 only if the source gave a text to its end, and the run over its commands is done, or its end was asked for.
     ensures done { IfOk result.1 (λ status. exit_status status ≡ 0
-        → MeasuresAllFromNone S.Source K.Sink E.contents station streams result.0 (acts_of result.2) kept.old.turns kept.new.turns) }
+        → MeasuresAllAtLink (views_by S.Source K.Sink K.is_durable E.contents) station
+        (stage streams (Some []) kept.old.turns) (stage result.0 (acts_of result.2) kept.new.turns)) }
     ensures bound { IfOk result.1 (λ status. exit_status status ≤ 1) }
 {
     let Opened { link, moment, log } = match open_link_and_log(rt, spot) {
@@ -159,12 +160,13 @@ pub(crate) fn measure_over<L: Link, S: Source, K: Durable, E: Write>(
 ) -> (Streams<S, K, E>, io::Result<ExitCode>)
     // The text was refused, or the output failed before the records, or the text's commands were measured; and the status and the
     // messages report how that ended.
-    ensures told { IfOk result.1 (λ status. ReportsMeasuring S.Source K.Sink K.is_durable E.contents station
-        (L.acts link.old) (L.acts link.new) kept.old.turns kept.new.turns streams result.0 (exit_status status)) }
+    ensures told { IfOk result.1 (λ status. ReportsMeasuring (views_by S.Source K.Sink K.is_durable E.contents) station
+        (stage streams (L.acts link.old) kept.old.turns) (stage result.0 (L.acts link.new) kept.new.turns) (exit_status status)) }
 
     // Status 0 only if the source gave a text to its end, and the run over its commands is done, or its end was asked for.
     ensures done { IfOk result.1 (λ status. exit_status status ≡ 0
-        → MeasuresAll S.Source K.Sink E.contents station (L.acts link.old) (L.acts link.new) kept.old.turns kept.new.turns streams result.0) }
+        → MeasuresAll (views_by S.Source K.Sink K.is_durable E.contents) station
+        (stage streams (L.acts link.old) kept.old.turns) (stage result.0 (L.acts link.new) kept.new.turns)) }
     ensures bound { IfOk result.1 (λ status. exit_status status ≤ 1) }
 {
     let (mut streams, end) = run_station_text(alloc, link, station, spot, streams, u64::MAX, kept);

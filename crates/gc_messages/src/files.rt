@@ -124,7 +124,8 @@ impl FilesNews {
         self.report_astray(messages)
     }
 
-    // Writes, if that is due, that the path of the rows leads astray.
+    // Writes, if that is due, that the rows' file was moved or deleted, that no new one can be opened at its path, and that rows
+    // are still written to the old one.
     fn report_astray<E: Write>(self, messages: &mut E) -> io::Result<()> {
         if !self.is_astray {
             return Ok(());

@@ -1,6 +1,6 @@
--- Rows, each by its claim, and the replies that they speak of, each by its truth, one after the other.
+-- How rows are compared with the replies that came, one after the other. A row is here its claim, and a reply its truth. Rows are
+-- true by replies where `AreTrue` holds of the two lists.
 use Rattle.std.proofs.Common.{◌≡◌, ℕ, ◌+◌, ◌<◌, ◌≤◌, List, [], ◌∷◌, ◌++◌, length, take, get_or, inl, inr, Option, Some, subst, sym, ◌∙◌, arith}
-use Rattle.std.specs.Prelude.{slice_get}
 use Rattle.std.proofs.lemmas.Option.{slice_get_within, slice_get-get_or}
 use Rattle.gc_nights.specs.Claims.{SpeaksOf, IsTrueAt, MatchesNext, AreTrue}
 use Rattle.gc_nights.specs.declared.claim.Claim.{Claim}
@@ -29,36 +29,32 @@ pub record HasMatched (claims : List Claim) (truths : List Truth) (matched seen 
   pub within : matched ≤ length claims
   pub are : AreTrue (take matched claims) (take seen truths)
 
--- where the first `matched` rows are true by the first `seen` replies, and there is a further reply, they are true by one reply
--- more
-pub matched_skip : (claims : List Claim) (truths : List Truth) (matched seen : ℕ) (truth : Truth)
-    → HasMatched claims truths matched seen → seen < length truths → truth ≡ get_or truths seen truth → HasMatched claims truths matched (seen + 1)
-matched_skip claims truths matched seen truth so_far within is = record {
-  within = so_far.within;
-  are = subst (λ ts. AreTrue (take matched claims) ts) (sym (at_place truths seen truth within is).0) (stays_true_by_one_reply_more (take matched claims) (take seen truths) truth so_far.are);
-}
+-- the first `matched` rows are true by the first `seen` replies (`HasMatched`), and `truth` is the next reply
+module _
+    (claims : List Claim) (truths : List Truth) (matched seen : ℕ) (truth : Truth)
+    (so_far : HasMatched claims truths matched seen) (within : seen < length truths) (is : truth ≡ get_or truths seen truth) where
+  -- the first `matched` rows are true by one reply more, too
+  matched_skip : HasMatched claims truths matched (seen + 1)
+  matched_skip = record {
+    within = so_far.within;
+    are = subst (λ ts. AreTrue (take matched claims) ts) (sym (at_place truths seen truth within is).0) (stays_true_by_one_reply_more (take matched claims) (take seen truths) truth so_far.are);
+  }
 
--- where the first `matched` rows are true by the first `seen` replies, and the next row speaks of the next reply, one row more is
--- true by one reply more
-pub matched_more : (claims : List Claim) (truths : List Truth) (matched seen : ℕ) (truth : Truth)
-    → HasMatched claims truths matched seen → seen < length truths → truth ≡ get_or truths seen truth → IsTrueAt claims matched truth → HasMatched claims truths (matched + 1) (seen + 1)
-matched_more claims truths matched seen truth so_far within is at =
-    let some : matched < length claims = slice_get_within claims matched at.claim at.there in
-    let here : at.claim ≡ get_or claims matched at.claim =
-    let both : ◌≡◌ {A = Option Claim} (Some at.claim) (Some (get_or claims matched at.claim)) = sym at.there ∙ slice_get-get_or claims matched at.claim some in
-    cc in
-    record {
-      within = omega (arith, some);
-      are = subst (λ cs. AreTrue cs (take (seen + 1) truths)) (sym (at_place claims matched at.claim some here).0)
-          (subst (λ ts. AreTrue (take matched claims ++ at.claim ∷ []) ts) (sym (at_place truths seen truth within is).0)
-          (one_row_more_is_true (take matched claims) (take seen truths) at.claim truth so_far.are at.is));
-    }
+  -- where the next row speaks of the next reply, one row more is true by one reply more
+  matched_more : IsTrueAt claims matched truth → HasMatched claims truths (matched + 1) (seen + 1)
+  matched_more at =
+      let some : matched < length claims = slice_get_within claims matched at.claim at.there in
+      let here : at.claim ≡ get_or claims matched at.claim =
+      let both : ◌≡◌ {A = Option Claim} (Some at.claim) (Some (get_or claims matched at.claim)) = sym at.there ∙ slice_get-get_or claims matched at.claim some in
+      cc in
+      record {
+        within = omega (arith, some);
+        are = subst (λ cs. AreTrue cs (take (seen + 1) truths)) (sym (at_place claims matched at.claim some here).0)
+            (subst (λ ts. AreTrue (take matched claims ++ at.claim ∷ []) ts) (sym (at_place truths seen truth within is).0)
+            (one_row_more_is_true (take matched claims) (take seen truths) at.claim truth so_far.are at.is));
+      }
 
--- where the first `matched` rows are true by the first `seen` replies, and with the next reply `next` rows are matched
--- (`MatchesNext`), the first `next` rows are true by one reply more
-pub matched_next : (claims : List Claim) (truths : List Truth) (matched seen next : ℕ) (truth : Truth)
-    → HasMatched claims truths matched seen → seen < length truths → truth ≡ get_or truths seen truth → MatchesNext claims matched truth next → HasMatched claims truths next (seen + 1)
-matched_next claims truths matched seen next truth so_far within is (inl same) =
-    subst (λ n. HasMatched claims truths n (seen + 1)) (sym same) (matched_skip claims truths matched seen truth so_far within is)
-matched_next claims truths matched seen next truth so_far within is (inr more) =
-    subst (λ n. HasMatched claims truths n (seen + 1)) (sym more.0) (matched_more claims truths matched seen truth so_far within is more.1)
+  -- where with the next reply `next` rows are matched (`MatchesNext`), the first `next` rows are true by one reply more
+  pub matched_next : (next : ℕ) → MatchesNext claims matched truth next → HasMatched claims truths next (seen + 1)
+  matched_next next (inl same) = subst (λ n. HasMatched claims truths n (seen + 1)) (sym same) matched_skip
+  matched_next next (inr more) = subst (λ n. HasMatched claims truths n (seen + 1)) (sym more.0) (matched_more more.1)

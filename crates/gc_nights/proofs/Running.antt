@@ -16,7 +16,7 @@ use Rattle.gc_texts.specs.declared.fault.RunFault.TheVariants.{Output}
 use Rattle.gc_texts.specs.declared.tasks.Task.{Task}
 use Rattle.gc_nights.specs.Runs.{IsRunOf, AreRuns, AreFaithfulRuns}
 
--- where no run was made, the acts before and after are the same, and `AreRuns` is true of them
+-- where the acts before and after are the same, they are those of no run at all (`AreRuns`)
 pub no_runs : (commands : List Task) (acts : List Act) → AreRuns commands acts acts
 no_runs commands acts = record { stations = []; each = tt; told = sym (append-nil acts) }
 
@@ -38,7 +38,7 @@ runs_behind commands old mid new first second = record {
 }
 
 module _ (plan : Plan) (commands : List Task) (scope : Scope) (text : Record → List ℕ) (askable : AreAskable commands) (old new : List Act) (taken taken' : Option (List ℕ)) where
-  -- the acts of a run, and quiet acts after them, are those of one run
+  -- where `new` has, after the acts `old`, the acts of a run and then quiet ones, these are those of one run (`AreRuns`)
   run_then_quiet : (acts behind : List Act) → Runs plan commands (opening plan scope) acts → AllByRecursion IsQuiet behind
       → new ≡ old ++ (acts ++ behind) → AreRuns commands old new
   run_then_quiet acts behind runs quiet told = record {
@@ -47,7 +47,7 @@ module _ (plan : Plan) (commands : List Task) (scope : Scope) (text : Record →
     told = told ∙ ap (λ xs. old ++ (acts ++ xs)) (sym (append-nil behind));
   }
 
-  -- the acts of a run of `run_station` are those of one run, however it ended
+  -- what a run over these commands (`Ran`) added to the acts is that of one run (`AreRuns`), however it ended
   pub run_is_one : (end : Result Tally RunFault) → Ran plan commands scope text (Some old) (Some new) taken taken' end → AreRuns commands old new
   run_is_one (Ok tally) r = run_then_quiet r.1.acts [] r.1.runs tt (r.1.tells ∙ ap (λ xs. old ++ xs) (sym (append-nil r.1.acts)))
   run_is_one (Err Output) (inl r) = run_then_quiet (r.acts ++ r.last ∷ []) (Closed ∷ []) r.runs (tt, tt) (r.tells ∙ ap (λ xs. old ++ xs) (sym (append_assoc r.acts (r.last ∷ []) (Closed ∷ []))))

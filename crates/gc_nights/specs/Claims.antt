@@ -1,6 +1,6 @@
 -- What it means that rows are true: this project's own. A claim is what a row says of a reply, and a truth is a reply that came, with the
 -- request on whose execution the instrument made it.
-use Rattle.std.specs.Prelude.{◌≡◌, ℕ, ◌+◌, ◌<◌, ◌≤◌, ◌⊎◌, Bool, false, true, List, [], ◌∷◌, slice_get, Option, None, Some}
+use Rattle.std.specs.Prelude.{◌≡◌, ℕ, ◌+◌, ◌<◌, ◌≤◌, ◌⊎◌, Bool, false, true, List, [], ◌∷◌, slice_get, Some}
 use Rattle.gc_catalogue.specs.Asked.{asked_line}
 use Rattle.gc_nights.specs.declared.claim.Claim.{Claim}
 use Rattle.gc_rehearsal.specs.declared.truth.Truth.{Truth}

@@ -29,8 +29,7 @@ pub(crate) fn tell_summary<E: Write>(
     for target in &summary.targets {
         tell_target(*target, named.name_of(target.target), messages)?;
     }
-    tell_lines(counts, messages)?;
-    tell_connections(counts, messages)?;
+    tell_line(counts, messages)?;
     tell_cost(summary, counts, messages)
 }
 
@@ -114,19 +113,15 @@ fn tell_target<E: Write>(target: TargetTally, name: &[u8], messages: &mut E) -> 
     tell_tally(target.tally, messages)
 }
 
-// Writes the first half of the counts of what happened on the line: requests, replies, and how often a line was lost or repeated.
-fn tell_lines<E: Write>(counts: Counts, messages: &mut E) -> io::Result<()> {
+// Writes the counts of what happened on the line: requests, replies, how often a line was lost or repeated, holds, closes,
+// refusals of connections, and restarts of the instrument.
+fn tell_line<E: Write>(counts: Counts, messages: &mut E) -> io::Result<()> {
     let requests = counts.requests;
     let replies = counts.replies;
     write!(messages, "line: requests {requests} replies {replies} ")?;
     let lost = counts.lost;
     let repeated = counts.repeated;
-    write!(messages, "lost {lost} repeated {repeated} ")
-}
-
-// Writes the second half of the counts, after `tell_lines`: holds, closes, refusals of connections, and restarts of the
-// instrument.
-fn tell_connections<E: Write>(counts: Counts, messages: &mut E) -> io::Result<()> {
+    write!(messages, "lost {lost} repeated {repeated} ")?;
     let holds = counts.holds;
     let closes = counts.closes;
     write!(messages, "holds {holds} closes {closes} ")?;

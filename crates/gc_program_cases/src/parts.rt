@@ -36,8 +36,7 @@ fn add_all(alloc: Global, case: &Case<'_>, output: &str, messages: &str, missing
     add_missing(alloc, case, "has", output, missing);
     add_missing(alloc, case, "tells", messages, missing);
     add_missing(alloc, case, "counts", messages, missing);
-    add_begin(alloc, case, messages.as_bytes(), missing);
-    add_end(alloc, case, messages.as_bytes(), missing);
+    add_ends(alloc, case, messages.as_bytes(), missing);
     add_length(case, messages.len() as u64, missing);
 }
 
@@ -96,20 +95,17 @@ fn count_in(bytes: &[u8], came: &str) -> usize {
     }
 }
 
-// Adds `begins` if the messages begin otherwise than the case says. If memory runs out, `missing` notes that it lacks a part.
-fn add_begin(alloc: Global, case: &Case<'_>, messages: &[u8], missing: &mut Told) {
-    match bytes_of(alloc, case.value("begins")) {
-        Ok(begin) => missing.either(messages.starts_with(begin.as_slice()), "", "begins "),
-        Err(_) => missing.lack(),
-    }
-}
-
-// Adds `ends` if the messages end otherwise than the case says. If memory runs out, `missing` notes that it lacks a part.
-fn add_end(alloc: Global, case: &Case<'_>, messages: &[u8], missing: &mut Told) {
-    match bytes_of(alloc, case.value("ends")) {
-        Ok(end) => missing.either(messages.ends_with(end.as_slice()), "", "ends "),
-        Err(_) => missing.lack(),
-    }
+// Adds `begins` if the messages begin otherwise than the case says, and `ends` if they end otherwise. If memory runs out for
+// one of these texts, `missing` notes that it lacks a part, and neither is added.
+fn add_ends(alloc: Global, case: &Case<'_>, messages: &[u8], missing: &mut Told) {
+    let Ok(begin) = bytes_of(alloc, case.value("begins")) else {
+        return missing.lack();
+    };
+    let Ok(end) = bytes_of(alloc, case.value("ends")) else {
+        return missing.lack();
+    };
+    missing.either(messages.starts_with(begin.as_slice()), "", "begins ");
+    missing.either(messages.ends_with(end.as_slice()), "", "ends ");
 }
 
 // Adds `length` if the messages have another number of bytes (`length`) than the case says, if it says one.

@@ -201,9 +201,12 @@ pub command_unqualified : (command : Wish) (name : List ℕ) → find (codes "qu
 command_unqualified command [] = refl
 command_unqualified command (b ∷ bs) = refl
 
+-- the members on when and where: the moment a request was sent, if it was, the time, the cycle and the place
+abbrev pub moment_members : (sent : Option ℕ) → (time cycle place : List ℕ) → List Member
+moment_members sent time cycle place = sent_members sent ++ (Text (codes "time") time ∷ Number (codes "cycle") cycle ∷ Number (codes "place") place ∷ [])
+
 -- no member on when and where has the name `quality`
-pub moment_unqualified : (sent : Option ℕ) (time cycle place : List ℕ)
-    → find (codes "quality") (sent_members sent ++ (Text (codes "time") time ∷ Number (codes "cycle") cycle ∷ Number (codes "place") place ∷ [])) ≡ None
+pub moment_unqualified : (sent : Option ℕ) (time cycle place : List ℕ) → find (codes "quality") (moment_members sent time cycle place) ≡ None
 moment_unqualified None time cycle place = refl
 moment_unqualified (Some utc) time cycle place = refl
 
@@ -247,15 +250,14 @@ command_without command (b ∷ bs) =
     (refl, (refl, (refl, (refl, (refl, (refl, (refl, (refl, (refl, (refl, (refl, (refl, (refl, (refl, (refl, (refl, (refl, (refl, (refl, (refl, (refl, (refl, (refl, (refl, tt))))))))))))))))))))))))
 
 -- no member on when and where has the name of a quantity
-pub moment_without : (sent : Option ℕ) (time cycle place : List ℕ)
-    → LacksAll (sent_members sent ++ (Text (codes "time") time ∷ Number (codes "cycle") cycle ∷ Number (codes "place") place ∷ [])) quantity_names
+pub moment_without : (sent : Option ℕ) (time cycle place : List ℕ) → LacksAll (moment_members sent time cycle place) quantity_names
 moment_without None time cycle place =
     (refl, (refl, (refl, (refl, (refl, (refl, (refl, (refl, (refl, (refl, (refl, (refl, (refl, (refl, (refl, (refl, (refl, (refl, (refl, (refl, (refl, (refl, (refl, (refl, tt))))))))))))))))))))))))
 moment_without (Some utc) time cycle place =
     (refl, (refl, (refl, (refl, (refl, (refl, (refl, (refl, (refl, (refl, (refl, (refl, (refl, (refl, (refl, (refl, (refl, (refl, (refl, (refl, (refl, (refl, (refl, (refl, tt))))))))))))))))))))))))
 
 -- among the members on when and where the cycle is found under `cycle`, and the place under `place`
-pub moment_found : (sent : Option ℕ) (time cycle place : List ℕ) → let ms = sent_members sent ++ (Text (codes "time") time ∷ Number (codes "cycle") cycle ∷ Number (codes "place") place ∷ []) in
+pub moment_found : (sent : Option ℕ) (time cycle place : List ℕ) → let ms = moment_members sent time cycle place in
     (find (codes "cycle") ms ≡ Some (json.number cycle)) × (find (codes "place") ms ≡ Some (json.number place))
 moment_found None time cycle place = (refl, refl)
 moment_found (Some utc) time cycle place = (refl, refl)
@@ -267,8 +269,7 @@ moments_found None = refl
 moments_found (Some j) = refl
 
 -- when a request was sent is found under `sent` among the members on when and where; if it wasn't sent, nothing is
-pub sent_found : (sent : Option ℕ) (time cycle place : List ℕ)
-    → text_of (find (codes "sent") (sent_members sent ++ (Text (codes "time") time ∷ Number (codes "cycle") cycle ∷ Number (codes "place") place ∷ []))) ≡ moment_text sent
+pub sent_found : (sent : Option ℕ) (time cycle place : List ℕ) → text_of (find (codes "sent") (moment_members sent time cycle place)) ≡ moment_text sent
 sent_found None time cycle place = refl
 sent_found (Some utc) time cycle place = moment_plain (Some utc)
 

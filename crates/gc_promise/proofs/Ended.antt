@@ -24,30 +24,30 @@ record EndsInLineFeed (xs : List ℕ) : Type 0 where
   is : whole xs ≡ xs
 
 -- bytes that end in a line feed still do so whatever comes before them
-more : (xs ys : List ℕ) → EndsInLineFeed ys → EndsInLineFeed (xs ++ ys)
-more xs ys ends = record { some = feed_behind xs ys ends.some; is = whole_behind xs ys ends.some ∙ ap (λ (l : List ℕ). xs ++ l) ends.is }
+ends_behind : (xs ys : List ℕ) → EndsInLineFeed ys → EndsInLineFeed (xs ++ ys)
+ends_behind xs ys ends = record { some = feed_behind xs ys ends.some; is = whole_behind xs ys ends.some ∙ ap (λ (l : List ℕ). xs ++ l) ends.is }
 
 -- a line feed alone ends in a line feed
-feed : EndsInLineFeed (codes "\n")
-feed = record { some = refl; is = refl }
+feed_ends : EndsInLineFeed (codes "\n")
+feed_ends = record { some = refl; is = refl }
 
 -- a closing brace and a line feed after it end in a line feed
-brace : EndsInLineFeed (codes "}\n")
-brace = record { some = refl; is = refl }
+brace_ends : EndsInLineFeed (codes "}\n")
+brace_ends = record { some = refl; is = refl }
 
 -- a row ends in a line feed
-row : (fields : List (List ℕ)) → EndsInLineFeed (row_of fields)
-row [] = feed
-row (first ∷ others) = more (field_text first ++ behind_commas others) (codes "\n") feed
+row_ends : (fields : List (List ℕ)) → EndsInLineFeed (row_of fields)
+row_ends [] = feed_ends
+row_ends (first ∷ others) = ends_behind (field_text first ++ behind_commas others) (codes "\n") feed_ends
 
 -- the text of a record ends in a line feed, in each form
 record_ends : (form : Form) (when : When) (name : List ℕ) (command : Wish) (end : End) → EndsInLineFeed (record_text form when name command end)
 record_ends Lines when name command end =
-    more (stamp_text when.stamp.utc ++ codes " " ++ decimal when.stamp.turn.place ++ codes " " ++ decimal command.target ++ ending_text end) (codes "\n") feed
-record_ends Csv when name command end = row (row_fields false when name command end)
-record_ends Columns when name command end = row (row_fields true when name command end)
+    ends_behind (stamp_text when.stamp.utc ++ codes " " ++ decimal when.stamp.turn.place ++ codes " " ++ decimal command.target ++ ending_text end) (codes "\n") feed_ends
+record_ends Csv when name command end = row_ends (row_fields false when name command end)
+record_ends Columns when name command end = row_ends (row_fields true when name command end)
 record_ends Json when name command end =
-    more (codes "{\"run\":" ++ string_text (stamp_text when.run) ++ members_text (json_members when name command end)) (codes "}\n") brace
+    ends_behind (codes "{\"run\":" ++ string_text (stamp_text when.run) ++ members_text (json_members when name command end)) (codes "}\n") brace_ends
 
 -- the text of a record ends in a line feed
 pub text_whole : (layout : Layout) (names : List Name) (r : Record) → whole (text_in layout names r) ≡ text_in layout names r

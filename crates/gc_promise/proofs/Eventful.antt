@@ -4,13 +4,13 @@ use Rattle.std.proofs.Common.{◌≡◌, ℕ, zero, suc, List, [], ◌∷◌, �
 use Rattle.std.specs.Prelude.{codes, map, option_map, take, drop}
 use Rattle.std.specs.Fmt.{digits}
 use Rattle.gc_lines.specs.Readers.{header_at, reply_at}
-use Rattle.gc_lines.proofs.Written.{reply_back}
+use Rattle.gc_world.proofs.Handing.{reply_heard}
 use Rattle.gc_values.specs.Decimals.{rounded}
 use Rattle.gc_values.specs.Directions.{is_near}
 use Rattle.gc_catalogue.specs.declared.answer.Reading.{Reading}
 use Rattle.gc_catalogue.specs.declared.asked.Asked.{Asked}
 use Rattle.gc_client.specs.OneForOne.{Step}
-use Rattle.gc_client.specs.Rule.{ById, id_in}
+use Rattle.gc_client.specs.Rule.{ById}
 use Rattle.gc_client.specs.declared.window.TheConstants.{WINDOW}
 use Rattle.gc_texts.specs.Nears.{is_elsewhere}
 use Rattle.gc_links.specs.Acts.{Act, Told}
@@ -44,10 +44,7 @@ use Rattle.gc_field.proofs.Instruments.{keeps_none}
 
 -- `reporting` is an instrument
 reporting_is : IsAnInstrument reporting AnyState instrument.nothing
-reporting_is =
-    keeps_none (List ℕ) reporting (λ line. refl)
-    (λ s id call small. ap id_in (reply_back (record { rc_com = 0; id = Some id; rc = 0; params = s }) (record { rc_com = lit< tt; id = small; rc = lit< tt })))
-    (λ s id call. refl)
+reporting_is = keeps_none (List ℕ) reporting (λ line. refl) (λ s id call small. reply_heard 0 id 0 s (lit< tt) small (lit< tt)) (λ s id call. refl)
 
 -- What the station sees of the line.
 
@@ -82,12 +79,12 @@ all_parts =
     ∷ nothing
     ∷ []
 
--- what the line does in the first synchronization (`begins_turns`) shows the station the turns `begins_shown`
+-- what happens in the first synchronization (`begins_turns`) shows the station the turns `begins_shown`
 begins_are : shown reporting begins_turns (begins at_start) ≡ begins_shown
 unfolding is_elsewhere is_near header_at reply_at digits rounded
 begins_are = refl
 
--- what the line does in the second synchronization (`anew_turns`) shows the station the turns `anew_shown`
+-- what happens in the second synchronization (`anew_turns`) shows the station the turns `anew_shown`
 anew_are : shown reporting anew_turns (begins left_by_first) ≡ anew_shown
 unfolding is_elsewhere is_near header_at reply_at digits rounded
 anew_are = refl

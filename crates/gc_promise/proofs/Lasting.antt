@@ -203,14 +203,14 @@ module _ {R : Type 0} (m : RunMoment R) (is : IsRunMoment m) (reads : Asked → 
 
   -- the run as the laws on files of rows have one: after the calls of its opening, those up to the moment
   abbrev run : List Step → Run
-  run steps = run_by steps m.calls taken (taken ++ rest) None
+  run steps = run_by steps m.calls taken (taken ++ rest)
 
   -- with the calls of an opening of a file that held these bytes, `run` is a run as the laws on files of rows have one
   runs_so : (head held : List ℕ) (steps : List Step) → OpensFile head held steps → IsRun head held (run steps)
   runs_so head held steps opens =
       let none : cuts_none ((steps_in m.was.rows ++ since) ++ is.reached.rest) ≡ true = subst (λ (l : List Step). cuts_none l ≡ true) calls_are m.run.file.rows.only_appends in
-      subst (λ (calls : List Step). IsRun head held (run_by steps calls taken (taken ++ rest) None)) (sym is.reached.begins)
-      (is_run head held steps (steps_in m.was.rows) since rest opens kept taken_whole None rest_whole (cuts_first (steps_in m.was.rows ++ since) is.reached.rest none)
+      subst (λ (calls : List Step). IsRun head held (run_by steps calls taken (taken ++ rest))) (sym is.reached.begins)
+      (is_run head held steps (steps_in m.was.rows) since rest opens kept taken_whole rest_whole (cuts_first (steps_in m.was.rows ++ since) is.reached.rest none)
       (record {
         rest = appended is.reached.rest ++ end.own.rest;
         split = ap (λ (l : List ℕ). taken ++ l) refl ∙ sym (append_assoc taken (appended since) (appended is.reached.rest ++ end.own.rest))

@@ -5,6 +5,7 @@ mod Names
 mod Taken
 mod Owning
 mod Judged
+mod Written
 mod Tabled
 mod Apart
 mod Finding

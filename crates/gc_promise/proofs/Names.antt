@@ -57,9 +57,9 @@ quality_plain None = refl
 -- Columns after columns.
 
 -- two choices by the same test (b), with the same first value, are equal if their second values are equal where the test fails
-pick : (b : Bool) (f x y : List ℕ) → (b ≡ false → x ≡ y) → (if b then f else x) ≡ (if b then f else y)
-pick true f x y same = refl
-pick false f x y same = same refl
+same_choice : (b : Bool) (f x y : List ℕ) → (b ≡ false → x ≡ y) → (if b then f else x) ≡ (if b then f else y)
+same_choice true f x y same = refl
+same_choice false f x y same = same refl
 
 -- whether a name is among these
 abbrev is_among : List ℕ → List (List ℕ) → Bool
@@ -75,7 +75,7 @@ under_front : (key : List ℕ) (names fields more others : List (List ℕ)) → 
 under_front key [] fields more others same among = cc
 under_front key (n ∷ names) [] more others same among = absurd (omega (arith, same))
 under_front key (n ∷ names) (f ∷ fields) more others same among =
-    pick (pointwise nat_eq n key) f (under key (names ++ more) (fields ++ others)) (under key names fields)
+    same_choice (pointwise nat_eq n key) f (under key (names ++ more) (fields ++ others)) (under key names fields)
     (λ other. under_front key names fields more others (omega (arith, same)) (sym (ap (λ b. b || is_among key names) other) ∙ among))
 
 -- under a name that isn't among the first names of a row, which are as many as its first fields, is what is under it in the
@@ -99,14 +99,6 @@ none_missing names (key ∷ keys) none =
 -- each name of a quantity is among the names of quantities
 all_among : AllByRecursion (λ key. IsAmong key quantity_names) quantity_names
 all_among = none_missing quantity_names quantity_names refl
-
--- no quantity's column is named `quality`
-no_quantity_is_quality : is_among (codes "quality") quantity_names ≡ false
-no_quantity_is_quality = refl
-
--- no quantity's column is named `attempt`
-no_quantity_is_attempt : is_among (codes "attempt") quantity_names ≡ false
-no_quantity_is_attempt = refl
 
 -- the quantities of a row have as many fields as names
 filled : (call : Asked) (end : End) → length (map escaped (quantity_fields call end)) ≡ length quantity_names
@@ -152,6 +144,13 @@ module _ (when : When) (name : List ℕ) (command : Wish) (end : End) where
   by_line columns line =
       stamp_text when.run ∷ (when_fields when ++ (command_fields command name ++ ((word_of end ∷ fault_field (fault_of end) ∷ reply_fields line) ++ fields_after_ending columns when command.call end)))
 
+  -- under a name that is no quantity's, the quantities and the last fields have what the last fields have
+  behind_quantities : (key : List ℕ) → is_among key quantity_names ≡ false
+      → under key (quantity_names ++ last_names) (map escaped (quantity_fields command.call end ++ last_fields when end)) ≡ under key last_names (map escaped (last_fields when end))
+  behind_quantities key other =
+      ap (under key (quantity_names ++ last_names)) (map-append escaped (quantity_fields command.call end) (last_fields when end))
+      ∙ under_behind key quantity_names (map escaped (quantity_fields command.call end)) last_names (map escaped (last_fields when end)) (filled command.call end) other
+
   -- in a row without quantities, the word of the quality, escaped, is under `quality`
   last_alone : (line : Option (List ℕ)) → under (codes "quality") (header false) (map escaped (by_line false line)) ≡ escaped (quality_text (quality_of end))
   last_alone None = refl
@@ -166,11 +165,7 @@ module _ (when : When) (name : List ℕ) (command : Wish) (end : End) where
   -- under `quality` a row has the word of the answer's quality; nothing if the record has no quality
   pub under_quality : (columns : Bool) → row_at columns (codes "quality") ≡ quality_text (quality_of end)
   under_quality false = last_alone (line_of end) ∙ quality_plain (quality_of end)
-  under_quality true =
-      last_behind (line_of end)
-      ∙ ap (under (codes "quality") (quantity_names ++ last_names)) (map-append escaped (quantity_fields command.call end) (last_fields when end))
-      ∙ under_behind (codes "quality") quantity_names (map escaped (quantity_fields command.call end)) last_names (map escaped (last_fields when end)) (filled command.call end) no_quantity_is_quality
-      ∙ quality_plain (quality_of end)
+  under_quality true = last_behind (line_of end) ∙ behind_quantities (codes "quality") refl ∙ quality_plain (quality_of end)
 
   -- in a row without quantities, the attempt, escaped, is under `attempt`
   attempt_alone : (line : Option (List ℕ)) → under (codes "attempt") (header false) (map escaped (by_line false line)) ≡ escaped (decimal when.stamp.turn.attempt)
@@ -186,27 +181,27 @@ module _ (when : When) (name : List ℕ) (command : Wish) (end : End) where
   -- under `attempt` a row has the attempt of the record's chain
   pub under_attempt : (columns : Bool) → row_at columns (codes "attempt") ≡ decimal when.stamp.turn.attempt
   under_attempt false = attempt_alone (line_of end) ∙ decimal_plain when.stamp.turn.attempt
-  under_attempt true =
-      attempt_behind (line_of end)
-      ∙ ap (under (codes "attempt") (quantity_names ++ last_names)) (map-append escaped (quantity_fields command.call end) (last_fields when end))
-      ∙ under_behind (codes "attempt") quantity_names (map escaped (quantity_fields command.call end)) last_names (map escaped (last_fields when end)) (filled command.call end) no_quantity_is_attempt
-      ∙ decimal_plain when.stamp.turn.attempt
+  under_attempt true = attempt_behind (line_of end) ∙ behind_quantities (codes "attempt") refl ∙ decimal_plain when.stamp.turn.attempt
 
   module _ (line : List ℕ) (is : line_of end ≡ Some line) where
+    -- under any name a row has what it has with the line that ended the command
+    on_line : (columns : Bool) (key : List ℕ) → row_at columns key ≡ under key (header columns) (map escaped (by_line columns (Some line)))
+    on_line columns key = ap (λ (o : Option (List ℕ)). under key (header columns) (map escaped (by_line columns o))) is
+
     -- under `rc_com` a row has the communication code of the line that ended the command, escaped
     pub under_rc_com : (columns : Bool) → row_at columns (codes "rc_com") ≡ escaped (com_of line)
-    under_rc_com false = ap (λ (o : Option (List ℕ)). under (codes "rc_com") (header false) (map escaped (by_line false o))) is
-    under_rc_com true = ap (λ (o : Option (List ℕ)). under (codes "rc_com") (header true) (map escaped (by_line true o))) is
+    under_rc_com false = on_line false (codes "rc_com")
+    under_rc_com true = on_line true (codes "rc_com")
 
     -- under `rc` a row has the return code of the line that ended the command, escaped
     pub under_rc : (columns : Bool) → row_at columns (codes "rc") ≡ escaped (code_of line)
-    under_rc false = ap (λ (o : Option (List ℕ)). under (codes "rc") (header false) (map escaped (by_line false o))) is
-    under_rc true = ap (λ (o : Option (List ℕ)). under (codes "rc") (header true) (map escaped (by_line true o))) is
+    under_rc false = on_line false (codes "rc")
+    under_rc true = on_line true (codes "rc")
 
     -- under `values` a row has the values of the line that ended the command, escaped
     pub under_values : (columns : Bool) → row_at columns (codes "values") ≡ escaped (values_of line)
-    under_values false = ap (λ (o : Option (List ℕ)). under (codes "values") (header false) (map escaped (by_line false o))) is
-    under_values true = ap (λ (o : Option (List ℕ)). under (codes "values") (header true) (map escaped (by_line true o))) is
+    under_values false = on_line false (codes "values")
+    under_values true = on_line true (codes "values")
 
 -- Quantities.
 
@@ -249,8 +244,8 @@ module _ (when : When) (text : List ℕ) (command : Wish) where
 abbrev pub texts_of : Answer → List (List ℕ)
 texts_of answer = map quantity_text (answer_fields answer).values
 
--- where `texts` are put into the columns of quantities from the column `first` on, the field under `name` is the text that is
--- under this name if `texts` stand under `names`, escaped; it is empty if `name` isn't among `names`
+-- `texts` are put into the columns of quantities from the column `first` on. Then the field under `name` is the text, escaped,
+-- that `name` has where `texts` stand under `names`; it is empty if `name` isn't among `names`
 abbrev IsPutUnder : (first : ℕ) (names texts : List (List ℕ)) (name : List ℕ) → Type 0
 IsPutUnder first names texts name = under name quantity_names (map escaped (spread first texts)) ≡ escaped (under name names texts)
 
@@ -260,18 +255,18 @@ none_stand =
     (refl, (refl, (refl, (refl, (refl, (refl, (refl, (refl, (refl, (refl, (refl, (refl, (refl, (refl, (refl, (refl, (refl, (refl, (refl, (refl, (refl, (refl, (refl, (refl, tt))))))))))))))))))))))))
 
 -- `IsPutUnder` holds of two angles, from column 0 on, with each name of a quantity
-two_stand : (a b : List ℕ) → AllByRecursion (IsPutUnder 0 (codes "hz_rad" ∷ codes "v_rad" ∷ []) (a ∷ b ∷ [])) quantity_names
-two_stand a b =
+angles_stand : (a b : List ℕ) → AllByRecursion (IsPutUnder 0 (codes "hz_rad" ∷ codes "v_rad" ∷ []) (a ∷ b ∷ [])) quantity_names
+angles_stand a b =
     (refl, (refl, (refl, (refl, (refl, (refl, (refl, (refl, (refl, (refl, (refl, (refl, (refl, (refl, (refl, (refl, (refl, (refl, (refl, (refl, (refl, (refl, (refl, (refl, tt))))))))))))))))))))))))
 
 -- `IsPutUnder` holds of two angles and a distance, from column 0 on, with each name of a quantity
-three_stand : (a b c : List ℕ) → AllByRecursion (IsPutUnder 0 (codes "hz_rad" ∷ codes "v_rad" ∷ codes "distance_m" ∷ []) (a ∷ b ∷ c ∷ [])) quantity_names
-three_stand a b c =
+angles_distance_stand : (a b c : List ℕ) → AllByRecursion (IsPutUnder 0 (codes "hz_rad" ∷ codes "v_rad" ∷ codes "distance_m" ∷ []) (a ∷ b ∷ c ∷ [])) quantity_names
+angles_distance_stand a b c =
     (refl, (refl, (refl, (refl, (refl, (refl, (refl, (refl, (refl, (refl, (refl, (refl, (refl, (refl, (refl, (refl, (refl, (refl, (refl, (refl, (refl, (refl, (refl, (refl, tt))))))))))))))))))))))))
 
 -- `IsPutUnder` holds of two angles, a distance and a mode, from column 0 on, with each name of a quantity
-four_stand : (a b c d : List ℕ) → AllByRecursion (IsPutUnder 0 (codes "hz_rad" ∷ codes "v_rad" ∷ codes "distance_m" ∷ codes "mode" ∷ []) (a ∷ b ∷ c ∷ d ∷ [])) quantity_names
-four_stand a b c d =
+angles_distance_mode_stand : (a b c d : List ℕ) → AllByRecursion (IsPutUnder 0 (codes "hz_rad" ∷ codes "v_rad" ∷ codes "distance_m" ∷ codes "mode" ∷ []) (a ∷ b ∷ c ∷ d ∷ [])) quantity_names
+angles_distance_mode_stand a b c d =
     (refl, (refl, (refl, (refl, (refl, (refl, (refl, (refl, (refl, (refl, (refl, (refl, (refl, (refl, (refl, (refl, (refl, (refl, (refl, (refl, (refl, (refl, (refl, (refl, tt))))))))))))))))))))))))
 
 -- `IsPutUnder` holds of the coordinates of a station and its instrument's height, from column 4 on, with each name of a
@@ -350,10 +345,10 @@ answer_under_its_names call (Date d) =
 answer_under_its_names call (Temperature t) = temperature_stands (quantity_text (value.Double t))
 answer_under_its_names call (Place s) = place_stand (quantity_text (value.Double s.e0)) (quantity_text (value.Double s.n0)) (quantity_text (value.Double s.h0)) (quantity_text (value.Double s.hi))
 answer_under_its_names call (Height h) = reflector_stands (quantity_text (value.Double h))
-answer_under_its_names call (Angles hz v) = two_stand (quantity_text (value.Double hz)) (quantity_text (value.Double v))
-answer_under_its_names call (Measured hz v distance) = three_stand (quantity_text (value.Double hz)) (quantity_text (value.Double v)) (quantity_text (value.Double distance))
+answer_under_its_names call (Angles hz v) = angles_stand (quantity_text (value.Double hz)) (quantity_text (value.Double v))
+answer_under_its_names call (Measured hz v distance) = angles_distance_stand (quantity_text (value.Double hz)) (quantity_text (value.Double v)) (quantity_text (value.Double distance))
 answer_under_its_names call (MeasuredMode hz v distance mode) =
-    four_stand (quantity_text (value.Double hz)) (quantity_text (value.Double v)) (quantity_text (value.Double distance)) (quantity_text (value.Long mode))
+    angles_distance_mode_stand (quantity_text (value.Double hz)) (quantity_text (value.Double v)) (quantity_text (value.Double distance)) (quantity_text (value.Long mode))
 
 -- if all fields of quantities are empty, the field under each name of one is empty
 blank : AllByRecursion (λ (name : List ℕ). under name quantity_names (map escaped (replicate 24 [])) ≡ []) quantity_names

@@ -7,19 +7,17 @@ use Rattle.std.proofs.lemmas.Bool.{cond_both}
 use Rattle.std.proofs.lemmas.List.{length-map}
 use Rattle.std.proofs.lemmas.List.Elements.{All-from_recursion}
 use Rattle.gc_lines.specs.Numbers.{IsNumber}
-use Rattle.gc_lines.specs.Replies.{ReplyFields, IsReply}
+use Rattle.gc_lines.specs.Replies.{ReplyFields}
 use Rattle.gc_catalogue.specs.Asked.{IsAskedReading}
 use Rattle.gc_catalogue.specs.declared.answer.Answer.{Answer}
 use Rattle.gc_catalogue.specs.declared.answer.Reading.{Reading}
 use Rattle.gc_catalogue.specs.declared.answer.Reading.TheVariants as reading
 use Rattle.gc_catalogue.specs.declared.asked.Asked.{Asked}
-use Rattle.gc_catalogue.proofs.AskedRules.{each_asked_reply}
 use Rattle.gc_instrument.specs.State.{KeptReply}
 use Rattle.gc_texts.specs.Cuts.{Lacks}
-use Rattle.gc_texts.specs.Endings.{End, Answered, Unreadable, Elsewhere, Late, Lost, Skipped, Missed, word_of, quality_of, quality_text, line_of}
+use Rattle.gc_texts.specs.Endings.{End, Answered, Unreadable, Elsewhere, Late, Lost, Skipped, Missed, word_of}
 use Rattle.gc_texts.specs.Logs.{escaped}
 use Rattle.gc_texts.specs.Names.{name_text}
-use Rattle.gc_texts.specs.Qualities.{quality_word}
 use Rattle.gc_texts.specs.Stamps.{stamp_text}
 use Rattle.gc_texts.specs.declared.wish.Wish.{Wish}
 use Rattle.gc_texts.specs.declared.name.Name.{Name}
@@ -32,43 +30,33 @@ use Rattle.gc_rows.specs.Rows.{code_of, com_of}
 use Rattle.gc_rows.specs.declared.record.Form.{Form}
 use Rattle.gc_rows.specs.declared.record.Form.TheVariants.{Json}
 use Rattle.gc_rows.specs.declared.when.When.{When}
-use Rattle.gc_rows.proofs.Columns.{reply_columns}
 use Rattle.gc_rows.proofs.JsonLines.{front_of, reads_as}
 use Rattle.gc_rows.proofs.Members.{have_plain_members}
 use Rattle.gc_links.specs.Acts.{Act}
-use Rattle.gc_station.specs.Answers.{AnswerIsJustified}
-use Rattle.gc_station.specs.Parts.{Part}
-use Rattle.gc_station.specs.Qualities.{IsAsListed, IsOfQuality, accepted_at, answer_in}
+use Rattle.gc_station.specs.Qualities.{answer_in}
 use Rattle.gc_station.specs.Records.{Record, texts_of}
 use Rattle.gc_station.specs.Scopes.{AreReadings}
-use Rattle.gc_station.specs.Tasked.{IsOfItsTask}
 use Rattle.gc_station.specs.declared.tally.Tally.{Tally}
-use Rattle.gc_station.proofs.Answers.{answers_true}
-use Rattle.gc_station.proofs.EachRun.{of_tasks}
-use Rattle.gc_station.proofs.Nearly.{as_listed}
-use Rattle.gc_measuring.specs.Measuring.{Survey, front_text, text_in, when_of}
+use Rattle.gc_measuring.specs.Measuring.{Survey, front_text, text_in}
 use Rattle.gc_measuring.specs.declared.stop.Stop.{Stop}
 use Rattle.gc_field.specs.World.{Ends}
 use Rattle.gc_field.specs.Begin.{UnderWay}
 use Rattle.gc_field.specs.Beginnings as field
 use Rattle.gc_field.specs.Instrument.{IsAnInstrument, AnyState}
-use Rattle.gc_field.specs.Runs.{IsInField, IsOwnAnswer}
-use Rattle.gc_field.specs.Shown.{Stretch, stretches}
-use Rattle.gc_field.proofs.Joining.{run_faithful}
-use Rattle.std.proofs.lemmas.Option.{same_Some}
+use Rattle.gc_field.specs.Runs.{IsInField}
+use Rattle.gc_field.specs.Shown.{stretches}
 use Rattle.gc_world.proofs.Places.{get_seen}
-use Rattle.gc_promise.specs.Fields.{IsOwn, IsOutcomeOfReply, HasReply, quality_in, quantity_in, quantity_source}
+use Rattle.gc_promise.specs.Fields.{quantity_in}
 use Rattle.gc_promise.specs.Objects.{AreOfBytes, AreOwnObjects, IsOwnObject, IsTyped, ObjectsAreTheirOwn, lines_text}
 use Rattle.gc_promise.specs.Tables.{acts_measured, parts_in, records_in, scope_of}
 use Rattle.gc_promise.proofs.Finding.{at_member, member_attempt, member_cycle, member_outcome, member_place, member_procedure, member_quality, member_quantity, member_rc, member_rc_com, member_sent, member_stands, member_target, member_values, zeros_gone}
-use Rattle.gc_promise.proofs.Judged.{IsJudged, judged, no_value_if_none, value_if_some}
+use Rattle.gc_promise.proofs.Judged.{no_value_if_none, value_if_some}
 use Rattle.gc_promise.proofs.Names.{answer_to}
-use Rattle.gc_promise.proofs.Owning.{a_reply}
-use Rattle.gc_promise.proofs.Setting.{never_sent, set_to}
 use Rattle.gc_lines.proofs.Lists.{all_front}
-use Rattle.gc_promise.proofs.Tabled.{all_written, is_answered, line_in, nothing_in, without_quality}
+use Rattle.gc_promise.proofs.Tabled.{nothing_in}
 use Rattle.gc_promise.proofs.Taken.{Took, run_took}
 use Rattle.gc_promise.proofs.Unbroken.{line_unbroken}
+use Rattle.gc_promise.proofs.Written.{HasItsTexts, all_written, target_in, when_in, written_own}
 
 -- Quantities.
 
@@ -100,59 +88,16 @@ module _ (when : When) (text : List ℕ) (command : Wish) (name : List ℕ) (k :
 
 -- An object.
 
-module _ {State : Type 0} (ends : Ends State) (kept : State → Option KeptReply) (survey : Survey) (reads : Asked → List ℕ → Reading) (are : AreReadings reads)
-    (acts : List Act) (ps : List Part) (ss : List (Stretch State)) (r : Record) where
-  -- the moments, the cycle, the place and the turn of the record
-  abbrev when : When
-  when = when_of survey.layout.run r
-
-  -- the name of the record's target
-  abbrev text : List ℕ
-  text = name_text r.command.target survey.names
-
+module _ (survey : Survey) (r : Record) where
   -- the text under a name in the record's object
   abbrev at : List ℕ → List ℕ
-  at name = at_member when text r.command r.end name
+  at name = at_member (when_in survey r) (target_in survey r) r.command r.end name
 
-  -- if a line with the fields of a reply ended the command in time, and the record's quality and values are as listed
-  -- (`IsAsListed`), the object says what the line says (`HasReply`)
-  says : (line : List ℕ) → line_of r.end ≡ Some line → (x : ReplyFields) × IsReply line x → IsAsListed reads survey.tasks r
-      → HasReply true at (accepted_at survey.tasks r.place) r.command.call line
-  says line answered reply listed =
-      let said = reply_columns line reply.0 reply.1 in
-      let accepted = accepted_at survey.tasks r.place in
-      let reading = each_asked_reply r.command.call reply.0 in
-      let told = each_asked_reply r.command.call (quantity_source (quality_in accepted reading.0) reply.0) in
-      let by = judged reads are accepted r.command.call line reply.0 reply.1 reading.0 told.0 reading.1 told.1 in
-      let judges : (quality : Quality) (values : Option Answer) (l : List ℕ) → r.end ≡ Answered quality values l
-      → IsJudged reads are accepted r.command.call line reply.0 reply.1 reading.0 told.0 reading.1 told.1 quality values =
-      λ quality values l is. by quality values (subst (IsOfQuality reads accepted r.command.call quality values) (same_Some l line (ap line_of (sym is) ∙ answered)) (listed quality values l is)) in
-      let word = member_outcome when text r.command r.end in
-      record {
-        reply = reply.0;
-        is_reply = reply.1;
-        rc_com = subst (λ (t : List ℕ). IsNumber t reply.0.rc_com) (sym (member_rc_com when text r.command r.end line answered)) (zeros_gone (com_of line) reply.0.rc_com said.rc_com);
-        rc = subst (λ (t : List ℕ). IsNumber t reply.0.rc) (sym (member_rc when text r.command r.end line answered)) (zeros_gone (code_of line) reply.0.rc said.rc);
-        values = member_values when text r.command r.end line answered ∙ ap escaped said.values;
-        answer_reading = reading.0;
-        is_answer_reading = reading.1;
-        quality = λ answers.
-            let e = is_answered r.end (sym word ∙ answers) in
-            member_quality when text r.command r.end ∙ ap (λ (end : End). quality_text (quality_of end)) e.3 ∙ ap quality_word (judges e.0 e.1 e.2 e.3).quality_is;
-        quantity_reading = told.0;
-        is_quantity_reading = told.1;
-        quantities = λ shows answers name quantity.
-            let e = is_answered r.end (sym word ∙ answers) in
-            stands when text r.command name quantity.0 quantity.1 (quantity_source (quality_in accepted reading.0) reply.0) told.0 told.1 r.end e.0 e.1 e.2 e.3 (judges e.0 e.1 e.2 e.3).values_are;
-      }
-
-  -- the object of a record is its own (`IsOwn`), if the record's answer is its own (`IsOwnAnswer`) and justified, the record's
-  -- quality is as listed, and the record is of its task
-  object_own : IsOwnAnswer ends AnyState kept survey.tasks ps ss r → AnswerIsJustified survey.plan survey.tasks (scope_of survey reads) acts r → IsAsListed reads survey.tasks r
-      → IsOfItsTask survey.tasks r
-      → IsOwn ends AnyState kept true at survey.tasks ps ss r
-  object_own own came listed of =
-      let word = member_outcome when text r.command r.end in
+  -- under these names the record's object has what `HasItsTexts` says
+  object_stands : HasItsTexts true at r
+  object_stands =
+      let when = when_in survey r in
+      let text = target_in survey r in
       record {
         is_of = record {
           sent = member_sent when text r.command r.end;
@@ -161,17 +106,15 @@ module _ {State : Type 0} (ends : Ends State) (kept : State → Option KeptReply
           attempt = member_attempt when text r.command r.end;
           target = member_target when text r.command r.end;
           procedure = member_procedure when text r.command r.end;
-          outcome = word;
+          outcome = member_outcome when text r.command r.end;
         };
-        clock = set_to at survey.tasks r of (member_sent when text r.command r.end);
-        unsent = never_sent at survey.tasks r of (member_sent when text r.command r.end);
-        replied = λ is.
-            let has = line_in r.end (subst IsOutcomeOfReply word is) in
-            let justified = came has.0 has.1 in
-            (has.0, says has.0 has.1 (a_reply has.0 _ justified.id) listed, own has.0 has.1);
-        without = λ shows other name quantity.
-            none_stands when text r.command name quantity.0 quantity.1 r.end (λ quality answer line e. other (word ∙ ap word_of e));
-        unqualified = λ other. member_quality when text r.command r.end ∙ without_quality r.end (λ answers. other (word ∙ answers));
+        quality = member_quality when text r.command r.end;
+        rc_com = λ line n answered is. subst (λ (t : List ℕ). IsNumber t n) (sym (member_rc_com when text r.command r.end line answered)) (zeros_gone (com_of line) n is);
+        rc = λ line n answered is. subst (λ (t : List ℕ). IsNumber t n) (sym (member_rc when text r.command r.end line answered)) (zeros_gone (code_of line) n is);
+        values = λ line answered. member_values when text r.command r.end line answered;
+        quantities = λ shows fields told is_told quality values line is has name quantity.
+            stands when text r.command name quantity.0 quantity.1 fields told is_told r.end quality values line is has;
+        none = λ shows other name quantity. none_stands when text r.command name quantity.0 quantity.1 r.end (λ quality answer line e. other (ap word_of e));
       }
 
 -- Lines.
@@ -205,36 +148,28 @@ module _ {State : Type 0} (ends : Ends State) (kept : State → Option KeptReply
     (there : IsInField ends AnyState kept survey.plan survey.tasks (scope_of survey reads) acts u rs) (small : AreOfBytes survey (records_in survey reads acts)) where
   -- the line of a record in this survey, without its line feed
   abbrev line_in_survey : Record → List ℕ
-  line_in_survey r = line_text (when_of survey.layout.run r) (name_text r.command.target survey.names) r.command r.end
+  line_in_survey r = line_text (when_in survey r) (target_in survey r) r.command r.end
 
   -- the text of a record in this survey is its line and a line feed
   one_line : (r : Record) → text_in survey.layout survey.names r ≡ line_in_survey r ++ 10 ∷ []
   one_line r =
-      let when = when_of survey.layout.run r in
-      let text = name_text r.command.target survey.names in
+      let when = when_in survey r in
+      let text = target_in survey r in
       ap (λ (f : Form). record_text f when text r.command r.end) form ∙ line_ends when text r.command r.end
 
   -- the line of each record that was written whole is its own object
   each_own : (written others : List Record) → records_in survey reads acts ≡ written ++ others → (n : ℕ) (r : Record) → slice_get written n ≡ Some r
       → IsOwnObject ends AnyState kept (line_in_survey r) survey.tasks (parts_in survey reads acts) (stretches ends u rs) r
   each_own written others order n r got =
-      let faithful = run_faithful ends AnyState kept is survey.plan survey.tasks (scope_of survey reads) acts u rs there in
-      let when = when_of survey.layout.run r in
-      let text = name_text r.command.target survey.names in
+      let when = when_in survey r in
+      let text = target_in survey r in
       let bounds = all_written (IsTyped survey.layout.run) (records_in survey reads acts) written others order
       small.each n r got in
       let members = have_plain_members when text r.command r.end bounds.0 (name_bytes r.command.target survey.names small.names) bounds.1 bounds.2 in
       record {
         members = record_read when.run (json_members when text r.command r.end);
         reads_as = reads_as when.run (json_members when text r.command r.end) small.run members;
-        own =
-            object_own ends kept survey reads are acts (parts_in survey reads acts) (stretches ends u rs) r
-            (all_written (IsOwnAnswer ends AnyState kept survey.tasks (parts_in survey reads acts) (stretches ends u rs)) (records_in survey reads acts) written others order faithful.own n r got)
-            (all_written (AnswerIsJustified survey.plan survey.tasks (scope_of survey reads) acts) (records_in survey reads acts) written others order
-            (answers_true survey.plan survey.tasks (scope_of survey reads) acts there.runs) n r got)
-            (all_written (λ (x : Record). IsAsListed reads survey.tasks x) (records_in survey reads acts) written others order
-            (as_listed survey.plan survey.tasks (scope_of survey reads) acts) n r got)
-            (all_written (IsOfItsTask survey.tasks) (records_in survey reads acts) written others order (of_tasks survey.plan survey.tasks (scope_of survey reads) acts) n r got);
+        own = written_own ends kept is survey reads are acts u rs there true (at survey r) r (object_stands survey r) written others order n got;
       }
 
   -- the lines of records in the types of the program have no line feed
@@ -242,8 +177,8 @@ module _ {State : Type 0} (ends : Ends State) (kept : State → Option KeptReply
       → AllByRecursion (Lacks 10) (map line_in_survey rs)
   all_unbroken [] bounds = tt
   all_unbroken (r ∷ rs) bounds =
-      let when = when_of survey.layout.run r in
-      let text = name_text r.command.target survey.names in
+      let when = when_in survey r in
+      let text = target_in survey r in
       let members = have_plain_members when text r.command r.end bounds.0.0 (name_bytes r.command.target survey.names small.names) bounds.0.1 bounds.0.2 in
       (line_unbroken when text r.command r.end bounds.0.2 members, all_unbroken rs bounds.1)
 

@@ -50,17 +50,21 @@ module _ (columns : Bool) (when : When) (name : List ℕ) (command : Wish) (end 
   pub two_fields : 1 < length (row_fields columns when name command end)
   two_fields = omega arith
 
+  -- under any name a row has what it has with the line that ended the command
+  on_line : (key line : List ℕ) → line_of end ≡ Some line → column key (row_fields columns when name command end) ≡ column key (by_line when name command end columns (Some line))
+  on_line key line e = ap (λ o. column key (by_line when name command end columns o)) e
+
   -- the column `rc_com` has the communication code of the line that ended the command
   under_rc_com : (line : List ℕ) → line_of end ≡ Some line → column (codes "rc_com") (row_fields columns when name command end) ≡ com_of line
-  under_rc_com line e = ap (λ o. column (codes "rc_com") (by_line when name command end columns o)) e
+  under_rc_com line e = on_line (codes "rc_com") line e
 
   -- the column `rc` has the return code of the line that ended the command
   under_rc : (line : List ℕ) → line_of end ≡ Some line → column (codes "rc") (row_fields columns when name command end) ≡ code_of line
-  under_rc line e = ap (λ o. column (codes "rc") (by_line when name command end columns o)) e
+  under_rc line e = on_line (codes "rc") line e
 
   -- the column `values` has the values of the line that ended the command
   under_values : (line : List ℕ) → line_of end ≡ Some line → column (codes "values") (row_fields columns when name command end) ≡ values_of line
-  under_values line e = ap (λ o. column (codes "values") (by_line when name command end columns o)) e
+  under_values line e = on_line (codes "values") line e
 
 -- the text of a record in a table is the row of its fields
 pub in_table : (columns : Bool) (when : When) (name : List ℕ) (command : Wish) (end : End)

@@ -131,7 +131,8 @@ pub record AreLeftOf (taken all rows : List ℕ) : Type 0 where
   pub has : rows ≡ taken ++ more
   pub own : IsFront (taken ++ more) all
 
--- of whole bytes, the first n lines, at least as many as the whole front `taken` has, are that front and perhaps more
+-- where `taken` and `rest` are whole, and n is at least the count of lines of `taken`, `AreLeftOf` holds of the first n lines of
+-- both together
 pub rows_left : (taken rest : List ℕ) (n : ℕ) → whole taken ≡ taken → whole rest ≡ rest → feeds taken ≤ n → AreLeftOf taken (taken ++ rest) (lines (take n (pieces (taken ++ rest))))
 rows_left taken rest n taken_whole rest_whole least =
     let m = n - feeds taken in

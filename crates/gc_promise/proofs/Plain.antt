@@ -31,8 +31,8 @@ pub number_plain : (ds : List ℕ) → AllDigits 10 ds → escaped ds ≡ ds
 number_plain ds are = digits_plain ds (digits_are ds are)
 
 -- the last place of a number is printed as a digit
-glyph : (n : ℕ) → (48 ≤ digit_glyph false (n % 10)) × (digit_glyph false (n % 10) ≤ 57)
-glyph n = small (n % 10) (omega arith) where
+glyph_is_digit : (n : ℕ) → (48 ≤ digit_glyph false (n % 10)) × (digit_glyph false (n % 10) ≤ 57)
+glyph_is_digit n = small (n % 10) (omega arith) where
   -- the character of a number below 10 is a digit
   small : (r : ℕ) → r < 10 → (48 ≤ digit_glyph false r) × (digit_glyph false r ≤ 57)
   small r few = cond_both (nat_lt r 10) (48 + r) (87 + r) (λ (x : ℕ). (48 ≤ x) × (x ≤ 57)) (λ _. (omega arith, omega (arith, few))) (λ no. let is = lt-ltb r 10 few in absurd (cc))
@@ -42,7 +42,7 @@ onto_digits : (k n : ℕ) (acc : List ℕ) → AreDigits acc → AreDigits (digi
 onto_digits zero n acc are = are
 onto_digits (suc k) n acc are =
     cond_both (n / 10 == 0) (digit_glyph false (n % 10) ∷ acc) (digits_onto k 10 false (n / 10) (digit_glyph false (n % 10) ∷ acc)) AreDigits
-    (λ _. (glyph n, are)) (λ _. onto_digits k (n / 10) (digit_glyph false (n % 10) ∷ acc) (glyph n, are))
+    (λ _. (glyph_is_digit n, are)) (λ _. onto_digits k (n / 10) (digit_glyph false (n % 10) ∷ acc) (glyph_is_digit n, are))
 
 -- the decimal of any number is digits
 decimal_digits : (n : ℕ) → AreDigits (decimal n)

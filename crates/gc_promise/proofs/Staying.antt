@@ -1,11 +1,11 @@
 -- A run of a file, with earlier runs or events before it and later ones after it: a sync in it kept all that it had taken by
 -- then. A file's life is what it held when the machine started, and the calls since then. Its sides are two lives: the one that
 -- a read returns, and the one of which a crash may leave a part.
-use Rattle.std.proofs.Common.{◌≡◌, inl, inr, ℕ, ◌≤◌, Bool, true, false, List, [], ◌∷◌, ◌++◌, length, take, refl, sym, ◌∙◌, ap, subst, append_assoc, append-nil, Option}
+use Rattle.std.proofs.Common.{◌≡◌, inl, inr, ℕ, ◌≤◌, Bool, true, false, List, [], ◌∷◌, ◌++◌, length, take, refl, sym, ◌∙◌, ap, subst, append_assoc, append-nil, None}
 use Rattle.std.proofs.lemmas.Bool.{cases_Bool}
 use Rattle.gc_files.specs.Failing.{Sides, Event, Ran, Failed, Copied, Crashed, feeds, settled, same_sides, done_by, sides_after, runs_of, Occur, IsTrusted}
 use Rattle.gc_files.specs.Files.{Step, Append, Cut, Sync, Life, has_sync, content}
-use Rattle.gc_files.specs.Rows.{whole, table, start_of, mended, cuts_none, appended, Puts, IsFront}
+use Rattle.gc_files.specs.Rows.{whole, table, start_of, mended, cuts_none, appended, IsFront}
 use Rattle.gc_files.specs.Rows as opening
 use Rattle.gc_files.specs.Runs.{synced, Run, lines, IsRun, WereKept, Happen, life_after, life_once_ended, rows_of, AreRowCounts, HasRows}
 use Rattle.gc_files.proofs.Killing.{calls_opened}
@@ -66,11 +66,10 @@ cuts_first (Append bytes ∷ xs) ys none = cuts_first xs ys none
 cuts_first (Sync ∷ xs) ys none = cuts_first xs ys none
 cuts_first (Cut size ∷ xs) ys none = let wrong : false ≡ true = none in cc
 
--- a run of the file. `steps` are those of its opening, and `calls` those after that. `all` are all rows that it may append; of
--- these the rows of `taken`, which it had appended by a sync, count as kept. `left` is what a crash leaves of the file, if
--- there is one
-abbrev pub run_by : (steps calls : List Step) (taken all : List ℕ) (left : Option (List ℕ)) → Run
-run_by steps calls taken all left = record { rows = pieces all; steps = steps ++ calls; kept = feeds taken; left = left }
+-- a run of the file that no crash ends. `steps` are those of its opening, and `calls` those after that. `all` are all rows that
+-- it may append; of these the rows of `taken`, which it had appended by a sync, count as kept
+abbrev pub run_by : (steps calls : List Step) (taken all : List ℕ) → Run
+run_by steps calls taken all = record { rows = pieces all; steps = steps ++ calls; kept = feeds taken; left = None }
 
 module _ (head held : List ℕ) (steps was since : List Step) (rest : List ℕ) (opened : opening.MendedAndPut held steps (start_of head held))
     (kept : synced was ≡ appended was) (is_whole : whole (appended was) ≡ appended was) where
@@ -95,12 +94,12 @@ module _ (head held : List ℕ) (steps was since : List Step) (rest : List ℕ) 
 
   -- if the rows that may follow (`rest`) are whole, no call cuts the file, and what the calls appended is a front of all rows,
   -- these steps are those of a run of the file (`run_by`), in which the rows that the calls `was` appended count as kept
-  pub is_run : (left : Option (List ℕ)) → whole rest ≡ rest → cuts_none (was ++ since) ≡ true → IsFront (appended (was ++ since)) (appended was ++ rest)
-      → IsRun head held (run_by steps (was ++ since) (appended was) (appended was ++ rest) left)
-  is_run left rest_whole none front =
+  pub is_run : whole rest ≡ rest → cuts_none (was ++ since) ≡ true → IsFront (appended (was ++ since)) (appended was ++ rest)
+      → IsRun head held (run_by steps (was ++ since) (appended was) (appended was ++ rest))
+  is_run rest_whole none front =
       let all = appended was ++ rest in
       let all_whole : whole all ≡ all = whole_more (appended was) rest is_whole ∙ ap (λ (l : List ℕ). appended was ++ l) rest_whole in
-      calls_opened head held steps (was ++ since) (appended (was ++ since)) (pieces all) (feeds (appended was)) left opened (record { none_cut = none; all = refl })
+      calls_opened head held steps (was ++ since) (appended (was ++ since)) (pieces all) (feeds (appended was)) None opened (record { none_cut = none; all = refl })
       (subst (λ (l : List ℕ). IsFront (appended (was ++ since)) l) (sym (pieces_whole all all_whole)) front)
       (pieces_rows all) (pieces_fit (appended was) rest is_whole) were_kept
 

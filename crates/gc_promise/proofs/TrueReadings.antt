@@ -103,19 +103,19 @@ said_so line reading says e = fun_ext (λ x. by_test x (pointwise nat_eq line x)
 module _ (reads : Asked → List ℕ → Reading) (are : AreReadings reads) where
   -- for each call, `patched` of a function that gives what replies say is what that function gives: it has the readings of the
   -- five replies already, by the grammar
-  of_call : (call : Asked) → patched reads call ≡ reads call
-  of_call (Table (Position hz v pos_mode atr_mode dummy)) =
+  patched_of_call : (call : Asked) → patched reads call ≡ reads call
+  patched_of_call (Table (Position hz v pos_mode atr_mode dummy)) =
       let call = Table (Position hz v pos_mode atr_mode dummy) in
       said_so pointed (Value Nothing) (reads call) (are call pointed (Value Nothing) (pointed_says (Position hz v pos_mode atr_mode dummy) refl))
-  of_call (Table (SimpleMea wait mode)) =
+  patched_of_call (Table (SimpleMea wait mode)) =
       let call = Table (SimpleMea wait mode) in
       ap (saying measured (Value at_target)) (said_so elsewhere (Value away) (reads call) (are call elsewhere (Value away) (elsewhere_says (SimpleMea wait mode) refl)))
       ∙ said_so measured (Value at_target) (reads call) (are call measured (Value at_target) (measured_says (SimpleMea wait mode) refl))
-  of_call (Table InstrumentNo) =
+  patched_of_call (Table InstrumentNo) =
       ap (saying numbered (Value (Long (pos 31)))) (said_so empty (Unreadable Count) (reads (Table InstrumentNo)) (are (Table InstrumentNo) empty (Unreadable Count) (empty_says InstrumentNo refl)))
       ∙ said_so numbered (Value (Long (pos 31))) (reads (Table InstrumentNo)) (are (Table InstrumentNo) numbered (Value (Long (pos 31))) (numbered_says InstrumentNo refl))
-  of_call call = refl
+  patched_of_call call = refl
 
   -- `patched` of a function that gives what replies say is the function itself
   pub patched_same : patched reads ≡ reads
-  patched_same = fun_ext of_call
+  patched_same = fun_ext patched_of_call

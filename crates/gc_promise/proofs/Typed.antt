@@ -23,45 +23,45 @@ of_bytes line params id reads small =
     (replied id params, reply_found line (replied id params) reads, λ k d within. ltb-true _ 256 (AllPass-from_list_all (λ b. nat_lt b 256) line small k d within))
 
 -- the reply to command 0 is of bytes
-pointed_is : IsReplyOfBytes pointed
+pointed_of_bytes : IsReplyOfBytes pointed
 unfolding header_at reply_at digits
-pointed_is = of_bytes pointed [] 0 refl refl
+pointed_of_bytes = of_bytes pointed [] 0 refl refl
 
 -- the reply to command 1 is of bytes
-measured_is : IsReplyOfBytes measured
+measured_of_bytes : IsReplyOfBytes measured
 unfolding header_at reply_at digits
-measured_is = of_bytes measured (codes "2.25,1.625,110.0625") 1 refl refl
+measured_of_bytes = of_bytes measured (codes "2.25,1.625,110.0625") 1 refl refl
 
 -- the reply to command 2 is of bytes
-elsewhere_is : IsReplyOfBytes elsewhere
+elsewhere_of_bytes : IsReplyOfBytes elsewhere
 unfolding header_at reply_at digits
-elsewhere_is = of_bytes elsewhere (codes "0.5,1.5,87.25") 2 refl refl
+elsewhere_of_bytes = of_bytes elsewhere (codes "0.5,1.5,87.25") 2 refl refl
 
 -- the reply to command 3 is of bytes
-numbered_is : IsReplyOfBytes numbered
+numbered_of_bytes : IsReplyOfBytes numbered
 unfolding header_at reply_at digits
-numbered_is = of_bytes numbered (codes "31") 3 refl refl
+numbered_of_bytes = of_bytes numbered (codes "31") 3 refl refl
 
 -- the reply to command 4 is of bytes
-empty_is : IsReplyOfBytes empty
+empty_of_bytes : IsReplyOfBytes empty
 unfolding header_at reply_at digits
-empty_is = of_bytes empty [] 4 refl refl
+empty_of_bytes = of_bytes empty [] 4 refl refl
 
 -- the ending of command 0 is of bytes (`IsEndOfBytes`)
 points_end : IsEndOfBytes points_record.end
-points_end = (pointed_is, tt)
+points_end = (pointed_of_bytes, tt)
 
 -- the ending of command 1 is of bytes
 chained_end : IsEndOfBytes chained_record.end
-chained_end = (measured_is, (tt, (tt, (tt, tt))))
+chained_end = (measured_of_bytes, (tt, (tt, (tt, tt))))
 
 -- the ending of command 3 is of bytes
 number_end : IsEndOfBytes number_record.end
-number_end = (numbered_is, ((omega (arith, ints), omega (arith, ints)), tt))
+number_end = (numbered_of_bytes, ((omega (arith, ints), omega (arith, ints)), tt))
 
 -- the endings of all records of this run are of bytes
 ends : AllByRecursion (λ (r : Record). IsEndOfBytes r.end) records
-ends = (tt, (tt, (tt, (tt, (tt, (tt, (tt, (tt, (tt, (tt, (tt, (tt, (tt, (tt, (points_end, (chained_end, (elsewhere_is, (number_end, (empty_is, (tt, (tt, tt)))))))))))))))))))))
+ends = (tt, (tt, (tt, (tt, (tt, (tt, (tt, (tt, (tt, (tt, (tt, (tt, (tt, (tt, (points_end, (chained_end, (elsewhere_of_bytes, (number_end, (empty_of_bytes, (tt, (tt, tt)))))))))))))))))))))
 
 -- whether a number is below 2^64
 abbrev is_small : ℕ → Bool

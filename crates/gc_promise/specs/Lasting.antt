@@ -20,7 +20,7 @@ use Rattle.gc_station.specs.Records.{texts_of}
 use Rattle.gc_station.specs.Scopes.{AreReadings}
 use Rattle.gc_station.specs.declared.tally.Tally.{Tally}
 use Rattle.gc_measuring.specs.Measuring.{PortsSeen, Survey, text_in, RunsAfterFront}
-use Rattle.gc_measuring.specs.Telling.{ReportsAppended}
+use Rattle.gc_measuring.specs.Telling.{ReportsAppended, stage, views_by}
 use Rattle.gc_measuring.specs.declared.stop.Stop.{Stop}
 use Rattle.gc_words.specs.declared.settings.Settings.{Settings}
 use Rattle.gc_promise.specs.Tables.{records_in}
@@ -48,13 +48,12 @@ pub record IsRunOfFile {R : Type 0} (run : RunOfFile R) : Type 0 where
 
 -- what clause `told` of `append_at` says (`ReportsAppended`) comes to this: either no act was made (`turns' ≡ turns`), or there is a run of
 -- this file, with these acts, which took the turns (what was seen at each act) from `turns` to `turns'`. `source` and `sink` are the
--- ghost members of the program's input and of such files as sinks; `K` and `E` are the types of the output and the messages. The other
--- arguments are `ReportsAppended`'s own: `lasts`, whether a file is durable; `shown`, the bytes written to the messages; `has_log`,
--- whether the run keeps a log
+-- ghost members of the program's input and of such files as sinks; `K` and `E` are the types of the output and the messages. `lasts`
+-- says whether a file is durable, `shown` gives the bytes written to the messages, and `has_log` says whether the run keeps a log
 abbrev pub AppendsAreRuns : {S R : Type 0} → Source S → Sink (Followed R) → (K E : Type 0) → Type 0
 AppendsAreRuns {S = S} {R = R} source sink K E = (lasts : Followed R → Bool) (shown : E → Option (List ℕ)) (has_log : Bool) (station : Settings)
     (old new : Streams S K E) (file : Followed R) (acts : Option (List Act)) (turns turns' : List Snapshot) (status : ℕ)
-    → ReportsAppended source sink lasts shown has_log station old new (Some file) acts turns turns' status
+    → ReportsAppended (views_by source sink lasts shown) has_log station (stage old (Some []) turns) (stage new acts turns') (Some file) status
     → (turns' ≡ turns)
     ⊎ ((run : RunOfFile R) × IsRunOfFile run × (run.file ≡ file) × (acts ≡ Some run.recorded) × (run.old.turns ≡ turns) × (run.new.turns ≡ turns'))
 

@@ -58,18 +58,18 @@ module _ {State : Type 0} (ends : Ends State) (Good : State → Type 0) (kept : 
     pub reads_as : document line ≡ Some (json.object members)
     pub own : IsOwn ends Good kept true (λ name. text_of (get_member name members)) commands ps ss r
 
-  -- what a sink took of a run, after what it had: lines, in none of which is a line feed, and which are the run's records, one
-  -- for one and in order, each its own: all of them, or, if the output failed, maybe only the first ones, and then a part of the
-  -- next one
-  pub record AreOwnObjects (survey : Survey) (reads : Asked → List ℕ → Reading) (acts : List Act) (ps : List Part) (ss : List (Stretch State))
-      (result : Result Tally Stop) (had : List ℕ) (has : Option (List ℕ)) : Type 0 where
-    pub lines : List (List ℕ)
-    pub torn : List ℕ
-    pub took : has ≡ Some (had ++ (lines_text lines ++ torn))
-    pub are : AreWritten (text_in survey.layout survey.names) (records_in survey reads acts) result torn
-    pub unbroken : AllByRecursion (Lacks 10) lines
-    pub as_many : length lines ≡ length are.written
-    pub each : (n : ℕ) (line : List ℕ) → slice_get lines n ≡ Some line → (r : Record) × (slice_get are.written n ≡ Some r) × IsOwnObject line survey.tasks ps ss r
+  module _ (survey : Survey) (reads : Asked → List ℕ → Reading) (acts : List Act) (ps : List Part) (ss : List (Stretch State)) where
+    -- what a sink took of a run, after what it had: lines, in none of which is a line feed, and which are the run's records, one
+    -- for one and in order, each its own: all of them, or, if the output failed, maybe only the first ones, and then a part of
+    -- the next one
+    pub record AreOwnObjects (result : Result Tally Stop) (had : List ℕ) (has : Option (List ℕ)) : Type 0 where
+      pub lines : List (List ℕ)
+      pub torn : List ℕ
+      pub took : has ≡ Some (had ++ (lines_text lines ++ torn))
+      pub are : AreWritten (text_in survey.layout survey.names) (records_in survey reads acts) result torn
+      pub unbroken : AllByRecursion (Lacks 10) lines
+      pub as_many : length lines ≡ length are.written
+      pub each : (n : ℕ) (line : List ℕ) → slice_get lines n ≡ Some line → (r : Record) × (slice_get are.written n ≡ Some r) × IsOwnObject line survey.tasks ps ss r
 
 -- what a sink took of a run in the field (`IsInField`) are the run's own objects, if its records are in the types of the program
 -- (`AreOfBytes`), and its link had recorded no act before: where `reads` gives what replies say of their calls (`AreReadings`),

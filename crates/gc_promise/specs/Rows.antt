@@ -18,8 +18,8 @@ use Rattle.gc_rows.specs.Rows.{moment_text, procedure_of}
 use Rattle.gc_rows.specs.Records as rows
 use Rattle.gc_rows.specs.Rows.{row_of}
 use Rattle.gc_links.specs.Acts.{Act}
-use Rattle.gc_station.specs.Model.{opening}
-use Rattle.gc_station.specs.Parts.{Part, parts_of}
+use Rattle.gc_station.specs.Links.{parts}
+use Rattle.gc_station.specs.Parts.{Part}
 use Rattle.gc_station.specs.Records.{Record}
 use Rattle.gc_station.specs.Runs.{state_after}
 use Rattle.gc_station.specs.Scopes.{Scope}
@@ -77,4 +77,4 @@ RowsAreTheirOwn State =
     (ends : Ends State) (kept : State → Option KeptReply) → IsAnInstrument ends AnyState kept →
     (layout : Layout) (columns : Bool) (names : List Name) → layout.form ≡ table_form columns →
     (plan : Plan) (commands : List Task) (scope : Scope) (acts : List Act) (u : UnderWay State) (rs : List (Run State)) → IsInField ends AnyState kept plan commands scope acts u rs →
-    AllByRecursion (IsOwnIfAnswered ends AnyState kept layout names commands (parts_of plan commands (opening plan scope) acts) (stretches ends u rs)) (state_after plan commands scope acts).records
+    AllByRecursion (IsOwnIfAnswered ends AnyState kept layout names commands (parts plan commands scope acts) (stretches ends u rs)) (state_after plan commands scope acts).records

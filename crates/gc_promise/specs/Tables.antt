@@ -13,8 +13,8 @@ use Rattle.gc_rows.specs.Records as rows
 use Rattle.gc_rows.specs.declared.record.Form.{Form}
 use Rattle.gc_rows.specs.declared.record.Form.TheVariants.{Csv, Columns}
 use Rattle.gc_links.specs.Acts.{Act}
-use Rattle.gc_station.specs.Model.{opening}
-use Rattle.gc_station.specs.Parts.{Part, parts_of}
+use Rattle.gc_station.specs.Links.{parts}
+use Rattle.gc_station.specs.Parts.{Part}
 use Rattle.gc_station.specs.Records.{Record}
 use Rattle.gc_station.specs.Runs.{state_after}
 use Rattle.gc_station.specs.Scopes.{Scope, AreReadings}
@@ -48,7 +48,7 @@ records_in survey reads acts = (state_after survey.plan survey.tasks (scope_of s
 
 -- the parts of a run by these acts
 abbrev pub parts_in : Survey → (Asked → List ℕ → Reading) → List Act → List Part
-parts_in survey reads acts = parts_of survey.plan survey.tasks (opening survey.plan (scope_of survey reads)) acts
+parts_in survey reads acts = parts survey.plan survey.tasks (scope_of survey reads) acts
 
 -- What a sink took.
 
@@ -89,22 +89,22 @@ abbrev pub AreReadAs : List ℕ → List (List (List ℕ)) → Type 0
 AreReadAs bytes rows = (behind : List ℕ) → records default_config (bytes ++ behind) ≡ rows ++ records default_config behind
 
 module _ {State : Type 0} (ends : Ends State) (Good : State → Type 0) (kept : State → Option KeptReply) where
-  -- what a sink took of a run, after what it had: a table, whose rows after the header are the run's records, one for one and in
-  -- order, each its own: all of them, or, if the output failed, maybe only the first ones, and then a part of the next one.
-  -- `behind` is said of the file of --append: after earlier bytes, which a reader takes for `earlier`, the reader goes on with
-  -- the table's rows
-  pub record IsOwnTable (survey : Survey) (columns : Bool) (reads : Asked → List ℕ → Reading) (acts : List Act) (ps : List Part) (ss : List (Stretch State))
-      (result : Result Tally Stop) (had : List ℕ) (has : Option (List ℕ)) : Type 0 where
-    pub bytes : List ℕ
-    pub torn : List ℕ
-    pub took : has ≡ Some (had ++ (bytes ++ torn))
-    pub are : AreWritten (text_in survey.layout survey.names) (records_in survey reads acts) result torn
-    pub rows : List (List (List ℕ))
-    pub reads_as : AreReadAs bytes (head_rows survey.layout columns ++ rows)
-    pub behind : (held : List ℕ) (earlier : List (List (List ℕ))) → AreReadAs held earlier → AreReadAs (held ++ bytes) (earlier ++ (head_rows survey.layout columns ++ rows))
-    pub as_many : length rows ≡ length are.written
-    pub each : (n : ℕ) (row : List (List ℕ)) → slice_get rows n ≡ Some row
-        → (r : Record) × (slice_get are.written n ≡ Some r) × IsOwn ends Good kept columns (λ name. under name (header columns) row) survey.tasks ps ss r
+  module _ (survey : Survey) (columns : Bool) (reads : Asked → List ℕ → Reading) (acts : List Act) (ps : List Part) (ss : List (Stretch State)) where
+    -- what a sink took of a run, after what it had: a table, whose rows after the header are the run's records, one for one and
+    -- in order, each its own: all of them, or, if the output failed, maybe only the first ones, and then a part of the next one.
+    -- `behind` is said of the file of --append: after earlier bytes, which a reader takes for `earlier`, the reader goes on with
+    -- the table's rows
+    pub record IsOwnTable (result : Result Tally Stop) (had : List ℕ) (has : Option (List ℕ)) : Type 0 where
+      pub bytes : List ℕ
+      pub torn : List ℕ
+      pub took : has ≡ Some (had ++ (bytes ++ torn))
+      pub are : AreWritten (text_in survey.layout survey.names) (records_in survey reads acts) result torn
+      pub rows : List (List (List ℕ))
+      pub reads_as : AreReadAs bytes (head_rows survey.layout columns ++ rows)
+      pub behind : (held : List ℕ) (earlier : List (List (List ℕ))) → AreReadAs held earlier → AreReadAs (held ++ bytes) (earlier ++ (head_rows survey.layout columns ++ rows))
+      pub as_many : length rows ≡ length are.written
+      pub each : (n : ℕ) (row : List (List ℕ)) → slice_get rows n ≡ Some row
+          → (r : Record) × (slice_get are.written n ≡ Some r) × IsOwn ends Good kept columns (λ name. under name (header columns) row) survey.tasks ps ss r
 
 -- what a sink took of a run in the field (`IsInField`), whose link had recorded no act before, is the run's own table: where
 -- `reads` gives what replies say of their calls (`AreReadings`), for any instrument, all that a station measures and writes as a

@@ -1,12 +1,12 @@
--- The events on a line, and one more. That acts have come to lines (`HasComeTo`) says that they are the acts of events which lead to these
--- lines.
-use Rattle.std.proofs.Common.{◌≡◌, ◌⊎◌, inl, inr, ℕ, ◌≤◌, List, [], ◌∷◌, ◌++◌, length, map, Option, Some, None, refl, sym, ◌∙◌, ap, subst}
+-- The events on a line, and one more. That acts have come to lines (`HasComeTo`) says that they are the acts of events which lead
+-- to these lines.
+use Rattle.std.proofs.Common.{◌≡◌, inl, inr, ℕ, List, [], ◌∷◌, ◌++◌, None, refl, sym, ◌∙◌, ap, subst}
 use Rattle.std.proofs.lemmas.List.{map-append, append-nil}
-use Rattle.gc_lines.specs.Lines.{IsPlain, with_end}
+use Rattle.gc_lines.specs.Lines.{with_end}
 use Rattle.gc_links.specs.Acts.{Act, Put, Gave}
 use Rattle.gc_links.specs.declared.link.Moment.{Moment}
 use Rattle.gc_scenes.specs.SceneState.{SceneState, scene_restarted, at_moment}
-use Rattle.gc_rehearsal.specs.Carrying.{Lines, Happening, Call, Reaches, Restarts, Passes, Repeats_up, Repeats_down, Loses_up, Loses_down, Loses_front, Does, IsQuiet, Leads, LeadAll, MaySendOut, IsRepeated, acts_of, HasComeTo}
+use Rattle.gc_rehearsal.specs.Carrying.{Lines, Happening, Call, Reaches, Restarts, Passes, Repeats_up, Repeats_down, Loses_up, Loses_down, Loses_front, Does, IsQuiet, Leads, LeadAll, acts_of, HasComeTo}
 use Rattle.gc_rehearsal.specs.Queues.{texts, MayAddLine, MayRepeat, Answers}
 use Rattle.gc_rehearsal.specs.declared.flight.Flight.{Flight}
 
@@ -32,8 +32,8 @@ acts_on (Loses_front ∷ hs) h = acts_on hs h
 abbrev pub lines : (up down : List (List ℕ)) → SceneState → Lines
 lines up down state = record { up = up; down = down; state = state }
 
--- where acts have come to the lines `l`, and one more event leads from these to `m`, the acts, and after them that event if it is an act,
--- have come to `m`
+-- where acts have come to the lines `l`, and one more event leads from these to `m`, the acts, and after them that event if it is
+-- an act, have come to `m`
 one_more_happened : (acts : List Act) (h : Happening) (l m : Lines)
     → HasComeTo acts l → Leads l h m → HasComeTo (acts ++ acts_of (h ∷ [])) m
 one_more_happened acts h l m c one = record {
@@ -44,7 +44,8 @@ one_more_happened acts h l m c one = record {
   leads = lead_on c.happened h (lines [] [] c.start) l m c.leads one;
 }
 
--- where acts have come to the lines `l`, and one more event, which is no act, leads from these to `m`, the same acts have come to `m`
+-- where acts have come to the lines `l`, and one more event, which is no act, leads from these to `m`, the same acts have come to
+-- `m`
 one_more_unseen : (acts : List Act) (h : Happening) (l m : Lines)
     → acts_of (h ∷ []) ≡ [] → HasComeTo acts l → Leads l h m → HasComeTo acts m
 one_more_unseen acts h l m none c one = subst (λ x. HasComeTo x m) (ap (λ x. acts ++ x) none ∙ append-nil acts) (one_more_happened acts h l m c one)
@@ -71,8 +72,8 @@ put_lost acts bytes l c = one_more_happened acts (Call (Put bytes)) l l c (inl r
 pub texts_on : (flights : List Flight) (flight : Flight) → texts (flights ++ flight ∷ []) ≡ texts flights ++ flight.line.items ∷ []
 texts_on flights flight = map-append (λ (f : Flight). f.line.items) flights (flight ∷ [])
 
--- where acts have come to lines, and the queue up is then the same, or has at its back the line that these bytes are, the acts and a write
--- of these bytes have come to the lines then
+-- where acts have come to lines, these acts, and a write of these bytes after them, have come to the lines after the write: the
+-- queue up is the same, or has the written line at its back (`MayAddLine`)
 pub put_may : (acts : List Act) (bytes : List ℕ) (up up' : List Flight) (down : List (List ℕ)) (state : SceneState)
     → MayAddLine up bytes up'
     → HasComeTo acts (lines (texts up) down state) → HasComeTo (acts ++ Put bytes ∷ []) (lines (texts up') down state)
@@ -83,14 +84,14 @@ put_may acts bytes up up' down state (inr x) c =
     let new = ap texts x.2 ∙ texts_on up x.0 in
     one_more_happened acts (Call (Put bytes)) l (lines (texts up') down state) c (inr (x.0.line.items, x.1, ap (λ q. lines q down state) new))
 
--- acts that have come to lines have also come to those in which the last request may be there twice
+-- acts that have come to lines have also come to those in which the last request may be there twice (`MayRepeat`)
 pub repeats_up : (acts : List Act) (up up' : List Flight) (down : List (List ℕ)) (state : SceneState) → MayRepeat up up'
     → HasComeTo acts (lines (texts up) down state) → HasComeTo acts (lines (texts up') down state)
 repeats_up acts up up' down state (inl same) c = subst (λ x. HasComeTo acts (lines (texts x) down state)) (sym same) c
 repeats_up acts up up' down state (inr x) c =
     one_more_unseen acts Repeats_up (lines (texts up) down state) (lines (texts up') down state) refl c (texts up', x, refl)
 
--- acts that have come to lines have also come to those in which the last reply may be there twice
+-- acts that have come to lines have also come to those in which the last reply may be there twice (`MayRepeat`)
 pub repeats_down : (acts : List Act) (up : List (List ℕ)) (down down' : List Flight) (state : SceneState) → MayRepeat down down'
     → HasComeTo acts (lines up (texts down) state) → HasComeTo acts (lines up (texts down') state)
 repeats_down acts up down down' state (inl same) c = subst (λ x. HasComeTo acts (lines up (texts x) state)) (sym same) c
@@ -121,7 +122,8 @@ pub passes : (acts : List Act) (moment : ℕ) (up down : List (List ℕ)) (state
 passes acts moment up down state state' is c =
     one_more_unseen acts (Passes moment) (lines up down state) (lines up down state') refl c (ap (λ s. lines up down s) is)
 
--- acts that have come to lines have also come to those in which the request in front may have been handed to the instrument (`Answers`)
+-- acts that have come to lines have also come to those in which the request in front may have been handed to the instrument
+-- (`Answers`)
 pub reaches : (acts : List Act) (up down up' down' : List Flight) (state state' : SceneState) → Answers state up down state' up' down'
     → HasComeTo acts (lines (texts up) (texts down) state) → HasComeTo acts (lines (texts up') (texts down') state')
 reaches acts up down up' down' state state' (inl same) c =
@@ -137,7 +139,8 @@ pub loses_front : (acts : List Act) (up : List (List ℕ)) (down down' : List Fl
 loses_front acts up down down' flight state front c =
     one_more_unseen acts Loses_front (lines up (texts down) state) (lines up (texts down') state) refl c (flight.line.items, ap texts front, refl)
 
--- where acts have come to lines, the acts and a read of the reply in front, whole with its CR LF, have come to the lines without that reply
+-- where acts have come to lines, the acts and a read of the reply in front, whole with its CR LF, have come to the lines without
+-- that reply
 pub gives : (acts : List Act) (bytes : List ℕ) (moment : Moment)
     (up : List (List ℕ)) (down down' : List Flight) (flight : Flight) (state : SceneState)
     → down ≡ flight ∷ down' → bytes ≡ with_end flight.line.items

@@ -1,6 +1,6 @@
 -- Not cited by theorems: what the functions of a queue do to the lines in it, the one that was sent first in front.
-use Rattle.std.specs.Prelude.{◌≡◌, ◌⊎◌, ℕ, ◌≤◌, List, [], ◌∷◌, ◌++◌, length, map, Option, Some, None}
-use Rattle.gc_lines.specs.Lines.{IsPlain, with_end}
+use Rattle.std.specs.Prelude.{◌≡◌, ◌⊎◌, ℕ, List, [], ◌∷◌, ◌++◌, map, Option, Some}
+use Rattle.gc_lines.specs.Lines.{with_end}
 use Rattle.gc_scenes.specs.SceneReplying.{IsPlayed}
 use Rattle.gc_scenes.specs.SceneState.{SceneState}
 use Rattle.gc_rehearsal.specs.Carrying.{IsRepeated, MaySendOut}

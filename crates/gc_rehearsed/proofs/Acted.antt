@@ -1,10 +1,10 @@
 -- One act of a rehearsed line: what it is to the station, and what it does to the line, are turns of a synchronization, or
 -- moves of a client that has synchronized.
-use Rattle.std.proofs.Common.{◌≡◌, ◌⊎◌, inl, inr, ℕ, zero, ◌+◌, ◌<◌, ◌≤◌, Bool, false, List, [], ◌∷◌, ◌++◌, drop, length, map, Some, None, refl, sym, ◌∙◌, ap, subst, arith, append_assoc, length-append}
-use Rattle.std.specs.List.{filter_map}
+use Rattle.std.proofs.Common.{◌≡◌, ◌⊎◌, inl, inr, ℕ, zero, ◌+◌, ◌<◌, Bool, false, List, [], ◌∷◌, ◌++◌, length, map, Some, refl, sym, ◌∙◌, ap, subst, arith, length-append}
+use Rattle.std.specs.List.{filter_map, AllByRecursion}
 use Rattle.std.proofs.lemmas.List.{append_cancel_right, map-append}
 use Rattle.gc_lines.proofs.Plain.{plain_line}
-use Rattle.gc_lines.specs.Frames.{frames, line_in, rest_behind, rest_of}
+use Rattle.gc_lines.specs.Frames.{line_in, rest_behind}
 use Rattle.gc_lines.specs.Lines.{with_end}
 use Rattle.gc_catalogue.specs.Asked.{IsAskedFitting, asked_line}
 use Rattle.gc_catalogue.specs.Texts.{request_line}
@@ -22,34 +22,33 @@ use Rattle.gc_station.proofs.Booking.{sending_of, sends_with_room}
 use Rattle.gc_station.proofs.Lists.{cons_head, cons_tail}
 use Rattle.gc_station.specs.Beginnings.{unanswered_after}
 use Rattle.gc_station.specs.Begun.{heard_in}
-use Rattle.gc_station.specs.Model.{lines_completed, null_text}
+use Rattle.gc_station.specs.Model.{lines_completed}
 use Rattle.gc_station.specs.Parts as part
 use Rattle.gc_station.specs.Parts.{Part, client_after, course_at}
 use Rattle.gc_world.specs.Clients.{by_ids}
-use Rattle.gc_world.specs.Order.{Each}
 use Rattle.gc_field.specs.Asking.{IsAskedFor, IsTaken, MeansTurns}
 use Rattle.gc_field.specs.Begin as begin
 use Rattle.gc_field.specs.Begin.{InFlight, Model, leaves, turns}
 use Rattle.gc_field.specs.Beginnings.{on_line}
 use Rattle.gc_field.specs.Field as field
 use Rattle.gc_field.specs.Meaning.{IsHeard, IsDiscarded}
-use Rattle.gc_field.specs.SceneField.{RetainedReads, scene_ends, scene_kept}
+use Rattle.gc_field.specs.SceneField.{scene_ends}
 use Rattle.gc_field.specs.Shown.{first_heard, shows}
-use Rattle.gc_field.specs.World.{Numbered, Request, World, down_delivered, requested, with_settled, without}
+use Rattle.gc_field.specs.World.{Numbered, Request, down_delivered, requested, with_settled, without}
 use Rattle.gc_rehearsal.specs.Carrying.{Lines, Does, IsGiven, IsPut}
-use Rattle.gc_rehearsed.proofs.Courses.{FromBegin, FromClient, World7, move7, move_first, steps_move, steps_turn, turn_first}
-use Rattle.gc_rehearsed.proofs.Steps.{AreLinesOf, Holds, IsLineOf, IsOne, Lose_down, Lose_up, flow, lines_on, stepped, without_last, dropped}
+use Rattle.gc_rehearsed.proofs.Courses.{FromBegin, FromClient, SceneWorld, after_move, move_first, steps_move, steps_turn, turn_first}
+use Rattle.gc_rehearsed.proofs.Steps.{Holds, IsLineOf, IsOneLine, Lose_down, Lose_up, flow, one_less, one_more, stepped, without_last, dropped}
 use Rattle.gc_field.proofs.BeginJoin.{IsSmall, small_left}
 use Rattle.gc_field.proofs.BeginWords.{cons_not_nil}
 
 -- Lines of bytes.
 
 -- one line with its CR LF, read from the start of a line on, is that line
-pub one_line : (line : List ℕ) → IsOne line → lines_completed [] (with_end line) ≡ line ∷ []
+pub one_line : (line : List ℕ) → IsOneLine line → lines_completed [] (with_end line) ≡ line ∷ []
 one_line line one = ap (λ fs. filter_map line_in fs) (plain_line line one.0 one.1).0
 
 -- one line with its CR LF, read from the start of a line on, leaves no bytes of an unfinished line
-pub no_rest : (line : List ℕ) → IsOne line → rest_behind [] (with_end line) ≡ []
+pub no_rest : (line : List ℕ) → IsOneLine line → rest_behind [] (with_end line) ≡ []
 no_rest line one = (plain_line line one.0 one.1).1
 
 -- a line feed alone is no line with its CR LF
@@ -58,6 +57,13 @@ feed_no_line line e =
     let n : length (with_end line) ≡ 1 = sym (ap length e) in
     let m : length (with_end line) ≡ length line + 2 = length-append line (13 ∷ 10 ∷ []) in
     omega (arith, n, m)
+
+-- where the lines of a list, given by `f`, are `line` and then `rest`, the first one's line is `line`, and those of the others
+-- are `rest`
+first_and_rest : {A : Type 0} (f : A → List ℕ) (xs : List A) (x : A) (q : List A) (line : List ℕ) (rest : List (List ℕ)) → xs ≡ x ∷ q → map f xs ≡ line ∷ rest
+    → (f x ≡ line) × (map f q ≡ rest)
+first_and_rest f xs x q line rest is are =
+    let both : f x ∷ map f q ≡ line ∷ rest = sym (ap (map f) is) ∙ are in (cons_head (f x) line (map f q) rest both, cons_tail (f x) line (map f q) rest both)
 
 -- two lines that are the same bytes with CR LF are the same
 pub same_line : (line other : List ℕ) → with_end line ≡ with_end other → line ≡ other
@@ -117,13 +123,8 @@ turns_asks b asked rest line l n left ids is holds came show steps others m done
           steps_turn (Lose_up (length (leaves b).up) ∷ []) (once_asked b asked) show steps others m done (tt, tt)
           (λ c e k. on c (subst (λ u. Holds u n) (sym e) (subst (λ q. Holds (flow q (leaves b).down b.state) n) (sym lost) (subst (Holds (leaves b)) (sym same) holds))) (k ∙ left))
       by_came (inr more) =
-          on (once_asked b asked) (subst (Holds (leaves (once_asked b asked))) (sym more) (record {
-            up = subst (λ q. AreLinesOf q (l.up ++ line ∷ [])) (sym up_is) (lines_on (leaves b).up l.up (asked_next asked) line holds.up of_line);
-            down = holds.down;
-            one = holds.one;
-            state = holds.state;
-            good = holds.good;
-          })) left
+          on (once_asked b asked)
+          (subst (λ q. Holds (flow q (leaves b).down b.state) n) (sym up_is) (one_more (leaves b) l n (asked_next asked) line holds of_line more)) left
 
 -- an act that puts bytes, whole or in part, while the station synchronizes comes to the turns that the act means (`IsAskedFor`)
 turns_put : (b : Model SceneState) (word : List ℕ) (bytes : List ℕ) (ts : List part.Turn) (l n : Lines) → b.left ≡ word → IsSmall word → Holds (leaves b) l
@@ -149,19 +150,11 @@ turns_comes b word [] line rest l n is left holds front new show steps others m 
     let none : [] ≡ line ∷ rest = sym (ap (λ (d : List (InFlight (List ℕ))). map (λ x. x.line) d) is) ∙ holds.down ∙ front in
     absurd (cons_not_nil line rest (sym none))
 turns_comes b word (x ∷ q) line rest l n is left holds front new show steps others m done on =
-    subst (λ (t : List part.Turn). FromBegin b (t ++ show) steps others m done) (shows_is ∙ ap (λ z. part.Hears z ∷ []) line_is)
+    subst (λ (t : List part.Turn). FromBegin b (t ++ show) steps others m done) (shows_is ∙ ap (λ z. part.Hears z ∷ []) lines_are.0)
     (turn_first b begin.Comes show steps others m done tt (subst (λ (c : Model SceneState). FromBegin c show steps others m done) (sym came) (on (once_came b x q) holds_next left_next))) where
-      -- the replies in flight in the field are those on the line
-      lines_are : x.line ∷ map (λ (y : InFlight (List ℕ)). y.line) q ≡ line ∷ rest
-      lines_are = sym (ap (λ (d : List (InFlight (List ℕ))). map (λ y. y.line) d) is) ∙ holds.down ∙ front
-
-      -- the front ones are the same line
-      line_is : x.line ≡ line
-      line_is = cons_head x.line line (map (λ (y : InFlight (List ℕ)). y.line) q) rest lines_are
-
-      -- those after the front one are the same lines
-      rest_is : map (λ (y : InFlight (List ℕ)). y.line) q ≡ rest
-      rest_is = cons_tail x.line line (map (λ (y : InFlight (List ℕ)). y.line) q) rest lines_are
+      -- the front reply in flight in the field is that on the line, and so are those after it
+      lines_are : (x.line ≡ line) × (map (λ (y : InFlight (List ℕ)). y.line) q ≡ rest)
+      lines_are = first_and_rest (λ (y : InFlight (List ℕ)). y.line) b.down x q line rest is (holds.down ∙ front)
 
       -- what the turn `Comes` leads to
       came : turns scene_ends b begin.Comes ≡ once_came b x q
@@ -173,17 +166,12 @@ turns_comes b word (x ∷ q) line rest l n is left holds front new show steps ot
 
       -- the ids that are left then are those that the line leaves
       left_next : (once_came b x q).left ≡ left_by word (heard line)
-      left_next = ap (λ w. left_by w (heard x.line)) left ∙ ap (λ z. left_by word (heard z)) line_is
+      left_next = ap (λ w. left_by w (heard x.line)) left ∙ ap (λ z. left_by word (heard z)) lines_are.0
 
       -- what is in flight then is what is in flight on the line
       holds_next : Holds (leaves (once_came b x q)) n
-      holds_next = subst (Holds (leaves (once_came b x q))) (sym new) (record {
-        up = holds.up;
-        down = rest_is;
-        one = (subst (Each IsOne) front holds.one).1;
-        state = holds.state;
-        good = holds.good;
-      })
+      holds_next =
+          subst (Holds (leaves (once_came b x q))) (sym new) (one_less (leaves b) (map (λ (y : InFlight (List ℕ)). y.line) q) l line rest holds front lines_are.1)
 
 -- a reply that comes while the station synchronizes, and is discarded, comes to no turn of the station: the line loses it
 turns_drops : (b : Model SceneState) (word : List ℕ) (line : List ℕ) (rest : List (List ℕ)) (l n : Lines) → b.left ≡ word → Holds (leaves b) l
@@ -197,7 +185,7 @@ turns_drops b word line rest l n left holds front new show steps others m done o
 turns_gave : (b : Model SceneState) (word : List ℕ) (piece : List ℕ) (ts : List part.Turn) (behind : List ℕ) (l n : Lines) → b.left ≡ word → Holds (leaves b) l
     → IsTaken [] piece ts behind → IsGiven l piece n → (behind ≡ []) × TurnsTo b ts (unanswered_after word (heard_in ts)) n
 turns_gave b word piece ts behind l n left holds (inl taken) given =
-    let one = (subst (Each IsOne) given.2 holds.one).0 in
+    let one = (subst (AllByRecursion IsOneLine) given.2 holds.one).0 in
     let ts_is : ts ≡ part.Hears given.0 ∷ [] = taken.0 ∙ ap (λ bytes. map part.Hears (lines_completed [] bytes)) given.3 ∙ ap (map part.Hears) (one_line given.0 one) in
     let behind_is : behind ≡ [] = taken.1 ∙ ap (rest_behind []) given.3 ∙ no_rest given.0 one in
     (behind_is, subst (λ (t : List part.Turn). TurnsTo b t (unanswered_after word (heard_in t)) n) (sym ts_is) (turns_comes b word b.down given.0 given.1 l n refl left holds given.2 given.4))
@@ -238,77 +226,64 @@ turns_act b word Unopened ts behind l n left ids holds some means does = turns_q
 
 -- what an act comes to once the station has synchronized: from the world w the client's steps of the act lead to one with these
 -- lines in flight and this client, and whatever follows from there follows from w after these steps
-abbrev pub MovesTo : World7 → List (client.Step Asked) → ById Asked → Lines → Type 0
+abbrev pub MovesTo : SceneWorld → List (client.Step Asked) → ById Asked → Lines → Type 0
 MovesTo w ss c n =
     (steps : List (client.Step Asked)) (others : List Part) (m : Lines) (done : Bool)
-    → ((v : World7) → Holds (on_line v.wire) n → v.client ≡ c → FromClient v steps others m done) → FromClient w (ss ++ steps) others m done
+    → ((v : SceneWorld) → Holds (on_line v.wire) n → v.client ≡ c → FromClient v steps others m done) → FromClient w (ss ++ steps) others m done
 
 -- an act that leaves the line as it is comes to no steps
-pub moves_none : (w : World7) (c : ById Asked) (l n : Lines) → w.client ≡ c → Holds (on_line w.wire) l → n ≡ l → MovesTo w [] c n
+pub moves_none : (w : SceneWorld) (c : ById Asked) (l n : Lines) → w.client ≡ c → Holds (on_line w.wire) l → n ≡ l → MovesTo w [] c n
 moves_none w c l n is holds same steps others m done on = on w (subst (Holds (on_line w.wire)) (sym same) holds) is
 
 -- an act that reads a moment, and then comes to some steps, comes to the step that reads it and then these
-moves_told : (w : World7) (c : ById Asked) (now : ℕ) (ss : List (client.Step Asked)) (n : Lines) → w.client ≡ c
-    → ((v : World7) → v.wire ≡ w.wire → v.client ≡ client_after c (client.Expire now ∷ []) → MovesTo v ss (client_after (client_after c (client.Expire now ∷ [])) ss) n)
+moves_told : (w : SceneWorld) (c : ById Asked) (now : ℕ) (ss : List (client.Step Asked)) (n : Lines) → w.client ≡ c
+    → ((v : SceneWorld) → v.wire ≡ w.wire → v.client ≡ client_after c (client.Expire now ∷ []) → MovesTo v ss (client_after (client_after c (client.Expire now ∷ [])) ss) n)
     → MovesTo w (client.Expire now ∷ ss) (client_after c (client.Expire now ∷ ss)) n
 moves_told w c now ss n is later steps others m done on =
-    move_first w (field.Tells now) (ss ++ steps) others m done tt (later (move7 w (field.Tells now)) refl (ap (λ x. (by_ids WINDOW scene_ends).expire x now) is) steps others m done on)
+    move_first w (field.Tells now) (ss ++ steps) others m done tt (later (after_move w (field.Tells now)) refl (ap (λ x. (by_ids WINDOW scene_ends).expire x now) is) steps others m done on)
 
 -- an act that only reads a moment comes to the step that reads it
-pub moves_moment : (w : World7) (c : ById Asked) (now : ℕ) (l n : Lines) → w.client ≡ c → Holds (on_line w.wire) l → n ≡ l
+pub moves_moment : (w : SceneWorld) (c : ById Asked) (now : ℕ) (l n : Lines) → w.client ≡ c → Holds (on_line w.wire) l → n ≡ l
     → MovesTo w (client.Expire now ∷ []) (client_after c (client.Expire now ∷ [])) n
 moves_moment w c now l n is holds same =
     moves_told w c now [] n is (λ v wire k. moves_none v (client_after c (client.Expire now ∷ [])) l n k (subst (λ x. Holds (on_line x) l) (sym wire) holds) same)
 
 -- the world once the front one of these replies came
-abbrev once_heard : World7 → Numbered (List ℕ) → List (Numbered (List ℕ)) → World7
+abbrev once_heard : SceneWorld → Numbered (List ℕ) → List (Numbered (List ℕ)) → SceneWorld
 once_heard w x q = with_settled (record w.wire { down = q }) ((by_ids WINDOW scene_ends).reply w.client x)
 
 -- an act that brings a reply comes to the step that hears it
-moves_comes : (w : World7) (c : ById Asked) (q : List (Numbered (List ℕ))) (line : List ℕ) (rest : List (List ℕ)) (l n : Lines) → w.wire.down ≡ q → w.client ≡ c
+moves_comes : (w : SceneWorld) (c : ById Asked) (q : List (Numbered (List ℕ))) (line : List ℕ) (rest : List (List ℕ)) (l n : Lines) → w.wire.down ≡ q → w.client ≡ c
     → Holds (on_line w.wire) l → l.down ≡ line ∷ rest → n ≡ record l { down = rest } → MovesTo w (client.Hear line ∷ []) (client_after c (client.Hear line ∷ [])) n
 moves_comes w c [] line rest l n is same holds front new steps others m done on =
     let none : [] ≡ line ∷ rest = sym (ap (λ (d : List (Numbered (List ℕ))). map (λ x. x.line) d) is) ∙ holds.down ∙ front in
     absurd (cons_not_nil line rest (sym none))
 moves_comes w c (x ∷ q) line rest l n is same holds front new steps others m done on =
     move_first w (field.Comes line) steps others m done (x.number, q, is ∙ front_is)
-    (subst (λ (v : World7). FromClient v steps others m done) (sym came) (on (once_heard w x q) holds_next client_next)) where
-      -- the replies in flight in the field are those on the line
-      lines_are : x.line ∷ map (λ (y : Numbered (List ℕ)). y.line) q ≡ line ∷ rest
-      lines_are = sym (ap (λ (d : List (Numbered (List ℕ))). map (λ y. y.line) d) is) ∙ holds.down ∙ front
-
-      -- the front ones are the same line
-      line_is : x.line ≡ line
-      line_is = cons_head x.line line (map (λ (y : Numbered (List ℕ)). y.line) q) rest lines_are
-
-      -- those after the front one are the same lines
-      rest_is : map (λ (y : Numbered (List ℕ)). y.line) q ≡ rest
-      rest_is = cons_tail x.line line (map (λ (y : Numbered (List ℕ)). y.line) q) rest lines_are
+    (subst (λ (v : SceneWorld). FromClient v steps others m done) (sym came) (on (once_heard w x q) holds_next client_next)) where
+      -- the front reply in flight in the field is that on the line, and so are those after it
+      lines_are : (x.line ≡ line) × (map (λ (y : Numbered (List ℕ)). y.line) q ≡ rest)
+      lines_are = first_and_rest (λ (y : Numbered (List ℕ)). y.line) w.wire.down x q line rest is (holds.down ∙ front)
 
       -- the front reply in flight is this line, with its number
       front_is : x ∷ q ≡ record { number = x.number; line = line } ∷ q
-      front_is = ap (λ z. record { number = x.number; line = z } ∷ q) line_is
+      front_is = ap (λ z. record { number = x.number; line = z } ∷ q) lines_are.0
 
       -- what the move `Comes` leads to
-      came : move7 w (field.Comes line) ≡ once_heard w x q
+      came : after_move w (field.Comes line) ≡ once_heard w x q
       came = ap (λ d. down_delivered (by_ids WINDOW scene_ends) w d) is
 
       -- the client then is the one that has heard the line
       client_next : (once_heard w x q).client ≡ client_after c (client.Hear line ∷ [])
-      client_next = ap (λ y. (hears y x.line (heard x.line)).client) same ∙ ap (λ z. (hears c z (heard z)).client) line_is
+      client_next = ap (λ y. (hears y x.line (heard x.line)).client) same ∙ ap (λ z. (hears c z (heard z)).client) lines_are.0
 
       -- what is in flight then is what is in flight on the line
       holds_next : Holds (on_line (once_heard w x q).wire) n
-      holds_next = subst (Holds (on_line (once_heard w x q).wire)) (sym new) (record {
-        up = holds.up;
-        down = rest_is;
-        one = (subst (Each IsOne) front holds.one).1;
-        state = holds.state;
-        good = holds.good;
-      })
+      holds_next =
+          subst (Holds (on_line (once_heard w x q).wire)) (sym new) (one_less (on_line w.wire) (map (λ (y : Numbered (List ℕ)). y.line) q) l line rest holds front lines_are.1)
 
 -- a reply that comes, and is discarded, comes to no step: the line loses it
-moves_drops : (w : World7) (c : ById Asked) (line : List ℕ) (rest : List (List ℕ)) (l n : Lines) → w.client ≡ c → Holds (on_line w.wire) l
+moves_drops : (w : SceneWorld) (c : ById Asked) (line : List ℕ) (rest : List (List ℕ)) (l n : Lines) → w.client ≡ c → Holds (on_line w.wire) l
     → l.down ≡ line ∷ rest → n ≡ record l { down = rest } → MovesTo w [] c n
 moves_drops w c line rest l n is holds front new steps others m done on =
     steps_move (Lose_down zero ∷ []) w steps others m done (tt, tt)
@@ -316,10 +291,10 @@ moves_drops w c line rest l n is holds front new steps others m done on =
 
 -- a read that gave bytes, of which the client hears the lines or which the station discards, leaves no bytes of an unfinished
 -- line if there were none, and comes to the steps that the read means
-pub moves_gave : (w : World7) (c : ById Asked) (piece : List ℕ) (moment : Moment) (ss : List (client.Step Asked)) (behind : List ℕ) (l n : Lines) → w.client ≡ c → Holds (on_line w.wire) l
+pub moves_gave : (w : SceneWorld) (c : ById Asked) (piece : List ℕ) (moment : Moment) (ss : List (client.Step Asked)) (behind : List ℕ) (l n : Lines) → w.client ≡ c → Holds (on_line w.wire) l
     → IsHeard [] piece moment ss behind ⊎ IsDiscarded [] moment ss behind → IsGiven l piece n → (behind ≡ []) × MovesTo w ss (client_after c ss) n
 moves_gave w c piece moment ss behind l n is holds (inl heard) given =
-    let one = (subst (Each IsOne) given.2 holds.one).0 in
+    let one = (subst (AllByRecursion IsOneLine) given.2 holds.one).0 in
     let lines_are : lines_completed [] piece ≡ given.0 ∷ [] = ap (lines_completed []) given.3 ∙ one_line given.0 one in
     let ss_is : ss ≡ client.Expire moment.elapsed ∷ (client.Hear given.0 ∷ []) = heard.lines ∙ ap (λ ls. client.Expire moment.elapsed ∷ map client.Hear ls) lines_are in
     let behind_is : behind ≡ [] = heard.rest ∙ ap (rest_behind []) given.3 ∙ no_rest given.0 one in (
@@ -337,22 +312,22 @@ moves_gave w c piece moment ss behind l n is holds (inr dropped) given = (
 )
 
 -- the request that the client of a world sends next
-abbrev sent_next : World7 → ById Asked → Asked → Numbered Request
+abbrev sent_next : SceneWorld → ById Asked → Asked → Numbered Request
 sent_next w c call = record { number = length w.wire.sent; line = record { id = c.next; call = call } }
 
 -- the world once its client has sent that request
-abbrev once_sent : World7 → ById Asked → (target : ℕ) → Asked → (deadline : ℕ) → World7
+abbrev once_sent : SceneWorld → ById Asked → (target : ℕ) → Asked → (deadline : ℕ) → SceneWorld
 once_sent w c target call deadline = requested w target call (Some (sending_of c target call deadline))
 
 -- an act that sends a request that is allowed, while the client's window has room and its next id is below 8, comes to the step
 -- that sends it, whether the line loses the request or not
-pub moves_sends : (w : World7) (c : ById Asked) (target : ℕ) (call : Asked) (deadline : ℕ) (line : List ℕ) (l n : Lines) → w.client ≡ c → (room : length c.waiting < 7)
+pub moves_sends : (w : SceneWorld) (c : ById Asked) (target : ℕ) (call : Asked) (deadline : ℕ) (line : List ℕ) (l n : Lines) → w.client ≡ c → (room : length c.waiting < 7)
     → (digit : c.next < 8) → IsAskedFitting call → line ≡ asked_line (Some c.next) call → Holds (on_line w.wire) l → (n ≡ l) ⊎ (n ≡ record l { up = l.up ++ line ∷ [] })
     → MovesTo w (client.Send target call deadline ∷ []) (client_after c (client.Send target call deadline ∷ [])) n
 moves_sends w c target call deadline line l n is room digit fits text holds came steps others m done on =
-    move_first w (field.Sends target call deadline) steps others m done tt (subst (λ (v : World7). FromClient v steps others m done) (sym out) (by_came came)) where
+    move_first w (field.Sends target call deadline) steps others m done tt (subst (λ (v : SceneWorld). FromClient v steps others m done) (sym out) (by_came came)) where
       -- what the move `Sends` leads to
-      out : move7 w (field.Sends target call deadline) ≡ once_sent w c target call deadline
+      out : after_move w (field.Sends target call deadline) ≡ once_sent w c target call deadline
       out = ap (λ o. requested w target call o) (ap (λ x. sends 7 x target call deadline) is ∙ sends_with_room c target call deadline room)
 
       -- the requests in flight then are those before, and this one
@@ -378,10 +353,5 @@ moves_sends w c target call deadline line l n is room digit fits text holds came
           (λ v e k. on v (subst (λ u. Holds u n) (sym e)
           (subst (λ q. Holds (flow q (on_line w.wire).down w.wire.state) n) (sym lost) (subst (Holds (on_line w.wire)) (sym same) holds))) (k ∙ client_is))
       by_came (inr more) =
-          on (once_sent w c target call deadline) (subst (Holds (on_line (once_sent w c target call deadline).wire)) (sym more) (record {
-            up = subst (λ q. AreLinesOf q (l.up ++ line ∷ [])) (sym up_is) (lines_on (on_line w.wire).up l.up (sent_next w c call).line line holds.up of_line);
-            down = holds.down;
-            one = holds.one;
-            state = holds.state;
-            good = holds.good;
-          })) client_is
+          on (once_sent w c target call deadline)
+          (subst (λ q. Holds (flow q (on_line w.wire).down w.wire.state) n) (sym up_is) (one_more (on_line w.wire) l n (sent_next w c call).line line holds of_line more)) client_is

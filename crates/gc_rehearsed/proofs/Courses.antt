@@ -1,8 +1,7 @@
 -- What happens on the line from a synchronization, or from a client that has synchronized, on; and the same with one thing more
 -- before it.
-use Rattle.std.proofs.Common.{◌≡◌, ◌⊎◌, inl, inr, ℕ, ◌+◌, ◌≤◌, Bool, true, false, List, [], ◌∷◌, ◌++◌, map, Option, refl, sym, ◌∙◌, ap, subst, arith}
+use Rattle.std.proofs.Common.{◌≡◌, ◌⊎◌, inl, inr, ℕ, ◌+◌, ◌≤◌, Bool, true, false, List, [], ◌∷◌, ◌++◌, map, refl, sym, ◌∙◌, ap, subst, arith}
 use Rattle.gc_catalogue.specs.declared.asked.Asked.{Asked}
-use Rattle.gc_client.specs.Beginning.{the_word}
 use Rattle.gc_client.specs.OneForOne as client
 use Rattle.gc_client.specs.declared.window.TheConstants.{WINDOW}
 use Rattle.gc_client.specs.Rule.{ById}
@@ -20,24 +19,24 @@ use Rattle.gc_field.specs.InARow.{AreFewKilledWithTurns, killed_by, killed_over}
 use Rattle.gc_rehearsed.specs.Rehearsals.{unbegun}
 use Rattle.gc_field.specs.SceneField.{RetainedReads, scene_ends, scene_kept}
 use Rattle.gc_field.specs.Shown.{AreShownAs, shown, shows}
-use Rattle.gc_field.specs.World.{Numbered, Request, World}
+use Rattle.gc_field.specs.World.{Numbered, World}
 use Rattle.gc_rehearsal.specs.Carrying.{Lines}
 use Rattle.gc_rehearsed.proofs.Sides.{client_move, is_move, is_turn, leaves_turn, left_turn, line_move, move_of, seen_none, shows_none, turn_of}
-use Rattle.gc_rehearsed.proofs.Steps.{AreSteps, Holds, Step, all_stepped, flow, stepped}
+use Rattle.gc_rehearsed.proofs.Steps.{AreSteps, Holds, Step, all_stepped, flow}
 use Rattle.gc_field.proofs.InARow.{same_lines, run}
 use Rattle.gc_field.proofs.BeginWords.{cons_not_nil}
 
 -- a world whose client knows ids, and whose instrument is that of a scene
-abbrev pub World7 : Type 0
-World7 = World (ById Asked) SceneState
+abbrev pub SceneWorld : Type 0
+SceneWorld = World (ById Asked) SceneState
 
 -- the world after a move, with a client's window of seven
-abbrev pub move7 : World7 → Move SceneState → World7
-move7 w m = moves scene_ends (by_ids WINDOW scene_ends) w m
+abbrev pub after_move : SceneWorld → Move SceneState → SceneWorld
+after_move w m = moves scene_ends (by_ids WINDOW scene_ends) w m
 
 -- the world after these moves, in order, with a client's window of seven
-abbrev pub moved7 : List (Move SceneState) → World7 → World7
-moved7 ms w = moved scene_ends (by_ids WINDOW scene_ends) ms w
+abbrev pub after_moves : List (Move SceneState) → SceneWorld → SceneWorld
+after_moves ms w = moved scene_ends (by_ids WINDOW scene_ends) ms w
 
 -- runs over what is in flight show these parts, are possible, and lead to these lines; at most five in a row are killed while
 -- they synchronize. At their end none counts as killed in a row if the station has synchronized then (`done`), and else at most
@@ -71,12 +70,12 @@ pub record FromBegin (b : Model SceneState) (turns : List part.Turn) (steps : Li
 
 -- from the world w of a client on: possible moves show `steps`; later runs show the other parts, and lead to the lines m, with
 -- `done` as in `Later`
-pub record FromClient (w : World7) (steps : List (client.Step Asked)) (others : List Part) (m : Lines) (done : Bool) : Type 0 where
+pub record FromClient (w : SceneWorld) (steps : List (client.Step Asked)) (others : List Part) (m : Lines) (done : Bool) : Type 0 where
   pub ms : List (Move SceneState)
   pub rs : List (Run SceneState)
   pub see : seen ms ≡ steps
   pub may : ArePossible scene_ends RetainedReads scene_kept (by_ids WINDOW scene_ends) ms w
-  pub later : Later (on_line (moved7 ms w).wire) rs others m done
+  pub later : Later (on_line (after_moves ms w).wire) rs others m done
 
 -- One thing more before what follows.
 
@@ -122,20 +121,20 @@ seen_first (field.Joins line) ms = refl
 
 -- if x is a possible move in the world w, and `FromClient` holds from the world after x, it holds from w, with what the client
 -- sees of x before the other steps
-pub move_first : (w : World7) (x : Move SceneState) (steps : List (client.Step Asked)) (others : List Part) (m : Lines) (done : Bool) → IsPossible RetainedReads scene_kept w x
-    → FromClient (move7 w x) steps others m done → FromClient w (seen (x ∷ []) ++ steps) others m done
+pub move_first : (w : SceneWorld) (x : Move SceneState) (steps : List (client.Step Asked)) (others : List Part) (m : Lines) (done : Bool) → IsPossible RetainedReads scene_kept w x
+    → FromClient (after_move w x) steps others m done → FromClient w (seen (x ∷ []) ++ steps) others m done
 move_first w x steps others m done is f = record { ms = x ∷ f.ms; rs = f.rs; see = seen_first x f.ms ∙ ap (λ l. seen (x ∷ []) ++ l) f.see; may = (is, f.may); later = f.later }
 
 -- if `xs` are possible steps from what w has in flight, and `FromClient` holds from each world with what they leave in flight
 -- and with the client of w, it holds from w: the client sees nothing of the steps
-pub steps_move : (xs : List Step) (w : World7) (steps : List (client.Step Asked)) (others : List Part) (m : Lines) (done : Bool) → AreSteps xs (on_line w.wire)
-    → ((v : World7) → on_line v.wire ≡ all_stepped xs (on_line w.wire) → v.client ≡ w.client → FromClient v steps others m done) → FromClient w steps others m done
+pub steps_move : (xs : List Step) (w : SceneWorld) (steps : List (client.Step Asked)) (others : List Part) (m : Lines) (done : Bool) → AreSteps xs (on_line w.wire)
+    → ((v : SceneWorld) → on_line v.wire ≡ all_stepped xs (on_line w.wire) → v.client ≡ w.client → FromClient v steps others m done) → FromClient w steps others m done
 steps_move [] w steps others m done are on = on w refl refl
 steps_move (x ∷ xs) w steps others m done are on =
     let one = line_move w x in
     subst (λ l. FromClient w (l ++ steps) others m done) (seen_none x)
     (move_first w (move_of x) steps others m done (is_move w x are.0)
-    (steps_move xs (move7 w (move_of x)) steps others m done (subst (AreSteps xs) (sym one) are.1)
+    (steps_move xs (after_move w (move_of x)) steps others m done (subst (AreSteps xs) (sym one) are.1)
     (λ v e c. on v (e ∙ ap (all_stepped xs) one) (c ∙ client_move w x))))
 
 -- From one side to the other.
@@ -220,7 +219,7 @@ one_few false = omega arith
 
 -- `FromBegin` of a synchronization over what is in flight in the world w, which shows the part p and then `others`, gives
 -- `FromClient` from w, with no steps, and with p and then `others` as other parts
-pub ended_from : (w : World7) (p : Part) (others : List Part) (m : Lines) (done : Bool) → FromBegin (begins (on_line w.wire)) p.turns p.steps others m done → FromClient w [] (p ∷ others) m done
+pub ended_from : (w : SceneWorld) (p : Part) (others : List Part) (m : Lines) (done : Bool) → FromBegin (begins (on_line w.wire)) p.turns p.steps others m done → FromClient w [] (p ∷ others) m done
 ended_from w p others m done f =
     let few = few_from 0 (on_line w.wire) p.turns p.steps others m done f (one_few done) in
     record {
@@ -237,7 +236,7 @@ none_below true = omega arith
 none_below false = omega arith
 
 -- where the lines m are in flight, `FromClient` holds with no steps and one further part, in which nothing happens
-pub ended_over : (w : World7) (m : Lines) (done : Bool) → Holds (on_line w.wire) m → FromClient w [] (nothing ∷ []) m done
+pub ended_over : (w : SceneWorld) (m : Lines) (done : Bool) → Holds (on_line w.wire) m → FromClient w [] (nothing ∷ []) m done
 ended_over w m done holds =
     record {
       ms = [];
@@ -254,7 +253,7 @@ ended_over w m done holds =
     }
 
 -- where the lines m are in flight, `FromClient` holds with no steps and no further parts
-pub ends_client : (w : World7) (m : Lines) (done : Bool) → Holds (on_line w.wire) m → FromClient w [] [] m done
+pub ends_client : (w : SceneWorld) (m : Lines) (done : Bool) → Holds (on_line w.wire) m → FromClient w [] [] m done
 ends_client w m done holds = record { ms = []; rs = []; see = refl; may = tt; later = record { show = tt; may = tt; holds = holds; few = tt; ends = none_below done } }
 
 -- where some ids aren't answered, and the lines m are in flight, `FromBegin` holds with no turns, no steps and no further parts,

@@ -1,8 +1,7 @@
 -- Stations one after the other over a rehearsed line are stations in a row in the field.
-use Rattle.std.proofs.Common.{◌≡◌, ℕ, suc, ◌<◌, ◌≤◌, Bool, true, false, List, [], ◌∷◌, ◌++◌, length, refl, sym, ◌∙◌, ap, subst, arith}
+use Rattle.std.proofs.Common.{◌≡◌, ℕ, suc, ◌≤◌, Bool, true, false, List, [], ◌∷◌, ◌++◌, length, refl, sym, ◌∙◌, ap, subst, arith}
 use Rattle.std.specs.List.{AllByRecursion}
 use Rattle.gc_catalogue.specs.declared.asked.Asked.{Asked}
-use Rattle.gc_client.specs.Beginning.{the_word}
 use Rattle.gc_client.specs.OneForOne as client
 use Rattle.gc_client.specs.declared.window.TheConstants.{WINDOW}
 use Rattle.gc_links.specs.Acts.{Act, Put, Gave}
@@ -16,14 +15,14 @@ use Rattle.gc_station.specs.Parts.{Part, parts_of}
 use Rattle.gc_field.specs.Begin as begin
 use Rattle.gc_field.specs.Begin.{UnderWay, begins, leaves, none_under_way}
 use Rattle.gc_field.specs.Beginnings.{HasRisingIds, Run, left_by_runs}
-use Rattle.gc_field.specs.InARow.{AreFewKilledWithTurns, AreInARow, killed_over}
+use Rattle.gc_field.specs.InARow.{AreInARow, killed_over}
 use Rattle.gc_field.specs.SceneField.{RetainedReads, scene_ends, scene_kept}
 use Rattle.gc_field.specs.Shown.{AreShownAs}
 use Rattle.gc_field.proofs.InARow.{in_a_row, run}
 use Rattle.gc_field.proofs.SceneField.{scene_is_an_instrument}
 use Rattle.gc_field.proofs.BeginJoin.{word_small}
-use Rattle.gc_rehearsal.specs.Carrying.{Lines, Happening, Call, Reaches, Restarts, Passes, Repeats_up, Repeats_down, Loses_up, Loses_down, Loses_front, Does, IsOfLine, IsQuiet, LeadAll, acts_of}
-use Rattle.gc_rehearsed.specs.Rehearsals.{AreRehearsed, FewEndUnbegun, RunsAndStops, RehearsalsInARowAreFaithful, Station, has_begun_at_its_end, programs, acts_of_all, unbegun}
+use Rattle.gc_rehearsal.specs.Carrying.{Lines, Happening, Call, Does, IsQuiet, LeadAll, acts_of}
+use Rattle.gc_rehearsed.specs.Rehearsals.{FewEndUnbegun, RunsAndStops, RehearsalsInARowAreFaithful, Station, has_begun_at_its_end, programs, acts_of_all, unbegun}
 use Rattle.gc_rehearsed.proofs.Courses.{FromBegin, begins_line, few_from, steps_turn}
 use Rattle.gc_rehearsed.proofs.Rehearsed.{OnBegin, first_and_others, first_part, none_kept, other_parts, shows_the_run, some_parts}
 use Rattle.gc_rehearsed.proofs.Steps.{Holds, happens}

@@ -1,26 +1,20 @@
 -- A run of a station over a rehearsed line is one in the field: what happens on the line are turns and moves that show it.
 use Rattle.std.proofs.Common.{◌≡◌, ◌⊎◌, inl, inr, ℕ, ◌<◌, ◌&&◌, ◌||◌, not, Bool, true, false, if◌then◌else◌, List, [], ◌∷◌, ◌++◌, length, Option, Some, None, refl, sym, ◌∙◌, ap, subst, append-nil}
-use Rattle.gc_lines.specs.Lines.{with_end}
 use Rattle.gc_catalogue.specs.Asked.{IsAskedFitting, asked_line}
 use Rattle.gc_catalogue.specs.declared.asked.Asked.{Asked}
-use Rattle.gc_catalogue.specs.declared.asked.Asked.TheVariants.{Table}
-use Rattle.gc_catalogue.specs.declared.call.Call.TheVariants.{NullProc}
-use Rattle.gc_client.specs.Beginning.{IsSubsequence}
 use Rattle.gc_client.specs.OneForOne as client
 use Rattle.gc_client.specs.OneForOne.{Wanted}
 use Rattle.gc_client.specs.Rule.{ById, fresh}
 use Rattle.gc_links.specs.Acts.{Act, Told, Untold, Put, Cut, Gave, Silent, Ended, Broke, Closed, Opened, Unopened}
 use Rattle.gc_scenes.specs.SceneState.{SceneState}
-use Rattle.gc_texts.specs.Tasks.{call_at}
 use Rattle.gc_texts.specs.declared.tasks.Task.{Task}
 use Rattle.gc_station.specs.declared.plan.Plan.{Plan}
 use Rattle.gc_station.specs.Beginnings.{unanswered_after}
 use Rattle.gc_station.specs.Begun.{heard_in}
 use Rattle.gc_station.specs.Deciding.{has_begun, is_none_left}
 use Rattle.gc_station.specs.Model.{Model, Performs, Runs, action_at, after, after_all, losing, moved, opening, waiting_of, with_progress}
-use Rattle.gc_station.specs.Parts.{MarksAsk, MarkAsks, Part, part_of_act, sync_part, client_part, ends_part, in_front, joined, nothing, parts_of, put_part, client_after, course_at}
+use Rattle.gc_station.specs.Parts.{MarksAsk, MarkAsks, Part, part_of_act, sync_part, client_part, ends_part, in_front, nothing, parts_of, put_part, client_after, course_at}
 use Rattle.gc_station.specs.Progressing.{is_over, loses_all, turned}
-use Rattle.gc_station.specs.Scopes.{Scope}
 use Rattle.gc_station.proofs.Asked.{FirstHasNoTurns, goes_begun, no_turns, word_of}
 use Rattle.gc_station.proofs.Booking.{sends_with_room, sent_by}
 use Rattle.gc_station.proofs.EachRun.{invariant_after, invariant_opening}
@@ -33,11 +27,11 @@ use Rattle.gc_station.proofs.Turns.{over_stays}
 use Rattle.gc_station.proofs.Lists.{all_at}
 use Rattle.gc_station.proofs.Beginnings.{word_if_resynchronizing}
 use Rattle.gc_field.specs.Begin as begin
-use Rattle.gc_field.specs.Begin.{UnderWay, begins, leaves, none_under_way}
+use Rattle.gc_field.specs.Begin.{begins, leaves, none_under_way}
 use Rattle.gc_field.specs.Asking.{MeansTurns}
-use Rattle.gc_field.specs.Beginnings.{Run, on_line}
+use Rattle.gc_field.specs.Beginnings.{on_line}
 use Rattle.gc_field.specs.Begun.{ids_begun}
-use Rattle.gc_field.specs.Runs.{IsInField, IsMeant, IsRunFaithful}
+use Rattle.gc_field.specs.Runs.{IsInField, IsMeant}
 use Rattle.gc_field.specs.Meaning.{IsHeard, IsDiscarded}
 use Rattle.gc_field.specs.SceneField.{RetainedReads, scene_ends, scene_kept}
 use Rattle.gc_world.specs.Exchange.{ReadsWithItsId}
@@ -47,10 +41,10 @@ use Rattle.gc_field.proofs.Meant.{is_meant}
 use Rattle.gc_field.proofs.SceneField.{scene_is_an_instrument}
 use Rattle.gc_field.proofs.BeginJoin.{IsSmall, word_small}
 use Rattle.gc_field.proofs.BeginWords.{cons_not_nil}
-use Rattle.gc_rehearsal.specs.Carrying.{Lines, Happening, Call, Reaches, Restarts, Passes, Repeats_up, Repeats_down, Loses_up, Loses_down, Loses_front, Does, IsOfLine, LeadAll, Leads, acts_of}
-use Rattle.gc_rehearsed.specs.Rehearsals.{AreAskable, IsRehearsed, RehearsalsAreFaithful}
+use Rattle.gc_rehearsal.specs.Carrying.{Lines, Happening, Call, Does, IsPut, LeadAll, acts_of}
+use Rattle.gc_rehearsed.specs.Rehearsals.{AreAskable, IsAskable, RehearsalsAreFaithful}
 use Rattle.gc_rehearsed.proofs.Acted.{MovesTo, TurnsTo, feed_no_line, ids_left, moves_gave, moves_moment, moves_none, moves_sends, same_line, turns_act}
-use Rattle.gc_rehearsed.proofs.Courses.{FromBegin, FromClient, World7, begins_line, begun_from, begun_line, ended_from, ended_over, ends_begin, ends_client, steps_move, steps_turn}
+use Rattle.gc_rehearsed.proofs.Courses.{FromBegin, FromClient, SceneWorld, begins_line, begun_from, begun_line, ended_from, ended_over, ends_begin, ends_client, steps_move, steps_turn}
 use Rattle.gc_rehearsed.proofs.Steps.{Holds, happens}
 use Rattle.gc_field.proofs.InARow.{run}
 
@@ -93,11 +87,11 @@ abbrev pub OnBegin : begin.Model SceneState → Lines → List Part → Bool →
 OnBegin b m ps done = FromBegin b (first_part ps).turns (first_part ps).steps (other_parts ps) m done
 
 -- `FromClient` by parts: from the world w on, its client's run shows the steps of the first part, and later runs the others
-abbrev pub OnClient : World7 → Lines → List Part → Bool → Type 0
+abbrev pub OnClient : SceneWorld → Lines → List Part → Bool → Type 0
 OnClient w m ps done = FromClient w (first_part ps).steps (other_parts ps) m done
 
 -- if an act comes to the turns of its part p (`TurnsTo`), which has no steps, and `OnBegin` holds of the later parts from each
--- state that these turns may lead to, it holds from b of the parts with p in front, of which the first goes on p
+-- state that these turns may lead to, it holds from b of the later parts with p as the front of the first one (`in_front`)
 begin_first : (b : begin.Model SceneState) (p : Part) (word : List ℕ) (n m : Lines) (ps : List Part) (done : Bool) → HasSome ps → p.steps ≡ [] → TurnsTo b p.turns word n
     → ((c : begin.Model SceneState) → Holds (leaves c) n → c.left ≡ word → OnBegin c m ps done) → OnBegin b m (in_front p false ps) done
 begin_first b p word n m [] done some none to on = absurd some
@@ -105,23 +99,22 @@ begin_first b p word n m (q ∷ ps) done some none to on =
     subst (λ (ss : List (client.Step Asked)). FromBegin b (p.turns ++ q.turns) (ss ++ q.steps) ps m done) (sym none) (to q.turns q.steps ps m done on)
 
 -- if an act comes to the steps of its part p (`MovesTo`), and `OnClient` holds of the later parts from each world that these
--- steps may lead to, it holds from w of the parts with p in front, of which the first goes on p
-client_first : (w : World7) (p : Part) (c : ById Asked) (n m : Lines) (ps : List Part) (done : Bool) → HasSome ps → MovesTo w p.steps c n
-    → ((v : World7) → Holds (on_line v.wire) n → v.client ≡ c → OnClient v m ps done) → OnClient w m (in_front p false ps) done
+-- steps may lead to, it holds from w of the later parts with p as the front of the first one (`in_front`)
+client_first : (w : SceneWorld) (p : Part) (c : ById Asked) (n m : Lines) (ps : List Part) (done : Bool) → HasSome ps → MovesTo w p.steps c n
+    → ((v : SceneWorld) → Holds (on_line v.wire) n → v.client ≡ c → OnClient v m ps done) → OnClient w m (in_front p false ps) done
 client_first w p c n m [] done some to on = absurd some
 client_first w p c n m (q ∷ ps) done some to on = to q.steps ps m done on
 
--- if an act comes to the steps of its part p (`MovesTo`), and `FromClient` holds, with no steps and the later parts as other
--- parts, from each world that these steps may lead to, `OnClient` holds from w of p, which ends with the act, and the later
--- parts
-client_last : (w : World7) (p : Part) (c : ById Asked) (n m : Lines) (ps : List Part) (done : Bool) → MovesTo w p.steps c n
-    → ((v : World7) → Holds (on_line v.wire) n → FromClient v [] ps m done) → OnClient w m (in_front p true ps) done
+-- if an act comes to the steps of its part p (`MovesTo`), which ends with the act, and `FromClient` holds from each world that
+-- these steps may lead to, with no steps and with the later parts, `OnClient` holds from w of p and then the later parts
+client_last : (w : SceneWorld) (p : Part) (c : ById Asked) (n m : Lines) (ps : List Part) (done : Bool) → MovesTo w p.steps c n
+    → ((v : SceneWorld) → Holds (on_line v.wire) n → FromClient v [] ps m done) → OnClient w m (in_front p true ps) done
 client_last w p c n m ps done to on =
     subst (λ (ss : List (client.Step Asked)). FromClient w ss ps m done) (append-nil p.steps) (to [] ps m done (λ v holds is. on v holds))
 
--- where a part has ended, `OnBegin` of the parts of the next synchronization gives `FromClient`, of which they are the other
--- parts
-client_anew : (v : World7) (m : Lines) (ps : List Part) (done : Bool) → HasSome ps → OnBegin (begins (on_line v.wire)) m ps done → FromClient v [] ps m done
+-- where a part has ended with the world v, and `OnBegin` holds of the later parts from a synchronization over what is in flight
+-- in v, `FromClient` holds from v with no steps and with the later parts
+client_anew : (v : SceneWorld) (m : Lines) (ps : List Part) (done : Bool) → HasSome ps → OnBegin (begins (on_line v.wire)) m ps done → FromClient v [] ps m done
 client_anew v m [] done some f = absurd some
 client_anew v m (q ∷ ps) done some f = ended_from v q ps m done f
 
@@ -132,7 +125,7 @@ client_anew v m (q ∷ ps) done some f = ended_from v q ps m done f
 asked_fits : (commands : List Task) (mark : Option _) (a : Wanted Asked) → AreAskable commands → MarkAsks commands mark a → IsAskedFitting a.call
 asked_fits commands None a askable is = subst (λ (x : Wanted Asked). IsAskedFitting x.call) (sym is) tt
 asked_fits commands (Some mark) a askable is =
-    subst (λ (x : Wanted Asked). IsAskedFitting x.call) (sym is.2) (all_at (λ (task : Task). (utc : ℕ) → IsAskedFitting (call_at task utc)) commands mark.place is.0 askable is.1 mark.sent)
+    subst (λ (x : Wanted Asked). IsAskedFitting x.call) (sym is.2) (all_at IsAskable commands mark.place is.0 askable is.1 mark.sent)
 
 -- by one send a client sends just that request, if its window has room
 sent_one : (c : ById Asked) (target : ℕ) (call : Asked) (deadline : ℕ) → length c.waiting < 7
@@ -146,9 +139,9 @@ losing_loses false t = refl
 
 module _ (plan : Plan) (commands : List Task) (askable : AreAskable commands) where
   -- an act that puts bytes, whole or in part, once the station has synchronized, comes to the steps that it means
-  moves_put : (s : Model) (bytes : List ℕ) (w : World7) (l n : Lines) → Invariant plan commands s → w.client ≡ s.client → Holds (on_line w.wire) l
+  moves_put : (s : Model) (bytes : List ℕ) (w : SceneWorld) (l n : Lines) → Invariant plan commands s → w.client ≡ s.client → Holds (on_line w.wire) l
       → (let p = put_part plan commands s (action_at plan s) in MarksAsk commands p.marks (sent_by s.client p.steps))
-      → meant.IsPut s bytes (put_part plan commands s (action_at plan s)) → (n ≡ l) ⊎ ((line : List ℕ) × (bytes ≡ with_end line) × (n ≡ record l { up = l.up ++ line ∷ [] }))
+      → meant.IsPut s bytes (put_part plan commands s (action_at plan s)) → IsPut l bytes n
       → MovesTo w (put_part plan commands s (action_at plan s)).steps (client_after s.client (put_part plan commands s (action_at plan s)).steps) n
   moves_put s bytes w l n fine is holds of (inl feed) (inl same) =
       subst (λ (p : Part). MovesTo w p.steps (client_after s.client p.steps) n) (sym feed.1) (moves_none w s.client l n is holds same)
@@ -159,7 +152,7 @@ module _ (plan : Plan) (commands : List Task) (askable : AreAskable commands) wh
       (subst (MarksAsk commands (x.mark ∷ [])) (sent_one s.client x.target x.call x.deadline x.room) one).0 in
       subst (λ (p : Part). MovesTo w p.steps (client_after s.client p.steps) n) (sym x.part) (by_came came fits) where
         -- the steps that the send comes to, by whether the request is lost or is in flight
-        by_came : (n ≡ l) ⊎ ((line : List ℕ) × (bytes ≡ with_end line) × (n ≡ record l { up = l.up ++ line ∷ [] })) → IsAskedFitting x.call
+        by_came : IsPut l bytes n → IsAskedFitting x.call
             → MovesTo w (client.Send x.target x.call x.deadline ∷ []) (client_after s.client (client.Send x.target x.call x.deadline ∷ [])) n
         by_came (inl same) fits = moves_sends w s.client x.target x.call x.deadline (asked_line (Some s.client.next) x.call) l n is x.room fine.digit fits refl holds (inl same)
         by_came (inr sent) fits =
@@ -178,7 +171,7 @@ module _ (plan : Plan) (commands : List Task) (askable : AreAskable commands) wh
 
   -- an act once the station has synchronized leaves no bytes of an unfinished line if there were none, and comes to the steps
   -- of the act's part
-  moves_act : (s : Model) (act : Act) (w : World7) (l n : Lines) → Invariant plan commands s → Performs commands s (action_at plan s) act
+  moves_act : (s : Model) (act : Act) (w : SceneWorld) (l n : Lines) → Invariant plan commands s → Performs commands s (action_at plan s) act
       → (begun : has_begun s.progress ≡ true) → (empty : s.rest ≡ []) → w.client ≡ s.client → Holds (on_line w.wire) l → Does l act n
       → ((after plan commands s act).rest ≡ [])
       × MovesTo w (client_part plan commands s (action_at plan s) act).steps (client_after s.client (client_part plan commands s (action_at plan s) act).steps) n
@@ -246,8 +239,8 @@ module _ (plan : Plan) (commands : List Task) (askable : AreAskable commands) wh
 
   -- if what happens on the line has no acts, and `FromClient` holds from each world with the lines that this leads to in flight
   -- and with the client of w, it holds from w
-  goes_idly : (hs : List Happening) (w : World7) (l m : Lines) (steps : List (client.Step Asked)) (more : List Part) (done : Bool) → acts_of hs ≡ [] → Holds (on_line w.wire) l → LeadAll l hs m
-      → ((v : World7) → Holds (on_line v.wire) m → FromClient v steps more m done) → FromClient w steps more m done
+  goes_idly : (hs : List Happening) (w : SceneWorld) (l m : Lines) (steps : List (client.Step Asked)) (more : List Part) (done : Bool) → acts_of hs ≡ [] → Holds (on_line w.wire) l → LeadAll l hs m
+      → ((v : SceneWorld) → Holds (on_line v.wire) m → FromClient v steps more m done) → FromClient w steps more m done
   goes_idly [] w l m steps more done none holds all on = on w (subst (Holds (on_line w.wire)) (sym all) holds)
   goes_idly (Call act ∷ hs) w l m steps more done none holds all on = absurd (cons_not_nil act (acts_of hs) none)
   goes_idly (h ∷ hs) w l m steps more done none holds all on =
@@ -282,7 +275,7 @@ module _ (plan : Plan) (commands : List Task) (askable : AreAskable commands) wh
   -- happens on the line shows the parts of the station's run by these acts
   abbrev FromClientOf : List Happening → Lines → Type 0
   FromClientOf hs m =
-      (s : Model) (w : World7) (l : Lines) → Invariant plan commands s → s.rest ≡ [] → has_begun s.progress ≡ true → w.client ≡ s.client
+      (s : Model) (w : SceneWorld) (l : Lines) → Invariant plan commands s → s.rest ≡ [] → has_begun s.progress ≡ true → w.client ≡ s.client
       → Holds (on_line w.wire) l → LeadAll l hs m → Runs plan commands s (acts_of hs)
       → OnClient w m (parts_of plan commands s (acts_of hs)) (has_begun (after_all plan commands s (acts_of hs)).progress)
 
@@ -340,7 +333,7 @@ module _ (plan : Plan) (commands : List Task) (askable : AreAskable commands) wh
 
         -- what happens later, where the part has ended, by whether the station has synchronized after the act (`x`); if it has,
         -- the run is over
-        anew : (v : World7) → Holds (on_line v.wire) all.0 → loses_all (after plan commands s act).progress ≡ true → (x : Bool) → has_begun (after plan commands s act).progress ≡ x
+        anew : (v : SceneWorld) → Holds (on_line v.wire) all.0 → loses_all (after plan commands s act).progress ≡ true → (x : Bool) → has_begun (after plan commands s act).progress ≡ x
             → FromClient v [] (parts_of plan commands (after plan commands s act) (acts_of hs)) m (has_begun (after_all plan commands (after plan commands s act) (acts_of hs)).progress)
         anew v h lost false e =
             let u = after plan commands s act in

@@ -1,6 +1,6 @@
 -- Steps of the line before and after the end of a synchronization: as turns while a station synchronizes, and as moves once it
 -- has.
-use Rattle.std.proofs.Common.{◌≡◌, ℕ, ◌<◌, ◌≤◌, Bool, true, false, List, [], ◌∷◌, ◌++◌, length, map, nat_lt, Option, refl, sym, ◌∙◌, ap, subst}
+use Rattle.std.proofs.Common.{◌≡◌, ℕ, Bool, true, false, List, [], ◌∷◌, length, map, nat_lt, refl, sym, ◌∙◌, ap}
 use Rattle.std.proofs.lemmas.Bool.{ltb-false}
 use Rattle.std.proofs.lemmas.List.{map-append}
 use Rattle.gc_catalogue.specs.declared.asked.Asked.{Asked}
@@ -11,14 +11,14 @@ use Rattle.gc_station.specs.Parts as part
 use Rattle.gc_world.specs.Clients.{by_ids}
 use Rattle.gc_world.proofs.Queues.{without_map, doubled_map, without_past, doubled_past}
 use Rattle.gc_field.specs.Begin as begin
-use Rattle.gc_field.specs.Begin.{InFlight, Model, UnderWay, IsTurn, leaves, turns}
+use Rattle.gc_field.specs.Begin.{InFlight, Model, IsTurn, leaves, turns}
 use Rattle.gc_field.specs.Beginnings.{on_line}
 use Rattle.gc_field.specs.Field as field
 use Rattle.gc_field.specs.Field.{Move, IsPossible, moves, seen}
 use Rattle.gc_field.specs.SceneField.{RetainedReads, scene_ends, scene_handed, scene_kept}
 use Rattle.gc_field.specs.Shown.{shows}
 use Rattle.gc_field.specs.World as world
-use Rattle.gc_field.specs.World.{Numbered, Request, Wire, World, without, doubled, idle, up_delivered, with_up, with_down}
+use Rattle.gc_field.specs.World.{Numbered, Request, Wire, World, without, doubled, up_delivered, with_up, with_down}
 use Rattle.gc_rehearsed.proofs.Steps.{Step, Reach, Lose_up, Repeat_up, Lose_down, Repeat_down, Start, Change, IsStep, flow, reached, stepped}
 use Rattle.gc_field.proofs.Shown.{left_reaches}
 

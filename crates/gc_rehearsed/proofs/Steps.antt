@@ -1,6 +1,7 @@
 -- What happens on a rehearsed line, as steps of what is in flight in the field: requests with their ids, replies, and the
 -- instrument.
-use Rattle.std.proofs.Common.{◌≡◌, ◌⊎◌, inl, inr, ℕ, zero, suc, ◌<◌, ◌≤◌, List, [], ◌∷◌, ◌++◌, length, map, Option, Some, None, refl, sym, ◌∙◌, ap, subst}
+use Rattle.std.proofs.Common.{◌≡◌, inl, inr, ℕ, zero, suc, ◌<◌, ◌≤◌, List, [], ◌∷◌, ◌++◌, length, Option, Some, None, refl, sym, ◌∙◌, ap, subst}
+use Rattle.std.specs.List.{AllByRecursion}
 use Rattle.gc_lines.specs.Lines.{IsPlain}
 use Rattle.gc_links.specs.Acts.{Act}
 use Rattle.gc_catalogue.specs.Asked.{asked_line, IsAskedFitting}
@@ -9,16 +10,14 @@ use Rattle.gc_catalogue.specs.declared.asked.Asked.TheVariants.{Table, Raw}
 use Rattle.gc_scenes.proofs.Turns.{one_reply}
 use Rattle.gc_scenes.specs.SceneReplying.{IsPlayed}
 use Rattle.gc_scenes.specs.SceneState.{SceneState, scene_restarted, at_moment}
-use Rattle.gc_world.specs.Order.{Each}
 use Rattle.std.proofs.lemmas.Option.{same_Some}
-use Rattle.gc_world.proofs.Rows.{each_append}
 use Rattle.gc_field.specs.Begin.{UnderWay}
 use Rattle.gc_field.specs.Instrument.{MayBecome}
 use Rattle.gc_field.specs.SceneField.{RetainedReads, scene_handed, scene_kept}
 use Rattle.gc_field.specs.World.{Request, without, doubled}
 use Rattle.gc_field.proofs.SceneField.{scene_is_an_instrument}
-use Rattle.gc_rehearsal.specs.Carrying.{Lines, Happening, Call, Reaches, Restarts, Passes, Repeats_up, Repeats_down, Loses_up, Loses_down, Loses_front, HasReached, IsRepeated, Leads, MaySendOut}
-use Rattle.gc_lines.proofs.Lists.{all_behind}
+use Rattle.gc_rehearsal.specs.Carrying.{Lines, Happening, Call, Reaches, Restarts, Passes, Repeats_up, Repeats_down, Loses_up, Loses_down, Loses_front, HasReached, Leads, MaySendOut}
+use Rattle.gc_lines.proofs.Lists.{all_behind, all_append}
 
 -- What is in flight.
 
@@ -34,9 +33,9 @@ AreLinesOf [] [] = Unit {0}
 AreLinesOf (r ∷ rs) (line ∷ lines) = IsLineOf r line × AreLinesOf rs lines
 AreLinesOf _ _ = ⊥
 
--- these bytes are one line: plain bytes, at most 512
-abbrev pub IsOne : List ℕ → Type 0
-IsOne line = IsPlain line × (length line ≤ 512)
+-- these bytes are one line, without CR LF: plain bytes, at most 512
+abbrev pub IsOneLine : List ℕ → Type 0
+IsOneLine line = IsPlain line × (length line ≤ 512)
 
 -- what is in flight, with the instrument in this state
 abbrev pub flow : List Request → List (List ℕ) → SceneState → UnderWay SceneState
@@ -47,7 +46,7 @@ flow up down state = record { up = up; down = down; state = state }
 pub record Holds (u : UnderWay SceneState) (l : Lines) : Type 0 where
   pub up : AreLinesOf u.up l.up
   pub down : u.down ≡ l.down
-  pub one : Each IsOne l.down
+  pub one : AllByRecursion IsOneLine l.down
   pub state : u.state ≡ l.state
   pub good : RetainedReads u.state
 
@@ -123,6 +122,13 @@ lines_on [] (x ∷ lines) r line all one = absurd all
 lines_on (s ∷ rs) [] r line all one = absurd all
 lines_on (s ∷ rs) (x ∷ lines) r line all one = (all.0, lines_on rs lines r line all.1 one)
 
+-- what is in flight in the field is what is in flight on the line (`Holds`), also once one more request is, in both
+pub one_more : (u : UnderWay SceneState) (l n : Lines) (r : Request) (line : List ℕ) → Holds u l → IsLineOf r line → n ≡ record l { up = l.up ++ line ∷ [] }
+    → Holds (flow (u.up ++ r ∷ []) u.down u.state) n
+one_more u l n r line holds of_line more =
+    subst (Holds (flow (u.up ++ r ∷ []) u.down u.state)) (sym more)
+    (record { up = lines_on u.up l.up r line holds.up of_line; down = holds.down; one = holds.one; state = holds.state; good = holds.good })
+
 -- where `front` and then `line` are the lines of the requests `rs`, these lines and then `line` once more are those of `rs`
 -- with the request at some place k doubled
 pub lines_twice : (rs : List Request) (front : List (List ℕ)) (line : List ℕ) → AreLinesOf rs (front ++ line ∷ [])
@@ -158,7 +164,7 @@ lose_all_down up (x ∷ down) state = let rest = lose_all_down up down state in 
 -- once `reply` was sent on its way or lost at once (`MaySendOut`), steps lead to `up'`, `down'` and `t'`
 sends_out : (rs : List Request) (down : List (List ℕ)) (s : SceneState) (reply : List ℕ) (r : Request) (up' down' : List (List ℕ)) (t' : SceneState)
     → reply ≡ (scene_handed s r.id r.call).reply → t' ≡ (scene_handed s r.id r.call).state → RetainedReads (scene_handed s r.id r.call).state
-    → AreLinesOf rs up' → Each IsOne down → MaySendOut down (Some reply) down'
+    → AreLinesOf rs up' → AllByRecursion IsOneLine down → MaySendOut down (Some reply) down'
     → Steps (flow (r ∷ rs) down s) (record { up = up'; down = down'; state = t' })
 sends_out rs down s reply r up' down' t' is state good lines one (inl lost) =
     let h = scene_handed s r.id r.call in
@@ -168,7 +174,7 @@ sends_out rs down s reply r up' down' t' is state good lines one (inl lost) =
       holds = record {
         up = lines;
         down = without_last down h.reply ∙ sym lost;
-        one = subst (Each IsOne) (sym lost) one;
+        one = subst (AllByRecursion IsOneLine) (sym lost) one;
         state = sym state;
         good = good;
       };
@@ -181,7 +187,7 @@ sends_out rs down s reply r up' down' t' is state good lines one (inr out) =
       holds = record {
         up = lines;
         down = ap (λ x. down ++ x ∷ []) (sym is) ∙ sym out.2;
-        one = subst (Each IsOne) (sym out.2) (each_append IsOne down (reply ∷ []) one ((out.0, out.1), tt));
+        one = subst (AllByRecursion IsOneLine) (sym out.2) (all_append IsOneLine down (reply ∷ []) one ((out.0, out.1), tt));
         state = sym state;
         good = good;
       };
@@ -209,18 +215,18 @@ reaches (r ∷ rs) down s l m holds h = by_reply h.reply refl where
   by_reply None e = let some = same.1 in let wrong : ⊥ = cc in absurd wrong
   by_reply (Some reply) e =
       sends_out rs down s reply r m.up m.down m.state (same_Some reply (scene_handed s r.id r.call).reply (sym e ∙ same.1)) same.0
-      (scene_is_an_instrument.instrument.stays_good s r.id r.call holds.good lines.0.id) lines.1 (subst (Each IsOne) (sym holds.down) holds.one)
+      (scene_is_an_instrument.instrument.stays_good s r.id r.call holds.good lines.0.id) lines.1 (subst (AllByRecursion IsOneLine) (sym holds.down) holds.one)
       (subst (λ x. MaySendOut x (Some reply) m.down) (sym holds.down) (subst (λ x. MaySendOut l.down x m.down) e h.sends))
+
+-- what is in flight in the field is what is in flight on the line (`Holds`), also without the front reply in both: `down` are
+-- the replies behind it
+pub one_less : (u : UnderWay SceneState) (down : List (List ℕ)) (l : Lines) (line : List ℕ) (rest : List (List ℕ)) → Holds u l → l.down ≡ line ∷ rest → down ≡ rest
+    → Holds (flow u.up down u.state) (record l { down = rest })
+one_less u down l line rest holds front is = record { up = holds.up; down = is; one = (subst (AllByRecursion IsOneLine) front holds.one).1; state = holds.state; good = holds.good }
 
 -- what is in flight in the field is what is in flight on the line (`Holds`), also once the front reply is lost in both
 pub dropped : (u : UnderWay SceneState) (l : Lines) (line : List ℕ) (rest : List (List ℕ)) → Holds u l → l.down ≡ line ∷ rest → Holds (stepped u (Lose_down zero)) (record l { down = rest })
-dropped u l line rest holds front = record {
-  up = holds.up;
-  down = ap (without zero) (holds.down ∙ front);
-  one = (subst (Each IsOne) front holds.one).1;
-  state = holds.state;
-  good = holds.good;
-}
+dropped u l line rest holds front = one_less u (without zero u.down) l line rest holds front (ap (without zero) (holds.down ∙ front))
 
 -- what happens on the line, and is no act, happens by steps
 pub happens : (u : UnderWay SceneState) (l m : Lines) (h : Happening) → ((act : Act) → h ≡ Call act → ⊥) → Holds u l → Leads l h m → Steps u m
@@ -254,7 +260,7 @@ happens u l m Repeats_up never holds leads =
     }
 happens u l m Repeats_down never holds leads =
     let twice = leads.1 in
-    let ones = subst (Each IsOne) twice.2 holds.one in
+    let ones = subst (AllByRecursion IsOneLine) twice.2 holds.one in
     let new : doubled (length twice.0) u.down ≡ leads.0 =
     ap (doubled (length twice.0)) (holds.down ∙ twice.2) ∙ doubled_last twice.0 twice.1 ∙ ap (λ q. q ++ twice.1 ∷ []) (sym twice.2) ∙ sym twice.3 in
     record {
@@ -263,8 +269,8 @@ happens u l m Repeats_down never holds leads =
       holds = subst (Holds (stepped u (Repeat_down (length twice.0)))) (sym leads.2) (record {
         up = holds.up;
         down = new;
-        one = subst (Each IsOne) (ap (λ q. q ++ twice.1 ∷ []) (sym twice.2) ∙ sym twice.3)
-            (each_append IsOne (twice.0 ++ twice.1 ∷ []) (twice.1 ∷ []) ones ((all_behind IsOne twice.0 (twice.1 ∷ []) ones).0, tt));
+        one = subst (AllByRecursion IsOneLine) (ap (λ q. q ++ twice.1 ∷ []) (sym twice.2) ∙ sym twice.3)
+            (all_append IsOneLine (twice.0 ++ twice.1 ∷ []) (twice.1 ∷ []) ones ((all_behind IsOneLine twice.0 (twice.1 ∷ []) ones).0, tt));
         state = holds.state;
         good = holds.good;
       });

@@ -1,12 +1,10 @@
 -- The columns of a record. A mark is a byte that ends a field, as a comma (44) or a colon (58): what comes before the first
 -- mark of a text and after it, and what that is in the lines of requests and replies.
-use Rattle.std.proofs.Common.{◌≡◌, ◌≢◌, ℕ, ◌+◌, ◌<◌, ◌==◌, List, [], ◌∷◌, ◌++◌, Option, Some, None, false, inl, inr, ◌⊎◌, IfSome, refl, sym, ap, subst, ◌∙◌, arith, append_assoc, append-nil}
+use Rattle.std.proofs.Common.{◌≡◌, ◌≢◌, ℕ, ◌+◌, ◌<◌, List, [], ◌∷◌, ◌++◌, Option, Some, None, false, inl, inr, ◌⊎◌, IfSome, refl, sym, ap, subst, ◌∙◌, arith, append_assoc, append-nil}
 use Rattle.std.specs.Str.Parse.{AllDigits}
-use Rattle.std.proofs.lemmas.Bool.{cond-true, cond-false, eq-eqb}
-use Rattle.std.proofs.lemmas.Bool.Decides.{eqb_tells}
 use Rattle.std.specs.Int.{IsInRange}
 use Rattle.std.proofs.lemmas.Str.Parse.{digit_from_value}
-use Rattle.gc_texts.specs.Cuts.{Lacks, Cuts}
+use Rattle.gc_texts.specs.Cuts.{Lacks}
 use Rattle.gc_lines.specs.Headers.{id_text}
 use Rattle.gc_lines.specs.Numbers.{IsNumber}
 use Rattle.gc_lines.specs.Replies.{EndsCode}

@@ -1,13 +1,13 @@
 -- The items of a reply's values are those of the grammar: a text that is parameters joined by commas, with any spaces round each, has these
 -- parameters as its items.
-use Rattle.std.proofs.Common.{◌≡◌, ◌<◌, ◌≤◌, ◌+◌, ◌%◌, ◌==◌, ◌⊎◌, inl, inr, ℕ, zero, suc, List, [], ◌∷◌, ◌++◌, length, get_or, take, map, replicate, Bool, true, false, cond, eqb, Option, Some, None, refl, sym, ap, ◌∙◌, subst, arith, append_assoc, append-nil}
+use Rattle.std.proofs.Common.{◌≡◌, ◌<◌, ◌≤◌, ◌+◌, ◌%◌, ◌==◌, ◌⊎◌, inl, inr, ℕ, zero, suc, List, [], ◌∷◌, ◌++◌, length, get_or, take, map, replicate, Bool, true, false, cond, Some, None, refl, sym, ap, ◌∙◌, subst, arith, append_assoc, append-nil}
 use Rattle.std.specs.Prelude.{not, nat_lt, ◌&&◌}
 use Rattle.std.specs.List.{AllByRecursion}
-use Rattle.std.proofs.lemmas.Bool.{cases_eq, ne_eqb, eqb-true, eq-eqb, cond_both, and_from, lt-ltb, ltb-true, false≢true}
+use Rattle.std.proofs.lemmas.Bool.{ne_eqb, eqb-true, eq-eqb, cond_both, lt-ltb, le-ltb, false≢true, false_from_ne_true}
 use Rattle.gc_values.specs.Params.{quotes, AreSpaces, HasCommasInQuotes, IsParam, IsPadded, ArePieces, joined, IsParams, bytes_in}
 use Rattle.gc_values.specs.declared.fault.ValueFault.{ValueFault}
 use Rattle.gc_values.specs.declared.fault.ValueFault.TheVariants.{OpenQuote, TooMany}
-use Rattle.gc_values.proofs.ItemBytes.{bytes_in_next}
+use Rattle.gc_values.proofs.ItemBytes.{bytes_in_next, bytes_in_front}
 use Rattle.gc_values.proofs.ParamLists.{IsPiece, pieces_of, params_even}
 use Rattle.gc_values.proofs.Quotes.{quotes-append, quotes-cons}
 use Rattle.gc_values.proofs.Trimming.{param_is_trimmed, trimmed_is}
@@ -46,11 +46,7 @@ spaces_blank (suc n) = spaces_blank n
 
 -- a text that isn't spaces alone isn't blank
 not_blank : (text : List ℕ) → (AreSpaces text → ⊥) → is_blank text ≡ false
-not_blank text some = by_test (is_blank text) refl where
-  -- the lemma above, by whether the text is blank (`z`)
-  by_test : (z : Bool) → is_blank text ≡ z → z ≡ false
-  by_test true blank = absurd (some (blank_spaces text blank))
-  by_test false blank = refl
+not_blank text some = false_from_ne_true (is_blank text) (λ blank. some (blank_spaces text blank))
 
 -- Commas outside double quotes.
 
@@ -84,12 +80,12 @@ no_end b quoted keeps = by_test (b == 44) refl where
 
 -- a text `piece` without a comma outside double quotes, and `rest` after it, are cut as `rest` is, with `piece` in front of the
 -- first of its pieces; `quoted` says whether a double quote is open before `piece`
-walked : (quoted : Bool) (piece rest : List ℕ) → HasNoOpenComma quoted piece
+pieces_with_front : (quoted : Bool) (piece rest : List ℕ) → HasNoOpenComma quoted piece
     → pieces quoted (piece ++ rest) ≡ before_first piece (pieces (is_open_after quoted piece) rest)
-walked quoted [] rest keeps = refl
-walked quoted (b ∷ bs) rest keeps =
+pieces_with_front quoted [] rest keeps = refl
+pieces_with_front quoted (b ∷ bs) rest keeps =
     ap (λ z. cond z ([] ∷ pieces false (bs ++ rest)) (onto b (pieces (quoted_after b quoted) (bs ++ rest)))) (no_end b quoted keeps.0)
-    ∙ ap (onto b) (walked (quoted_after b quoted) bs rest keeps.1)
+    ∙ ap (onto b) (pieces_with_front (quoted_after b quoted) bs rest keeps.1)
 
 -- one more byte changes whether the number of double quotes is odd exactly as `quoted_after` says
 odd_more : (quoted : Bool) (front : List ℕ) (b : ℕ) → SaysOdd quoted (quotes front) → SaysOdd (quoted_after b quoted) (quotes (front ++ b ∷ []))
@@ -136,7 +132,7 @@ first_is (b ∷ bs) ps = ap (onto b) (first_is bs ps)
 -- a piece and a text after it are cut as the text is, with the piece in front of the first of the text's pieces
 cut_behind : (piece rest : List ℕ) → IsPiece piece → pieces false (piece ++ rest) ≡ before_first piece (pieces false rest)
 cut_behind piece rest is =
-    walked false piece rest (keeps_from false [] piece is.keeps refl)
+    pieces_with_front false piece rest (keeps_from false [] piece is.keeps refl)
     ∙ ap (λ quoted. before_first piece (pieces quoted rest)) (closed_where (is_open_after false piece) (quotes piece) (odd_behind false [] piece refl) is.even)
 
 -- one piece or more, joined by commas, are cut into these pieces
@@ -165,15 +161,7 @@ pub splits : (text : List ℕ) (items : List (List ℕ)) → IsParams text items
 splits text items are few =
     let same = items_are_the_grammars text items are in
     ap (λ z. cond (z && not (nat_lt 16 (length (items_of text)))) (Some (items_of text)) None) (eq-eqb (quotes text % 2) 0 (params_even text items are))
-    ∙ ap (λ is. cond (not (nat_lt 16 (length is))) (Some is) None) same ∙ ap (λ z. cond (not z) (Some items) None) (not_below (length items) few)
-  where
-    -- 16 isn't below a number that is at most 16
-    not_below : (n : ℕ) → n ≤ 16 → nat_lt 16 n ≡ false
-    not_below n few = by_test (nat_lt 16 n) refl where
-      -- the lemma above, by whether 16 is below n (`z`)
-      by_test : (z : Bool) → nat_lt 16 n ≡ z → z ≡ false
-      by_test true below = absurd (omega (arith, few, ltb-true 16 n below))
-      by_test false below = refl
+    ∙ ap (λ is. cond (not (nat_lt 16 (length is))) (Some is) None) same ∙ ap (λ z. cond (not z) (Some items) None) (le-ltb 16 (length items) few)
 
 -- a text with an odd number of double quotes doesn't split
 pub open_is_none : (text : List ℕ) → quotes text % 2 ≡ 1 → split_items text ≡ None
@@ -231,17 +219,9 @@ items_bytes text are = cond_both (is_blank text) [] (map trimmed (pieces false t
 
 -- Texts one after the other.
 
--- the first k + 1 texts have together the bytes of the first k and of the next one
-pub bytes_more : (texts : List (List ℕ)) (k : ℕ) → k < length texts → bytes_in (take (k + 1) texts) ≡ bytes_in (take k texts) + length (get_or texts k [])
-bytes_more texts k lt =
-    let on : k + 1 ≡ suc k = omega arith in
-    ap (λ n. bytes_in (take n texts)) on ∙ bytes_in_next texts k lt
-
 -- the first k texts, and the next one, have together at most the bytes of all
 pub bytes_below : (texts : List (List ℕ)) (k : ℕ) → k < length texts → bytes_in (take k texts) + length (get_or texts k []) ≤ bytes_in texts
-bytes_below [] k lt = absurd (omega (arith, lt))
-bytes_below (t ∷ ts) zero lt = omega arith
-bytes_below (t ∷ ts) (suc k) lt = let rest = bytes_below ts k (omega (arith, lt)) in omega (arith, rest)
+bytes_below texts k lt = omega (arith, bytes_in_next texts k lt, bytes_in_front texts (suc k))
 
 -- if a text has an odd number of double quotes where e is `OpenQuote`, and more than 16 items where e is `TooMany`, and e is one
 -- of these two, the text doesn't split

@@ -1,6 +1,6 @@
 -- Lines of JSON: the members of one, and what a reader of JSON makes of it. `escape` and `print` are those of the library's
 -- writer of JSON, and `document` is its reader.
-use Rattle.std.proofs.Common.{◌≡◌, ◌<◌, ◌≤◌, ◌^◌, ◌==◌, ◌++◌, ◌∷◌, ◌∙◌, [], ℕ, ◌+◌, zero, suc, List, length, drop, get_or, Bool, Some, true, false, inl, inr, refl, sym, ap, subst, arith, append_assoc, append-nil}
+use Rattle.std.proofs.Common.{◌≡◌, ◌<◌, ◌≤◌, ◌^◌, ◌==◌, ◌++◌, ◌∷◌, ◌∙◌, [], ℕ, ◌+◌, suc, List, length, drop, get_or, Bool, Some, true, false, inl, inr, refl, sym, ap, subst, arith, append_assoc, append-nil}
 use Rattle.std.specs.Prelude.{◌||◌, codes, max, nat_lt}
 use Rattle.std.specs.List.{All, AllByRecursion, flat_map}
 use Rattle.std.proofs.Math.Nat.{zero-max}
@@ -8,6 +8,7 @@ use Rattle.std.proofs.lemmas.Bool.{cases_Bool, lt-ltb}
 use Rattle.std.proofs.lemmas.Grind.{flat_map-append}
 use Rattle.std.proofs.lemmas.List.{drop_more}
 use Rattle.std.proofs.lemmas.List.Elements.{recursion_from_All}
+use Rattle.gc_lines.proofs.Lists.{all_on}
 use Rattle.json.specs.Json as json
 use Rattle.json.specs.Json.{document}
 use Rattle.json.specs.Print.{escape, escape_byte, print, print_from}
@@ -174,23 +175,18 @@ flat_texts : (texts : List (List ℕ)) → items_depth (texts_read texts) ≡ 0
 flat_texts [] = refl
 flat_texts (text ∷ texts) = ap (max 0) (flat_texts texts) ∙ zero-max 0
 
--- the greater of 1 and n, where n is at most 1, is at most 1
-one_most : (n : ℕ) → n ≤ 1 → max 1 n ≤ 1
-one_most zero few = omega arith
-one_most (suc zero) few = omega arith
-one_most (suc (suc n)) few = absurd (omega (arith, few))
-
 -- members nest one list deep at most: they hold no object, and only lists of texts
-flat : (members : List Member) → members_depth (members_read members) ≤ 1
-flat [] = omega arith
-flat (Text name bytes ∷ ms) = subst (λ n. n ≤ 1) (sym (zero-max (members_depth (members_read ms)))) (flat ms)
-flat (Number name digits ∷ ms) = subst (λ n. n ≤ 1) (sym (zero-max (members_depth (members_read ms)))) (flat ms)
-flat (Texts name texts ∷ ms) = subst (λ n. max (suc n) (members_depth (members_read ms)) ≤ 1) (sym (flat_texts texts)) (one_most (members_depth (members_read ms)) (flat ms))
+members_nest_once : (members : List Member) → members_depth (members_read members) ≤ 1
+members_nest_once [] = omega arith
+members_nest_once (Text name bytes ∷ ms) = subst (λ n. n ≤ 1) (sym (zero-max (members_depth (members_read ms)))) (members_nest_once ms)
+members_nest_once (Number name digits ∷ ms) = subst (λ n. n ≤ 1) (sym (zero-max (members_depth (members_read ms)))) (members_nest_once ms)
+members_nest_once (Texts name texts ∷ ms) =
+    let few = members_nest_once ms in
+    subst (λ n. max (suc n) (members_depth (members_read ms)) ≤ 1) (sym (flat_texts texts)) (omega (arith, few))
 
 -- printable bytes are below 256
 pub printable_are_bytes : (text : List ℕ) → AllByRecursion IsPrintableByte text → AllByRecursion (λ b. b < 256) text
-printable_are_bytes [] shown = tt
-printable_are_bytes (b ∷ bs) shown = (omega (arith, shown.0.1), printable_are_bytes bs shown.1)
+printable_are_bytes text shown = all_on IsPrintableByte (λ b. b < 256) text (λ b is. omega (arith, is.1)) shown
 
 -- the moment of a run, of at most 64 bits, is escaped as a writer of JSON does it
 started_as : (run : ℕ) → run < 2 ^ 64 → flat_map behind_backslash (escaped (stamp_text run)) ≡ escape (escaped (stamp_text run))
@@ -204,10 +200,14 @@ pub front_of : (a m : List ℕ) → (a ++ m) ++ codes "}\n" ≡ (a ++ (m ++ code
 front_of a m =
     append_assoc a m (codes "}\n") ∙ ap (λ l. a ++ l) (sym (append_assoc m (codes "}") (codes "\n"))) ∙ sym (append_assoc a (m ++ codes "}") (codes "\n"))
 
+-- the line of JSON of a run's moment and these members, without its line feed
+abbrev pub object_text : (run : ℕ) (members : List Member) → List ℕ
+object_text run members = (codes "{\"run\":" ++ string_text (stamp_text run)) ++ (members_text members ++ codes "}")
+
 -- a line of JSON, whose run's moment has at most 64 bits and whose members are plain, without its line feed is what the writer of
 -- JSON writes of the object of that moment and these members
 whole_as : (run : ℕ) (members : List Member) → run < 2 ^ 64 → AllByRecursion IsPlainMember members
-    → (codes "{\"run\":" ++ string_text (stamp_text run)) ++ (members_text members ++ codes "}") ≡ print (json_tokens (json.object (record_read run members)))
+    → object_text run members ≡ print (json_tokens (json.object (record_read run members)))
 unfolding print_from escape_byte
 whole_as run members below are =
     ap (λ l. (codes "{\"run\":" ++ (34 ∷ (l ++ 34 ∷ []))) ++ (members_text members ++ codes "}")) (started_as run below)
@@ -216,16 +216,16 @@ whole_as run members below are =
 -- a line of JSON, whose run's moment has at most 64 bits and whose members are plain, without its line feed reads as the object
 -- of that moment and these members
 pub reads_as : (run : ℕ) (members : List Member) → run < 2 ^ 64 → AllByRecursion IsPlainMember members
-    → document ((codes "{\"run\":" ++ string_text (stamp_text run)) ++ (members_text members ++ codes "}")) ≡ Some (json.object (record_read run members))
+    → document (object_text run members) ≡ Some (json.object (record_read run members))
 reads_as run members below are =
     let same = zero-max (members_depth (members_read members)) in
-    let shallow = flat members in
+    let shallow = members_nest_once members in
     ap document (whole_as run members below are) ∙ document-print (json.object (record_read run members)) (tt, have_numbers members are) (omega (arith, same, shallow))
 
 -- the law: a line of JSON, whose run's moment has at most 64 bits and whose members are plain, reads back
 pub read_back : JsonLinesReadBack
 read_back run members below are = (
-  (codes "{\"run\":" ++ string_text (stamp_text run)) ++ (members_text members ++ codes "}"),
+  object_text run members,
   front_of (codes "{\"run\":" ++ string_text (stamp_text run)) (members_text members),
   reads_as run members below are,
 )

@@ -33,7 +33,7 @@ use Rattle.gc_values.specs.declared.value.Value.TheVariants as value
 use Rattle.gc_values.proofs.OneText.{whole_text_once, decimal_text_once}
 use Rattle.gc_texts.specs.Logs.{IsPrintableByte}
 use Rattle.gc_texts.specs.Endings.{End, Answered, Unreadable, Elsewhere, Late, Lost, Skipped, Missed, quality_of, quality_text}
-use Rattle.gc_rows.specs.JsonLines.{Text, Number, without_zeros, sent_members, when_members, name_members, command_members, reply_members, ending_members, value_members, values_members, item_members, answer_members, quantity_members, quality_members, attempt_members, last_members, members_after_ending}
+use Rattle.gc_rows.specs.JsonLines.{Text, Number, without_zeros, sent_members, when_members, name_members, command_members, reply_members, ending_members, value_members, values_members, item_members, answer_members, quantity_members, quality_members, attempt_members, last_members}
 use Rattle.gc_rows.specs.Laws.{IsPlainName, IsPlainMember, IsReplyOfBytes, IsAnswerOfBytes, IsEndOfBytes, FitsIn64Bits, ColumnsGiveReply, RecordsHavePlainMembers}
 use Rattle.gc_rows.specs.Quantities.{column_of, quantity_name, quantity_names}
 use Rattle.gc_texts.specs.declared.quality.Quality.TheVariants.{Fine, Warning, Refused}
@@ -42,7 +42,7 @@ use Rattle.gc_rows.specs.Rows.{com_of, code_of, values_of, procedure_of}
 use Rattle.gc_texts.specs.Stamps.{stamp_text}
 use Rattle.gc_texts.specs.declared.wish.Wish.{Wish}
 use Rattle.gc_rows.specs.declared.when.When.{When}
-use Rattle.gc_lines.proofs.Lists.{all_append}
+use Rattle.gc_lines.proofs.Lists.{all_append, all_on}
 use Rattle.gc_rows.specs.Items.{items_of, split_items}
 use Rattle.gc_rows.proofs.Columns.{reply_columns}
 use Rattle.gc_rows.proofs.Items.{AreOfBytes, items_bytes}
@@ -135,19 +135,13 @@ digits_then ds rest h some none =
     ap (λ n. cond (n == 0) None (Some (drop n (ds ++ rest)))) (digits_run ds rest h none)
     ∙ ap (λ b. cond b None (Some (drop (length ds) (ds ++ rest)))) (ne_eqb (length ds) 0 (λ e. omega (arith, some, e))) ∙ ap Some (drop_at ds rest _ refl)
 
--- where `ds` is empty if `z` is true, and the library's reader of digits leaves `rest` of d, `ds` and `rest`, then taking d alone
--- if `z` is true, and else all digits, leaves `rest`, too; `z` stands for whether d is a zero
-first_digit : (z : Bool) (d : ℕ) (ds rest : List ℕ) → (z ≡ true → ds ≡ []) → after_digits (d ∷ ds ++ rest) ≡ Some rest
-    → cond z (Some (ds ++ rest)) (after_digits (d ∷ ds ++ rest)) ≡ Some rest
-first_digit true d ds rest alone more = ap (λ l. Some (l ++ rest)) (alone refl)
-first_digit false d ds rest alone more = more
-
 -- if no digit follows a whole part, the library's reader takes the whole part and leaves `rest`; and the whole part begins with
 -- no minus
 whole_then : (ds rest : List ℕ) → IsWholePart ds → prefix_len is_ascii_digit rest ≡ 0 → (after_whole (ds ++ rest) ≡ Some rest) × ((head (ds ++ rest) == 45) ≡ false)
 whole_then [] rest is none = let some = is.some in absurd (omega (arith, some))
 whole_then (d ∷ ds) rest is none = (
-  first_digit (d == 48) d ds rest (λ e. is.no_zero_in_front ds (ap (λ x. x ∷ ds) (eqb-true d 48 e))) (digits_then (d ∷ ds) rest is.are_digits is.some none),
+  cond_both (d == 48) (Some (ds ++ rest)) (after_digits (d ∷ ds ++ rest)) (λ left. left ≡ Some rest)
+      (λ alone. ap (λ l. Some (l ++ rest)) (is.no_zero_in_front ds (ap (λ x. x ∷ ds) (eqb-true d 48 alone)))) (λ _. digits_then (d ∷ ds) rest is.are_digits is.some none),
   ne_eqb d 45 (λ e. let digit = is.are_digits.0 in omega (arith, e, digit)),
 )
 
@@ -323,17 +317,15 @@ answer_holds (MeasuredMode hz v distance mode) is = (tt, (tt, (tt, (tt, tt))))
 
 -- of texts of bytes (`AreOfBytes`) each is of bytes by `All`
 all_texts : (texts : List (List ℕ)) → AreOfBytes texts → AllByRecursion (λ text. All (λ b. b < 256) text) texts
-all_texts [] are = tt
-all_texts (text ∷ texts) are = (All-from_recursion (λ b. b < 256) text are.0, all_texts texts are.1)
-
--- where the items are of bytes, their member, which is there only if `z` is true, reads back
-items_where : (z : Bool) (items : List (List ℕ)) → AreOfBytes items → AllByRecursion IsPlainMember (item_members (cond z (Some items) None))
-items_where true items are = ((plain_name (codes "items") refl, all_texts items are), tt)
-items_where false items are = tt
+all_texts texts are =
+    all_on (λ (text : List ℕ). AllByRecursion (λ (b : ℕ). b < 256) text) (λ (text : List ℕ). All (λ (b : ℕ). b < 256) text) texts
+    (λ text is. All-from_recursion (λ (b : ℕ). b < 256) text is) are
 
 -- the member of the items of a text of bytes reads back
 items_are : (text : List ℕ) → AllByRecursion (λ b. b < 256) text → AllByRecursion IsPlainMember (item_members (split_items text))
-items_are text are = items_where ((quotes text % 2 == 0) && not (nat_lt 16 (length (items_of text)))) (items_of text) (items_bytes text are)
+items_are text are =
+    cond_both ((quotes text % 2 == 0) && not (nat_lt 16 (length (items_of text)))) (Some (items_of text)) None (λ items. AllByRecursion IsPlainMember (item_members items))
+    (λ _. ((plain_name (codes "items") refl, all_texts (items_of text) (items_bytes text are)), tt)) (λ _. tt)
 
 -- the members of an answer's quantities or items read back, if its line reads as a reply and is of bytes (`IsReplyOfBytes`), and
 -- the answer is as `IsAnswerOfBytes` has it

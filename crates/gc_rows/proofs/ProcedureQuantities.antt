@@ -1,6 +1,6 @@
 -- The values of an answer are under their names, and a row has as many fields as its header. Quantities are the values of
 -- answers; a row has 24 columns for them, of which an answer fills those from its own column on.
-use Rattle.std.proofs.Common.{◌≡◌, ◌≤◌, ℕ, suc, ◌+◌, ◌-◌, true, false, List, [], ◌++◌, length, map, replicate, Some, None, refl, ap, arith, ◌∙◌}
+use Rattle.std.proofs.Common.{◌≡◌, ◌≤◌, ℕ, suc, ◌+◌, ◌-◌, true, false, List, [], ◌++◌, length, map, replicate, Some, refl, ap, arith, ◌∙◌}
 use Rattle.std.proofs.lemmas.List.{length-append, length-map, length-replicate}
 use Rattle.gc_catalogue.specs.Answers.{answer_fields}
 use Rattle.gc_catalogue.specs.declared.answer.Answer.{Answer}

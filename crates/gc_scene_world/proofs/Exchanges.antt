@@ -37,16 +37,14 @@ pub record IsExchanged (before : SceneState) (id : ℕ) (call : Call) (after : S
   pub line : reply ≡ (scene_handed before id call).reply
 
 -- where the instrument got the request line of a call with values in range and an id below 8, and its reply, if there is one (b),
--- was appended to the empty text `old`, the line was handed over as `IsExchanged` has it
-pub exchanged : (s : SceneState) (line : List ℕ) (after : SceneState) (old new : List ℕ) (b : Bool) (id : ℕ) (call : Call) (small : id < 8) (fits : IsFitting call)
-    (is : line ≡ request_line (Some id) call) (empty : old ≡ []) (played : AppendsAnswer (IsPlayed s line after) old new b) → IsExchanged s id call after new
-exchanged s line after old new true id call small fits is empty h =
-    let one = one_reply s after (scene_handed s id call).state line (Some h.0) (Some (scene_handed s id call).reply) h.1
-    (subst (λ l. IsPlayed s l (scene_handed s id call).state (Some (scene_handed s id call).reply)) (sym is) (plays_line s id call small fits)) in
-    record { state = one.0; line = h.2 ∙ ap (λ l. l ++ h.0) empty ∙ same_Some h.0 (scene_handed s id call).reply one.1 }
-exchanged s line after old new false id call small fits is empty h =
-    let one = one_reply s after (scene_handed s id call).state line None (Some (scene_handed s id call).reply) h.0
-    (subst (λ l. IsPlayed s l (scene_handed s id call).state (Some (scene_handed s id call).reply)) (sym is) (plays_line s id call small fits)) in
+-- was appended to the empty text, the line was handed over as `IsExchanged` has it
+pub exchanged : (s after : SceneState) (new : List ℕ) (b : Bool) (id : ℕ) (call : Call) → id < 8 → IsFitting call
+    → AppendsAnswer (IsPlayed s (request_line (Some id) call) after) [] new b → IsExchanged s id call after new
+exchanged s after new true id call small fits h =
+    let one = one_reply s after (scene_handed s id call).state (request_line (Some id) call) (Some h.0) (Some (scene_handed s id call).reply) h.1 (plays_line s id call small fits) in
+    record { state = one.0; line = h.2 ∙ same_Some h.0 (scene_handed s id call).reply one.1 }
+exchanged s after new false id call small fits h =
+    let one = one_reply s after (scene_handed s id call).state (request_line (Some id) call) None (Some (scene_handed s id call).reply) h.0 (plays_line s id call small fits) in
     absurd (none-some (scene_handed s id call).reply one.1)
 
 -- The id of a reply.
@@ -104,24 +102,24 @@ same_repeats s rpc call (Some code) = refl
 same_repeats s rpc call None = refl
 
 -- as `counted` below has it, by the line that is sent again for the id (`o`), if there is one
-counted_by : (s : SceneState) (id : ℕ) (p : Played) (o : Option (List ℕ)) (after : SceneState) (old new : ℕ) (xs : List ℕ) (n : ℕ) (again : resent_line s (Some id) ≡ o)
-    (same : p.state.repeats ≡ s.repeats) (is : after ≡ (again_or_played s (Some id) p o).state) (notes : Notes s.repeats (kept_id s.base.kept) (kept_id after.base.kept) old new)
-    (count_is : old ≡ length xs) → new ≡ length (cond (again_or_played s (Some id) p o).executed (xs ++ n ∷ []) xs)
-counted_by s id p (Some line) after old new xs n again same is h count = by_repeats s.repeats refl
+counted_by : (s : SceneState) (id : ℕ) (p : Played) (o : Option (List ℕ)) (new : ℕ) (xs : List ℕ) (n : ℕ) → resent_line s (Some id) ≡ o → p.state.repeats ≡ s.repeats
+    → Notes s.repeats (kept_id s.base.kept) (kept_id (again_or_played s (Some id) p o).state.base.kept) (length xs) new
+    → new ≡ length (cond (again_or_played s (Some id) p o).executed (xs ++ n ∷ []) xs)
+counted_by s id p (Some line) new xs n again same h = by_repeats s.repeats refl
   where
     -- by whether the instrument repeats
     by_repeats : (b : Bool) → s.repeats ≡ b → new ≡ length xs
-    by_repeats true e = h.same e (ap (λ (t : SceneState). kept_id t.base.kept) (sym is)) ∙ count
+    by_repeats true e = h.same e refl
     by_repeats false e = absurd (none-some line (sym (ap (λ b. cond b (kept_line s.base.kept (Some id)) None) e) ∙ again))
-counted_by s id p None after old new xs n again same is h count = by_repeats s.repeats refl ∙ ap (λ k. k + 1) count ∙ sym (length_push xs n)
+counted_by s id p None new xs n again same h = by_repeats s.repeats refl ∙ sym (length_push xs n)
   where
     -- by whether the instrument repeats
-    by_repeats : (b : Bool) → s.repeats ≡ b → new ≡ old + 1
+    by_repeats : (b : Bool) → s.repeats ≡ b → new ≡ length xs + 1
     by_repeats false e = h.never e
     by_repeats true e =
         let none : kept_line s.base.kept (Some id) ≡ None = sym (ap (λ b. cond b (kept_line s.base.kept (Some id)) None) e) ∙ again in
-        let kept : kept_id after.base.kept ≡ Some id =
-        ap (λ (t : SceneState). kept_id t.base.kept) is ∙ ap (λ b. kept_id (cond b (kept_after p.state.base.kept (Some id) (played_line id p)) None)) (same ∙ e) in
+        let kept : kept_id (again_or_played s (Some id) p None).state.base.kept ≡ Some id =
+        ap (λ b. kept_id (cond b (kept_after p.state.base.kept (Some id) (played_line id p)) None)) (same ∙ e) in
         h.another (λ equal. other_id s.base.kept id none (equal ∙ kept))
 
 -- where the count of executions was the length of xs, and changes as `Notes` says, it is the length of xs with n at its end if
@@ -132,7 +130,9 @@ pub counted : (s : SceneState) (id : ℕ) (call : Call) (after : SceneState) (ol
 unfolding handed_call
 counted s id call after old new xs n is h count =
     let rpc = (call_fields call).number in
-    counted_by s id (played_call s rpc call) (resent_line s (Some id)) after old new xs n refl (same_repeats s rpc call (fault_of rpc s.faults)) is h count
+    counted_by s id (played_call s rpc call) (resent_line s (Some id)) new xs n refl (same_repeats s rpc call (fault_of rpc s.faults))
+    (subst (λ (t : SceneState). Notes s.repeats (kept_id s.base.kept) (kept_id t.base.kept) (length xs) new) is
+    (subst (λ k. Notes s.repeats (kept_id s.base.kept) (kept_id after.base.kept) k new) count h))
 
 -- where `Notes` holds of r, b and a, it holds of values equal to these
 pub notes_are : (r repeats : Bool) (b before a after : Option ℕ) (old new : ℕ) → r ≡ repeats → b ≡ before → a ≡ after → Notes r b a old new

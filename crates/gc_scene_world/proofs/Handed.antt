@@ -19,46 +19,32 @@ use Rattle.gc_world.proofs.Counts.{one_answered}
 use Rattle.gc_world.proofs.Handed.{next, next_same, next_idle, ended}
 use Rattle.gc_world.proofs.Streaming.{cut_short}
 
--- executions and requests in flight together don't grow by a delivery upward
-up_executes : (w : Wire SceneState) (q : List (Numbered Request)) → w.up ≡ q
-    → length (up_delivered scene_ends w q).executed + length (up_delivered scene_ends w q).up ≤ length w.executed + length w.up
-up_executes w [] e = omega arith
-up_executes w (x ∷ rest) e =
-    let up : length w.up ≡ suc (length rest) = ap length e in
-    omega (arith, up, one_answered w.executed x.number (length rest) (scene_ends.handed w.state x.line.id x.line.call).executed)
-
--- replies made and requests in flight together don't grow by a delivery upward, either
-up_makes : (w : Wire SceneState) (q : List (Numbered Request)) → w.up ≡ q
-    → length (up_delivered scene_ends w q).made + length (up_delivered scene_ends w q).up ≤ length w.made + length w.up
-up_makes w [] e = omega arith
-up_makes w (x ∷ rest) e =
-    let up : length w.up ≡ suc (length rest) = ap length e in
-    let m : Numbered (List ℕ) = record { number = x.number; line = (scene_ends.handed w.state x.line.id x.line.call).reply } in
-    omega (arith, up, length_push w.made m)
-
--- the wire `new` has the executions, the replies made and the requests in flight of the wire `old`
-record Stays (old new : Wire SceneState) : Type 0 where
-  executed : new.executed ≡ old.executed
-  made : new.made ≡ old.made
-  up : new.up ≡ old.up
-
--- a delivery downward leaves executions, replies made and requests in flight as they are
-down_leaves : (width : ℕ) (w : World (ById Call) SceneState) (q : List (Numbered (List ℕ))) → Stays w.wire (down_delivered (by_ids width scene_ends) w q).wire
-down_leaves width w [] = record { executed = refl; made = refl; up = refl }
-down_leaves width w (x ∷ rest) = record { executed = refl; made = refl; up = refl }
-
 -- from the wire `old` to the wire `new`, executions and requests in flight together don't grow, nor do replies made and
 -- requests in flight
 pub record IsNoMore (old new : Wire SceneState) : Type 0 where
   pub executed : length new.executed + length new.up ≤ length old.executed + length old.up
   pub made : length new.made + length new.up ≤ length old.made + length old.up
 
+-- a delivery upward keeps to `IsNoMore`
+up_no_more : (w : Wire SceneState) (q : List (Numbered Request)) → w.up ≡ q → IsNoMore w (up_delivered scene_ends w q)
+up_no_more w [] e = record { executed = omega arith; made = omega arith }
+up_no_more w (x ∷ rest) e =
+    let up : length w.up ≡ suc (length rest) = ap length e in
+    let m : Numbered (List ℕ) = record { number = x.number; line = (scene_ends.handed w.state x.line.id x.line.call).reply } in
+    record {
+      executed = omega (arith, up, one_answered w.executed x.number (length rest) (scene_ends.handed w.state x.line.id x.line.call).executed);
+      made = omega (arith, up, length_push w.made m);
+    }
+
+-- a delivery downward keeps to `IsNoMore`
+down_no_more : (width : ℕ) (w : World (ById Call) SceneState) (q : List (Numbered (List ℕ))) → IsNoMore w.wire (down_delivered (by_ids width scene_ends) w q).wire
+down_no_more width w [] = record { executed = omega arith; made = omega arith }
+down_no_more width w (x ∷ rest) = record { executed = omega arith; made = omega arith }
+
 -- a delivery in either direction keeps to `IsNoMore`
 no_more : (width : ℕ) (d : Direction) (w : World (ById Call) SceneState) → IsNoMore w.wire (happens scene_ends (by_ids width scene_ends) w (deliver d)).wire
-no_more width Up w = record { executed = up_executes w.wire w.wire.up refl; made = up_makes w.wire w.wire.up refl }
-no_more width Down w =
-    let s = down_leaves width w w.wire.down in
-    record { executed = omega (arith, ap length s.executed, ap length s.up); made = omega (arith, ap length s.made, ap length s.up) }
+no_more width Up w = up_no_more w.wire w.wire.up refl
+no_more width Down w = down_no_more width w w.wire.down
 
 -- a delivery as an event leads to the same wire as the delivery as a step
 delivered_wire : (width : ℕ) (d : Direction) (v : Streams (ById Call) SceneState)

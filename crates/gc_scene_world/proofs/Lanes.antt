@@ -7,7 +7,7 @@ use Rattle.std.proofs.lemmas.Bool.{ltb-false}
 use Rattle.gc_lines.specs.Lines.{with_end}
 use Rattle.gc_scene_world.specs.Lanes.{Flight, losing, repeating}
 use Rattle.gc_world.specs.Sides.{IsPart}
-use Rattle.gc_world.specs.Streams.{is_begun, remaining}
+use Rattle.gc_world.specs.Streams.{is_begun}
 use Rattle.gc_world.specs.World.{without, doubled}
 use Rattle.gc_world.proofs.Pieces.{end_length}
 use Rattle.gc_world.proofs.Queues.{without_map, doubled_past}
@@ -35,14 +35,11 @@ part_without zero gone (t ∷ ts) e h =
     subst (λ g. IsPart g (map with_end ts)) (sym none) (part_none ts)
 part_without (suc k) gone (t ∷ ts) e h = h
 
--- once n more bytes have gone, fewer than are still to go of the front line, what has gone is a part
-pub part_more : (gone n : ℕ) (texts : List (List ℕ)) → n < remaining gone (map with_end texts) → IsPart (gone + n) (map with_end texts)
-part_more gone n [] lt = absurd (omega (arith, lt))
-part_more gone n (t ∷ ts) lt = omega (arith, lt)
-
--- of the front line its length and two, for CR LF, less what has gone remain
-pub remaining_is : (gone : ℕ) (text : List ℕ) (texts : List (List ℕ)) → length text + 2 - gone ≡ remaining gone (map with_end (text ∷ texts))
-remaining_is gone text texts = omega (arith, end_length text)
+-- what has gone is still a part once text k is repeated
+part_doubled : (k gone : ℕ) (texts : List (List ℕ)) → IsPart gone (map with_end texts) → IsPart gone (map with_end (doubled k texts))
+part_doubled k gone [] h = h
+part_doubled zero gone (t ∷ ts) h = h
+part_doubled (suc k) gone (t ∷ ts) h = h
 
 -- What std's calls on the lines leave of their texts: `f` gives the text of a line.
 module _ {A : Type 0} (f : A → List ℕ) where
@@ -82,6 +79,12 @@ module _ {A : Type 0} (f : A → List ℕ) where
   doubled_text [] k x y lt e same = absurd (omega (arith, lt))
   doubled_text (z ∷ zs) zero x y lt e same = ap (λ t. t ∷ f z ∷ map f zs) (same ∙ ap f e)
   doubled_text (z ∷ zs) (suc k) x y lt e same = ap (λ l. f z ∷ l) (doubled_text zs k x y (omega (arith, lt)) e same)
+
+  -- what has gone is still a part once a line with the text of line k was put in at its place
+  pub part_repeated : (k gone : ℕ) (old new : List A) (x y : A) → k < length old → x ≡ get_or old k x → f y ≡ f x → new ≡ insert old k y
+      → IsPart gone (map with_end (map f old)) → IsPart gone (map with_end (map f new))
+  part_repeated k gone old new x y lt at same is h =
+      subst (λ q. IsPart gone (map with_end q)) (sym (ap (map f) is ∙ doubled_text old k x y lt at same)) (part_doubled k gone (map f old) h)
 
   -- once a line with the text of line k, which hasn't begun to go, was put in at its place, the lane is what `repeating` says
   pub repeat_is : (k gone : ℕ) (old new : List A) (x y : A) (whole : is_begun k gone ≡ false) (there : k < length old) (at : x ≡ get_or old k x) (same : f y ≡ f x)

@@ -2,18 +2,16 @@
 -- lemma says: where they show streams, and a function has done to them what its contract says, they show the streams after that
 -- event. Variables such as `up` and `settled` are the values that the function left; the premises are what its contract says of
 -- them.
-use Rattle.std.proofs.Common.{◌≡◌, ℕ, ◌+◌, ◌<◌, ◌≤◌, ◌⊎◌, Bool, true, false, cond, List, [], ◌∷◌, ◌++◌, length, map, refl, sym, ◌∙◌, ap, subst, ltb, arith}
+use Rattle.std.proofs.Common.{◌≡◌, ℕ, ◌+◌, ◌≤◌, ◌⊎◌, Bool, true, false, cond, List, [], ◌∷◌, ◌++◌, length, map, refl, sym, ◌∙◌, ap, subst, ltb, arith}
+use Rattle.std.specs.List.{AllByRecursion}
 use mathlib.Core.Path.{ap₂}
 use Rattle.std.proofs.lemmas.List.{map-append, length-map, length_push}
 use Rattle.std.proofs.lemmas.Bool.{ltb-false}
 use Rattle.gc_lines.specs.Answering.{AppendsAnswer}
 use Rattle.gc_catalogue.specs.declared.call.Call.{Call}
-use Rattle.gc_client.specs.declared.window.TheConstants.{IDS}
-use Rattle.gc_client.specs.declared.settlement.Settlement.{Settlement}
-use Rattle.gc_client.specs.Rule.{ById, Windowed, Settled, heard, hears, restarts}
-use Rattle.gc_client.specs.Settlements.{AreSettlements}
+use Rattle.gc_client.specs.Rule.{ById}
 use Rattle.gc_scenes.specs.SceneReplying.{IsPlayed}
-use Rattle.gc_scenes.specs.SceneState.{SceneState, scene_restarted}
+use Rattle.gc_scenes.specs.SceneState.{SceneState}
 use Rattle.gc_scene_world.specs.declared.report.Counts.{Counts}
 use Rattle.gc_scene_world.specs.Lanes.{Flight, is_whole, pushed}
 use Rattle.gc_scene_world.specs.SceneReports.{AreCounts}
@@ -25,13 +23,11 @@ use Rattle.gc_world.specs.declared.direction.Direction.{Direction}
 use Rattle.gc_world.specs.declared.event.Event.TheVariants as event
 use Rattle.gc_world.specs.Clients.{by_ids}
 use Rattle.gc_world.specs.Directions.{bytes, lines, gone}
-use Rattle.gc_world.specs.Order.{Each}
 use Rattle.gc_world.specs.Stages.{bytes_of}
 use Rattle.gc_world.specs.Streams.{Streams, is_begun, at_line}
-use Rattle.gc_world.specs.World.{Request, Numbered, Wire, World, Step, Up_lose, Up_repeat, Down_lose, Down_repeat, Nothing, without, doubled, idle, up_delivered, with_up, with_down, on_wire, down_delivered, client_restarted, instrument_restarted, happens}
+use Rattle.gc_world.specs.World.{Request, Numbered, Wire, World, Step, Up_lose, Up_repeat, Down_lose, Down_repeat, Nothing, without, doubled, idle, up_delivered, with_up, with_down, on_wire, happens}
 use Rattle.gc_world.proofs.Directions.{bytes_pass, idle_bytes}
 use Rattle.gc_world.proofs.Handing.{kept_id}
-use Rattle.gc_world.proofs.Showing.{are_more, hears_next, map_none}
 use Rattle.gc_world.proofs.Queues.{without_map, doubled_map, without_past, doubled_past}
 use Rattle.gc_world.proofs.Rows.{each_without, each_doubled}
 
@@ -62,10 +58,38 @@ counts_queues : (c : Counts) (w : Wire SceneState) (up : List (Numbered Request)
     → AreCounts c (record w { up = up; down = down })
 counts_queues c w up down h = record { sent = h.sent; executed = h.executed; made = h.made; refused = h.refused; idle = h.idle }
 
+-- the front request was handed to the instrument, as the functions' contracts say. `request` is its text. `up`, `instrument` and
+-- `down` are the stage's parts then, and `executed` is its count of executions. `reply` is the text `old`, which was empty, with
+-- the reply appended, if there is one (`answers`)
+pub record HandsToInstrument (s : Seen) : Type 0 where
+  pub request : List ℕ
+  pub up : Flight
+  pub instrument : SceneState
+  pub old : List ℕ
+  pub reply : List ℕ
+  pub answers : Bool
+  pub executed : ℕ
+  pub down : Flight
+  pub front : s.up.texts ≡ request ∷ up.texts
+  pub start : up.gone ≡ 0
+  pub empty : old ≡ []
+  pub played : AppendsAnswer (IsPlayed s.instrument request instrument) old reply answers
+  pub notes : Notes s.instrument.repeats (kept_id s.instrument.base.kept) (kept_id instrument.base.kept) s.counts.executed executed
+  pub down_is : down ≡ pushed s.down reply
+
+-- the stage after that, with one more reply made
+abbrev pub after_handing : (s : Seen) → HandsToInstrument s → Seen
+after_handing s left =
+    record s { instrument = left.instrument; up = left.up; down = left.down; counts = record s.counts { executed = left.executed; made = s.counts.made + 1 } }
+
 module _ (width : ℕ) (s : Seen) (v : Streams (ById Call) SceneState) (h : AreStreamsOf width s v) where
   -- the streams with this world, of whose front lines as much has gone as before
   abbrev with_world : World (ById Call) SceneState → Streams (ById Call) SceneState
   with_world w = record { world = w; up_gone = v.up_gone; down_gone = v.down_gone }
+
+  -- the streams after a step at which no byte goes over
+  abbrev stepped : Step → Streams (ById Call) SceneState
+  stepped step = with_world (happens scene_ends (by_ids width scene_ends) v.world step)
 
   -- an event that is not possible is only counted, in the stage as in the streams
   idle_event : AreStreamsOf width (record s { counts = tallied false s.counts }) (with_world (on_wire v.world (idle v.world.wire)))
@@ -80,88 +104,47 @@ module _ (width : ℕ) (s : Seen) (v : Streams (ById Call) SceneState) (h : AreS
     counts = counts_idle s.counts v.world.wire h.counts;
   }
 
-  -- if no text is in flight upward, no request is
-  no_up : s.up.texts ≡ [] → v.world.wire.up ≡ []
-  no_up e = map_none text_of v.world.wire.up (sym (ap (λ (f : Flight). f.texts) h.up) ∙ e)
-
-  -- if no text is in flight downward, no reply is
-  no_down : s.down.texts ≡ [] → v.world.wire.down ≡ []
-  no_down e = map_none (λ x. x.line) v.world.wire.down (sym (ap (λ (f : Flight). f.texts) h.down) ∙ e)
-
-  -- Sends.
-
   -- Deliveries.
 
-  -- once the front request was delivered, and its reply, if there is one (b), put after the others, the streams after that
-  -- event are shown
-  pub streams_up_deliver : (request : List ℕ) (up : Flight) (instrument : SceneState) (old reply : List ℕ) (b : Bool) (executed : ℕ) (down : Flight)
-      (front : s.up.texts ≡ request ∷ up.texts) (start : up.gone ≡ 0) (empty : old ≡ []) (played : AppendsAnswer (IsPlayed s.instrument request instrument) old reply b)
-      (notes : Notes s.instrument.repeats (kept_id s.instrument.base.kept) (kept_id instrument.base.kept) s.counts.executed executed) (down_is : down ≡ pushed s.down reply)
-      → AreStreamsOf width (record s { instrument = instrument; up = up; down = down; counts = record s.counts { executed = executed; made = s.counts.made + 1 } })
-      (after_event width v event.UpDeliver)
-  streams_up_deliver request up instrument old reply b executed down e start empty played notes down_is = by_front v.world.wire.up refl
+  -- once the front request was delivered, the streams after that event are shown
+  pub streams_up_deliver : (left : HandsToInstrument s) → AreStreamsOf width (after_handing s left) (after_event width v event.UpDeliver)
+  streams_up_deliver left = by_front v.world.wire.up refl
     where
       -- by whether a line is in flight
       by_front : (q : List (Numbered Request)) → v.world.wire.up ≡ q
-          → AreStreamsOf width (record s { instrument = instrument; up = up; down = down; counts = record s.counts { executed = executed; made = s.counts.made + 1 } })
-          (record { world = on_wire v.world (up_delivered scene_ends v.world.wire q); up_gone = 0; down_gone = v.down_gone })
-      by_front [] q_is = let wrong : [] ≡ request ∷ up.texts = ap (map text_of) (sym q_is) ∙ sym (ap (λ (f : Flight). f.texts) h.up) ∙ e in cc
+          → AreStreamsOf width (after_handing s left) (record { world = on_wire v.world (up_delivered scene_ends v.world.wire q); up_gone = 0; down_gone = v.down_gone })
+      by_front [] q_is = let wrong : [] ≡ left.request ∷ left.up.texts = ap (map text_of) (sym q_is) ∙ sym (ap (λ (f : Flight). f.texts) h.up) ∙ left.front in cc
       by_front (x ∷ rest) q_is =
-          let texts : request ∷ up.texts ≡ text_of x ∷ map text_of rest = sym e ∙ ap (λ (f : Flight). f.texts) h.up ∙ ap (map text_of) q_is in
-          let line_is : request ≡ text_of x = cc in
-          let rest_is : up.texts ≡ map text_of rest = cc in
-          let asked : Each MayBeWritten (x ∷ rest) = subst (λ q. Each MayBeWritten q) q_is h.requests in
-          let did = exchanged s.instrument request instrument old reply b x.line.id x.line.call asked.0.0 asked.0.1 line_is empty played in
-          let state : instrument ≡ (scene_handed v.world.wire.state x.line.id x.line.call).state = did.state ∙ ap (λ (t : SceneState). (scene_handed t x.line.id x.line.call).state) h.instrument in
-          let said : reply ≡ (scene_handed v.world.wire.state x.line.id x.line.call).reply = did.line ∙ ap (λ (t : SceneState). (scene_handed t x.line.id x.line.call).reply) h.instrument in
+          let texts : left.request ∷ left.up.texts ≡ text_of x ∷ map text_of rest = sym left.front ∙ ap (λ (f : Flight). f.texts) h.up ∙ ap (map text_of) q_is in
+          let line_is : left.request ≡ text_of x = cc in
+          let rest_is : left.up.texts ≡ map text_of rest = cc in
+          let asked : AllByRecursion MayBeWritten (x ∷ rest) = subst (λ q. AllByRecursion MayBeWritten q) q_is h.requests in
+          let played : AppendsAnswer (IsPlayed s.instrument (text_of x) left.instrument) [] left.reply left.answers =
+          subst (λ l. AppendsAnswer (IsPlayed s.instrument l left.instrument) [] left.reply left.answers) line_is
+          (subst (λ o. AppendsAnswer (IsPlayed s.instrument left.request left.instrument) o left.reply left.answers) left.empty left.played) in
+          let did = exchanged s.instrument left.instrument left.reply left.answers x.line.id x.line.call asked.0.0 asked.0.1 played in
+          let state : left.instrument ≡ (scene_handed v.world.wire.state x.line.id x.line.call).state =
+          did.state ∙ ap (λ (t : SceneState). (scene_handed t x.line.id x.line.call).state) h.instrument in
+          let said : left.reply ≡ (scene_handed v.world.wire.state x.line.id x.line.call).reply =
+          did.line ∙ ap (λ (t : SceneState). (scene_handed t x.line.id x.line.call).reply) h.instrument in
           let m : Numbered (List ℕ) = record { number = x.number; line = (scene_handed v.world.wire.state x.line.id x.line.call).reply } in
           record {
             client = h.client;
             next = h.next;
             instrument = state;
-            up = flight up (map text_of rest) 0 rest_is start;
-            down = down_is ∙ ap₂ {C = Flight} (λ (f : Flight) (l : List ℕ). pushed f l) h.down said
+            up = flight left.up (map text_of rest) 0 rest_is left.start;
+            down = left.down_is ∙ ap₂ {C = Flight} (λ (f : Flight) (l : List ℕ). pushed f l) h.down said
                 ∙ ap (λ (t : List (List ℕ)). record { texts = t; gone = v.down_gone }) (sym (map-append (λ (y : Numbered (List ℕ)). y.line) v.world.wire.down (m ∷ [])));
             requests = asked.1;
             settled = h.settled;
             counts = record {
               sent = h.counts.sent;
-              executed = counted s.instrument x.line.id x.line.call instrument s.counts.executed executed v.world.wire.executed x.number did.state notes h.counts.executed
+              executed = counted s.instrument x.line.id x.line.call left.instrument s.counts.executed left.executed v.world.wire.executed x.number did.state left.notes h.counts.executed
                   ∙ ap (λ (t : SceneState). length (cond (scene_handed t x.line.id x.line.call).executed (v.world.wire.executed ++ x.number ∷ []) v.world.wire.executed)) h.instrument;
               made = ap (λ n. n + 1) h.counts.made ∙ sym (length_push v.world.wire.made m);
               refused = h.counts.refused;
               idle = h.counts.idle;
             };
-          }
-
-  -- once the front reply was delivered, and what it settles noted, the streams after that event are shown
-  pub streams_down_deliver : (line : List ℕ) (down : Flight) (more settled : List (Settlement Call)) (client : Windowed Call)
-      (front : s.down.texts ≡ line ∷ down.texts) (start : down.gone ≡ 0) (more_are : AreSettlements more (hears s.client.ids line (heard line)).settlements)
-      (client_is : client ≡ record s.client { ids = (hears s.client.ids line (heard line)).client }) (settled_is : settled ≡ s.settled ++ more)
-      → AreStreamsOf width (record s { client = client; down = down; settled = settled }) (after_event width v event.DownDeliver)
-  streams_down_deliver line down more settled client e start more_are client_is settled_is = by_front v.world.wire.down refl
-    where
-      -- by whether a line is in flight
-      by_front : (q : List (Numbered (List ℕ))) → v.world.wire.down ≡ q → AreStreamsOf width (record s { client = client; down = down; settled = settled })
-          (record { world = down_delivered (by_ids width scene_ends) v.world q; up_gone = v.up_gone; down_gone = 0 })
-      by_front [] q_is = let wrong : [] ≡ line ∷ down.texts = ap (map (λ x. x.line)) (sym q_is) ∙ sym (ap (λ (f : Flight). f.texts) h.down) ∙ e in cc
-      by_front (x ∷ rest) q_is =
-          let texts : line ∷ down.texts ≡ x.line ∷ map (λ (y : Numbered (List ℕ)). y.line) rest = sym e ∙ ap (λ (f : Flight). f.texts) h.down ∙ ap (map (λ y. y.line)) q_is in
-          let line_is : line ≡ x.line = cc in
-          let rest_is : down.texts ≡ map (λ (y : Numbered (List ℕ)). y.line) rest = cc in
-          let same : hears s.client.ids line (heard line) ≡ hears v.world.client x.line (heard x.line) =
-          ap₂ {C = Settled Call (ById Call)} (λ (k : Windowed Call) (l : List ℕ). hears k.ids l (heard l)) h.client line_is in
-          let are : AreSettlements more (hears v.world.client x.line (heard x.line)).settlements = subst (λ (t : Settled Call (ById Call)). AreSettlements more t.settlements) same more_are in
-          record {
-            client = client_is ∙ ap₂ (λ n (t : Settled Call (ById Call)). let d : Windowed Call = record { width = n; ids = t.client } in d) (ap (λ (k : Windowed Call). k.width) h.client) same;
-            next = subst (λ n. n < IDS) (sym (hears_next v.world.client x.line (heard x.line))) h.next;
-            instrument = h.instrument;
-            up = h.up;
-            down = flight down (map (λ y. y.line) rest) 0 rest_is start;
-            requests = h.requests;
-            settled = subst (λ l. AreSettlements l (v.world.wire.settled ++ (hears v.world.client x.line (heard x.line)).settlements)) (sym settled_is)
-                (are_more s.settled more v.world.wire.settled (hears v.world.client x.line (heard x.line)).settlements h.settled are);
-            counts = record { sent = h.counts.sent; executed = h.counts.executed; made = h.counts.made; refused = h.counts.refused; idle = h.counts.idle };
           }
 
   -- Losses and repeats.
@@ -190,29 +173,29 @@ module _ (width : ℕ) (s : Seen) (v : Streams (ById Call) SceneState) (h : AreS
       (same : put old (tallied false s.counts) ≡ record s { counts = tallied false s.counts }) (b_is : b ≡ is_whole k old)
       (lane_is : lane ≡ cond (is_begun k old.gone) old (record old { texts = texts }))
       → ((t : Bool) → ltb k (length old.texts) ≡ t
-      → AreStreamsOf width (put (record old { texts = texts }) (tallied t s.counts)) (with_world (happens scene_ends (by_ids width scene_ends) v.world step)))
-      → AreStreamsOf width (put lane (tallied b s.counts)) (with_world (happens scene_ends (by_ids width scene_ends) v.world (at_line k g step)))
+      → AreStreamsOf width (put (record old { texts = texts }) (tallied t s.counts)) (stepped step))
+      → AreStreamsOf width (put lane (tallied b s.counts)) (stepped (at_line k g step))
   changed old g put k texts step b lane gone_is same b_is lane_is whole = by_begun (is_begun k g) (ap (is_begun k) gone_is)
     where
       -- by whether line k has begun to go
       by_begun : (began : Bool) → is_begun k old.gone ≡ began
-          → AreStreamsOf width (put lane (tallied b s.counts)) (with_world (happens scene_ends (by_ids width scene_ends) v.world (cond began Nothing step)))
+          → AreStreamsOf width (put lane (tallied b s.counts)) (stepped (cond began Nothing step))
       by_begun true e =
           let said : b ≡ false = b_is ∙ ap (λ c. cond c false (ltb k (length old.texts))) e in
           let left : lane ≡ old = lane_is ∙ ap (λ c. cond c old (record old { texts = texts })) e in
-          subst (λ t. AreStreamsOf width t (with_world (happens scene_ends (by_ids width scene_ends) v.world Nothing)))
+          subst (λ t. AreStreamsOf width t (stepped Nothing))
           (sym (ap₂ (λ (f : Flight) (c : Bool). put f (tallied c s.counts)) left said ∙ same)) idle_event
       by_begun false e =
           let said : b ≡ ltb k (length old.texts) = b_is ∙ ap (λ c. cond c false (ltb k (length old.texts))) e in
           let left : lane ≡ record old { texts = texts } = lane_is ∙ ap (λ c. cond c old (record old { texts = texts })) e in
-          subst (λ t. AreStreamsOf width t (with_world (happens scene_ends (by_ids width scene_ends) v.world step)))
+          subst (λ t. AreStreamsOf width t (stepped step))
           (sym (ap₂ (λ (f : Flight) (c : Bool). put f (tallied c s.counts)) left said)) (whole (ltb k (length old.texts)) refl)
 
   -- where `texts` are those of the requests `us`, each of which is `MayBeWritten`, and are the upward lane's texts of before if
   -- there is no line k, the streams are shown once the lane has `texts`: with `us` in flight upward if there is a line k (t),
   -- and else with the event counted as not possible
   up_changed : (k : ℕ) (texts : List (List ℕ)) (us : List (Numbered Request)) (texts_are : texts ≡ map text_of us) (past : length s.up.texts ≤ k → texts ≡ s.up.texts)
-      (asked : Each MayBeWritten us) (t : Bool) → ltb k (length s.up.texts) ≡ t
+      (asked : AllByRecursion MayBeWritten us) (t : Bool) → ltb k (length s.up.texts) ≡ t
       → AreStreamsOf width (record s { up = record s.up { texts = texts }; counts = tallied t s.counts })
       (with_world (on_wire v.world (with_up v.world.wire us (ltb k (length v.world.wire.up)))))
   up_changed k texts us texts_are past asked t there =
@@ -313,52 +296,6 @@ module _ (width : ℕ) (s : Seen) (v : Streams (ById Call) SceneState) (h : AreS
         (down_changed k (doubled k s.down.texts) (doubled k v.world.wire.down) (ap (doubled k) down_are ∙ doubled_map (λ x. x.line) k v.world.wire.down) (doubled_past k s.down.texts))
 
   -- Moments and restarts.
-
-  -- once both ends were restarted, while no line is in flight, the streams after that event are shown
-  pub streams_restart_client : (more settled : List (Settlement Call)) (client : Windowed Call) (instrument : SceneState) (up_empty : s.up.texts ≡ [])
-      (down_empty : s.down.texts ≡ []) (more_are : AreSettlements more (restarts s.client.ids).settlements)
-      (client_is : client ≡ record s.client { ids = (restarts s.client.ids).client }) (settled_is : settled ≡ s.settled ++ more)
-      (instrument_is : instrument ≡ scene_restarted s.instrument)
-      → AreStreamsOf width (record s { client = client; instrument = instrument; settled = settled }) (after_event width v event.RestartClient)
-  streams_restart_client more settled client instrument eu ed more_are client_is settled_is instrument_is =
-      let are : AreSettlements more (restarts v.world.client).settlements = subst (λ (k : Windowed Call). AreSettlements more (restarts k.ids).settlements) h.client more_are in
-      let after = record s { client = client; instrument = instrument; settled = settled } in
-      subst (λ u. AreStreamsOf width after (with_world (client_restarted scene_ends (by_ids width scene_ends) v.world u v.world.wire.down))) (sym (no_up eu))
-      (subst (λ d. AreStreamsOf width after (with_world (client_restarted scene_ends (by_ids width scene_ends) v.world [] d))) (sym (no_down ed)) (record {
-        client = client_is ∙ ap (λ (k : Windowed Call). record k { ids = (restarts k.ids).client }) h.client;
-        next = omega arith;
-        instrument = instrument_is ∙ ap scene_restarted h.instrument;
-        up = h.up;
-        down = h.down;
-        requests = h.requests;
-        settled = subst (λ l. AreSettlements l (v.world.wire.settled ++ (restarts v.world.client).settlements)) (sym settled_is)
-            (are_more s.settled more v.world.wire.settled (restarts v.world.client).settlements h.settled are);
-        counts = record { sent = h.counts.sent; executed = h.counts.executed; made = h.counts.made; refused = h.counts.refused; idle = h.counts.idle };
-      }))
-
-  -- while a line is in flight, a restart of the client is only counted
-  pub streams_busy_client : ((s.up.texts ≡ []) × (s.down.texts ≡ []) → ⊥)
-      → AreStreamsOf width (record s { counts = tallied false s.counts }) (after_event width v event.RestartClient)
-  streams_busy_client busy = by_queues v.world.wire.up v.world.wire.down refl refl
-    where
-      -- by whether lines are in flight upward and downward
-      by_queues : (us : List (Numbered Request)) (ds : List (Numbered (List ℕ))) → v.world.wire.up ≡ us → v.world.wire.down ≡ ds
-          → AreStreamsOf width (record s { counts = tallied false s.counts }) (with_world (client_restarted scene_ends (by_ids width scene_ends) v.world us ds))
-      by_queues [] [] eu ed = absurd (busy (up_are ∙ ap (map text_of) eu, down_are ∙ ap (map (λ x. x.line)) ed))
-      by_queues [] (y ∷ ds) eu ed = idle_event
-      by_queues (x ∷ us) ds eu ed = idle_event
-
-  -- while a line is in flight, a restart of the instrument is only counted
-  pub streams_busy_instrument : ((s.up.texts ≡ []) × (s.down.texts ≡ []) → ⊥)
-      → AreStreamsOf width (record s { counts = tallied false s.counts }) (after_event width v event.RestartInstrument)
-  streams_busy_instrument busy = by_queues v.world.wire.up v.world.wire.down refl refl
-    where
-      -- by whether lines are in flight upward and downward
-      by_queues : (us : List (Numbered Request)) (ds : List (Numbered (List ℕ))) → v.world.wire.up ≡ us → v.world.wire.down ≡ ds
-          → AreStreamsOf width (record s { counts = tallied false s.counts }) (with_world (on_wire v.world (instrument_restarted scene_ends v.world.wire us ds)))
-      by_queues [] [] eu ed = absurd (busy (up_are ∙ ap (map text_of) eu, down_are ∙ ap (map (λ x. x.line)) ed))
-      by_queues [] (y ∷ ds) eu ed = idle_event
-      by_queues (x ∷ us) ds eu ed = idle_event
 
   -- Bytes.
 

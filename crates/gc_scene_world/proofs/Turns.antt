@@ -1,20 +1,14 @@
 -- A turn of the loop that plays events.
-use Rattle.std.proofs.Common.{◌≡◌, ℕ, ◌+◌, ◌<◌, ◌≤◌, ◌^◌, List, length, take, get_or, ◌∙◌, ap, subst, arith, length-take}
-use Rattle.std.proofs.lemmas.List.{take_all, length-map}
+use Rattle.std.proofs.Common.{◌≡◌, ℕ, ◌+◌, ◌<◌, ◌^◌, List, length, take, ◌∙◌, ap, subst, arith, length-take}
+use Rattle.std.proofs.lemmas.List.{length-map}
 use Rattle.gc_scenes.specs.SceneState.{SceneState}
 use Rattle.gc_scene_world.specs.Lanes.{Flight}
 use Rattle.gc_scene_world.specs.SceneRuns.{scene_ends, scene_streamed, scene_played}
-use Rattle.gc_scene_world.specs.SceneStages.{Seen, AreStreamsOf, HasRoom, streams_at_start, after_event}
+use Rattle.gc_scene_world.specs.SceneStages.{Seen, AreStreamsOf, HasRoom, streams_at_start}
 use Rattle.gc_scene_world.proofs.Shown.{text_of}
 use Rattle.gc_world.specs.declared.event.Event.{Event}
 use Rattle.gc_world.specs.Clients.{by_ids}
 use Rattle.gc_world.proofs.Counts.{IsWithin, within_all}
-use Rattle.gc_world.proofs.Flow.{flow_more}
-
--- the streams after the first i + 1 events are those after the first i, and then event i
-pub played_more : (width : ℕ) (opening : SceneState) (events : List Event) (i : ℕ) (e : Event) → i < length events → e ≡ get_or events i e
-    → scene_streamed width opening (take (i + 1) events) ≡ after_event width (scene_streamed width opening (take i events)) e
-played_more width opening events i e lt is = flow_more scene_ends (by_ids width scene_ends) events i e (streams_at_start opening) lt is
 
 -- none of the lists and counts of a run that `IsWithin` speaks of is above the count of its events
 played_within : (width : ℕ) (opening : SceneState) (events : List Event) → IsWithin (length events) (scene_played width opening events).wire
@@ -39,9 +33,3 @@ has_room width opening events i s lt few h =
       refused = omega (arith, h.counts.refused, w.refused, n, lt, few);
       idle = omega (arith, h.counts.idle, w.idle, n, lt, few);
     }
-
--- where there are at most i events, a stage that shows the streams after the first i events shows those after all events
-pub at_end : (width : ℕ) (opening : SceneState) (events : List Event) (s : Seen) (i : ℕ) → length events ≤ i
-    → AreStreamsOf width s (scene_streamed width opening (take i events))
-    → AreStreamsOf width s (scene_streamed width opening events)
-at_end width opening events s i all h = subst (λ es. AreStreamsOf width s (scene_streamed width opening es)) (take_all i events all) h

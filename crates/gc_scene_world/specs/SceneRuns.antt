@@ -25,10 +25,11 @@ scene_ends = record { handed = scene_handed; restarted = scene_restarted; heard 
 abbrev pub scene_streamed : ℕ → SceneState → List Event → Streams (ById Call) SceneState
 scene_streamed width opening events = streams_by_ids width scene_ends events (scene_restarted opening)
 
--- the world that the run by ids of these events leaves
+-- the world that the run by ids of these events leaves, from the restarted opening state, with a window of this width
 abbrev pub scene_played : ℕ → SceneState → List Event → World (ById Call) SceneState
 scene_played width opening events = (scene_streamed width opening events).world
 
--- the wire that the run by numbers of these events leaves: the run in which the client is told each reply's request
+-- the wire that the run by numbers of these events leaves, from the restarted opening state, with a window of this width: the run
+-- in which the client is told each reply's request
 abbrev pub scene_by_numbers : ℕ → SceneState → List Event → Wire SceneState
 scene_by_numbers width opening events = (streams_by_numbers width scene_ends events (scene_restarted opening)).world.wire

@@ -1,6 +1,7 @@
 -- How a stage corresponds to the streams of a run: for contracts of private functions. A stage is the code's state while it plays events:
 -- the client, the instrument, the lines in flight in both directions, the settlements, and counts.
 use Rattle.std.specs.Prelude.{◌≡◌, ℕ, ◌+◌, ◌<◌, ◌^◌, List, length}
+use Rattle.std.specs.List.{AllByRecursion}
 use Rattle.gc_catalogue.specs.Calls.{IsFitting}
 use Rattle.gc_catalogue.specs.declared.call.Call.{Call}
 use Rattle.gc_client.specs.declared.settlement.Settlement.{Settlement}
@@ -17,7 +18,6 @@ use Rattle.gc_world.specs.declared.direction.Direction.{Direction}
 use Rattle.gc_world.specs.declared.event.Event.{Event}
 use Rattle.gc_world.specs.Clients.{by_ids, ids_open}
 use Rattle.gc_world.specs.Directions.{lines, gone, handed_over}
-use Rattle.gc_world.specs.Order.{Each}
 use Rattle.gc_world.specs.Sides.{IsPart}
 use Rattle.gc_world.specs.Streams.{Streams, untouched, up_texts, down_texts, remaining, flows}
 use Rattle.gc_world.specs.World.{Request, Numbered}
@@ -60,7 +60,7 @@ pub record AreStreamsOf (width : ℕ) (s : Seen) (v : Streams (ById Call) SceneS
   pub instrument : s.instrument ≡ v.world.wire.state
   pub up : s.up ≡ record { texts = up_texts v.world.wire; gone = v.up_gone }
   pub down : s.down ≡ record { texts = down_texts v.world.wire; gone = v.down_gone }
-  pub requests : Each MayBeWritten v.world.wire.up
+  pub requests : AllByRecursion MayBeWritten v.world.wire.up
   pub settled : AreSettlements s.settled v.world.wire.settled
   pub counts : AreCounts s.counts v.world.wire
 

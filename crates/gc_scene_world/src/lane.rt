@@ -6,7 +6,7 @@ ghost use Rattle.gc_scene_world.specs.Lanes.{is_whole, losing, repeating, pushed
 ghost use Rattle.gc_world.specs.Sides.{IsPart};
 ghost use Rattle.gc_world.specs.Streams.{remaining};
 
-use gc_lines::{Line, append};
+use gc_lines::{Line, line_from};
 use gc_world::is_begun;
 use std::alloc::{AllocError, Global};
 use std::collections::VecDeque;
@@ -121,17 +121,8 @@ impl Lane {
         let Some(line) = self.lines.get(k) else {
             return Ok(false);
         };
-        let copy = copy_of(line);
+        let copy = line_from(line.as_slice());
         self.lines.insert(k, copy)?;
         Ok(true)
     }
-}
-
-// A line with the same bytes.
-fn copy_of(line: &Line) -> Line
-    ensures { result.items ≡ line.now.items }
-{
-    let mut copy = Line::new();
-    append(&mut copy, line);
-    copy
 }

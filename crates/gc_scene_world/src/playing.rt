@@ -41,5 +41,5 @@ pub fn play_scene(
     for event in events {
         stage.happen(event)?;
     }
-    Ok(stage.ended())
+    Ok(stage.into_report())
 }

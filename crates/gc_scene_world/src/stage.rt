@@ -83,7 +83,7 @@ impl Stage {
     }
 
     /// The report of the events so far.
-    pub fn ended(self) -> SceneReport
+    pub fn into_report(self) -> SceneReport
         ensures { result ≡ record { settled = self.settled; counts = self.counts } }
     {
         let Stage {

@@ -1,7 +1,8 @@
 -- What holds of each outcome with ways of real instruments, and that without ways it is that of the execution table.
-use Rattle.std.proofs.Common.{◌≡◌, ◌≢◌, ℤ, ◌<◌, ◌&&◌, Bool, true, false, cond, Option, Some, None, refl, ap, ◌∙◌, lit<}
+use Rattle.std.proofs.Common.{◌≡◌, ◌≢◌, ℤ, ◌<◌, ◌&&◌, Bool, true, cond, Option, Some, None, refl, ap, ◌∙◌, lit<}
 use Rattle.std.specs.Prelude.{pos}
 use Rattle.std.specs.Ordering.{int_eq}
+use Rattle.std.proofs.lemmas.Bool.{cond_both}
 use Rattle.gc_values.specs.declared.decimal.Decimal.{Decimal}
 use Rattle.gc_catalogue.specs.declared.answer.Answer.{Answer}
 use Rattle.gc_catalogue.specs.declared.answer.Answer.TheVariants as answer
@@ -49,8 +50,7 @@ dated_sound None s = done_sound s (answer.Date s.date)
 
 -- where two outcomes are sound, so is the one of them that a test chooses
 either_sound : (b : Bool) (x y : Executed) → HasSoundCode x → HasSoundCode y → HasSoundCode (cond b x y)
-either_sound true x y is other = is
-either_sound false x y is other = other
+either_sound b x y is other = cond_both b x y HasSoundCode (λ _. is) (λ _. other)
 
 -- each outcome with ways, but for the face, is sound
 faceless_sound : (w : Ways) (now : Option DateTime) (s : State) (asked : Call) → HasSoundCode (acted_faceless w now s asked)

@@ -58,14 +58,14 @@ still_after true look there ts = drifted_still look there ts
 still_after false look there ts = refl
 
 -- x, put together from its parts, as `acted` puts an outcome together
-abbrev same_outcome : Executed → Executed
-same_outcome x = record { state = x.state; rc = x.rc; answer = x.answer }
+abbrev rebuilt_outcome : Executed → Executed
+rebuilt_outcome x = record { state = x.state; rc = x.rc; answer = x.answer }
 
 module _ (looks moment : ℕ) (s : State) (call : Call) where
   -- the outcome of the call in a scene without rules is that of the execution table
-  outcome_is : outcome (ruleless looks moment s) call ≡ same_outcome (exec s call)
+  outcome_is : outcome (ruleless looks moment s) call ≡ rebuilt_outcome (exec s call)
   outcome_is =
-      ap (λ (ts : List Target). same_outcome (acted_faceless no_ways None (seeing ts s) call)) (seen_still (look_of false looks call) s.scene) ∙ ap same_outcome (table_without_ways s call)
+      ap (λ (ts : List Target). rebuilt_outcome (acted_faceless no_ways None (seeing ts s) call)) (seen_still (look_of false looks call) s.scene) ∙ ap rebuilt_outcome (table_without_ways s call)
 
   -- the state after the call in a scene without rules is, with any stored reply, that of the table after the call
   after_is : (kept : Option KeptReply)
@@ -126,7 +126,7 @@ request_instance s t q reply looks moment (table.answers_call call is (table.exe
 
 -- what the instrument of the table does with a line, the instrument of a scene without rules does, after some number of looks
 pub table_is_the_instance : TableIsTheInstance
-table_is_the_instance s t line reply looks moment (table.silent none same quiet) = (looks, silent none (ap (ruleless looks moment) same) quiet)
-table_is_the_instance s t line reply looks moment (table.answers q is text does told) =
+table_is_the_instance s t line reply looks moment (silent none same quiet) = (looks, silent none (ap (ruleless looks moment) same) quiet)
+table_is_the_instance s t line reply looks moment (answers q is text does told) =
     let h = request_instance s t q text looks moment does in
     (h.0, answers q is text h.1 told)

@@ -1,13 +1,10 @@
 -- What the code appends for a request is what the definitions give.
-use Rattle.std.proofs.Common.{◌≡◌, ◌≢◌, ℕ, List, [], ◌∷◌, ◌++◌, Some, None, Option, Result, Ok, Err, true, false, refl, sym, ap, ◌∙◌, subst, append_assoc}
+use Rattle.std.proofs.Common.{◌≡◌, ◌≢◌, ℕ, List, [], ◌∷◌, ◌++◌, Some, None, Option, true, false, refl, sym, ap, ◌∙◌, subst}
 use Rattle.std.specs.Prelude.{unwrap_or}
 use Rattle.gc_lines.specs.Answering.{AppendsAnswer}
-use Rattle.gc_lines.specs.Headers.{Gives}
-use Rattle.gc_lines.specs.Lines.{with_end}
-use Rattle.gc_lines.specs.Requests.{RequestFields, IsRequest}
-use Rattle.gc_lines.specs.declared.fault.LineFault.{LineFault}
+use Rattle.gc_lines.specs.Requests.{RequestFields}
 use Rattle.gc_lines.specs.declared.frame.Frame.TheVariants.{Line}
-use Rattle.gc_lines.specs.declared.request.Request.{Request}
+use Rattle.gc_lines.proofs.AnsweringLines.{appended_alone, line_answered, line_unanswered}
 use Rattle.gc_values.specs.declared.fault.ValueFault.{ValueFault}
 use Rattle.gc_catalogue.specs.Calls.{IsCall, IsRefusal}
 use Rattle.gc_catalogue.specs.Texts.{reply_line}
@@ -20,7 +17,7 @@ use Rattle.gc_instrument.specs.Replying.{refusal_line, reply_id}
 use Rattle.gc_scenes.specs.Appending.{AppendsHanded, AppendsPlayed, AppendsReply}
 use Rattle.gc_scenes.specs.Rules.{fault_of, answer_of, noisy, noise_after}
 use Rattle.gc_scenes.specs.SceneExecution.{Played, Reports, plays, outcome, after_call, replied_answer, played_call, played_raw, unless_faulted_raw, scripted, counting, faulted}
-use Rattle.gc_scenes.specs.SceneReplying.{IsPlayed, silent, answers, AnswersRequest, names_call, unreadable, resent_line, again_or_played, handed_call, handed_raw, played_or_refused, holding, kept_if_repeating, played_line}
+use Rattle.gc_scenes.specs.SceneReplying.{IsPlayed, executed_reply_line, names_call, unreadable, resent_line, again_or_played, handed_call, handed_raw, played_or_refused, holding, kept_if_repeating, played_line}
 use Rattle.gc_scenes.specs.SceneServing.{PlaysFrame}
 use Rattle.gc_scenes.specs.SceneState.{SceneState}
 use Rattle.gc_scenes.specs.declared.rules.Noise.{Noise}
@@ -36,20 +33,16 @@ pub gave_again : (s : SceneState) (id : Option ℕ) (p : Played) (line old new :
 gave_again s id p line old new again appended =
     subst (λ (o : Option (List ℕ)). AppendsHanded (again_or_played s id p o) s old new) (sym again) (record { state = refl; appended = appended })
 
--- where no stored line is sent again for the id (`resent_line`), appending the request's own reply, and storing it as
--- `kept_if_repeating` has it, is what `again_or_played` says of the request
-pub gave_played : (s : SceneState) (id : Option ℕ) (p : Played) (number : ℕ) (played after : SceneState) (line old new : List ℕ)
-    → (none : resent_line s id ≡ None) → (is : number ≡ unwrap_or id 0) → (state : played ≡ p.state)
-    → (appended : new ≡ old ++ played_line number p) → (own : line ≡ played_line number p)
-    → (kept : after ≡ holding (kept_if_repeating played id line) played)
+-- where no stored line is sent again for the id (`resent_line`), appending the request's own reply (`AppendsPlayed`), and storing
+-- it as `kept_if_repeating` has it, is what `again_or_played` says of the request
+pub gave_played : (s : SceneState) (id : Option ℕ) (p : Played) (played after : SceneState) (old new : List ℕ) → resent_line s id ≡ None
+    → AppendsPlayed (unwrap_or id 0) p played old new → after ≡ holding (kept_if_repeating played id (played_line (unwrap_or id 0) p)) played
     → AppendsHanded (again_or_played s id p (resent_line s id)) after old new
-gave_played s id p number played after line old new none is state appended own kept =
-    let one : played_line number p ≡ played_line (unwrap_or id 0) p = ap (λ n. played_line n p) is in
+gave_played s id p played after old new none h kept =
     subst (λ (o : Option (List ℕ)). AppendsHanded (again_or_played s id p o) after old new) (sym none)
     (record {
-      state = kept ∙ ap (λ (l : List ℕ). holding (kept_if_repeating played id l) played) (own ∙ one)
-          ∙ ap (λ (t : SceneState). holding (kept_if_repeating t id (played_line (unwrap_or id 0) p)) t) state;
-      appended = appended ∙ ap (λ (l : List ℕ). old ++ l) one;
+      state = kept ∙ ap (λ (t : SceneState). holding (kept_if_repeating t id (played_line (unwrap_or id 0) p)) t) h.state;
+      appended = h.appended;
     })
 
 -- what `again_or_played` says of a call is what `handed_call` says of a request for it
@@ -109,7 +102,7 @@ refuses s t call code said told is noise some =
 pub executed : (s t u : SceneState) (call : Call) (number code : ℕ) (said told : Answer) (old new : List ℕ)
     → (is : Reports (outcome s call) code said) → (state : t ≡ record (after_call s call (outcome s call)) { noise = s.noise })
     → (noise : told ≡ noisy t.noise said) → (drawn : u ≡ record t { noise = noise_after t.noise said })
-    → (appended : new ≡ old ++ reply_line number code (replied_answer u.ways.values u.base.pointing call code told) u.base.precision)
+    → (appended : new ≡ old ++ executed_reply_line u number code call told)
     → AppendsPlayed number (plays s call) u old new
 unfolding plays
 executed s t u call number code said told old new is state noise drawn appended =
@@ -122,14 +115,14 @@ executed s t u call number code said told old new is state noise drawn appended 
     let said_is : told ≡ noisy s.noise x.answer = noise ∙ ap (λ (n : Option Noise). noisy n said) quiet ∙ ap (noisy s.noise) ans in
     record {
       state = after;
-      appended = appended ∙ ap (λ (y : SceneState). old ++ reply_line number code (replied_answer y.ways.values y.base.pointing call code told) y.base.precision) after
+      appended = appended ∙ ap (λ (y : SceneState). old ++ executed_reply_line y number code call told) after
           ∙ ap (λ (c : ℕ). old ++ reply_line number c (replied_answer s.ways.values x.state.pointing call c told) x.state.precision) rc
           ∙ ap (λ (a : Answer). old ++ reply_line number x.rc (replied_answer s.ways.values x.state.pointing call x.rc a) x.state.precision) said_is;
     }
 
 -- Lines.
 
--- where a request names a call, and the reply that `handed_call` gives was appended, `AppendsReply` holds of the request
+-- where a request names a call, and `AppendsHanded` holds of what `handed_call` gives for it, `AppendsReply` holds of the request
 pub call_reply : (before after : SceneState) (q : RequestFields) (call : Call) (old new : List ℕ) → IsCall q.rpc q.params call
     → AppendsHanded (handed_call before q.rpc q.id call) after old new
     → AppendsReply before q after old new
@@ -144,29 +137,17 @@ pub unread_reply : (s : SceneState) (q : RequestFields) (e : ValueFault) (number
 unread_reply s q e number old new is same appended =
     record { text = refusal_line number (Parameters e); appended = appended; answers = unreadable e is refl (ap (λ n. refusal_line n (Parameters e)) same) }
 
--- where a line reads as this request, what the instrument does with the request is what it does with the line
-pub request_played : (before after : SceneState) (line bytes : List ℕ) (q : RequestFields) (text : List ℕ) → bytes ≡ line → IsRequest bytes q
-    → AnswersRequest before q after text → IsPlayed before line after (Some text)
-request_played before after line bytes q text same is made = answers q (subst (λ (x : List ℕ). IsRequest x q) same is) text made refl
-
--- a line that doesn't read as a request gets no reply, and changes nothing. The premise about `view` is the contract of the
--- reading that failed
-pub silence_played : (state : SceneState) (line bytes : List ℕ) (fault : LineFault) (view : Request → RequestFields) → bytes ≡ line
-    → ((q : RequestFields) → IsRequest bytes q → Gives view (Err fault) (Ok q)) → IsPlayed state line state None
-silence_played state line bytes fault view same only =
-    silent (λ q is. let wrong : ◌≡◌ {A = Result RequestFields LineFault} (Ok q) (Err fault) = only q (subst (λ (x : List ℕ). IsRequest x q) (sym same) is) in cc) refl refl
-
 -- where a reply to a line, as `IsPlayed` has it, was appended to the empty text, the text is then that reply
 pub played_alone : (s t : SceneState) (line new : List ℕ) → AppendsAnswer (IsPlayed s line t) [] new true → IsPlayed s line t (Some new)
-played_alone s t line new h = subst (λ (text : List ℕ). IsPlayed s line t (Some text)) (sym h.2) h.1
+played_alone s t line new h = appended_alone (IsPlayed s line t) new h
 
 -- appending a line's reply, and CR LF after it, is how the instrument answers the frame of that line
 pub answered_line : (before after : SceneState) (line old between new : List ℕ)
     → AppendsAnswer (IsPlayed before line after) old between true → new ≡ between ++ 13 ∷ 10 ∷ []
     → AppendsAnswer (PlaysFrame before (Line (record { items = line })) after) old new true
-answered_line before after line old between new h e = (with_end h.0, (Some h.0, h.1, refl), e ∙ ap (λ (xs : List ℕ). xs ++ 13 ∷ 10 ∷ []) h.2 ∙ append_assoc old h.0 (13 ∷ 10 ∷ []))
+answered_line before after line old between new h e = line_answered IsPlayed before after line old between new h e
 
 -- where a line has no reply, appending nothing is how the instrument answers the frame of that line
 pub unanswered_line : (before after : SceneState) (line old new : List ℕ) → AppendsAnswer (IsPlayed before line after) old new false
     → AppendsAnswer (PlaysFrame before (Line (record { items = line })) after) old new false
-unanswered_line before after line old new h = ((None, h.0, refl), h.1)
+unanswered_line before after line old new h = line_unanswered IsPlayed before after line old new h

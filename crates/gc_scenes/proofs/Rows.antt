@@ -7,7 +7,7 @@ use Rattle.gc_catalogue.specs.declared.answer.Answer.{Answer}
 use Rattle.gc_catalogue.specs.declared.answer.Answer.TheVariants.{Nothing, Measured, MeasuredMode}
 use Rattle.gc_catalogue.specs.declared.call.Call.{Call}
 use Rattle.gc_catalogue.specs.declared.call.Call.TheVariants as call
-use Rattle.gc_instrument.specs.Execution.{Executed, exec, done, set_if, distance_outcome, commanded, measured, pointed, turned_over, searched, adjusted}
+use Rattle.gc_instrument.specs.Execution.{Executed, Executes, exec, done, set_if, distance_outcome, commanded, measured, pointed, turned_over, searched, adjusted}
 use Rattle.gc_instrument.specs.State.{State, KeptReply}
 use Rattle.gc_instrument.specs.Targets.{first_within}
 use Rattle.gc_instrument.specs.declared.target.Target.{Target}
@@ -87,7 +87,7 @@ passed_on_over targets d kept s asked is = refl
 -- and stored reply
 pub passed : (targets : List Target) (d : Option Decimal) (kept : Option KeptReply) (before after : State) (asked : Call) (code : ℕ) (said : Answer)
     → is_passed_on asked ≡ true
-    → exec before asked ≡ record { state = after; rc = code; answer = said }
+    → Executes before asked after code said
     → CarriesOut targets (with_parts before.scene d kept before) asked (with_parts after.scene d kept after) code said
 passed targets d kept before after asked code said other does = record {
   gives = passed_on_over targets d kept before asked other ∙ ap (outcome_with_parts targets d kept) does;

@@ -1,18 +1,20 @@
 -- What an instrument whose replies take time does with a line.
 use Rattle.std.proofs.Common.{◌≡◌, ℕ, List, Some, None, Result, Ok, Err, true, false, refl, sym, ◌∙◌, ap, subst}
 use Rattle.gc_lines.specs.Answering.{AppendsAnswer}
-use Rattle.gc_lines.specs.Headers.{Gives}
+use Rattle.gc_lines.specs.Headers.{GivesEach}
 use Rattle.gc_lines.specs.Requests.{RequestFields, IsRequest}
 use Rattle.gc_lines.specs.declared.fault.LineFault.{LineFault}
 use Rattle.gc_lines.specs.declared.request.Request.{Request}
+use Rattle.gc_lines.proofs.AnsweringLines.{no_request}
 use Rattle.gc_scenes.specs.SceneReplying.{IsPlayed}
 use Rattle.gc_scenes.specs.SceneState.{SceneState}
-use Rattle.gc_scenes.specs.Slow.{SlowState, HearsLine, silent, replies, IsTaken, IsDelay, delay_of, moment_after, scene_then, taken_up}
+use Rattle.gc_catalogue.specs.Moments.{later}
+use Rattle.gc_scenes.specs.Slow.{SlowState, HearsLine, silent, replies, IsTaken, IsDelay, delay_of, scene_then, taken_up}
 use Rattle.gc_scenes.specs.declared.delay.Delay.{Delay}
 
 -- the delay of the request that a line reads as is the delay of the line. The premise about `view` is the contract of the reading
 pub delay_read : (delays : List Delay) (line : List ℕ) (view : Request → RequestFields) (r : Request) (ms : ℕ)
-    → ((q : RequestFields) → IsRequest line q → Gives view (Ok r) (Ok q)) → ms ≡ delay_of (view r).rpc delays → IsDelay delays line ms
+    → GivesEach IsRequest view line (Ok r) → ms ≡ delay_of (view r).rpc delays → IsDelay delays line ms
 delay_read delays line view r ms only is = λ q reads.
     let same : ◌≡◌ {A = Result RequestFields LineFault} (Ok q) (Ok (view r)) = only q reads in
     let one : q ≡ view r = cc in
@@ -21,33 +23,33 @@ delay_read delays line view r ms only is = λ q reads.
 -- a line that doesn't read as a request is no request, so `IsDelay` holds of it with any delay. The premise about `view` is the
 -- contract of the reading that failed
 pub delay_unread : (delays : List Delay) (line : List ℕ) (view : Request → RequestFields) (fault : LineFault) (ms : ℕ)
-    → ((q : RequestFields) → IsRequest line q → Gives view (Err fault) (Ok q)) → IsDelay delays line ms
-delay_unread delays line view fault ms only = λ q reads. let wrong : ◌≡◌ {A = Result RequestFields LineFault} (Ok q) (Err fault) = only q reads in cc
+    → GivesEach IsRequest view line (Err fault) → IsDelay delays line ms
+delay_unread delays line view fault ms only = λ q reads. absurd (no_request line fault view only q reads)
 
--- where a line that was taken up gets no reply, `HearsLine` holds of it. `v` equals the state `now` before the line, `then` is
--- the scene's state when the instrument starts on the line, and `scene` that after it
-pub silent_heard : (v now : SlowState) → (e : v ≡ now) → (line : List ℕ) (at : ℕ) (then scene : SceneState) (old new : List ℕ)
-    → (taken : IsTaken now at) → (is : then ≡ scene_then now at) → (h : AppendsAnswer (IsPlayed then line scene) old new false)
-    → AppendsAnswer (HearsLine now line at (record v { scene = scene })) old new false
-silent_heard v now e line at then scene old new taken is h =
-    subst (λ (b : SlowState). AppendsAnswer (HearsLine b line at (record v { scene = scene })) old new false) e (
-      silent (subst (λ (b : SlowState). IsTaken b at) (sym e) taken) scene
-          (subst (λ (s : SceneState). IsPlayed s line scene None) (is ∙ ap (λ (b : SlowState). scene_then b at) (sym e)) h.0) refl refl,
-      h.1,
-    )
+-- Here a line is taken up. `v` equals the state `now` before the line, `then` is the scene's state when the instrument starts on
+-- the line, and `scene` that after it.
+module _ (v now : SlowState) (e : v ≡ now) (line : List ℕ) (at : ℕ) (then scene : SceneState) (old new : List ℕ)
+    (taken : IsTaken now at) (starts : then ≡ scene_then now at) where
+  -- where the line gets no reply, `HearsLine` holds of it
+  pub silent_heard : AppendsAnswer (IsPlayed then line scene) old new false
+      → AppendsAnswer (HearsLine now line at (record v { scene = scene })) old new false
+  silent_heard h =
+      subst (λ (b : SlowState). AppendsAnswer (HearsLine b line at (record v { scene = scene })) old new false) e (
+        silent (subst (λ (b : SlowState). IsTaken b at) (sym e) taken) scene
+            (subst (λ (s : SceneState). IsPlayed s line scene None) (starts ∙ ap (λ (b : SlowState). scene_then b at) (sym e)) h.0) refl refl,
+        h.1,
+      )
 
--- where a line that was taken up gets a reply, which takes `ms` milliseconds and goes out at the moment `due`, `HearsLine`
--- holds of it; `v`, `then` and `scene` are as above
-pub reply_heard : (v now : SlowState) → (e : v ≡ now) → (line : List ℕ) (at : ℕ) (then scene : SceneState) (ms due : ℕ) (old new : List ℕ)
-    → (taken : IsTaken now at) → (delay : IsDelay now.delays line ms) → (is : due ≡ moment_after (taken_up now at) ms)
-    → (stands : then ≡ scene_then now at) → (h : AppendsAnswer (IsPlayed then line scene) old new true)
-    → AppendsAnswer (HearsLine now line at (record v { scene = scene; free_from = due })) old new true
-reply_heard v now e line at then scene ms due old new taken delay is stands h =
-    subst (λ (b : SlowState). AppendsAnswer (HearsLine b line at (record v { scene = scene; free_from = due })) old new true) e (
-      h.0,
-      replies (subst (λ (b : SlowState). IsTaken b at) (sym e) taken) scene h.0
-          (subst (λ (s : SceneState). IsPlayed s line scene (Some h.0)) (stands ∙ ap (λ (b : SlowState). scene_then b at) (sym e)) h.1) ms
-          (subst (λ (b : SlowState). IsDelay b.delays line ms) (sym e) delay)
-          (ap (λ (d : ℕ). record v { scene = scene; free_from = d }) (is ∙ ap (λ (b : SlowState). moment_after (taken_up b at) ms) (sym e))) refl,
-      h.2,
-    )
+  -- where the line gets a reply, which takes `ms` milliseconds and goes out at the moment `due`, `HearsLine` holds of it
+  pub reply_heard : (ms due : ℕ) → IsDelay now.delays line ms → due ≡ later (taken_up now at) ms
+      → AppendsAnswer (IsPlayed then line scene) old new true
+      → AppendsAnswer (HearsLine now line at (record v { scene = scene; free_from = due })) old new true
+  reply_heard ms due delay is h =
+      subst (λ (b : SlowState). AppendsAnswer (HearsLine b line at (record v { scene = scene; free_from = due })) old new true) e (
+        h.0,
+        replies (subst (λ (b : SlowState). IsTaken b at) (sym e) taken) scene h.0
+            (subst (λ (s : SceneState). IsPlayed s line scene (Some h.0)) (starts ∙ ap (λ (b : SlowState). scene_then b at) (sym e)) h.1) ms
+            (subst (λ (b : SlowState). IsDelay b.delays line ms) (sym e) delay)
+            (ap (λ (d : ℕ). record v { scene = scene; free_from = d }) (is ∙ ap (λ (b : SlowState). later (taken_up b at) ms) (sym e))) refl,
+        h.2,
+      )

@@ -1,7 +1,7 @@
 -- A state and a line determine the state after the line and the reply.
-use Rattle.std.proofs.Common.{◌≡◌, List, ℕ, Some, sym, ap, ◌∙◌, subst}
+use Rattle.std.proofs.Common.{◌≡◌, List, ℕ, sym, ap, ◌∙◌, subst}
 use Rattle.gc_lines.specs.Requests.{RequestFields}
-use Rattle.gc_lines.proofs.Requests.{one_request}
+use Rattle.gc_lines.proofs.AnsweringLines.{replies_once}
 use Rattle.gc_values.specs.declared.fault.ValueFault.{ValueFault}
 use Rattle.gc_catalogue.proofs.CallLaws.{one_call, one_refusal, no_refusal}
 use Rattle.gc_catalogue.specs.declared.call.Call.{Call}
@@ -9,7 +9,7 @@ use Rattle.gc_catalogue.specs.declared.fault.CallFault.{CallFault}
 use Rattle.gc_catalogue.specs.declared.fault.CallFault.TheVariants.{Unknown, Parameters}
 use Rattle.gc_instrument.specs.Replying.{Handed, refusal_line, reply_id}
 use Rattle.gc_scenes.specs.Laws.{OneReply}
-use Rattle.gc_scenes.specs.SceneReplying.{silent, answers, AnswersRequest, names_call, names_none, unreadable, IsHanded, handed_call, handed_raw}
+use Rattle.gc_scenes.specs.SceneReplying.{AnswersRequest, names_call, names_none, unreadable, IsHanded, handed_call, handed_raw}
 use Rattle.gc_scenes.specs.SceneState.{SceneState}
 
 -- states and replies that are those of `h` are equal
@@ -36,9 +36,4 @@ one_answer s t u q x y (unreadable e is same made) (unreadable f other again tol
 
 -- a state and a line determine the state after the line, and the reply or that there is none
 pub one_reply : OneReply
-one_reply s t u line p q (silent none same quiet) (silent never again mute) = (same ∙ sym again, quiet ∙ sym mute)
-one_reply s t u line p q (silent none same quiet) (answers r is text does told) = absurd (none r is)
-one_reply s t u line p q (answers r is text does told) (silent none same quiet) = absurd (none r is)
-one_reply s t u line p q (answers a is x does told) (answers b other y makes said) =
-    let same = one_answer s t u a x y does (subst (λ (r : RequestFields). AnswersRequest s r u y) (one_request line b a other is) makes) in
-    (same.0, told ∙ ap (λ (text : List ℕ). Some text) same.1 ∙ sym said)
+one_reply = replies_once AnswersRequest one_answer

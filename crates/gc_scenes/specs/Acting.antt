@@ -1,16 +1,13 @@
--- What a call does to the instrument of a scene with its ways of real instruments, over the targets of a state. Where no way changes a
--- call's outcome, it is that of the execution table. This project's own, from memory.
-use Rattle.std.specs.Prelude.{◌≡◌, ℕ, pos, ◌&&◌, Bool, true, false, List, Option, Some, None, if◌then◌else◌}
+-- What a call does to the instrument of a scene with its ways of real instruments, over the targets of a state. Where no way
+-- changes a call's outcome, it is that of the execution table. This project's own, from memory.
+use Rattle.std.specs.Prelude.{pos, ◌&&◌, Bool, true, false, Option, Some, None, if◌then◌else◌}
 use Rattle.std.specs.Ordering.{int_eq}
-use Rattle.gc_catalogue.specs.declared.answer.Answer.{Answer}
 use Rattle.gc_catalogue.specs.declared.answer.Answer.TheVariants as answer
 use Rattle.gc_catalogue.specs.declared.call.Call.{Call}
 use Rattle.gc_catalogue.specs.declared.call.Call.TheVariants as call
 use Rattle.gc_catalogue.specs.declared.call.DateTime.{DateTime}
 use Rattle.gc_instrument.specs.Execution.{Executed, exec, done, distance_outcome, adjusted, pointed, unmeasured}
 use Rattle.gc_instrument.specs.State.{State}
-use Rattle.gc_instrument.specs.declared.target.Target.{Target}
-use Rattle.gc_scenes.specs.Machine.{seeing}
 use Rattle.gc_scenes.specs.Ways.{nearest, other_hz, other_v, face_at}
 use Rattle.gc_scenes.specs.declared.ways.Ways.{Ways}
 
@@ -19,10 +16,10 @@ abbrev pub dated : (now : Option DateTime) → State → Executed
 dated (Some d) s = done s (answer.Date d)
 dated None s = done s (answer.Date s.date)
 
--- the outcome of the call with these ways, but for the face. `now` is what a running clock shows, and CSV_GetDateTime answers it. With
--- `aims`, a positioning with target recognition (mode 1) turns to the nearest target within the window round its angles; if there is none it
--- stays at these, with code 8710. With `faces`, a face change turns to the other face's angles. With `takes`, TMC_GetSimpleMea clears the
--- distance that it answers
+-- the outcome of the call with these ways, but for the face. `now` is what a running clock shows, and CSV_GetDateTime answers it.
+-- With `aims`, a positioning with target recognition (mode 1) turns to the nearest target within the window round its angles; if
+-- there is none it stays at these, with code 8710. With `faces`, a face change turns to the other face's angles. With `takes`,
+-- TMC_GetSimpleMea clears the distance that it answers
 abbrev pub acted_faceless : Ways → (now : Option DateTime) → State → Call → Executed
 acted_faceless w now s (call.Position hz v pos_mode atr_mode dummy) =
     if w.aims && int_eq atr_mode (pos 1) then adjusted (pointed s hz v) (nearest (record { hz = hz; v = v }) s.scene)
@@ -36,13 +33,14 @@ acted_faceless w now s (call.SimpleMea wait mode) =
 acted_faceless w now s call.GetDate = dated now s
 acted_faceless w now s other = exec s other
 
--- the state with the face that its vertical angle belongs to, if the instrument has both faces' angles (true), and else the state as it is
+-- the state with the face that its vertical angle belongs to, if the instrument has both faces' angles (true), and else the state
+-- as it is
 abbrev pub faced : (faces : Bool) → State → State
 faced true s = record s { face = face_at s.pointing.v }
 faced false s = s
 
--- the outcome of the call with these ways, and with the face that belongs to the vertical angle after it (`faced`). `now` is what a running
--- clock shows
+-- the outcome of the call with these ways, and with the face that belongs to the vertical angle after it (`faced`). `now` is what
+-- a running clock shows
 abbrev pub acted : Ways → (now : Option DateTime) → State → Call → Executed
 acted w now s asked = record {
   state = faced w.faces (acted_faceless w now s asked).state;
@@ -51,24 +49,11 @@ acted w now s asked = record {
 }
 
 -- whether the call is none of the four whose outcome a way or a running clock may change, apart from the face that `faced` sets:
--- `false` for each AUT_MakePositioning, AUT_ChangeFace, TMC_GetSimpleMea and CSV_GetDateTime, also where nothing changes its outcome
+-- `false` for each AUT_MakePositioning, AUT_ChangeFace, TMC_GetSimpleMea and CSV_GetDateTime, also where nothing changes its
+-- outcome
 abbrev pub is_unchanged_by_ways : Call → Bool
 is_unchanged_by_ways (call.Position hz v pos_mode atr_mode dummy) = false
 is_unchanged_by_ways (call.ChangeFace pos_mode atr_mode dummy) = false
 is_unchanged_by_ways (call.SimpleMea wait mode) = false
 is_unchanged_by_ways call.GetDate = false
 is_unchanged_by_ways asked = true
-
--- over these targets, the outcome of the call with these ways, but for the face, is the state `after`, this code and this answer; the
--- targets of the state itself stay
-pub record ActsFaceless (w : Ways) (now : Option DateTime) (targets : List Target) (before : State) (asked : Call) (after : State)
-    (code : ℕ) (answered : Answer) : Type 0 where
-  pub gives : acted_faceless w now (seeing targets before) asked ≡ record { state = seeing targets after; rc = code; answer = answered }
-  pub same : after.scene ≡ before.scene
-
--- over these targets, the outcome of the call with these ways is the state `after`, this code and this answer; the targets of the state
--- itself stay
-pub record Acts (w : Ways) (now : Option DateTime) (targets : List Target) (before : State) (asked : Call) (after : State)
-    (code : ℕ) (answered : Answer) : Type 0 where
-  pub gives : acted w now (seeing targets before) asked ≡ record { state = seeing targets after; rc = code; answer = answered }
-  pub same : after.scene ≡ before.scene

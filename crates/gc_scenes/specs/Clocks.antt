@@ -1,24 +1,18 @@
 -- A clock that runs from the date that it was set to: this project's own, by the Gregorian calendar.
-use Rattle.std.specs.Prelude.{ℕ, ℤ, pos, suc, zero, ◌+◌, ◌-◌, ◌*◌, ◌/◌, ◌%◌, ◌==◌, ◌||◌, ◌+ℤ◌, nat_le, int_le, unsigned_abs, if◌then◌else◌}
-use Rattle.gc_catalogue.specs.Calendar.{is_leap}
+use Rattle.std.specs.Prelude.{ℕ, ℤ, pos, suc, zero, ◌+◌, ◌-◌, ◌*◌, ◌/◌, ◌%◌, ◌+ℤ◌, nat_le, int_le, unsigned_abs, if◌then◌else◌}
+use Rattle.gc_catalogue.specs.Calendar.{month_days}
 use Rattle.gc_catalogue.specs.declared.call.DateTime.{DateTime}
 use Rattle.gc_scenes.specs.declared.clock.Clock.{Clock}
-
--- how many days a month of a year has; months count from 1, and a number that is no month has 31
-abbrev pub days_in : (year month : ℕ) → ℕ
-days_in year month =
-    if month == 2 then (if is_leap year then 29 else 28)
-    else (if (month == 4) || ((month == 6) || ((month == 9) || (month == 11))) then 30 else 31)
 
 -- the next year; from 9999 on a year is followed by itself
 abbrev pub next_year : ℤ → ℤ
 next_year year = if int_le (pos 9999) year then year else year +ℤ pos 1
 
--- the next day, at the same time of day; after the last day of 9999 that year begins again. A day past the end of its month counts as its
--- last
+-- the next day, at the same time of day; after the last day of 9999 that year begins again. A day past the end of its month
+-- counts as its last
 abbrev pub next_day : DateTime → DateTime
 next_day d =
-    if nat_le (d.day + 1) (days_in (unsigned_abs d.year) d.month) then record d { day = d.day + 1 }
+    if nat_le (d.day + 1) (month_days (unsigned_abs d.year) d.month) then record d { day = d.day + 1 }
     else (if nat_le (d.month + 1) 12 then record d { day = 1; month = d.month + 1 } else record d { day = 1; month = 1; year = next_year d.year })
 
 -- the date this many days later, at the same time of day
@@ -38,7 +32,7 @@ at_second s d = record d { hour = s / 3600; minute = s / 60 % 60; second = s % 6
 abbrev pub later : (seconds : ℕ) → DateTime → DateTime
 later n d = at_second ((second_of d + n) % 86400) (days_on ((second_of d + n) / 86400) d)
 
--- what a clock shows at this moment, which is in milliseconds: the date that it was set to plus the whole seconds since then; at a moment
--- before it was set, that date
+-- what a clock shows at this moment, which is in milliseconds: the date that it was set to plus the whole seconds since then; at
+-- a moment before it was set, that date
 abbrev pub shown_at : (moment : ℕ) → Clock → DateTime
 shown_at moment c = later ((moment - c.at) / 1000) c.set

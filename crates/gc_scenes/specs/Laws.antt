@@ -1,6 +1,7 @@
 -- What is claimed of the definitions themselves: this project's own.
-use Rattle.std.specs.Prelude.{◌≡◌, ◌<◌, ◌≤◌, ℕ, List, [], ◌∷◌, ◌++◌, true, Option, Some, None}
+use Rattle.std.specs.Prelude.{◌≡◌, ◌<◌, ◌≤◌, ℕ, List, [], ◌∷◌, ◌++◌, map, true, Option, Some, None}
 use Rattle.std.specs.List.{AllByRecursion}
+use Rattle.gc_lines.specs.AnsweringLines.{HasOneReply}
 use Rattle.gc_instrument.specs.Replying as table
 use Rattle.gc_instrument.specs.State.{State}
 use Rattle.gc_instrument.specs.declared.pointing.Pointing.{Pointing}
@@ -17,12 +18,11 @@ still t = record { at = t; drift = None; from = 1; to = 0 }
 
 -- targets that never move and are never hidden
 abbrev pub all_still : List Target → List Prism
-all_still [] = []
-all_still (t ∷ ts) = still t ∷ all_still ts
+all_still targets = map still targets
 
--- the state of an instrument in a scene without rules, after this many looks and with this moment of the next request: it has the
--- values and the targets of the state `s` of the execution table, sends a stored reply again for a repeat, and has none of the
--- ways of real instruments
+-- the state of an instrument in a scene without rules, after this many looks (measurements and searches) and with this moment of
+-- the next request: it has the values and the targets of the state `s` of the execution table, sends a stored reply again for a
+-- repeat, and has none of the ways of real instruments
 abbrev pub ruleless : (looks moment : ℕ) → State → SceneState
 ruleless looks moment s = record {
   base = seeing [] s;
@@ -37,8 +37,8 @@ ruleless looks moment s = record {
   moment = moment;
 }
 
--- in a scene without rules the instrument does with a line what the instrument of the execution table does, and replies the same; how many
--- looks there were then (`more`) is left open
+-- in a scene without rules the instrument does with a line what the instrument of the execution table does, and replies the same;
+-- how many looks there were then (`more`) is left open
 abbrev pub TableIsTheInstance : Type 0
 TableIsTheInstance = (before after : State) (line : List ℕ) (reply : Option (List ℕ)) (looks moment : ℕ)
     → table.IsReplied before line after reply
@@ -46,7 +46,7 @@ TableIsTheInstance = (before after : State) (line : List ℕ) (reply : Option (L
 
 -- a state, which contains the noise's seed, and a line determine the state after the line, and the reply or that there is none
 abbrev pub OneReply : Type 0
-OneReply = (s t u : SceneState) (line : List ℕ) (p q : Option (List ℕ)) → IsPlayed s line t p → IsPlayed s line u q → (t ≡ u) × (p ≡ q)
+OneReply = HasOneReply IsPlayed
 
 -- each target is beyond the window of target recognition
 abbrev pub IsFarOff : Pointing → List Target → Type 0
@@ -67,6 +67,7 @@ abbrev pub IsAimedAt : Pointing → List Target → Option Target → Type 0
 IsAimedAt there targets (Some t) = IsNearest there targets t
 IsAimedAt there targets None = IsFarOff there targets
 
--- `nearest` gives the nearest target within the window, the first of several that are equally near, or none if all are beyond the window
+-- `nearest` gives the nearest target within the window, the first of several that are equally near, or none if all are beyond the
+-- window
 abbrev pub NearestIsNearest : Type 0
 NearestIsNearest = (there : Pointing) (targets : List Target) → IsAimedAt there targets (nearest there targets)

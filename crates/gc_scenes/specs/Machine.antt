@@ -5,7 +5,7 @@ use Rattle.gc_catalogue.specs.declared.answer.Answer.{Answer}
 use Rattle.gc_catalogue.specs.declared.answer.Answer.TheVariants.{Measured, MeasuredMode}
 use Rattle.gc_catalogue.specs.declared.call.Call.{Call}
 use Rattle.gc_catalogue.specs.declared.call.Call.TheVariants as call
-use Rattle.gc_instrument.specs.Execution.{Executed, exec, distance_outcome, measured}
+use Rattle.gc_instrument.specs.Execution.{Executed, Gives, exec, distance_outcome, measured}
 use Rattle.gc_instrument.specs.State.{State, KeptReply}
 use Rattle.gc_instrument.specs.declared.target.Target.{Target}
 use Rattle.gc_scenes.specs.declared.machine.Held.{Held}
@@ -32,8 +32,8 @@ machine_of i = with_parts i.base.scene i.distance (held_as_kept i.kept) i.base
 abbrev pub seeing : List Target → State → State
 seeing targets s = record s { scene = targets }
 
--- whether a machine passes the call on to its base: each call but those that may turn the telescope, measure, clear or answer a distance,
--- or look for a target
+-- whether a machine passes the call on to its base: each call but those that may turn the telescope, measure, clear or answer a
+-- distance, or look for a target
 abbrev pub is_passed_on : Call → Bool
 is_passed_on (call.DoMeasure command mode) = false
 is_passed_on (call.SimpleMea wait mode) = false
@@ -44,17 +44,24 @@ is_passed_on (call.ChangeFace pos_mode atr_mode dummy) = false
 is_passed_on (call.FineAdjust area_hz area_v dummy) = false
 is_passed_on asked = true
 
--- over these targets, the outcome of the call by the execution table is the state `after`, this code and this answer; the targets of the
--- state itself stay
-pub record CarriesOut (targets : List Target) (before : State) (asked : Call) (after : State) (code : ℕ) (answered : Answer) : Type 0 where
-  pub gives : exec (seeing targets before) asked ≡ record { state = seeing targets after; rc = code; answer = answered }
+-- over these targets, the outcome that `does` gives in the state `before` has the state `after`, this code and this answer; the
+-- targets of the state itself stay
+pub record GivesOver (targets : List Target) (does : State → Executed) (before after : State) (code : ℕ) (answered : Answer) : Type 0 where
+  pub gives : Gives (does (seeing targets before)) (seeing targets after) code answered
   pub same : after.scene ≡ before.scene
 
--- the outcome that answers the angles and the distance of the state s, and leaves the state `after`; without a distance it is a refusal
+-- over these targets, the outcome of the call by the execution table has the state `after`, this code and this answer; the
+-- targets of the state itself stay
+abbrev pub CarriesOut : (targets : List Target) → (before : State) → Call → (after : State) → (code : ℕ) → Answer → Type 0
+CarriesOut targets before asked after code answered = GivesOver targets (λ s. exec s asked) before after code answered
+
+-- the outcome that answers the angles and the distance of the state s, and leaves the state `after`; without a distance it is a
+-- refusal
 abbrev pub simply_measured : (s after : State) → Executed
 simply_measured s after = distance_outcome after (λ d. Measured s.pointing.hz s.pointing.v d) s.distance
 
--- the outcome of measuring over these targets in the state s: the angles, the distance and the mode; without a distance it is a refusal
+-- the outcome of measuring over these targets in the state s: the angles, the distance and the mode; without a distance it is a
+-- refusal
 abbrev pub measured_in_mode : (targets : List Target) → State → (mode : ℤ) → Executed
 measured_in_mode targets s mode =
     distance_outcome (measured (seeing targets s)) (λ d. MeasuredMode s.pointing.hz s.pointing.v d mode) (measured (seeing targets s)).distance

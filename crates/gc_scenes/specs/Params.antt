@@ -3,8 +3,7 @@ use Rattle.std.specs.Prelude.{ℕ, List, [], Option, Some, None}
 use Rattle.gc_catalogue.specs.RawTexts.{raw_bytes}
 use Rattle.gc_catalogue.specs.declared.raw.RawCall.{RawCall}
 
--- the parameters of a scripted reply, by its field `with`: that is a request for the reply's procedure, whose parameters, as they
--- are, are the reply's, too; with `None` the reply has no parameters
+-- the parameters of a scripted reply, by its field `with`: the bytes of this request's parameters, or none for `None`
 abbrev pub scripted_params : Option RawCall → List ℕ
 scripted_params None = []
 scripted_params (Some call) = raw_bytes call.params

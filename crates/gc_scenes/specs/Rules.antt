@@ -26,7 +26,8 @@ one_more n = min (n + 1) 4294967295
 abbrev pub is_clear : (look : ℕ) → Prism → Bool
 is_clear look p = not (nat_le p.from look && nat_le look p.to)
 
--- the targets that aren't hidden in this look, each with the angles at which the telescope points at it: those of face II if `over`
+-- the targets that aren't hidden in this look, each with the angles at which the telescope points at it: those of face II if
+-- `over`
 abbrev pub seen : (over : Bool) (look : ℕ) → List Prism → List Target
 seen over look [] = []
 seen over look (p ∷ ps) = if is_clear look p then target_in_face over p.at ∷ seen over look ps else seen over look ps
@@ -40,13 +41,13 @@ abbrev pub moved_by : Option Offset → Prism → Prism
 moved_by None p = p
 moved_by (Some o) p = record p { at = offset o p.at }
 
--- the target after a measurement in this look, with the telescope pointing `there`, in face II if `over`: moved by its drift, if it isn't
--- hidden and lies exactly there
+-- the target after a measurement in this look, with the telescope pointing `there`, in face II if `over`: moved by its drift, if
+-- it isn't hidden and lies exactly there
 abbrev pub moved : (over : Bool) (look : ℕ) → Pointing → Prism → Prism
 moved over look there p = if is_clear look p && is_at there (target_in_face over p.at) then moved_by p.drift p else p
 
--- the targets after a measurement in this look, with the telescope pointing `there`, in face II if `over`: all that aren't hidden and lie
--- exactly there have moved by their drift
+-- the targets after a measurement in this look, with the telescope pointing `there`, in face II if `over`: all that aren't hidden
+-- and lie exactly there have moved by their drift
 abbrev pub drifted : (over : Bool) (look : ℕ) → Pointing → List Prism → List Prism
 drifted over look there [] = []
 drifted over look there (p ∷ ps) = moved over look there p ∷ drifted over look there ps
@@ -91,7 +92,8 @@ deviated_v n v = shifted v (deviation n.v (next (next n.seed)))
 abbrev pub deviated_distance : Noise → Decimal → Decimal
 deviated_distance n d = shifted d (deviation n.distance (next (next (next n.seed))))
 
--- the answer with three deviations if it has angles and a distance, even if that was measured earlier (TMC_GetSimpleMea); else as it is
+-- the answer with three deviations if it has angles and a distance, even if that was measured earlier (TMC_GetSimpleMea); else as
+-- it is
 abbrev pub disturbed : Noise → Answer → Answer
 disturbed n (answer.Measured hz v d) = answer.Measured (deviated_hz n hz) (deviated_v n v) (deviated_distance n d)
 disturbed n (answer.MeasuredMode hz v d mode) = answer.MeasuredMode (deviated_hz n hz) (deviated_v n v) (deviated_distance n d) mode

@@ -1,6 +1,6 @@
 -- What a call does to the instrument of a scene: the execution table over the targets that aren't hidden, with the instrument's
 -- ways of real instruments, and then the scene's rules. This project's own. `rpc` is a procedure's number, `rc` a return code.
-use Rattle.std.specs.Prelude.{◌≡◌, ℕ, pos, ◌==◌, ◌&&◌, Bool, true, false, List, [], Option, Some, None, unwrap_or, if◌then◌else◌}
+use Rattle.std.specs.Prelude.{ℕ, pos, ◌==◌, ◌&&◌, Bool, true, false, List, [], Option, Some, None, unwrap_or, if◌then◌else◌}
 use Rattle.std.specs.Option.{option_map}
 use Rattle.std.specs.Ordering.{int_eq}
 use Rattle.gc_values.specs.Decimals.{zero}
@@ -12,7 +12,7 @@ use Rattle.gc_catalogue.specs.declared.answer.Answer.TheVariants as answer
 use Rattle.gc_catalogue.specs.declared.call.Call.{Call}
 use Rattle.gc_catalogue.specs.declared.call.Call.TheVariants as call
 use Rattle.gc_catalogue.specs.declared.call.DateTime.{DateTime}
-use Rattle.gc_instrument.specs.Execution.{Executed}
+use Rattle.gc_instrument.specs.Execution.{Executed, Gives}
 use Rattle.gc_instrument.specs.Targets.{first_at}
 use Rattle.gc_instrument.specs.declared.pointing.Pointing.{Pointing}
 use Rattle.gc_instrument.specs.declared.target.Target.{Target}
@@ -33,7 +33,8 @@ is_measurement call.QuickDist = true
 is_measurement (call.MeasDistance mode) = true
 is_measurement other = false
 
--- whether the call is a search: AUT_FineAdjust is one, and, if the instrument aims (true), so is a positioning with target recognition
+-- whether the call is a search: AUT_FineAdjust is one, and, if the instrument aims (true), so is a positioning with target
+-- recognition
 abbrev pub is_search : (aims : Bool) → Call → Bool
 is_search aims (call.FineAdjust area_hz area_v dummy) = true
 is_search aims (call.Position hz v pos_mode atr_mode dummy) = aims && int_eq atr_mode (pos 1)
@@ -67,16 +68,17 @@ outcome s asked = acted s.ways (shown s) (seeing (seen_by s asked) s.base) asked
 
 -- the outcome `x` has this return code and this answer
 abbrev pub Reports : Executed → (code : ℕ) → Answer → Type 0
-Reports x code answered = x ≡ record { state = x.state; rc = code; answer = answered }
+Reports x code answered = Gives x x.state code answered
 
--- the clock after a call at this moment that had this return code: if the instrument has a clock that runs (true), a call that sets the
--- date, and isn't refused, starts it from that date; else it stays as it was
+-- the clock after a call at this moment that had this return code: if the instrument has a clock that runs (true), a call that
+-- sets the date, and isn't refused, starts it from that date; else it stays as it was
 abbrev pub clock_after : (runs : Bool) (moment : ℕ) → Call → (rc : ℕ) → Option Clock → Option Clock
 clock_after false moment asked rc c = c
 clock_after true moment (call.SetDate d) rc c = if rc == 0 then Some (record { set = d; at = moment }) else c
 clock_after true moment other rc c = c
 
--- what the instrument does with a request that isn't a repeat: the state after it, and the return code and the parameters of the reply
+-- what the instrument does with a request that isn't a repeat: the state after it, and the return code and the parameters of the
+-- reply
 pub record Played : Type 0 where
   pub state : SceneState
   pub rc : ℕ
@@ -95,8 +97,9 @@ after_call s asked x = record s {
   clock = clock_after s.ways.clock s.moment asked x.rc s.clock;
 }
 
--- the answer that the reply to an executed call has: its own; or, if the code is a warning and the instrument has values with warnings
--- (true), the angles, without noise, and a distance of 0 if the call answers one, or `Nothing` for a call that answers no angles
+-- the answer that the reply to an executed call has: its own; or, if the code is a warning and the instrument has values with
+-- warnings (true), the angles, without noise, and a distance of 0 if the call answers one, or `Nothing` for a call that answers
+-- no angles
 abbrev pub replied_answer : (values : Bool) → Pointing → Call → (rc : ℕ) → Answer → Answer
 replied_answer values there asked rc answered = if values && is_warning rc then valued there asked zero else answered
 
@@ -121,8 +124,8 @@ plays s asked = played_of s asked (outcome s asked)
 abbrev pub counting : (rpc : ℕ) → SceneState → SceneState
 counting rpc s = record s { faults = counted rpc s.faults }
 
--- the distance that the call would answer: for TMC_GetSimpleMea the one that was measured last, for other calls that of the target which
--- they would measure; none if there is none
+-- the distance that the call would answer: for TMC_GetSimpleMea the one that was measured last, for other calls that of the
+-- target which they would measure; none if there is none
 abbrev pub known_distance : SceneState → Call → Option Decimal
 known_distance s (call.SimpleMea wait mode) = s.base.distance
 known_distance s asked = option_map (λ t. t.distance) (first_at s.base.pointing (seen_by s asked))
@@ -161,8 +164,8 @@ abbrev pub scripted : SceneState → Option Scripted → Option Played
 scripted s (Some a) = Some (record { state = s; rc = a.rc; params = scripted_params a.with })
 scripted s None = None
 
--- what the instrument does with a request of a procedure that isn't in the table: a fault answers it with this code, or none does (`None`),
--- and then the scene's reply answers it, if there is one
+-- what the instrument does with a request of a procedure that isn't in the table: a fault answers it with this code, or none does
+-- (`None`), and then the scene's reply answers it, if there is one
 abbrev pub unless_faulted_raw : SceneState → (rpc : ℕ) → (code : Option ℕ) → Option Played
 unless_faulted_raw s rpc (Some code) = Some (faulted s code)
 unless_faulted_raw s rpc None = scripted s (answer_of rpc s.answers)

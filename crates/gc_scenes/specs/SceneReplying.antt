@@ -1,8 +1,10 @@
 -- The reply of a scene's instrument to a line: this project's own. The communication codes are the manual's. A parameter `number`
 -- is an id, `rpc` a procedure's number, and `rc` a return code.
 use Rattle.std.specs.Prelude.{◌≡◌, ℕ, List, true, false, Option, Some, None, unwrap_or, if◌then◌else◌}
+use Rattle.gc_lines.specs.AnsweringLines.{RepliesTo}
+pub use Rattle.gc_lines.specs.AnsweringLines.{silent, answers}
 use Rattle.gc_lines.specs.Replies.{reply_text}
-use Rattle.gc_lines.specs.Requests.{RequestFields, IsNoRequest, IsRequest}
+use Rattle.gc_lines.specs.Requests.{RequestFields}
 use Rattle.gc_values.specs.declared.fault.ValueFault.{ValueFault}
 use Rattle.gc_catalogue.specs.Calls.{IsCall, IsRefusal}
 use Rattle.gc_catalogue.specs.Texts.{reply_line}
@@ -22,8 +24,8 @@ line_with id rc params = reply_text (record { rc_com = 0; id = Some id; rc = rc;
 abbrev pub played_line : (number : ℕ) → Played → List ℕ
 played_line number p = line_with number p.rc p.params
 
--- the stored line that answers a request with this id, if the instrument repeats; none if no line is stored for the id, or the instrument
--- doesn't repeat
+-- the stored line that answers a request with this id, if the instrument repeats; none if no line is stored for the id, or the
+-- instrument doesn't repeat
 abbrev pub resent_line : SceneState → (id : Option ℕ) → Option (List ℕ)
 resent_line s id = if s.repeats then kept_line s.base.kept id else None
 
@@ -35,8 +37,9 @@ kept_if_repeating s id line = if s.repeats then kept_after s.base.kept id line e
 abbrev pub holding : Option KeptReply → SceneState → SceneState
 holding kept s = record s { base = with_kept kept s.base }
 
--- what the instrument does with a request: it sends the stored line again, if there is one for the id, and executes nothing; else it does
--- `p`, and stores the reply (`kept_if_repeating`). `executed` is false for a repeat alone, so it is true also where a fault answers
+-- what the instrument does with a request: it sends the stored line again, if there is one for the id, and executes nothing; else
+-- it does `p`, and stores the reply (`kept_if_repeating`). `executed` is false for a repeat alone, so it is true also where a
+-- fault answers
 abbrev pub again_or_played : SceneState → (id : Option ℕ) → Played → (stored : Option (List ℕ)) → Handed SceneState
 again_or_played s id p (Some line) = record { state = s; reply = line; executed = false }
 again_or_played s id p None =
@@ -75,18 +78,15 @@ pub data AnswersRequest (before : SceneState) (q : RequestFields) (after : Scene
       → reply ≡ refusal_line (reply_id q) (Parameters e) → AnswersRequest before q after reply
 
 -- what the instrument does with a line, and its reply, if there is one
-pub data IsPlayed (before : SceneState) (line : List ℕ) (after : SceneState) (reply : Option (List ℕ)) : Type 0 where
-  -- the line is no request: nothing changes
-  silent : IsNoRequest line → after ≡ before → reply ≡ None → IsPlayed before line after reply
-  -- the line is a request
-  answers : (q : RequestFields) → IsRequest line q → (text : List ℕ) → AnswersRequest before q after text → reply ≡ Some text
-      → IsPlayed before line after reply
+abbrev pub IsPlayed : (before : SceneState) → (line : List ℕ) → (after : SceneState) → (reply : Option (List ℕ)) → Type 0
+IsPlayed before line after reply = RepliesTo AnswersRequest before line after reply
 
 -- the reply line with this id to an executed call with this code and this answer, by the state after the call
 abbrev pub executed_reply_line : SceneState → (id rc : ℕ) → Call → Answer → List ℕ
 executed_reply_line s id rc call answer = reply_line id rc (replied_answer s.ways.values s.base.pointing call rc answer) s.base.precision
 
--- what the instrument does with a request for this procedure that isn't executed: a repeat is answered again, and else the reply has this
--- code and these parameters
+-- what the instrument does with a request that is answered with this code and these parameters, and isn't executed: it sends the
+-- stored line again, if there is one for the id; else the faults count the request of this procedure, and the reply is stored
+-- (`kept_if_repeating`)
 abbrev pub handed_unexecuted : SceneState → (rpc : ℕ) → (id : Option ℕ) → (rc : ℕ) → (params : List ℕ) → Handed SceneState
 handed_unexecuted s rpc id rc params = again_or_played s id (record { state = counting rpc s; rc = rc; params = params }) (resent_line s id)

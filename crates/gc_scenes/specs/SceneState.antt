@@ -29,8 +29,8 @@ pub record SceneState : Type 0 where
   -- the moment of the next request, in milliseconds of the program's clock
   pub moment : ℕ
 
--- the state after a restart: that of the execution table restarts (`restarted`). The scene goes on: its counts, its targets and its noise
--- stay, and a clock that runs goes on
+-- the state after a restart: that of the execution table restarts (`restarted`). The scene goes on: its counts, its targets and
+-- its noise stay, and a clock that runs goes on
 abbrev pub scene_restarted : SceneState → SceneState
 scene_restarted s = record s { base = restarted s.base }
 

@@ -1,17 +1,16 @@
 -- An instrument whose replies take time: this project's own. Moments are milliseconds on one clock; only their differences count.
 -- `rpc` is a procedure's number.
-use Rattle.std.specs.Prelude.{◌≡◌, ℕ, ◌+◌, ◌<◌, ◌≤◌, ◌==◌, Bool, true, List, [], ◌∷◌, Option, Some, None, if◌then◌else◌, min, nat_lt}
-use Rattle.std.specs.Option.{option_map}
-use Rattle.gc_lines.specs.Lines.{with_end}
+use Rattle.std.specs.Prelude.{◌≡◌, ℕ, ◌<◌, ◌≤◌, ◌==◌, Bool, true, List, [], ◌∷◌, Option, Some, None, if◌then◌else◌, nat_lt}
+use Rattle.gc_lines.specs.AnsweringLines.{AnswersLines}
 use Rattle.gc_lines.specs.Requests.{RequestFields, IsRequest}
 use Rattle.gc_lines.specs.declared.frame.Frame.{Frame}
-use Rattle.gc_lines.specs.declared.frame.Frame.TheVariants.{Line, Cleared, Overlong, More}
+use Rattle.gc_catalogue.specs.Moments.{later}
 use Rattle.gc_scenes.specs.SceneReplying.{IsPlayed}
 use Rattle.gc_scenes.specs.SceneState.{SceneState, scene_restarted, at_moment}
 use Rattle.gc_scenes.specs.declared.delay.Delay.{Delay}
 
--- how long the reply to a request of this procedure takes, in milliseconds: as the last delay for the procedure says, or `ms` if none is
--- for it
+-- how long the reply to a request of this procedure takes, in milliseconds: as the last delay for the procedure says, or `ms` if
+-- none is for it
 abbrev pub delay_from : (rpc ms : ℕ) → List Delay → ℕ
 delay_from rpc ms [] = ms
 delay_from rpc ms (d ∷ ds) = delay_from rpc (if d.rpc == rpc then d.ms else ms) ds
@@ -50,12 +49,8 @@ taken_up s at = if nat_lt at s.free_from then s.free_from else at
 abbrev pub scene_then : SlowState → (came : ℕ) → SceneState
 scene_then s came = at_moment (taken_up s came) s.scene
 
--- the moment `ms` milliseconds after `at`, at most the last one that 64 bits hold
-abbrev pub moment_after : (at ms : ℕ) → ℕ
-moment_after at ms = min (at + ms) 18446744073709551615
-
--- what the instrument does with a line whose last byte came at the moment `at`, and its reply, if there is one. The reply goes out at
--- `after.free_from`
+-- what the instrument does with a line whose last byte came at the moment `at`, and its reply, if there is one. The reply goes
+-- out at `after.free_from`
 pub data HearsLine (before : SlowState) (line : List ℕ) (at : ℕ) (after : SlowState) (reply : Option (List ℕ)) : Type 0 where
   -- the instrument is busy, and discards the line: nothing is executed
   drops_it : before.drops ≡ true → at < before.free_from → after ≡ before → reply ≡ None → HearsLine before line at after reply
@@ -66,17 +61,13 @@ pub data HearsLine (before : SlowState) (line : List ℕ) (at : ℕ) (after : Sl
   -- the line is a request: its reply goes out `ms` milliseconds after the instrument started on it
   replies : IsTaken before at → (scene : SceneState) → (text : List ℕ) → IsPlayed (scene_then before at) line scene (Some text) → (ms : ℕ)
       → IsDelay before.delays line ms
-      → after ≡ record before { scene = scene; free_from = moment_after (taken_up before at) ms } → reply ≡ Some text
+      → after ≡ record before { scene = scene; free_from = later (taken_up before at) ms } → reply ≡ Some text
       → HearsLine before line at after reply
 
--- what the slow instrument does with a frame that came at the moment `at`, where `text` is what it sends: the reply to a line with its CR
--- LF, and nothing for a frame that is no line
+-- what the slow instrument does with a frame that came at the moment `at`, where `text` is what it sends: the reply to a line
+-- with its CR LF, and nothing for a frame that is no line
 abbrev pub HearsFrame : (before : SlowState) → Frame → (at : ℕ) → (after : SlowState) → (text : Option (List ℕ)) → Type 0
-HearsFrame before (Line line) at after text =
-    (reply : Option (List ℕ)) × HearsLine before line.items at after reply × (text ≡ option_map with_end reply)
-HearsFrame before Cleared at after text = (after ≡ before) × (text ≡ None)
-HearsFrame before Overlong at after text = (after ≡ before) × (text ≡ None)
-HearsFrame before More at after text = (after ≡ before) × (text ≡ None)
+HearsFrame before frame at after text = AnswersLines (λ s line t reply. HearsLine s line at t reply) before frame after text
 
 -- what the slow instrument does with a frame that came at some moment
 abbrev pub HearsSometime : (before : SlowState) → Frame → (after : SlowState) → (text : Option (List ℕ)) → Type 0

@@ -1,6 +1,6 @@
--- The ways of real instruments that a scene's instrument may have, each by itself: this project's own, from memory, and no statement about
--- an instrument. Angles are whole numbers of units, 10^-24 radians each.
-use Rattle.std.specs.Prelude.{ℕ, ℤ, pos, ◌+◌, ◌-◌, ◌*◌, ◌/◌, ◌%◌, ◌^◌, ◌==◌, ◌&&◌, ◌||◌, ◌+ℤ◌, ◌-ℤ◌, not, Bool, true, false, List, [], ◌∷◌, Option, Some, None, nat_le, int_le, unsigned_abs, if◌then◌else◌, min, max}
+-- The ways of real instruments that a scene's instrument may have, each by itself: this project's own, from memory, and no
+-- statement about an instrument. Angles are whole numbers of units, 10^-24 radians each.
+use Rattle.std.specs.Prelude.{ℕ, ℤ, pos, ◌+◌, ◌-◌, ◌%◌, ◌==◌, ◌&&◌, ◌||◌, ◌+ℤ◌, ◌-ℤ◌, not, Bool, true, false, List, [], ◌∷◌, Option, Some, None, nat_le, int_le, unsigned_abs, if◌then◌else◌, min, max}
 use Rattle.gc_values.specs.Decimals.{rounded, units}
 use Rattle.gc_values.specs.Directions.{half_turn, turn}
 use Rattle.gc_values.specs.Fraction.{signed}
@@ -43,8 +43,8 @@ is_in_face_two v = not (int_le (units v) half_turn)
 abbrev pub face_at : Decimal → Face
 face_at v = if is_in_face_two v then Turned else Normal
 
--- the horizontal direction h in the other face: h - P if h is at least P, and else h + P, where P is half a turn; or h itself, if that is
--- out of a decimal's range
+-- the horizontal direction h in the other face: h - P if h is at least P, and else h + P, where P is half a turn; or h itself, if
+-- that is out of a decimal's range
 abbrev pub other_hz : Decimal → Decimal
 other_hz h = shifted h (signed (int_le half_turn (units h)) 3141592653589793238462643)
 
@@ -63,12 +63,13 @@ is_over w there = w.faces && is_in_face_two there.v
 
 -- Target recognition.
 
--- the angle between two directions with this difference, the shorter way round the circle, in units: 6283185307179586476925286 are a turn
+-- the angle between two directions with this difference, the shorter way round the circle, in units: 6283185307179586476925286
+-- are a turn
 abbrev pub on_circle : ℤ → ℕ
 on_circle z = min (unsigned_abs z % 6283185307179586476925286) (6283185307179586476925286 - unsigned_abs z % 6283185307179586476925286)
 
--- how far a target is from where the telescope points, in units: the greater of the differences of the two angles, of which that of the
--- horizontal ones is taken the shorter way round the circle
+-- how far a target is from where the telescope points, in units: the greater of the differences of the two angles, of which that
+-- of the horizontal ones is taken the shorter way round the circle
 abbrev pub apart : Pointing → Target → ℕ
 apart there t = max (on_circle (units t.hz -ℤ units there.hz)) (unsigned_abs (units t.v -ℤ units there.v))
 
@@ -93,8 +94,8 @@ nearest there targets = nearest_of there None targets
 
 -- Values of a reply whose return code isn't 0.
 
--- whether this code is a warning, with which a reply may have values: measured without all corrections (1283), or without a guarantee of
--- the accuracy (1284); angles alone (1285), without all corrections (1288), or without a guarantee (1289)
+-- whether this code is a warning, with which a reply may have values: measured without all corrections (1283), or without a
+-- guarantee of the accuracy (1284); angles alone (1285), without all corrections (1288), or without a guarantee (1289)
 abbrev pub is_warning : ℕ → Bool
 is_warning rc = (rc == 1283) || ((rc == 1284) || ((rc == 1285) || ((rc == 1288) || (rc == 1289))))
 

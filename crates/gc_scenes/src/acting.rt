@@ -2,8 +2,8 @@
 
 ghost use Rattle.std.specs.Prelude.{◌≡◌, List, true};
 ghost use Rattle.gc_instrument.specs.Execution.{Gives, done, adjusted, pointed, unmeasured};
-ghost use Rattle.gc_scenes.specs.Acting.{Acts, ActsFaceless, faced, is_unchanged_by_ways};
-ghost use Rattle.gc_scenes.specs.Machine.{seeing, simply_measured};
+ghost use Rattle.gc_scenes.specs.Acting.{acted, acted_faceless, faced, is_unchanged_by_ways};
+ghost use Rattle.gc_scenes.specs.Machine.{GivesOver, seeing, simply_measured};
 ghost use Rattle.gc_scenes.specs.Ways.{nearest, other_hz, other_v};
 
 use crate::machine::Machine;
@@ -27,7 +27,7 @@ impl Machine {
         answer: &mut Answer,
     ) -> u16
         requires { answer.old ≡ Nothing }
-        ensures { Acts ways.now now targets.now self.old call.now self.new result answer.new }
+        ensures { GivesOver targets.now (λ s. acted ways.now now s call.now) self.old self.new result answer.new }
     {
         let rc = self.act_faceless(ways, now, call, targets, answer);
         if ways.faces {
@@ -46,7 +46,7 @@ impl Machine {
         answer: &mut Answer,
     ) -> u16
         requires { answer.old ≡ Nothing }
-        ensures { ActsFaceless ways.now now targets.now self.old call.now self.new result answer.new }
+        ensures { GivesOver targets.now (λ s. acted_faceless ways.now now s call.now) self.old self.new result answer.new }
     {
         match call {
             Call::Position {
@@ -97,7 +97,7 @@ impl Machine {
     ) -> u16
         requires plain { is_unchanged_by_ways call.now ≡ true }
         requires none { answer.old ≡ Nothing }
-        ensures { ActsFaceless ways.now now targets.now self.old call.now self.new result answer.new }
+        ensures { GivesOver targets.now (λ s. acted_faceless ways.now now s call.now) self.old self.new result answer.new }
     {
         self.carry_out(call, targets, answer)
     }

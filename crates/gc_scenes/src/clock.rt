@@ -2,9 +2,9 @@
 //! is here.
 
 ghost use Rattle.std.specs.Prelude.{◌≡◌, ◌≤◌, unsigned_abs};
-ghost use Rattle.gc_scenes.specs.Clocks.{days_in, next_year, next_day, days_on, second_of, at_second, later, shown_at};
+ghost use Rattle.gc_scenes.specs.Clocks.{next_year, next_day, days_on, second_of, at_second, later, shown_at};
 
-use gc_catalogue::{DateTime, is_leap};
+use gc_catalogue::{DateTime, month_days};
 
 // The seconds of a day.
 const DAY: u64 = 86_400;
@@ -26,20 +26,6 @@ impl Clock {
     }
 }
 
-// How many days this month of the year has; months count from 1. A number that is no month counts as one of 31 days.
-fn days_in(year: u16, month: u8) -> u8
-    ensures value { result ≡ days_in year month }
-    ensures few { result ≤ 31 }
-{
-    if month == 2 {
-        if is_leap(u64::from(year)) { 29 } else { 28 }
-    } else if month == 4 || month == 6 || month == 9 || month == 11 {
-        30
-    } else {
-        31
-    }
-}
-
 // The next year; from 9999 on a year is followed by itself.
 fn next_year(year: i16) -> i16
     ensures { result ≡ next_year year }
@@ -52,7 +38,9 @@ fn next_day(date: DateTime) -> DateTime
     ensures { result ≡ next_day date }
 {
     let mut after = date;
-    if u16::from(date.day) + 1 <= u16::from(days_in(date.year.unsigned_abs(), date.month)) {
+    if u64::from(date.day) + 1
+        <= month_days(u64::from(date.year.unsigned_abs()), u64::from(date.month))
+    {
         after.day = date.day + 1;
     } else if u16::from(date.month) + 1 <= 12 {
         after.day = 1;

@@ -4,7 +4,8 @@
 ghost use Rattle.std.specs.Prelude.{◌≡◌, ◌+◌, ◌<◌, ◌≤◌, length, true, IsTrue, IsFalse};
 ghost use Rattle.arrayvec.specs.ArrayVec.{array_vec_len};
 ghost use Rattle.gc_lines.specs.Answering.{AppendsAnswer};
-ghost use Rattle.gc_scenes.specs.Slow.{HearsLine, IsDelay, IsTaken, delay_of, moment_after, slow_restarted, taken_up};
+ghost use Rattle.gc_catalogue.specs.Moments.{later};
+ghost use Rattle.gc_scenes.specs.Slow.{HearsLine, IsDelay, IsTaken, delay_of, slow_restarted, taken_up};
 
 use crate::delay::Delay;
 use crate::instrument::SceneInstrument;
@@ -123,7 +124,7 @@ impl SlowInstrument {
 
 // The moment `ms` milliseconds after `at`, at most the last one that 64 bits hold.
 fn moment_after(at: u64, ms: u32) -> u64
-    ensures { result ≡ moment_after at ms }
+    ensures { result ≡ later at ms }
 {
     at.saturating_add(u64::from(ms))
 }

@@ -2,7 +2,7 @@
 -- the client, the marks and the records belong together (`Sound`), and the phase fits them (`Placed`). An act is one call on the
 -- link, with its result. A mark says which command an outstanding request is of, or `None` of a null procedure; a piece is the
 -- bytes that one read gave.
-use Rattle.std.proofs.Common.{◌≡◌, ℕ, ◌<◌, inl, ◌&&◌, ◌||◌, Bool, true, false, not, List, [], ◌∷◌, if◌then◌else◌, nat_lt, Option, refl, sym, ap, subst}
+use Rattle.std.proofs.Common.{◌≡◌, ℕ, ◌<◌, inl, ◌&&◌, ◌||◌, Bool, true, false, not, List, [], if◌then◌else◌, nat_lt, Option, refl, sym, ap, subst}
 use Rattle.std.proofs.lemmas.Bool.{both_ways}
 use Rattle.gc_lines.specs.Frames.{rest_behind}
 use Rattle.gc_client.specs.Rule.{heard, hears}
@@ -22,11 +22,11 @@ use Rattle.gc_links.specs.Acts.{Act, Told, Cut, Gave, Silent, Ended, Broke, Open
 use Rattle.gc_station.specs.Deciding.{is_up, is_past, is_quiet}
 use Rattle.gc_station.specs.Marks.{commands_in}
 use Rattle.gc_station.specs.Progressing.{moment_noted, failing, after_failure, is_finished, is_spared, lines_synchronizing, quieted, drained, time_passed, silent, is_idle, closed}
-use Rattle.gc_station.specs.Model.{Model, with_progress, with_moment, with_rest, waiting_of, line_came, lines_came, lines_completed, after_piece, is_heard, piece_noted, piece_at, after_clock, after_put, after_open, after_read, after_close}
+use Rattle.gc_station.specs.Model.{Model, with_progress, with_moment, with_rest, waiting_of, line_came, lines_completed, after_piece, is_heard, piece_noted, piece_at, after_clock, after_put, after_open, after_read, after_close}
 use Rattle.gc_station.proofs.Invariant.{is_bare, is_done, says_done}
 use Rattle.gc_station.proofs.Meets.{heard_left}
-use Rattle.gc_station.proofs.Midway.{Placed, SoundAt, PlacedAt, Mid, sound_moment, sound_settles}
-use Rattle.gc_station.proofs.Walk.{asked_along, closed_along}
+use Rattle.gc_station.proofs.Midway.{Sound, ledger_at, Placed, PlacedAt, Mid, sound_moment, sound_settles, MidAt}
+use Rattle.gc_station.proofs.Walk.{asked_along, came_along, closed_along}
 use Rattle.gc_station.proofs.Facts.{finished_so}
 
 -- the phase after a failure for `why`, closing if there is a connection (`up`) and over if there is none, is `Placed`, unless
@@ -41,7 +41,7 @@ mid_fail plan commands s why other mid = (mid.0, fail_placed s.progress s.rest s
 
 -- a moment, at which requests may time out, preserves `Mid`
 pub mid_moment : (plan : Plan) (commands : List Task) (s : Model) (m : Moment) → Mid plan commands s → Mid plan commands (with_moment m s)
-mid_moment plan commands s m mid = (sound_moment plan commands s.progress.left s.progress.unsent s.client s.marks s.records s.passes m.elapsed mid.0, mid.1)
+mid_moment plan commands s m mid = (sound_moment plan commands (ledger_at s s.progress) m.elapsed mid.0, mid.1)
 
 -- an act that reads the clock preserves `Mid`, if the change of the progress by `f m` does so for each moment m
 pub mid_clock : (plan : Plan) (commands : List Task) (f : Moment → Progress → Progress) (s : Model) (act : Act) → Mid plan commands s
@@ -88,10 +88,10 @@ close_placed plan w cause.Stale p marks done = over_placed cause.Stale p marks (
 close_placed plan w cause.Stopped p marks done = over_placed cause.Stopped p marks (λ e. cc)
 close_placed plan w why p marks done = placed_again plan w.commands why p [] marks refl refl
 
--- a close preserves `SoundAt`: it leaves the counts, the client, the marks and the records
-close_sound : (plan : Plan) (commands : List Task) (s : Model) (w : Waiting) (why : Cause) → SoundAt plan commands s.progress s.client s.marks s.records s.passes
-    → SoundAt plan commands (closed plan w why s.progress) s.client s.marks s.records s.passes
-close_sound plan commands s w why sound = closed_along (λ (q : Progress). SoundAt plan commands q s.client s.marks s.records s.passes) plan w why s.progress sound sound
+-- a close preserves `Sound`: it leaves the counts, the client, the marks and the records
+close_sound : (plan : Plan) (commands : List Task) (s : Model) (w : Waiting) (why : Cause) → Sound plan commands (ledger_at s s.progress)
+    → Sound plan commands (ledger_at s (closed plan w why s.progress))
+close_sound plan commands s w why sound = closed_along (λ (q : Progress). Sound plan commands (ledger_at s q)) plan w why s.progress sound sound
 
 -- a close for `why` preserves `Mid`, if nothing is left to be sent where `why` is `Done`
 pub mid_close : (plan : Plan) (commands : List Task) (s : Model) (why : Cause) → (why ≡ cause.Done → (s.progress.left ≡ 0) × (s.progress.unsent ≡ 0))
@@ -100,7 +100,7 @@ mid_close plan commands s why done mid = let w : Waiting = waiting_of (with_rest
 
 -- what `Mid` says in the phase `Ready`, in which lines are heard and requests sent: the phase adds nothing to `Sound`
 pub record Listening (plan : Plan) (commands : List Task) (s : Model) : Type 0 where
-  pub sound : SoundAt plan commands s.progress s.client s.marks s.records s.passes
+  pub sound : Sound plan commands (ledger_at s s.progress)
   pub is_ready : s.progress.phase ≡ Ready
 
 -- a line that is heard preserves `Listening`
@@ -110,15 +110,10 @@ listen_line plan commands s line l =
     let x = hears s.client line (heard line) in
     let next : x.client.next ≡ s.client.next = (heard_left s.client line (heard line)).next in
     record {
-      sound = sound_settles s.reads plan commands p.left p.unsent s.client x.client s.marks s.records s.passes p.moment.utc x.settlements
+      sound = sound_settles s.reads plan commands (ledger_at s p) x.client p.moment.utc x.settlements
           (heard_parts s.client line (heard line)) (subst (λ (n : ℕ). n < 8) (sym next) l.sound.digit) l.sound;
       is_ready = l.is_ready;
     }
-
--- lines that are heard preserve `Listening`
-listen_lines : (plan : Plan) (commands : List Task) (s : Model) (lines : List (List ℕ)) → Listening plan commands s → Listening plan commands (lines_came s lines)
-listen_lines plan commands s [] l = l
-listen_lines plan commands s (line ∷ others) l = listen_lines plan commands (line_came s line) others (listen_line plan commands s line l)
 
 -- lines are heard in the phase `Ready` alone
 pub heard_ready : (phase : Phase) → is_heard phase ≡ true → phase ≡ Ready
@@ -128,14 +123,15 @@ heard_ready phase e = cc
 -- lines that are heard while the station synchronizes preserve `Listening`: they change neither the counts nor the phase
 listen_asked : (plan : Plan) (commands : List Task) (s : Model) (lines : List (List ℕ)) → Listening plan commands s → Listening plan commands (with_progress (λ p. lines_synchronizing p lines) s)
 listen_asked plan commands s lines l =
-    let it = asked_along (λ (q : Progress). SoundAt plan commands q s.client s.marks s.records s.passes × (q.phase ≡ Ready)) (λ q line h. h) s.progress lines (l.sound, l.is_ready) in
+    let it = asked_along (λ (q : Progress). Sound plan commands (ledger_at s q) × (q.phase ≡ Ready)) (λ q line h. h) s.progress lines (l.sound, l.is_ready) in
     record { sound = it.0; is_ready = it.1 }
 
 -- a piece that is heard preserves `Listening`
 listen_came : (plan : Plan) (commands : List Task) (s : Model) (word piece : List ℕ) → Listening plan commands s → Listening plan commands (after_piece true word piece s)
-listen_came plan commands s [] piece l = listen_lines plan commands (with_rest (rest_behind s.rest piece) s) (lines_completed s.rest piece) (record { sound = l.sound; is_ready = l.is_ready })
-listen_came plan commands s (asked ∷ others) piece l = listen_asked plan commands (with_rest (rest_behind s.rest piece) s) (lines_completed s.rest piece)
-    (record { sound = l.sound; is_ready = l.is_ready })
+listen_came plan commands s word piece l =
+    let kept : Listening plan commands (with_rest (rest_behind s.rest piece) s) = record { sound = l.sound; is_ready = l.is_ready } in
+    came_along (Listening plan commands) (listen_line plan commands) true word piece s kept
+    (listen_asked plan commands (with_rest (rest_behind s.rest piece) s) (lines_completed s.rest piece) kept) l
 
 -- where `Listening` holds of a model, `Mid` holds of it once it is noted what a piece settled (`piece_noted`)
 piece_noted_ready : (plan : Plan) (commands : List Task) (s : Model) (until : Until) (before : ℕ) → Listening plan commands s → Mid plan commands (piece_noted plan until before s)
@@ -165,29 +161,25 @@ mid_piece plan commands s until piece m mid =
 -- Nothing came.
 
 -- the end of a pause, if it ends (`b`), preserves `Placed`
-down_placed : (b : Bool) (phase : Phase) (left unsent : ℕ) (rest : List ℕ) (marks : List (Option Mark)) → phase ≡ Pausing
+pause_placed : (b : Bool) (phase : Phase) (left unsent : ℕ) (rest : List ℕ) (marks : List (Option Mark)) → phase ≡ Pausing
     → Placed phase left unsent rest marks → Placed (if b then Down else phase) left unsent rest marks
-down_placed true phase left unsent rest marks is placed = record { empty = λ e. placed.empty (ap is_bare is); finished = λ e. cc }
-down_placed false phase left unsent rest marks is placed = placed
-
--- `Mid` of a model, with this progress in place of its own
-abbrev MidAt : Plan → List Task → Model → Progress → Type 0
-MidAt plan commands s p = SoundAt plan commands p s.client s.marks s.records s.passes × PlacedAt p s.rest s.marks
+pause_placed true phase left unsent rest marks is placed = record { empty = λ e. placed.empty (ap is_bare is); finished = λ e. cc }
+pause_placed false phase left unsent rest marks is placed = placed
 
 -- the end of a drain, if it ends (`ends`), preserves `MidAt`
-drained_there : (plan : Plan) (commands : List Task) (s : Model) (p : Progress) (ends : Bool) → MidAt plan commands s p → MidAt plan commands s (if ends then drained p else p)
-drained_there plan commands s p true mid = (mid.0, record { empty = λ e. cc; finished = λ e. cc })
-drained_there plan commands s p false mid = mid
+drained_mid : (plan : Plan) (commands : List Task) (s : Model) (p : Progress) (ends : Bool) → MidAt plan commands s p → MidAt plan commands s (if ends then drained p else p)
+drained_mid plan commands s p true mid = (mid.0, record { empty = λ e. cc; finished = λ e. cc })
+drained_mid plan commands s p false mid = mid
 
 -- the end of a pause or a drain, if one ends, preserves `MidAt`
-quiet_there : (plan : Plan) (commands : List Task) (s : Model) (phase : Phase) (p : Progress) → p.phase ≡ phase → MidAt plan commands s p → MidAt plan commands s (quieted plan phase p)
-quiet_there plan commands s Pausing p is mid = (mid.0, down_placed (is_past p.pause p && not (is_idle plan p)) p.phase p.left p.unsent s.rest s.marks is mid.1)
-quiet_there plan commands s Draining p is mid = drained_there plan commands s p (is_quiet plan p) mid
-quiet_there plan commands s phase p is mid = mid
+quieted_mid : (plan : Plan) (commands : List Task) (s : Model) (phase : Phase) (p : Progress) → p.phase ≡ phase → MidAt plan commands s p → MidAt plan commands s (quieted plan phase p)
+quieted_mid plan commands s Pausing p is mid = (mid.0, pause_placed (is_past p.pause p && not (is_idle plan p)) p.phase p.left p.unsent s.rest s.marks is mid.1)
+quieted_mid plan commands s Draining p is mid = drained_mid plan commands s p (is_quiet plan p) mid
+quieted_mid plan commands s phase p is mid = mid
 
 -- a read that gave nothing preserves `Mid`
 pub mid_silent : (plan : Plan) (commands : List Task) (s : Model) (until : Until) (m : Moment) → Mid plan commands s → Mid plan commands (with_moment m (with_progress (silent plan until m) s))
-mid_silent plan commands s until m mid = mid_moment plan commands (with_progress (silent plan until m) s) m (quiet_there plan commands s s.progress.phase (time_passed until m s.progress) refl mid)
+mid_silent plan commands s until m mid = mid_moment plan commands (with_progress (silent plan until m) s) m (quieted_mid plan commands s s.progress.phase (time_passed until m s.progress) refl mid)
 
 -- a read preserves `Mid`, whatever came of it
 pub mid_read : (plan : Plan) (commands : List Task) (until : Until) (s : Model) (act : Act) → Mid plan commands s → Mid plan commands (after_read plan until s act)

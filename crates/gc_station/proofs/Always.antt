@@ -13,11 +13,19 @@ use Rattle.gc_station.proofs.Counts.{ended_progress}
 use Rattle.gc_station.proofs.Going.{after_all-append}
 
 module _ (plan : Plan) (commands : List Task) where
+  -- the act performs the action that is next after the acts `done`, made from the model s on
+  abbrev pub PerformsNext : Model → (done : List Act) → Act → Type 0
+  PerformsNext s done act = Performs commands (after_all plan commands s done) (action_at plan (after_all plan commands s done)) act
+
+  -- the model after the acts `done`, made from the model s on, and one more, before what is outstanding is lost
+  abbrev pub moved_next : Model → (done : List Act) → Act → Model
+  moved_next s done act = let t = after_all plan commands s done in moved plan commands (action_at plan t) (with_progress turned t) act
+
   -- a fact P of the acts so far, and of the model after them, holds after each run from s on, if it holds at s, and each act of a
   -- run keeps it
   pub always : (s : Model) (P : List Act → Model → Type 0)
-      → ((done : List Act) (act : Act) → Runs plan commands s done → Performs commands (after_all plan commands s done) (action_at plan (after_all plan commands s done)) act
-      → P done (after_all plan commands s done) → P (done ++ act ∷ []) (after plan commands (after_all plan commands s done) act))
+      → ((done : List Act) (act : Act) → Runs plan commands s done → PerformsNext s done act → P done (after_all plan commands s done)
+      → P (done ++ act ∷ []) (after plan commands (after_all plan commands s done) act))
       → P [] s → (acts : List Act) → Runs plan commands s acts → P acts (after_all plan commands s acts)
   always s P step start [] runs = start
   always s P step start (act ∷ acts) runs =
@@ -27,23 +35,18 @@ module _ (plan : Plan) (commands : List Task) where
   -- a fact P of the progress, and of the acts so far, holds after each run from s on, if it holds at s, and each act of a run
   -- keeps it
   pub always_of_progress : (s : Model) (P : Progress → List Act → Type 0)
-      → ((done : List Act) (act : Act) → Runs plan commands s done → Performs commands (after_all plan commands s done) (action_at plan (after_all plan commands s done)) act
-      → P (after_all plan commands s done).progress done
-      → P (moved plan commands (action_at plan (after_all plan commands s done)) (with_progress turned (after_all plan commands s done)) act).progress (done ++ act ∷ []))
+      → ((done : List Act) (act : Act) → Runs plan commands s done → PerformsNext s done act → P (after_all plan commands s done).progress done
+      → P (moved_next s done act).progress (done ++ act ∷ []))
       → P s.progress [] → (acts : List Act) → Runs plan commands s acts → P (after_all plan commands s acts).progress acts
   always_of_progress s P step start acts runs = always s (λ (done : List Act) (t : Model). P t.progress done) progress_kept start acts runs where
     -- each act keeps P of the model's progress: the loss of what is outstanding, at the end of an act, changes no progress
-    progress_kept : (done : List Act) (act : Act) → Runs plan commands s done → Performs commands (after_all plan commands s done) (action_at plan (after_all plan commands s done)) act
-        → P (after_all plan commands s done).progress done → P (after plan commands (after_all plan commands s done) act).progress (done ++ act ∷ [])
-    progress_kept done act runs o p =
-        let t = after_all plan commands s done in
-        subst (λ (q : Progress). P q (done ++ act ∷ [])) (sym (ended_progress (moved plan commands (action_at plan t) (with_progress turned t) act))) (step done act runs o p)
+    progress_kept : (done : List Act) (act : Act) → Runs plan commands s done → PerformsNext s done act → P (after_all plan commands s done).progress done
+        → P (after plan commands (after_all plan commands s done) act).progress (done ++ act ∷ [])
+    progress_kept done act runs o p = subst (λ (q : Progress). P q (done ++ act ∷ [])) (sym (ended_progress (moved_next s done act))) (step done act runs o p)
 
 -- the progress after one act more is that which `moved` gives once the turn is taken: the loss of what is outstanding, at the end
 -- of the act, changes no progress
 pub progress_after_act : (plan : Plan) (commands : List Task) (scope : Scope) (done : List Act) (act : Act)
-    → (state_after plan commands scope (done ++ act ∷ [])).progress ≡ (moved plan commands (action_at plan (state_after plan commands scope done))
-    (with_progress turned (state_after plan commands scope done)) act).progress
+    → (state_after plan commands scope (done ++ act ∷ [])).progress ≡ (moved_next plan commands (opening plan scope) done act).progress
 progress_after_act plan commands scope done act =
-    let s = state_after plan commands scope done in
-    ap (λ (x : Model). x.progress) (after_all-append plan commands (opening plan scope) done (act ∷ [])) ∙ ended_progress (moved plan commands (action_at plan s) (with_progress turned s) act)
+    ap (λ (x : Model). x.progress) (after_all-append plan commands (opening plan scope) done (act ∷ [])) ∙ ended_progress (moved_next plan commands (opening plan scope) done act)

@@ -41,7 +41,7 @@ use Rattle.gc_station.proofs.Going.{after_all-append}
 use Rattle.gc_station.proofs.Growing.{losing_records}
 use Rattle.gc_station.proofs.Lists.{all_append, all_on, AllRisingAt, rising_more}
 use Rattle.gc_station.proofs.Losing.{losing_honest}
-use Rattle.gc_station.proofs.Waiting.{Stayed, Waits, IsJustified, Honest, IsHonest, Marked, asked_more, asked_as, asked_among, stays_still, more_true, still, moment_told}
+use Rattle.gc_station.proofs.Waiting.{Stayed, Waits, IsJustified, Honest, IsHonest, Marked, asked_more, asked_as, asked_among, stays_still, more_true, honest_untold, honest_told}
 use Rattle.gc_station.proofs.Pieces.{piece_honest}
 use Rattle.gc_station.specs.Scopes.{Scope}
 use Rattle.gc_station.proofs.Midway.{client_behind}
@@ -142,7 +142,7 @@ first_honest : (plan : Plan) (commands : List Task) (scope : Scope) (acts : List
     → IsHonest plan commands scope (acts ++ act ∷ []) (acts ++ act ∷ [])
     (with_progress (sent next_is_chained next_others) (asks_first mark left (with_progress turned (state_after plan commands scope acts))))
 first_honest plan commands scope acts act next_is_chained next_others [] mark fine h is room at puts =
-    still plan commands scope acts act _ _ _ (puts_still [] act puts) h
+    honest_untold plan commands scope acts act _ _ _ (puts_still [] act puts) h
 first_honest plan commands scope acts act next_is_chained next_others (task ∷ others) mark fine h is room at puts =
     let s = state_after plan commands scope acts in
     let d : later s.progress.moment.elapsed task.deadline ≡ deadline_after plan commands scope acts = ap (λ (left : List Task). later s.progress.moment.elapsed (first_deadline left)) (sym at) in
@@ -213,8 +213,8 @@ skips_true plan commands scope all p act = tt
 clock_honest : (plan : Plan) (commands : List Task) (scope : Scope) (acts : List Act) (act : Act) (f : Moment → Progress → Progress) (s : Model)
     → IsHonest plan commands scope acts (acts ++ act ∷ []) s → ReadsClock act
     → IsHonest plan commands scope (acts ++ act ∷ []) (acts ++ act ∷ []) (after_clock f (with_progress turned s) act)
-clock_honest plan commands scope acts (Told m) f s h o = moment_told plan commands scope acts (Told m) m.elapsed _ _ _ (λ d low. low) (λ d past. past) h
-clock_honest plan commands scope acts Untold f s h o = still plan commands scope acts Untold _ _ _ (λ d. tt) h
+clock_honest plan commands scope acts (Told m) f s h o = honest_told plan commands scope acts (Told m) m.elapsed _ _ _ (λ d low. low) (λ d past. past) h
+clock_honest plan commands scope acts Untold f s h o = honest_untold plan commands scope acts Untold _ _ _ (λ d. tt) h
 clock_honest plan commands scope acts act f s h o = absurd o
 
 -- an act that leaves attempts out preserves `IsHonest`
@@ -232,8 +232,8 @@ pass_honest plan commands scope acts act s h o = absurd o
 -- an attempt to connect preserves `IsHonest`
 open_honest : (plan : Plan) (commands : List Task) (scope : Scope) (acts : List Act) (act : Act) (s : Model) → IsHonest plan commands scope acts (acts ++ act ∷ []) s → IsOpening act
     → IsHonest plan commands scope (acts ++ act ∷ []) (acts ++ act ∷ []) (after_open plan (with_progress turned s) act)
-open_honest plan commands scope acts Opened s h o = still plan commands scope acts Opened _ _ _ (λ d. tt) h
-open_honest plan commands scope acts Unopened s h o = still plan commands scope acts Unopened _ _ _ (λ d. tt) h
+open_honest plan commands scope acts Opened s h o = honest_untold plan commands scope acts Opened _ _ _ (λ d. tt) h
+open_honest plan commands scope acts Unopened s h o = honest_untold plan commands scope acts Unopened _ _ _ (λ d. tt) h
 open_honest plan commands scope acts act s h o = absurd o
 
 -- a read preserves `IsHonest`, whatever came of it. `tail` are the records that the loss of what is outstanding adds after it
@@ -242,13 +242,13 @@ read_honest : (plan : Plan) (commands : List Task) (scope : Scope) (acts : List 
     → IsReading act
     → (state_after plan commands scope (acts ++ act ∷ [])).records ≡ (after_read plan until (with_progress turned (state_after plan commands scope acts)) act).records ++ tail
     → IsHonest plan commands scope (acts ++ act ∷ []) (acts ++ act ∷ []) (after_read plan until (with_progress turned (state_after plan commands scope acts)) act)
-read_honest plan commands scope acts until Untold tail fine h o ends = still plan commands scope acts Untold _ _ _ (λ d. tt) h
+read_honest plan commands scope acts until Untold tail fine h o ends = honest_untold plan commands scope acts Untold _ _ _ (λ d. tt) h
 read_honest plan commands scope acts until (Gave bytes m) tail fine h o ends =
     let s = state_after plan commands scope acts in
     piece_honest plan commands scope acts bytes m (is_heard s.progress.phase) s.progress.word tail ends (record { digit = fine.digit; few = fine.window }) h
-read_honest plan commands scope acts until (Silent m) tail fine h o ends = moment_told plan commands scope acts (Silent m) m.elapsed _ _ _ (λ d low. low) (λ d past. past) h
-read_honest plan commands scope acts until Ended tail fine h o ends = still plan commands scope acts Ended _ _ _ (λ d. tt) h
-read_honest plan commands scope acts until Broke tail fine h o ends = still plan commands scope acts Broke _ _ _ (λ d. tt) h
+read_honest plan commands scope acts until (Silent m) tail fine h o ends = honest_told plan commands scope acts (Silent m) m.elapsed _ _ _ (λ d low. low) (λ d past. past) h
+read_honest plan commands scope acts until Ended tail fine h o ends = honest_untold plan commands scope acts Ended _ _ _ (λ d. tt) h
+read_honest plan commands scope acts until Broke tail fine h o ends = honest_untold plan commands scope acts Broke _ _ _ (λ d. tt) h
 read_honest plan commands scope acts until act tail fine h o ends = absurd o
 
 -- a close reads no moment
@@ -273,11 +273,11 @@ moved_honest plan commands scope acts actions.Begin act tail fine h is needs o e
 moved_honest plan commands scope acts actions.Open act tail fine h is needs o ends = open_honest plan commands scope acts act (state_after plan commands scope acts) h o
 moved_honest plan commands scope acts actions.Clear act tail fine h is needs o ends =
     let s = state_after plan commands scope acts in
-    put_honest plan commands scope (acts ++ act ∷ []) _ (with_progress cleared) (with_progress turned s) act (still plan commands scope acts act _ _ _ (puts_still (10 ∷ []) act o) h)
+    put_honest plan commands scope (acts ++ act ∷ []) _ (with_progress cleared) (with_progress turned s) act (honest_untold plan commands scope acts act _ _ _ (puts_still (10 ∷ []) act o) h)
 moved_honest plan commands scope acts actions.Ask act tail fine h is needs o ends =
     let s = state_after plan commands scope acts in
     put_honest plan commands scope (acts ++ act ∷ []) _ (with_progress (null_sent plan)) (with_progress turned s) act
-    (still plan commands scope acts act _ _ _ (puts_still (null_text s.progress.word) act o) h)
+    (honest_untold plan commands scope acts act _ _ _ (puts_still (null_text s.progress.word) act o) h)
 moved_honest plan commands scope acts actions.Prepare act tail fine h is needs o ends =
     let s = state_after plan commands scope acts in
     put_honest plan commands scope (acts ++ act ∷ []) _ (λ (x : Model). with_progress (setup_sent plan) (asks_setup plan commands x)) (with_progress turned s) act
@@ -308,7 +308,7 @@ moved_honest plan commands scope acts actions.Flush act tail fine h is needs o e
     put_honest plan commands scope (acts ++ act ∷ []) _ (λ (x : Model). with_progress request_noted (asks_null plan x)) (with_progress turned s) act
     (null_honest plan commands scope acts act request_noted fine h needs.4.1 (λ above. subst IsAsking (sym is) tt) o)
 moved_honest plan commands scope acts (actions.Read until) act tail fine h is needs o ends = read_honest plan commands scope acts until act tail fine h o ends
-moved_honest plan commands scope acts (actions.Close why) act tail fine h is needs o ends = still plan commands scope acts act _ _ _ (close_still act o) h
+moved_honest plan commands scope acts (actions.Close why) act tail fine h is needs o ends = honest_untold plan commands scope acts act _ _ _ (close_still act o) h
 moved_honest plan commands scope acts (actions.Stop why) act tail fine h is needs o ends = absurd o
 
 -- acts of a run preserve `IsHonest`
@@ -331,25 +331,24 @@ honest_along plan commands scope done (act ∷ acts) h runs =
     subst (λ (xs : List Act). IsHonest plan commands scope xs xs (state_after plan commands scope xs)) (append_assoc done (act ∷ []) acts)
     (honest_along plan commands scope (done ++ act ∷ []) acts here goes_on)
 
--- each record of a run is true, whatever ending it has
-all_true : (plan : Plan) (commands : List Task) (scope : Scope) (acts : List Act) → Runs plan commands (opening plan scope) acts
-    → AllByRecursion (IsJustified plan commands scope acts) (state_after plan commands scope acts).records
-all_true plan commands scope acts runs = (honest_along plan commands scope [] acts (record { waiting = tt; written = tt }) runs).written
+-- what follows of each record that is true, whatever ending it has, holds of all records of a run
+all_true : (plan : Plan) (commands : List Task) (scope : Scope) (acts : List Act) (P : Record → Type 0) → ((r : Record) → IsJustified plan commands scope acts r → P r)
+    → Runs plan commands (opening plan scope) acts → AllByRecursion P (state_after plan commands scope acts).records
+all_true plan commands scope acts P step runs =
+    all_on (IsJustified plan commands scope acts) P (state_after plan commands scope acts).records step
+    (honest_along plan commands scope [] acts (record { waiting = tt; written = tt }) runs).written
 
 -- each record of a reply in time is true
 pub answers_true : (plan : Plan) (commands : List Task) (scope : Scope) (acts : List Act) → Runs plan commands (opening plan scope) acts
     → AllByRecursion (AnswerIsJustified plan commands scope acts) (state_after plan commands scope acts).records
-answers_true plan commands scope acts runs = all_on (IsJustified plan commands scope acts) (AnswerIsJustified plan commands scope acts)
-    (state_after plan commands scope acts).records (λ r is. is.answered) (all_true plan commands scope acts runs)
+answers_true plan commands scope acts runs = all_true plan commands scope acts (AnswerIsJustified plan commands scope acts) (λ r is. is.answered) runs
 
 -- each late record is true
 pub late_true : (plan : Plan) (commands : List Task) (scope : Scope) (acts : List Act) → Runs plan commands (opening plan scope) acts
     → AllByRecursion (LateIsJustified plan commands scope acts) (state_after plan commands scope acts).records
-late_true plan commands scope acts runs = all_on (IsJustified plan commands scope acts) (LateIsJustified plan commands scope acts)
-    (state_after plan commands scope acts).records (λ r is. is.late) (all_true plan commands scope acts runs)
+late_true plan commands scope acts runs = all_true plan commands scope acts (LateIsJustified plan commands scope acts) (λ r is. is.late) runs
 
 -- each lost record is true
 pub lost_true : (plan : Plan) (commands : List Task) (scope : Scope) (acts : List Act) → Runs plan commands (opening plan scope) acts
     → AllByRecursion (LostIsJustified plan commands scope acts) (state_after plan commands scope acts).records
-lost_true plan commands scope acts runs = all_on (IsJustified plan commands scope acts) (LostIsJustified plan commands scope acts)
-    (state_after plan commands scope acts).records (λ r is. is.lost) (all_true plan commands scope acts runs)
+lost_true plan commands scope acts runs = all_true plan commands scope acts (LostIsJustified plan commands scope acts) (λ r is. is.lost) runs

@@ -17,7 +17,7 @@ use Rattle.gc_station.specs.Beginnings.{lines_heard_at, unanswered_after}
 use Rattle.gc_station.specs.Begun.{AreBegun, heard_in}
 use Rattle.gc_station.specs.Deciding.{has_begun, is_none_left}
 use Rattle.gc_station.specs.Parts as part
-use Rattle.gc_station.specs.Parts.{Part, sync_part, client_part, in_front, parts_of}
+use Rattle.gc_station.specs.Parts.{Part, only_turns, sync_part, client_part, in_front, parts_of}
 use Rattle.gc_station.specs.Progressing.{is_over, loses_all}
 use Rattle.gc_station.specs.Model.{Performs, Runs, Model, after, is_heard, lines_completed, action_at}
 use Rattle.gc_station.specs.NextCommand.{mark_next, place_next, mark_setup}
@@ -96,19 +96,22 @@ module _ (plan : Plan) (commands : List Task) where
 
 -- Each part synchronizes first.
 
+-- the part of an act while the station synchronizes has only turns
+pub only_of : (s : Model) (o : Action) (act : Act) → sync_part s o act ≡ only_turns (sync_part s o act).turns
+only_of s action.Ask (Put bytes) = refl
+only_of s action.Ask (Cut bytes count) = refl
+only_of s action.Ask act = refl
+only_of s (action.Read until) (Gave piece m) = refl
+only_of s (action.Read until) act = refl
+only_of s o act = refl
+
 -- the part of an act while the station synchronizes has no steps of the client
 pub steps_none : (s : Model) (o : Action) (act : Act) → (sync_part s o act).steps ≡ []
-steps_none s action.Ask (Put bytes) = refl
-steps_none s action.Ask (Cut bytes count) = refl
-steps_none s (action.Read until) (Gave piece m) = refl
-steps_none s o act = refl
+steps_none s o act = ap (λ (p : Part). p.steps) (only_of s o act)
 
 -- the part of an act while the station synchronizes has no marks
 pub marks_none : (s : Model) (o : Action) (act : Act) → (sync_part s o act).marks ≡ []
-marks_none s action.Ask (Put bytes) = refl
-marks_none s action.Ask (Cut bytes count) = refl
-marks_none s (action.Read until) (Gave piece m) = refl
-marks_none s o act = refl
+marks_none s o act = ap (λ (p : Part). p.marks) (only_of s o act)
 
 -- where two lists are empty, they are empty joined
 pub nil_both : {A : Type 0} (xs ys : List A) → xs ≡ [] → ys ≡ [] → xs ++ ys ≡ []

@@ -62,15 +62,15 @@ none_left (asked ∷ others) ids e = cc
 
 module _ (plan : Plan) (commands : List Task) where
   -- while the station synchronizes, an action whose conditions hold isn't `Renew`
-  begins_not : (s : Model) (o : Action) → HoldsBefore plan s.progress (waiting_of s) o → has_begun s.progress ≡ false → o ≡ actions.Renew → ⊥
-  begins_not s o needs begins is = let it = subst (λ (x : Action). HoldsBefore plan s.progress (waiting_of s) x) is needs in both_ways (has_begun s.progress) begins it.1
+  not_renew : (s : Model) (o : Action) → HoldsBefore plan s.progress (waiting_of s) o → has_begun s.progress ≡ false → o ≡ actions.Renew → ⊥
+  not_renew s o needs begins is = let it = subst (λ (x : Action). HoldsBefore plan s.progress (waiting_of s) x) is needs in both_ways (has_begun s.progress) begins it.1
 
   -- while the station synchronizes, the ids that an act leaves unanswered are those that its lines leave
   pub word_after : (s : Model) (act : Act) → Performs commands s (action_at plan s) act → has_begun s.progress ≡ false
       → (after plan commands s act).progress.word ≡ unanswered_after s.progress.word (lines_heard_at s act)
   word_after s act obeys begins =
       ap (λ (p : Progress). p.word) (ended_progress (moved plan commands (action_at plan s) (with_progress turned s) act))
-      ∙ word_moved plan commands s (action_at plan s) act obeys (begins_not s (action_at plan s) (action_for plan s.progress (waiting_of s)) begins)
+      ∙ word_moved plan commands s (action_at plan s) act obeys (not_renew s (action_at plan s) (action_for plan s.progress (waiting_of s)) begins)
 
   -- if the station resynchronizes, all ids of the word are left
   pub word_if_resynchronizing : (s : Model) (act : Act) → Performs commands s (action_at plan s) act → has_begun s.progress ≡ true
@@ -84,22 +84,22 @@ module _ (plan : Plan) (commands : List Task) where
 
   -- if the word after an act is a subsequence of `ids`, the word before it is a subsequence of the ids of the act's lines and
   -- then `ids`; `begun` is whether the station had synchronized before the act
-  one_before : (s : Model) (act : Act) (ids : List ℕ) (begun : Bool) → has_begun s.progress ≡ begun → Performs commands s (action_at plan s) act
+  word_before_act : (s : Model) (act : Act) (ids : List ℕ) (begun : Bool) → has_begun s.progress ≡ begun → Performs commands s (action_at plan s) act
       → IsSubsequence (after plan commands s act).progress.word ids
       → IsSubsequence s.progress.word (filter_map heard (lines_heard_at s act) ++ ids)
-  one_before s act ids true begun obeys h = none_left s.progress.word _ begun
-  one_before s act ids false begins obeys h = lines_answered s.progress.word (lines_heard_at s act) ids (subst (λ (w : List ℕ). IsSubsequence w ids) (word_after s act obeys begins) h)
+  word_before_act s act ids true begun obeys h = none_left s.progress.word _ begun
+  word_before_act s act ids false begins obeys h = lines_answered s.progress.word (lines_heard_at s act) ids (subst (λ (w : List ℕ). IsSubsequence w ids) (word_after s act obeys begins) h)
 
   -- if the station has synchronized after these acts, the word before them is a subsequence of the ids of the lines that are
   -- heard at them
-  none_before : (s : Model) (acts : List Act) → Runs plan commands s acts → has_begun (after_all plan commands s acts).progress ≡ true
+  word_among_heard : (s : Model) (acts : List Act) → Runs plan commands s acts → has_begun (after_all plan commands s acts).progress ≡ true
       → IsSubsequence s.progress.word (filter_map heard (lines_heard plan commands s acts))
-  none_before s [] runs begun = none_left s.progress.word [] begun
-  none_before s (act ∷ acts) runs begun =
+  word_among_heard s [] runs begun = none_left s.progress.word [] begun
+  word_among_heard s (act ∷ acts) runs begun =
       let u = after plan commands s act in
       let ids = filter_map heard (lines_heard plan commands u acts) in
       subst (λ (all : List ℕ). IsSubsequence s.progress.word all) (sym (filter_map-append heard (lines_heard_at s act) (lines_heard plan commands u acts)))
-      (one_before s act ids (has_begun s.progress) refl runs.0 (none_before u acts runs.1 begun))
+      (word_before_act s act ids (has_begun s.progress) refl runs.0 (word_among_heard u acts runs.1 begun))
 
 -- if a command is next, or a null procedure that isn't of a synchronization, the station has synchronized
 asking_begun : (plan : Plan) (s : Model) (o : Action) → IsAsking o → HoldsBefore plan s.progress (waiting_of s) o → has_begun s.progress ≡ true
@@ -114,7 +114,7 @@ pub none_before_the_last : NoneBeforeTheLastAnswer
 none_before_the_last plan commands scope earlier between runs asks =
     let t = state_after plan commands scope (earlier ++ between) in
     let begun = asking_begun plan t (action_at plan t) asks (action_for plan t.progress (waiting_of t)) in
-    none_before plan commands (state_after plan commands scope earlier) between (runs_behind plan commands (opening plan scope) earlier between runs)
+    word_among_heard plan commands (state_after plan commands scope earlier) between (runs_behind plan commands (opening plan scope) earlier between runs)
     (ap (λ (x : Model). has_begun x.progress) (sym (after_all-append plan commands (opening plan scope) earlier between)) ∙ begun)
 
 -- Each act while the station synchronizes, and if it resynchronizes.
@@ -130,7 +130,7 @@ module _ (plan : Plan) (commands : List Task) (scope : Scope) (acts : List Act) 
 
   -- an act of a run, while the station synchronizes, is `IsSynchronizing`: the client is new, a request that is sent is the null
   -- procedure of the first id left, and the act's lines answer ids in order
-  of_beginning : Performs commands here (action_at plan here) act → has_begun here.progress ≡ false → IsSynchronizing plan commands scope acts act
+  of_beginning : Performs commands here (action_at plan here) act → has_begun here.progress ≡ false → IsSynchronizing here act there
   of_beginning obeys begins =
       let fine = invariant_holds plan commands scope acts in
       let new = fine.begins begins in

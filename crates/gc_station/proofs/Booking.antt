@@ -2,65 +2,65 @@
 -- far, and the client after that. A step is a send, a line heard, a moment read or a restart. `Books` says that a part's steps
 -- take a client, its marks and its records to those after them; `Wrote` says the same of the marks and the records alone, by
 -- what was settled and sent.
-use Rattle.std.proofs.Common.{◌≡◌, ℕ, zero, suc, ◌+◌, ◌<◌, ◌≤◌, Bool, true, false, List, [], ◌∷◌, ◌++◌, length, map, drop, Option, Some, None, refl, sym, ◌∙◌, ap, subst, arith, append_assoc, append-nil}
+use Rattle.std.proofs.Common.{◌≡◌, ℕ, zero, suc, ◌+◌, ◌<◌, ◌≤◌, Bool, true, false, List, [], ◌∷◌, ◌++◌, length, map, drop, Option, Some, None, refl, sym, ◌∙◌, ap, subst, arith, append_assoc, append-nil, if◌then◌else◌}
 use Rattle.std.specs.Prelude.{slice_get}
 use Rattle.std.specs.List.{AllByRecursion}
 use Rattle.std.proofs.lemmas.List.{length-map, length-append, length-drop, map-append, drop-append-le, drop-drop}
 use Rattle.std.proofs.lemmas.Bool.{ne_eqb}
 use Rattle.std.proofs.lemmas.Option.{same_Some}
-use Rattle.gc_catalogue.specs.declared.answer.Answer.{Answer}
 use Rattle.gc_catalogue.specs.declared.answer.Reading.{Reading}
 use Rattle.gc_catalogue.specs.declared.asked.Asked.{Asked}
-use Rattle.gc_catalogue.specs.declared.answer.Reading.TheVariants as kind
 use Rattle.gc_client.specs.OneForOne.{Wanted, Course, Step, Send, Hear, Expire, Restart, sent_on, course_after, course, of_settled, of_pending}
 use Rattle.gc_client.specs.Rule.{ById, Outcome, Answered, Late, Lost, Sending, Settlement, fresh, heard, hears, expires, lost, id_send, sends}
 use Rattle.gc_client.proofs.OneForOne.{heard_parts, lost_parts}
-use Rattle.gc_texts.specs.Codes.{lists_code}
-use Rattle.gc_texts.specs.Nears.{is_elsewhere}
 use Rattle.gc_texts.specs.Zeroed.{as_zero}
-use Rattle.gc_texts.specs.declared.quality.Quality.{Quality}
-use Rattle.gc_texts.specs.declared.quality.Quality.TheVariants as quality
+use Rattle.gc_texts.specs.Endings.{End}
 use Rattle.gc_texts.specs.declared.near.Expected.{Expected}
-use Rattle.gc_texts.specs.declared.near.Near.{Near}
 use Rattle.gc_texts.specs.declared.tasks.Task.{Task}
 use Rattle.gc_station.specs.declared.mark.Mark.{Mark}
-use Rattle.gc_station.specs.Marks.{value_as, warned_as, refused_as, answer_as, end_of, record_of, records_of}
+use Rattle.gc_station.specs.Marks.{end_of, record_of, records_of}
 use Rattle.gc_station.specs.Records.{Record}
 use Rattle.gc_station.specs.Model.{client_sent}
-use Rattle.gc_station.specs.Lists.{with_if}
 use Rattle.gc_station.specs.Parts.{Turn, Part, only_turns, only_steps, nothing, joined, request_part, MarkAsks, MarksAsk, went_out, sent_of, timeless, course_at, client_stepped, client_after}
-use Rattle.gc_station.proofs.Records.{records-none, records-append}
+use Rattle.gc_station.proofs.Lists.{all_append, all_at}
+use Rattle.gc_station.proofs.Records.{answer_along, records-none, records-append}
+use Rattle.std.proofs.lemmas.List.Elements.{filter-append}
 
 -- Steps.
 
+-- what these steps add to one list of a course, which `list` gives, from this client on
+abbrev pub added_by : {A : Type 0} → (list : Course Asked → List A) → ById Asked → List (Step Asked) → List A
+added_by list c [] = []
+added_by list c (s ∷ ss) = list (course_after 7 (course_at c) s) ++ added_by list (client_stepped c s) ss
+
 -- what these steps settle, from this client on
 abbrev pub settled_by : ById Asked → List (Step Asked) → List (Settlement Asked)
-settled_by c [] = []
-settled_by c (s ∷ ss) = (course_after 7 (course_at c) s).settlements ++ settled_by (client_stepped c s) ss
+settled_by c ss = added_by (λ (x : Course Asked). x.settlements) c ss
 
 -- what these steps send, from this client on
 abbrev pub sent_by : ById Asked → List (Step Asked) → List (Wanted Asked)
-sent_by c [] = []
-sent_by c (s ∷ ss) = (course_after 7 (course_at c) s).sent ++ sent_by (client_stepped c s) ss
+sent_by c ss = added_by (λ (x : Course Asked). x.sent) c ss
 
 -- a client after two lists of steps is the one after the second, from the one after the first on
 pub client_append : (c : ById Asked) (first later : List (Step Asked)) → client_after c (first ++ later) ≡ client_after (client_after c first) later
 client_append c [] later = refl
 client_append c (s ∷ first) later = client_append (client_stepped c s) first later
 
+-- two lists of steps add what the first adds and then what the second adds after it
+added_append : {A : Type 0} (list : Course Asked → List A) (c : ById Asked) (first later : List (Step Asked))
+    → added_by list c (first ++ later) ≡ added_by list c first ++ added_by list (client_after c first) later
+added_append list c [] later = refl
+added_append list c (s ∷ first) later =
+    ap (λ k. list (course_after 7 (course_at c) s) ++ k) (added_append list (client_stepped c s) first later)
+    ∙ sym (append_assoc (list (course_after 7 (course_at c) s)) (added_by list (client_stepped c s) first) (added_by list (client_after (client_stepped c s) first) later))
+
 -- two lists of steps settle what the first settles and then what the second settles after it
 pub settled_append : (c : ById Asked) (first later : List (Step Asked)) → settled_by c (first ++ later) ≡ settled_by c first ++ settled_by (client_after c first) later
-settled_append c [] later = refl
-settled_append c (s ∷ first) later =
-    ap (λ k. (course_after 7 (course_at c) s).settlements ++ k) (settled_append (client_stepped c s) first later)
-    ∙ sym (append_assoc (course_after 7 (course_at c) s).settlements (settled_by (client_stepped c s) first) (settled_by (client_after (client_stepped c s) first) later))
+settled_append c first later = added_append (λ (x : Course Asked). x.settlements) c first later
 
 -- two lists of steps send what the first sends and then what the second sends after it
 pub sent_append : (c : ById Asked) (first later : List (Step Asked)) → sent_by c (first ++ later) ≡ sent_by c first ++ sent_by (client_after c first) later
-sent_append c [] later = refl
-sent_append c (s ∷ first) later =
-    ap (λ k. (course_after 7 (course_at c) s).sent ++ k) (sent_append (client_stepped c s) first later)
-    ∙ sym (append_assoc (course_after 7 (course_at c) s).sent (sent_by (client_stepped c s) first) (sent_by (client_after (client_stepped c s) first) later))
+sent_append c first later = added_append (λ (x : Course Asked). x.sent) c first later
 
 -- a send adds the same to any course as to one at its start with the same client, and leaves the same client
 sent_parts : (x : Course Asked) (target : ℕ) (call : Asked) (o : Option (Sending (ById Asked)))
@@ -81,24 +81,25 @@ step_parts x (Hear line) = (refl, sym (append-nil x.sent), refl)
 step_parts x (Expire now) = (sym (append-nil x.settlements), sym (append-nil x.sent), refl)
 step_parts x Restart = (refl, sym (append-nil x.sent), refl)
 
+-- steps add to one list of a course what they add to it from its client on, if each step adds the same to any course as to one at
+-- its start with the same client
+course_added : {A : Type 0} (list : Course Asked → List A)
+    → ((x : Course Asked) (s : Step Asked) → list (course_after 7 x s) ≡ list x ++ list (course_after 7 (course_at x.client) s))
+    → (steps : List (Step Asked)) (x : Course Asked) → list (course 7 x steps) ≡ list x ++ added_by list x.client steps
+course_added list adds [] x = sym (append-nil (list x))
+course_added list adds (s ∷ ss) x =
+    let y = course_after 7 x s in
+    let now = list (course_after 7 (course_at x.client) s) in
+    course_added list adds ss y ∙ ap (λ l. l ++ added_by list y.client ss) (adds x s) ∙ ap (λ c. (list x ++ now) ++ added_by list c ss) (step_parts x s).2
+    ∙ append_assoc (list x) now (added_by list (client_stepped x.client s) ss)
+
 -- steps add to the settlements of a course what they settle from its client on
 pub course_settled : (steps : List (Step Asked)) (x : Course Asked) → (course 7 x steps).settlements ≡ x.settlements ++ settled_by x.client steps
-course_settled [] x = sym (append-nil x.settlements)
-course_settled (s ∷ ss) x =
-    let p = step_parts x s in
-    let y = course_after 7 x s in
-    let now = (course_after 7 (course_at x.client) s).settlements in
-    course_settled ss y ∙ ap (λ l. l ++ settled_by y.client ss) p.0 ∙ ap (λ c. (x.settlements ++ now) ++ settled_by c ss) p.2
-    ∙ append_assoc x.settlements now (settled_by (client_stepped x.client s) ss)
+course_settled steps x = course_added (λ (y : Course Asked). y.settlements) (λ y s. (step_parts y s).0) steps x
 
 -- steps add to the requests of a course what they send from its client on
 pub course_sent : (steps : List (Step Asked)) (x : Course Asked) → (course 7 x steps).sent ≡ x.sent ++ sent_by x.client steps
-course_sent [] x = sym (append-nil x.sent)
-course_sent (s ∷ ss) x =
-    let p = step_parts x s in
-    let y = course_after 7 x s in
-    let now = (course_after 7 (course_at x.client) s).sent in
-    course_sent ss y ∙ ap (λ l. l ++ sent_by y.client ss) p.1 ∙ ap (λ c. (x.sent ++ now) ++ sent_by c ss) p.2 ∙ append_assoc x.sent now (sent_by (client_stepped x.client s) ss)
+course_sent steps x = course_added (λ (y : Course Asked). y.sent) (λ y s. (step_parts y s).1) steps x
 
 -- the client of a course after steps is its client after them
 pub course_client : (steps : List (Step Asked)) (x : Course Asked) → (course 7 x steps).client ≡ client_after x.client steps
@@ -126,33 +127,10 @@ records_more reads (m ∷ ms) more [] le = refl
 records_more reads (None ∷ ms) more (s ∷ ss) le = records_more reads ms more ss (omega (arith, le))
 records_more reads (Some mark ∷ ms) more (s ∷ ss) le = ap (λ rs. record_of reads 0 mark s ∷ rs) (records_more reads ms more ss (omega (arith, le)))
 
--- a command that an answer ended was sent, whether it was measured elsewhere or not
-value_sent : (q : Quality) (away : Bool) (answer : Answer) (line : List ℕ) → went_out (value_as q away answer line) ≡ true
-value_sent q true answer line = refl
-value_sent q false answer line = refl
-
--- a command that a reply with an accepted return code ended was sent
-warned_sent : (near : Option Near) (zeroed : Reading) (line : List ℕ) → went_out (warned_as near zeroed line) ≡ true
-warned_sent near (kind.Value answer) line = value_sent quality.Warning (is_elsewhere near answer) answer line
-warned_sent near (kind.Refused code) line = refl
-warned_sent near (kind.ComFault code) line = refl
-warned_sent near (kind.Unreadable fault) line = refl
-
--- a command that a refusal ended was sent, whether its return code is accepted or not
-refused_sent : (accepted : Bool) (near : Option Near) (zeroed : Reading) (line : List ℕ) → went_out (refused_as accepted near zeroed line) ≡ true
-refused_sent true near zeroed line = warned_sent near zeroed line
-refused_sent false near zeroed line = refl
-
--- a command that a reply in time ended was sent
-end_sent : (expected : Expected) (reading zeroed : Reading) (line : List ℕ) → went_out (answer_as expected reading zeroed line) ≡ true
-end_sent expected (kind.Value answer) zeroed line = value_sent quality.Fine (is_elsewhere expected.near answer) answer line
-end_sent expected (kind.Refused code) zeroed line = refused_sent (lists_code expected.accepted code) expected.near zeroed line
-end_sent expected (kind.ComFault code) zeroed line = refl
-end_sent expected (kind.Unreadable fault) zeroed line = refl
-
 -- a command whose request was settled was sent, however it ended
 pub ended_sent : (reads : Asked → List ℕ → Reading) (expected : Expected) (call : Asked) (o : Outcome) → went_out (end_of reads expected call o) ≡ true
-ended_sent reads expected call (Answered line) = end_sent expected (reads call line) (reads call (as_zero line)) line
+ended_sent reads expected call (Answered line) =
+    answer_along (λ (end : End). went_out end ≡ true) expected (reads call line) (reads call (as_zero line)) line (λ quality answer. refl) refl (λ fault. refl)
 ended_sent reads expected call Late = refl
 ended_sent reads expected call Lost = refl
 
@@ -163,23 +141,14 @@ records_sent reads utc (m ∷ ms) [] = refl
 records_sent reads utc (None ∷ ms) (s ∷ ss) = records_sent reads utc ms ss
 records_sent reads utc (Some mark ∷ ms) (s ∷ ss) =
     let r = record_of reads utc mark s in
-    ap (λ (b : Bool). with_if b r (sent_of (records_of reads utc ms ss))) (ended_sent reads mark.expected s.call s.outcome) ∙ ap (λ rs. r ∷ rs) (records_sent reads utc ms ss)
-
--- to put the record r before `xs`, if its command was sent (b), and to append `ys`, comes to the same in either order
-sent_more : (b : Bool) (r : Record) (xs ys : List Record) → with_if b r (xs ++ ys) ≡ with_if b r xs ++ ys
-sent_more true r xs ys = refl
-sent_more false r xs ys = refl
-
--- the records of commands that were sent, of two lists, are those of the first and then those of the second
-pub sent_both : (xs ys : List Record) → sent_of (xs ++ ys) ≡ sent_of xs ++ sent_of ys
-sent_both [] ys = refl
-sent_both (r ∷ xs) ys = ap (with_if (went_out r.end) r) (sent_both xs ys) ∙ sent_more (went_out r.end) r (sent_of xs) (sent_of ys)
+    let rest = sent_of (records_of reads utc ms ss) in
+    ap (λ (b : Bool). if b then r ∷ rest else rest) (ended_sent reads mark.expected s.call s.outcome) ∙ ap (λ rs. r ∷ rs) (records_sent reads utc ms ss)
 
 -- of the records `rs` and those of settlements after them, the ones of commands that were sent are those of `rs`, and all of the
 -- settlements'
 pub sent_records : (reads : Asked → List ℕ → Reading) (rs : List Record) (utc : ℕ) (ms : List (Option Mark)) (ss : List (Settlement Asked))
     → sent_of (rs ++ records_of reads utc ms ss) ≡ sent_of rs ++ records_of reads utc ms ss
-sent_records reads rs utc ms ss = sent_both rs (records_of reads utc ms ss) ∙ ap (λ xs. sent_of rs ++ xs) (records_sent reads utc ms ss)
+sent_records reads rs utc ms ss = filter-append _ rs (records_of reads utc ms ss) ∙ ap (λ xs. sent_of rs ++ xs) (records_sent reads utc ms ss)
 
 -- `MarksAsk` says of marks and requests, one for one, that each request is of the command that its mark names. If it holds of
 -- `ms` and `xs`, and of `ns` and `ys`, it holds of both joined
@@ -206,13 +175,20 @@ of_at commands (m ∷ ms) (x ∷ xs) zero mark h e = (x, refl, subst (λ (k : Op
 of_at commands (m ∷ ms) (x ∷ xs) (suc n) mark h e = of_at commands ms xs n mark h.1 e
 
 -- if P holds of the record of each settlement with the command's mark at the same place, P holds of all records of the
--- settlements `ss` with the marks `ms`; all records are of the moment 0
-pub all_records : (reads : Asked → List ℕ → Reading) (P : Record → Type 0) (ms : List (Option Mark)) (ss : List (Settlement Asked))
-    → ((n : ℕ) (mark : Mark) (s : Settlement Asked) → slice_get ms n ≡ Some (Some mark) → slice_get ss n ≡ Some s → P (record_of reads 0 mark s)) → AllByRecursion P (records_of reads 0 ms ss)
-all_records reads P [] ss f = tt
-all_records reads P (m ∷ ms) [] f = tt
-all_records reads P (None ∷ ms) (s ∷ ss) f = all_records reads P ms ss (λ n mark x at got. f (suc n) mark x at got)
-all_records reads P (Some mark ∷ ms) (s ∷ ss) f = (f 0 mark s refl refl, all_records reads P ms ss (λ n other x at got. f (suc n) other x at got))
+-- settlements `ss` with the marks `ms`; all records are of the moment `utc`
+pub all_records : (reads : Asked → List ℕ → Reading) (utc : ℕ) (P : Record → Type 0) (ms : List (Option Mark)) (ss : List (Settlement Asked))
+    → ((n : ℕ) (mark : Mark) (s : Settlement Asked) → slice_get ms n ≡ Some (Some mark) → slice_get ss n ≡ Some s → P (record_of reads utc mark s)) → AllByRecursion P (records_of reads utc ms ss)
+all_records reads utc P [] ss f = tt
+all_records reads utc P (m ∷ ms) [] f = tt
+all_records reads utc P (None ∷ ms) (s ∷ ss) f = all_records reads utc P ms ss (λ n mark x at got. f (suc n) mark x at got)
+all_records reads utc P (Some mark ∷ ms) (s ∷ ss) f = (f 0 mark s refl refl, all_records reads utc P ms ss (λ n other x at got. f (suc n) other x at got))
+
+-- where P of a mark gives Q of the record of each settlement with it, P holds of all marks `ms`, and Q of all records `rs`, Q
+-- holds of `rs`, and of the records of the settlements `ss` after them
+pub all_settled : (P : Option Mark → Type 0) (Q : Record → Type 0) (reads : Asked → List ℕ → Reading) (utc : ℕ) (ms : List (Option Mark)) (rs : List Record) (ss : List (Settlement Asked))
+    → ((mark : Mark) (x : Settlement Asked) → P (Some mark) → Q (record_of reads utc mark x)) → AllByRecursion P ms → AllByRecursion Q rs → AllByRecursion Q (rs ++ records_of reads utc ms ss)
+all_settled P Q reads utc ms rs ss one marks records =
+    all_append Q rs (records_of reads utc ms ss) records (all_records reads utc Q ms ss (λ n mark x at got. one mark x (all_at P ms n (Some mark) marks at)))
 
 -- What is recorded.
 

@@ -1,7 +1,7 @@
 -- A command of a chain is sent only after the answer of the one before it. The two fields on chains of a progress are
 -- `next_is_chained`, whether the next command waits for that answer, and `chain_unbroken`. An act is one call on the link, with
--- its result. `Chain` says that both fields are right after the acts so far, and `Whole` that the command before the next one
--- was sent, with no connection closed and no new synchronization since.
+-- its result. `ChainIsRight` says that both fields are right after the acts so far, and `IsUnbroken` that the command before
+-- the next one was sent, with no connection closed and no new synchronization since.
 use Rattle.std.proofs.Common.{◌≡◌, ◌⊎◌, inl, inr, ℕ, ◌+◌, ◌-◌, ◌<◌, ◌≤◌, ◌||◌, Bool, true, false, List, [], ◌∷◌, ◌++◌, length, drop, map, Option, refl, sym, ap, ◌∙◌, subst, arith, append_assoc, append-nil}
 use Rattle.std.specs.List.{AllByRecursion}
 use Rattle.std.proofs.lemmas.List.{drop_all, length-drop, map-append, same_from_push}
@@ -21,7 +21,7 @@ use Rattle.gc_links.specs.Acts.{Act, Told}
 use Rattle.gc_station.specs.Answers.{AnswerIsJustified}
 use Rattle.gc_station.specs.Chains.{IsChained, IsLinked}
 use Rattle.gc_station.specs.Deciding.{has_begun}
-use Rattle.gc_station.specs.EachOnce.{Interleave, Request, of_record, of_task, requests, commands_reached, still_waiting, of_text, in_text}
+use Rattle.gc_station.specs.EachOnce.{Interleave, Request, of_record, of_task, requests, commands_reached, of_text, in_text}
 use Rattle.gc_station.specs.Marks.{commands_in, is_well, last_well}
 use Rattle.gc_station.specs.Qualities.{IsAsListed}
 use Rattle.gc_station.specs.Quiet.{KeepsOpen}
@@ -34,10 +34,10 @@ use Rattle.gc_station.specs.Model.{Model, Performs, Runs, opening, action_at, wa
 use Rattle.gc_station.specs.NextCommand.{place_next, cycles_begun, is_chained, is_chained_after_next}
 use Rattle.gc_station.proofs.Answers.{answers_true}
 use Rattle.gc_station.proofs.Counts.{ended_progress, ended_passes}
-use Rattle.gc_station.proofs.Each.{each_settled, sent_next}
-use Rattle.gc_station.proofs.Interleaving.{IsInFront, drop_past, interleave_all, interleave_last, sent_before}
+use Rattle.gc_station.proofs.Each.{row_settled, sent_next, row}
+use Rattle.gc_station.proofs.Interleaving.{IsInFront, not_before_equal, drop_past, interleave_all, interleave_last, sent_before}
 use Rattle.gc_station.proofs.EachRun.{invariant_holds}
-use Rattle.gc_station.proofs.Row.{last_of_cycle, listed_last}
+use Rattle.gc_station.proofs.Row.{last_of_cycle, of_text_last}
 use Rattle.gc_station.proofs.Facts.{action_for}
 use Rattle.gc_station.proofs.Invariant.{Invariant}
 use Rattle.gc_station.proofs.Going.{after_all-append}
@@ -47,7 +47,7 @@ use Rattle.gc_station.proofs.Walk.{moved_changed}
 use Rattle.gc_station.proofs.Words.{begun_kept}
 use Rattle.gc_station.proofs.ChainSteps.{Still, Next, AtCycleStart, Past, ChangesChain, broken, moved_steps, stays_open}
 
--- What every run keeps of the chain where it is.
+-- What holds of each of some acts.
 
 -- the station has synchronized after each of these acts
 abbrev pub StaysBegun : Plan → List Task → Model → List Act → Type 0
@@ -71,46 +71,17 @@ pub prepares_none : (plan : Plan) (commands : List Task) (s : Model) (xs ys : Li
 prepares_none plan commands s [] ys h k = k
 prepares_none plan commands s (x ∷ xs) ys h k = (h.0, prepares_none plan commands (after plan commands s x) xs ys h.1 k)
 
--- a station has the progress p and has synchronized; the command before the next one, of the same cycle, was sent among these
--- acts; and since then no connection was closed, the station didn't resynchronize, no attempts were left out, and no command of
--- the setup was sent
-record Whole (plan : Plan) (commands : List Task) (scope : Scope) (acts : List Act) (p : Progress) : Type 0 where
-  before : List Act
-  request : Act
-  between : List Act
-  order : acts ≡ before ++ request ∷ between
-  sends : action_at plan (state_after plan commands scope before) ≡ Send
-  cycle : cycles_begun plan p ≡ cycles_begun plan (state_after plan commands scope before).progress
-  place : place_next commands p ≡ place_next commands (state_after plan commands scope before).progress + 1
-  stays : AllByRecursion KeepsOpen between
-  begun : has_begun p ≡ true
-  passes : (state_after plan commands scope acts).passes ≡ (state_after plan commands scope before).passes
-  keeps : StaysBegun plan commands (state_after plan commands scope before) (request ∷ between)
-  no_setup : PreparesNothing plan commands (state_after plan commands scope before) (request ∷ between)
-
--- if all acts (`all`) are `before` and then `behind`, and the station has synchronized after all of them, it has synchronized
--- after `behind`, counted from the model after `before`
-begun_there : (plan : Plan) (commands : List Task) (scope : Scope) (before behind all : List Act) (q : Progress) → all ≡ before ++ behind
-    → (state_after plan commands scope all).progress ≡ q → has_begun q ≡ true
-    → has_begun (after_all plan commands (state_after plan commands scope before) behind).progress ≡ true
-begun_there plan commands scope before behind all q order there begun =
-    ap (λ (x : Model). has_begun x.progress) (sym (ap (state_after plan commands scope) order ∙ after_all-append plan commands (opening plan scope) before behind)) ∙ ap has_begun there ∙ begun
-
--- the two fields on chains of p are right after these acts: if the next command isn't the first of its cycle, `next_is_chained`
--- is what the text says of it, or true in a missed cycle; and if `chain_unbroken` is true, `Whole` holds
-record Chain (plan : Plan) (commands : List Task) (scope : Scope) (acts : List Act) (p : Progress) : Type 0 where
-  next_is_chained : plan.setup < place_next commands p → p.next_is_chained ≡ (p.missed || is_chained (drop (place_next commands p) commands))
-  chain_unbroken : p.chain_unbroken ≡ true → Whole plan commands scope acts p
+-- What an act leaves out, and what it does to the place and to `next_is_chained`.
 
 -- from the model s to t nothing is left out, or no chain goes on in t
 abbrev LeavesNothingOut : (s t : Model) → Type 0
 LeavesNothingOut s t = (t.passes ≡ s.passes) ⊎ (t.progress.chain_unbroken ≡ false)
 
 -- no act leaves commands out, but one after which no chain goes on
-moved_keeps : (plan : Plan) (commands : List Task) (action : Action) (s : Model) (act : Act) → LeavesNothingOut s (moved plan commands action s act)
-moved_keeps plan commands Pass s (Told m) = inr refl
-moved_keeps plan commands Pass s act = inl refl
-moved_keeps plan commands action s act = inl (ap (λ (x : Model). x.passes) (moved_changed plan commands action s act))
+moved_leaves_nothing_out : (plan : Plan) (commands : List Task) (action : Action) (s : Model) (act : Act) → LeavesNothingOut s (moved plan commands action s act)
+moved_leaves_nothing_out plan commands Pass s (Told m) = inr refl
+moved_leaves_nothing_out plan commands Pass s act = inl refl
+moved_leaves_nothing_out plan commands action s act = inl (ap (λ (x : Model). x.passes) (moved_changed plan commands action s act))
 
 -- if `LeavesNothingOut` holds from s to t, and a chain goes on in t, the commands that were left out in s (`before`) are those
 -- left out in t
@@ -118,7 +89,7 @@ still_passes : (s t : Model) (before : List Request) → LeavesNothingOut s t �
 still_passes s t before (inl same) e is = same ∙ is
 still_passes s t before (inr none) e is = absurd (both_ways t.progress.chain_unbroken none e)
 
--- what `Chain` says of `next_is_chained` holds still where the next command and the fields on chains stay (`Still`)
+-- what `ChainIsRight` says of `next_is_chained` holds still where the next command and the fields on chains stay (`Still`)
 still_chained : (plan : Plan) (commands : List Task) (p q : Progress) → (stays : Still p q)
     → (before : plan.setup < place_next commands p → p.next_is_chained ≡ (p.missed || is_chained (drop (place_next commands p) commands)))
     → plan.setup < place_next commands q → q.next_is_chained ≡ (q.missed || is_chained (drop (place_next commands q) commands))
@@ -126,58 +97,6 @@ still_chained plan commands p q k before above =
     let place_is : place_next commands q ≡ place_next commands p = ap (λ (n : ℕ). length commands - n) k.unsent in
     k.next_is_chained ∙ before (subst (λ (n : ℕ). plan.setup < n) place_is above) ∙ ap (λ (b : Bool). b || is_chained (drop (place_next commands p) commands)) (sym k.missed)
     ∙ ap (λ (n : ℕ). q.missed || is_chained (drop n commands)) (sym place_is)
-
--- `Chain` is preserved by an act that keeps the fields as `Still` says, doesn't close the connection, and sends no command of the
--- setup; given that, if a chain goes on after the act, no command was left out (`LeavesNothingOut`), and a station that had
--- synchronized still has
-chain_still : (plan : Plan) (commands : List Task) (scope : Scope) (acts : List Act) (act : Act) (p q : Progress)
-    → (there : (state_after plan commands scope (acts ++ act ∷ [])).progress ≡ q) → (stays : Still p q) → (begins : has_begun p ≡ true → q.chain_unbroken ≡ true → has_begun q ≡ true)
-    → (leaves : LeavesNothingOut (state_after plan commands scope acts) (state_after plan commands scope (acts ++ act ∷ []))) → (keeps_open : KeepsOpen act)
-    → (not_setup : action_at plan (state_after plan commands scope acts) ≡ Prepare → ⊥)
-    → Chain plan commands scope acts p → Chain plan commands scope (acts ++ act ∷ []) q
-chain_still plan commands scope acts act p q there k begins keeps stays other h =
-    let place_is : place_next commands q ≡ place_next commands p = ap (λ (n : ℕ). length commands - n) k.unsent in
-    record {
-      next_is_chained = λ above. still_chained plan commands p q k h.next_is_chained above;
-      chain_unbroken = λ e.
-          let w = h.chain_unbroken (k.chain_unbroken e) in
-          let order = ap (λ xs. xs ++ act ∷ []) w.order ∙ append_assoc w.before (w.request ∷ w.between) (act ∷ []) in
-          let begun = begins w.begun e in
-          record {
-            before = w.before;
-            request = w.request;
-            between = w.between ++ act ∷ [];
-            order = order;
-            sends = w.sends;
-            cycle = ap (λ (n : ℕ). plan.cycles - n) k.left ∙ w.cycle;
-            place = place_is ∙ w.place;
-            stays = all_append KeepsOpen w.between (act ∷ []) w.stays (stays, tt);
-            begun = begun;
-            passes = still_passes (state_after plan commands scope acts) (state_after plan commands scope (acts ++ act ∷ [])) (state_after plan commands scope w.before).passes keeps
-                (ap (λ (x : Progress). x.chain_unbroken) there ∙ e) w.passes;
-            keeps =
-                stays_more plan commands (state_after plan commands scope w.before) (w.request ∷ w.between) act w.keeps
-                (begun_there plan commands scope w.before (w.request ∷ (w.between ++ act ∷ [])) (acts ++ act ∷ []) q order there begun);
-            no_setup =
-                let back = after_all-append plan commands (opening plan scope) w.before (w.request ∷ w.between) in
-                let here : after_all plan commands (state_after plan commands scope w.before) (w.request ∷ w.between)
-                ≡ state_after plan commands scope acts = sym back ∙ ap (state_after plan commands scope) (sym w.order) in
-                prepares_none plan commands (state_after plan commands scope w.before) (w.request ∷ w.between) (act ∷ []) w.no_setup
-                (subst (λ (x : Model). PreparesNothing plan commands x (act ∷ [])) (sym here) (other, tt));
-          };
-    }
-
--- `Chain` is preserved by an act that breaks the chain, as a close or a new synchronization does
-chain_closed : (plan : Plan) (commands : List Task) (scope : Scope) (acts all : List Act) (p q : Progress) → Still p q → q.chain_unbroken ≡ false
-    → Chain plan commands scope acts p → Chain plan commands scope all q
-chain_closed plan commands scope acts all p q k broken h =
-    record { next_is_chained = λ above. still_chained plan commands p q k h.next_is_chained above; chain_unbroken = λ e. absurd (both_ways q.chain_unbroken broken e) }
-
--- `Chain` holds at the beginning of a cycle
-chain_at_start : (plan : Plan) (commands : List Task) (scope : Scope) (acts : List Act) (q : Progress) → AtCycleStart (cycle_length plan commands) q → Chain plan commands scope acts q
-chain_at_start plan commands scope acts q a =
-    let none : place_next commands q ≤ plan.setup = omega (arith, a.unsent) in
-    record { next_is_chained = λ above. absurd (omega (arith, none, above)); chain_unbroken = λ e. absurd (both_ways q.chain_unbroken a.chain_unbroken e) }
 
 -- if a command is unsent in p, no more are than `commands` has, and one fewer is unsent in q, the next command of q is one place
 -- after that of p
@@ -191,151 +110,14 @@ next_chained : (commands : List Task) (p q : Progress) → Next (is_chained_afte
 next_chained commands p q n at =
     n.chained ∙ ap (λ (b : Bool). b || is_chained (drop (place_next commands p + 1) commands)) (sym n.missed) ∙ ap (λ (k : ℕ). q.missed || is_chained (drop k commands)) (sym at)
 
--- `Chain` holds after a command is recorded without being sent (`Next`, with the chain broken), if one was unsent, and no more
--- were than `commands` has
-chain_skipped : (plan : Plan) (commands : List Task) (scope : Scope) (acts : List Act) (p q : Progress) → Next (is_chained_after_next commands p) p q
-    → q.chain_unbroken ≡ false → 0 < p.unsent → p.unsent ≤ length commands → Chain plan commands scope acts q
-chain_skipped plan commands scope acts p q n broken some within =
-    let at = next_place commands p q n.unsent some within in
-    record { next_is_chained = λ above. next_chained commands p q n at; chain_unbroken = λ e. absurd (both_ways q.chain_unbroken broken e) }
-
--- `Chain` holds after the further attempts of a chain are left out (`Past`), if no more commands were unsent than `commands` has
-chain_past : (plan : Plan) (commands : List Task) (scope : Scope) (acts : List Act) (p q : Progress) → Past commands p q → p.unsent ≤ length commands → Chain plan commands scope acts q
-chain_past plan commands scope acts p q k within =
-    record {
-      next_is_chained = λ above.
-          k.chained ∙ ap (λ (b : Bool). b || is_chained (drop (place_next commands p + p.next_others) commands)) (sym k.missed)
-          ∙ ap (λ (xs : List Task). q.missed || is_chained xs) (drop_past commands p.unsent p.next_others within)
-          ∙ ap (λ (n : ℕ). q.missed || is_chained (drop (length commands - n) commands)) (sym k.unsent);
-      chain_unbroken = λ e. absurd (both_ways q.chain_unbroken k.chain_unbroken e);
-    }
-
--- `Chain` holds after a command of a cycle is sent, if one was unsent, and no more were than `commands` has; given that, if a
--- chain goes on after the act, no command was left out (`LeavesNothingOut`), and the station has synchronized
-chain_sent : (plan : Plan) (commands : List Task) (scope : Scope) (acts : List Act) (act : Act) (p q : Progress)
-    → (here : p ≡ turned (state_after plan commands scope acts).progress) → (there : (state_after plan commands scope (acts ++ act ∷ [])).progress ≡ q)
-    → (sends : action_at plan (state_after plan commands scope acts) ≡ Send) → (begins : q.chain_unbroken ≡ true → has_begun q ≡ true)
-    → (goes_on : Next (is_chained_after_next commands p) p q) → (some : 0 < p.unsent) → (within : p.unsent ≤ length commands)
-    → LeavesNothingOut (state_after plan commands scope acts) (state_after plan commands scope (acts ++ act ∷ [])) → Chain plan commands scope (acts ++ act ∷ []) q
-chain_sent plan commands scope acts act p q here there is begins n some within keeps =
-    let at = next_place commands p q n.unsent some within in
-    record {
-      next_is_chained = λ above. next_chained commands p q n at;
-      chain_unbroken = λ e. record {
-        before = acts;
-        request = act;
-        between = [];
-        order = refl;
-        sends = is;
-        cycle = ap (λ (k : ℕ). plan.cycles - k) n.left ∙ ap (λ (x : Progress). cycles_begun plan x) here;
-        place = at ∙ ap (λ (x : Progress). place_next commands x + 1) here;
-        stays = tt;
-        begun = begins e;
-        passes = still_passes (state_after plan commands scope acts) (state_after plan commands scope (acts ++ act ∷ [])) (state_after plan commands scope acts).passes keeps
-            (ap (λ (x : Progress). x.chain_unbroken) there ∙ e) refl;
-        keeps = (begun_there plan commands scope acts (act ∷ []) (acts ++ act ∷ []) q refl there (begins e), tt);
-        no_setup = (λ prepares. let both : Send ≡ Prepare = sym is ∙ prepares in cc, tt);
-      };
-    }
-
--- `Chain` is preserved by an act of the action that is next, whose conditions hold, from a model with the invariant, if the act
--- changes the fields as `ChangesChain` says; given that, if a chain goes on after the act, no command was left out
--- (`LeavesNothingOut`), and a station that had synchronized still has
-chain_moved : (plan : Plan) (commands : List Task) (scope : Scope) (acts : List Act) (act : Act) (action : Action) (w : Waiting) (q : Progress)
-    → Invariant plan commands (state_after plan commands scope acts)
-    → (is_next : action_at plan (state_after plan commands scope acts) ≡ action) → (needs : HoldsBefore plan (state_after plan commands scope acts).progress w action)
-    → (performs : Performs commands (state_after plan commands scope acts) action act)
-    → (there : (state_after plan commands scope (acts ++ act ∷ [])).progress ≡ q)
-    → (begins : has_begun (state_after plan commands scope acts).progress ≡ true → q.chain_unbroken ≡ true → has_begun q ≡ true)
-    → (steps : ChangesChain plan commands action (turned (state_after plan commands scope acts).progress) q)
-    → (leaves : LeavesNothingOut (state_after plan commands scope acts) (state_after plan commands scope (acts ++ act ∷ [])))
-    → Chain plan commands scope acts (turned (state_after plan commands scope acts).progress) → Chain plan commands scope (acts ++ act ∷ []) q
-chain_moved plan commands scope acts act Begin w q fine is needs o at begins (inl k) keeps h =
-    chain_still plan commands scope acts act _ q at k begins keeps (stays_open plan commands Begin (state_after plan commands scope acts) act o (λ why e. cc))
-    (λ e. let both : Begin ≡ Prepare = sym is ∙ e in cc) h
-chain_moved plan commands scope acts act Begin w q fine is needs o at begins (inr a) keeps h = chain_at_start plan commands scope (acts ++ act ∷ []) q a
-chain_moved plan commands scope acts act Renew w q fine is needs o at begins (inl k) keeps h =
-    chain_still plan commands scope acts act _ q at k begins keeps (stays_open plan commands Renew (state_after plan commands scope acts) act o (λ why e. cc))
-    (λ e. let both : Renew ≡ Prepare = sym is ∙ e in cc) h
-chain_moved plan commands scope acts act Renew w q fine is needs o at begins (inr k) keeps h = chain_closed plan commands scope acts (acts ++ act ∷ []) _ q k.0 k.1 h
-chain_moved plan commands scope acts act Send w q fine is needs o at begins n keeps h =
-    chain_sent plan commands scope acts act (turned (state_after plan commands scope acts).progress) q refl at is (begins needs.1) n needs.2 (omega (arith, fine.unsent)) keeps
-chain_moved plan commands scope acts act Skip w q fine is needs o at begins (inl k) keeps h =
-    chain_still plan commands scope acts act _ q at k begins keeps (stays_open plan commands Skip (state_after plan commands scope acts) act o (λ why e. cc))
-    (λ e. let both : Skip ≡ Prepare = sym is ∙ e in cc) h
-chain_moved plan commands scope acts act Skip w q fine is needs o at begins (inr n) keeps h =
-    chain_skipped plan commands scope (acts ++ act ∷ []) (turned (state_after plan commands scope acts).progress) q n.0 n.1 needs.2 (omega (arith, fine.unsent))
-chain_moved plan commands scope acts act Pass w q fine is needs o at begins (inl k) keeps h =
-    chain_still plan commands scope acts act _ q at k begins keeps (stays_open plan commands Pass (state_after plan commands scope acts) act o (λ why e. cc))
-    (λ e. let both : Pass ≡ Prepare = sym is ∙ e in cc) h
-chain_moved plan commands scope acts act Pass w q fine is needs o at begins (inr k) keeps h =
-    chain_past plan commands scope (acts ++ act ∷ []) (turned (state_after plan commands scope acts).progress) q k (omega (arith, fine.unsent))
-chain_moved plan commands scope acts act Prepare w q fine is needs o at begins k keeps h = chain_closed plan commands scope acts (acts ++ act ∷ []) _ q k.0 k.1 h
-chain_moved plan commands scope acts act (Close why) w q fine is needs o at begins k keeps h = chain_closed plan commands scope acts (acts ++ act ∷ []) _ q k.0 k.1 h
-chain_moved plan commands scope acts act (Stop why) w q fine is needs o at begins k keeps h = absurd o
-chain_moved plan commands scope acts act next w q fine is needs o at begins k keeps h =
-    chain_still plan commands scope acts act _ q at k begins keeps (stays_open plan commands next (state_after plan commands scope acts) act o (λ why e. cc))
-    (λ e. let both : next ≡ Prepare = sym is ∙ e in cc) h
-
 -- `LeavesNothingOut` is preserved by the loss of what is outstanding, at the end of an act
-kept_ended : (s t : Model) → LeavesNothingOut s t → LeavesNothingOut s (ended t)
-kept_ended s t (inl same) = inl (ended_passes t ∙ same)
-kept_ended s t (inr none) = inr (ap (λ (p : Progress). p.chain_unbroken) (ended_progress t) ∙ none)
-
--- `Chain` is preserved by all acts of a run
-chain_along : (plan : Plan) (commands : List Task) (scope : Scope) (done acts : List Act) → Runs plan commands (state_after plan commands scope done) acts
-    → Chain plan commands scope done (state_after plan commands scope done).progress
-    → Chain plan commands scope (done ++ acts) (state_after plan commands scope (done ++ acts)).progress
-chain_along plan commands scope done [] runs h = subst (λ (xs : List Act). Chain plan commands scope xs (state_after plan commands scope xs).progress) (sym (append-nil done)) h
-chain_along plan commands scope done (act ∷ acts) runs h =
-    let s = state_after plan commands scope done in
-    let t = moved plan commands (action_at plan s) (with_progress turned s) act in
-    let next = after_all-append plan commands (opening plan scope) done (act ∷ []) in
-    let far : (state_after plan commands scope (done ++ act ∷ [])).progress ≡ t.progress = ap (λ (x : Model). x.progress) next ∙ ended_progress t in
-    let at_turn : Chain plan commands scope done (turned s.progress) = record {
-      next_is_chained = h.next_is_chained;
-      chain_unbroken = λ e.
-          let w = h.chain_unbroken e in record {
-            before = w.before;
-            request = w.request;
-            between = w.between;
-            order = w.order;
-            sends = w.sends;
-            cycle =
-                w.cycle;
-            place = w.place;
-            stays = w.stays;
-            begun = w.begun;
-            passes = w.passes;
-            keeps = w.keeps;
-            no_setup = w.no_setup;
-          };
-    } in
-    let one = chain_moved plan commands scope done act (action_at plan s) (waiting_of s) t.progress (invariant_holds plan commands scope done)
-    refl (action_for plan s.progress (waiting_of s)) runs.0 far
-    (begun_kept plan commands s (action_at plan s) act runs.0) (moved_steps plan commands (action_at plan s) (with_progress turned s) act)
-    (subst (λ (x : Model). LeavesNothingOut s x) (sym next) (kept_ended s t (moved_keeps plan commands (action_at plan s) (with_progress turned s) act))) at_turn in
-    let here = subst (λ (p : Progress). Chain plan commands scope (done ++ act ∷ []) p) (sym far) one in
-    let goes_on = subst (λ (x : Model). Runs plan commands x acts) (sym next) runs.1 in
-    subst (λ (xs : List Act). Chain plan commands scope xs (state_after plan commands scope xs).progress) (append_assoc done (act ∷ []) acts)
-    (chain_along plan commands scope (done ++ act ∷ []) acts goes_on here)
+ended_leaves_nothing_out : (s t : Model) → LeavesNothingOut s t → LeavesNothingOut s (ended t)
+ended_leaves_nothing_out s t (inl same) = inl (ended_passes t ∙ same)
+ended_leaves_nothing_out s t (inr none) = inr (ap (λ (p : Progress). p.chain_unbroken) (ended_progress t) ∙ none)
 
 -- if no command is unsent, none is left from the next place on
 pub none_behind : (commands : List Task) → drop (length commands - 0) commands ≡ []
 none_behind commands = drop_all (length commands - 0) commands (omega arith)
-
--- `Chain` holds after every run
-chain_holds : (plan : Plan) (commands : List Task) (scope : Scope) (acts : List Act) → Runs plan commands (opening plan scope) acts
-    → Chain plan commands scope acts (state_after plan commands scope acts).progress
-chain_holds plan commands scope acts runs = chain_along plan commands scope [] acts runs (record { next_is_chained = λ above. sym (ap is_chained (none_behind commands)); chain_unbroken = λ e. cc })
-
--- after every run, if the next command isn't the first of its cycle, `next_is_chained` is what the text says of it, or true in a
--- missed cycle
-pub chained_as_text_says : (plan : Plan) (commands : List Task) (scope : Scope) (acts : List Act) → Runs plan commands (opening plan scope) acts
-    → plan.setup < place_next commands (state_after plan commands scope acts).progress
-    → (state_after plan commands scope acts).progress.next_is_chained
-    ≡ ((state_after plan commands scope acts).progress.missed || is_chained (drop (place_next commands (state_after plan commands scope acts).progress) commands))
-chained_as_text_says plan commands scope acts runs above = (chain_holds plan commands scope acts runs).next_is_chained above
 
 -- What the last record says.
 
@@ -379,107 +161,322 @@ last_sent : (plan : Plan) (commands : List Task) (cycle place : ℕ) (left : Lis
 last_sent plan commands cycle place [] at some many within = absurd (omega (arith, some))
 last_sent plan commands cycle place (task ∷ others) at some many within = (task, sent_next plan.setup commands cycle place task others at within many)
 
--- a request of this very cycle and place isn't before that place (`IsInFront`)
-not_in_front : (cycle place : ℕ) (r : Request) → r.cycle ≡ cycle → r.place ≡ place → IsInFront cycle place r → ⊥
-not_in_front cycle place r at is (inl less) = omega (arith, less, at)
-not_in_front cycle place r at is (inr same) = omega (arith, same.1, is)
+-- What every run keeps of the chain where it is.
 
--- if a chained command is to be sent, `IsLinked` holds: the command before it was sent and was answered well, and the station
--- has synchronized after each act since, none of which sends a command of the setup
-pub chain_whole : (plan : Plan) (commands : List Task) (scope : Scope) (acts : List Act) → Runs plan commands (opening plan scope) acts
-    → action_at plan (state_after plan commands scope acts) ≡ Send → IsChained plan commands (state_after plan commands scope acts)
-    → (l : IsLinked plan commands scope acts) × StaysBegun plan commands (state_after plan commands scope l.before) (l.request ∷ l.between)
-    × PreparesNothing plan commands (state_after plan commands scope l.before) (l.request ∷ l.between)
-chain_whole plan commands scope acts runs is chained = of_may needs.4 where
+module _ (plan : Plan) (commands : List Task) (scope : Scope) where
   -- the model after these acts
-  s : Model
-  s = state_after plan commands scope acts
+  abbrev at : List Act → Model
+  at acts = state_after plan commands scope acts
 
-  -- the fields on chains of that model say what happened
-  h : Chain plan commands scope acts s.progress
-  h = chain_holds plan commands scope acts runs
+  -- a station has the progress p and has synchronized; the command before the next one, of the same cycle, was sent among these
+  -- acts; and since then no connection was closed, the station didn't resynchronize, no attempts were left out, and no command of
+  -- the setup was sent
+  record IsUnbroken (acts : List Act) (p : Progress) : Type 0 where
+    before : List Act
+    request : Act
+    between : List Act
+    order : acts ≡ before ++ request ∷ between
+    sends : action_at plan (at before) ≡ Send
+    cycle : cycles_begun plan p ≡ cycles_begun plan (at before).progress
+    place : place_next commands p ≡ place_next commands (at before).progress + 1
+    stays : AllByRecursion KeepsOpen between
+    begun : has_begun p ≡ true
+    passes : (at acts).passes ≡ (at before).passes
+    keeps : StaysBegun plan commands (at before) (request ∷ between)
+    no_setup : PreparesNothing plan commands (at before) (request ∷ between)
 
-  -- the invariant of every run holds of it
-  fine : Invariant plan commands s
-  fine = invariant_holds plan commands scope acts
+  -- if all acts (`all`) are `before` and then `behind`, and the station has synchronized after all of them, it has synchronized
+  -- after `behind`, counted from the model after `before`
+  begun_there : (before behind all : List Act) (q : Progress) → all ≡ before ++ behind → (at all).progress ≡ q → has_begun q ≡ true
+      → has_begun (after_all plan commands (at before) behind).progress ≡ true
+  begun_there before behind all q order there begun =
+      ap (λ (x : Model). has_begun x.progress) (sym (ap at order ∙ after_all-append plan commands (opening plan scope) before behind)) ∙ ap has_begun there ∙ begun
 
-  -- the conditions of sending hold
-  needs : HoldsBefore plan s.progress (waiting_of s) Send
-  needs = subst (λ (o : Action). HoldsBefore plan s.progress (waiting_of s) o) is (action_for plan s.progress (waiting_of s))
+  -- the two fields on chains of p are right after these acts: if the next command isn't the first of its cycle, `next_is_chained`
+  -- is what the text says of it, or true in a missed cycle; and if `chain_unbroken` is true, `IsUnbroken` holds
+  record ChainIsRight (acts : List Act) (p : Progress) : Type 0 where
+    next_is_chained : plan.setup < place_next commands p → p.next_is_chained ≡ (p.missed || is_chained (drop (place_next commands p) commands))
+    chain_unbroken : p.chain_unbroken ≡ true → IsUnbroken acts p
 
-  -- the next command waits for the answer of the one before it
-  next_is_chained : s.progress.next_is_chained ≡ true
-  next_is_chained = h.next_is_chained chained.0 ∙ ap (λ (b : Bool). s.progress.missed || b) chained.1 ∙ or_right s.progress.missed true refl
+  -- `LeavesNothingOut` holds from the model before an act to the one after it
+  leaves_nothing_out : (acts : List Act) (act : Act) → LeavesNothingOut (at acts) (at (acts ++ act ∷ []))
+  leaves_nothing_out acts act =
+      let s = at acts in
+      subst (λ (x : Model). LeavesNothingOut s x) (sym (after_all-append plan commands (opening plan scope) acts (act ∷ [])))
+      (ended_leaves_nothing_out s (moved plan commands (action_at plan s) (with_progress turned s) act)
+      (moved_leaves_nothing_out plan commands (action_at plan s) (with_progress turned s) act))
 
-  -- the command before the next one, if no command is outstanding: `Whole` says that it was sent, and `EndsAnsweredWell` that the
-  -- last record was answered well; that record is its own, so `IsLinked` holds of it
-  of_last : commands_in s.marks ≡ 0 → s.progress.chain_unbroken ≡ true → EndsAnsweredWell s.records → Whole plan commands scope acts s.progress
-      → (l : IsLinked plan commands scope acts) × StaysBegun plan commands (state_after plan commands scope l.before) (l.request ∷ l.between)
-      × PreparesNothing plan commands (state_after plan commands scope l.before) (l.request ∷ l.between)
-  of_last settled it l w =
-      let b = state_after plan commands scope w.before in
-      let before = invariant_holds plan commands scope w.before in
-      let asked = subst (λ (o : Action). HoldsBefore plan b.progress (waiting_of b) o) w.sends (action_for plan b.progress (waiting_of b)) in
-      let some = asked.2 in
-      let below = before.begun some in
-      let many : 0 < cycles_begun plan b.progress = omega (arith, below) in
-      let place = place_next commands b.progress in
-      let cycle = cycles_begun plan b.progress in
-      let left : 0 < length (drop place commands) = let n = length-drop place commands in omega (arith, n, some, before.unsent) in
-      let within : plan.setup ≤ place = omega (arith, some, before.unsent) in
-      let sent = last_sent plan commands cycle place (drop place commands) refl left many within in
-      let b_passes = b.passes in
-      let there : commands_reached plan.setup commands (cycles_begun plan s.progress) (place_next commands s.progress) ≡ commands_reached plan.setup commands cycle (place + 1) =
-      ap (λ (n : ℕ). commands_reached plan.setup commands n (place_next commands s.progress)) w.cycle ∙ ap (λ (n : ℕ). commands_reached plan.setup commands cycle n) w.place in
-      let one : Request = record { cycle = cycle; place = place; asked = of_task sent.0 } in
-      let all : Interleave (of_text commands (map of_record s.records)) b_passes (commands_reached plan.setup commands cycle place ++ one ∷ []) =
-      subst (λ (xs : List Request). Interleave (of_text commands (map of_record s.records)) b_passes xs) (there ∙ sym sent.1)
-      (subst (λ (ys : List Request). Interleave (of_text commands (map of_record s.records)) ys
-      (commands_reached plan.setup commands (cycles_begun plan s.progress) (place_next commands s.progress))) w.passes
-      (subst (λ (xs : List Request). Interleave xs s.passes (commands_reached plan.setup commands (cycles_begun plan s.progress) (place_next commands s.progress)))
-      (sym (each_settled commands s.marks s.client.waiting s.records (of_text commands (map of_record s.records ++ still_waiting s.marks s.client.waiting)) settled refl)) fine.each)) in
-      let front = interleave_all (IsInFront cycle place) (of_text commands (map of_record b.records ++ still_waiting b.marks b.client.waiting)) b_passes
-      (commands_reached plan.setup commands cycle place) before.each
-      (sent_before plan.setup commands cycle place within) in
-      let kept = interleave_last one (of_text commands (map of_record s.records)) b_passes (commands_reached plan.setup commands cycle place) all
-      (λ xs e. not_in_front cycle place one refl refl (all_last (IsInFront cycle place) xs one (subst (AllByRecursion (IsInFront cycle place)) e front))) in
-      let split = map-append of_record l.earlier (l.answer ∷ []) in
-      let listed_all : map of_record s.records ≡ map of_record l.earlier ++ of_record l.answer ∷ [] = ap (map of_record) l.last ∙ split in
-      let of_a_cycle : 0 < l.answer.cycle = last_of_cycle plan commands scope acts runs settled it (map of_record l.earlier) (of_record l.answer) listed_all in
-      let ends : of_text commands (map of_record l.earlier) ++ in_text commands (of_record l.answer) ∷ [] ≡ kept.0 ++ one ∷ [] =
-      sym (listed_last commands (map of_record l.earlier) (of_record l.answer) of_a_cycle) ∙ ap (of_text commands) (sym listed_all) ∙ kept.1 in
-      let own = (same_from_push (of_text commands (map of_record l.earlier)) kept.0 (in_text commands (of_record l.answer)) one ends).1 in
-      let true_one = all_last (AnswerIsJustified plan commands scope acts) l.earlier l.answer
-      (subst (λ (rs : List Record). AllByRecursion (AnswerIsJustified plan commands scope acts) rs) l.last (answers_true plan commands scope acts runs)) in
-      let listed = all_last (λ (r : Record). IsAsListed scope.reads commands r) l.earlier l.answer
-      (subst (λ (rs : List Record). AllByRecursion (λ (r : Record). IsAsListed scope.reads commands r) rs) l.last (as_listed plan commands scope acts)) in
-      let linked : IsLinked plan commands scope acts = record {
-        before = w.before;
-        request = w.request;
-        between = w.between;
-        order = w.order;
-        sends = w.sends;
-        cycle = w.cycle;
-        place = w.place;
-        stays = w.stays;
-        earlier = l.earlier;
-        answer = l.answer;
-        last = l.last;
-        own_cycle = ap (λ (r : Request). r.cycle) own;
-        own_place = ap (λ (r : Request). r.place) own;
-        good = record { line = l.line; quality = l.quality; said = l.said; answered = l.answered; well = l.well; says = listed l.quality l.said l.line l.answered };
-        in_time = true_one l.line (ap line_of l.answered);
+  -- `ChainIsRight` is preserved by an act that keeps the fields as `Still` says, doesn't close the connection, and sends no
+  -- command of the setup; given that, if a chain goes on after the act, a station that had synchronized still has
+  chain_still : (acts : List Act) (act : Act) (p q : Progress) → (there : (at (acts ++ act ∷ [])).progress ≡ q) → (stays : Still p q)
+      → (begins : has_begun p ≡ true → q.chain_unbroken ≡ true → has_begun q ≡ true) → (keeps_open : KeepsOpen act)
+      → (not_setup : action_at plan (at acts) ≡ Prepare → ⊥) → ChainIsRight acts p → ChainIsRight (acts ++ act ∷ []) q
+  chain_still acts act p q there k begins stays other h =
+      let place_is : place_next commands q ≡ place_next commands p = ap (λ (n : ℕ). length commands - n) k.unsent in
+      record {
+        next_is_chained = λ above. still_chained plan commands p q k h.next_is_chained above;
+        chain_unbroken = λ e.
+            let w = h.chain_unbroken (k.chain_unbroken e) in
+            let order = ap (λ xs. xs ++ act ∷ []) w.order ∙ append_assoc w.before (w.request ∷ w.between) (act ∷ []) in
+            let begun = begins w.begun e in
+            record {
+              before = w.before;
+              request = w.request;
+              between = w.between ++ act ∷ [];
+              order = order;
+              sends = w.sends;
+              cycle = ap (λ (n : ℕ). plan.cycles - n) k.left ∙ w.cycle;
+              place = place_is ∙ w.place;
+              stays = all_append KeepsOpen w.between (act ∷ []) w.stays (stays, tt);
+              begun = begun;
+              passes = still_passes (at acts) (at (acts ++ act ∷ [])) (at w.before).passes (leaves_nothing_out acts act)
+                  (ap (λ (x : Progress). x.chain_unbroken) there ∙ e) w.passes;
+              keeps =
+                  stays_more plan commands (at w.before) (w.request ∷ w.between) act w.keeps
+                  (begun_there w.before (w.request ∷ (w.between ++ act ∷ [])) (acts ++ act ∷ []) q order there begun);
+              no_setup =
+                  let back = after_all-append plan commands (opening plan scope) w.before (w.request ∷ w.between) in
+                  let here : after_all plan commands (at w.before) (w.request ∷ w.between) ≡ at acts = sym back ∙ ap at (sym w.order) in
+                  prepares_none plan commands (at w.before) (w.request ∷ w.between) (act ∷ []) w.no_setup
+                  (subst (λ (x : Model). PreparesNothing plan commands x (act ∷ [])) (sym here) (other, tt));
+            };
+      }
+
+  -- `ChainIsRight` is preserved by an act that breaks the chain, as a close or a new synchronization does
+  chain_closed : (acts all : List Act) (p q : Progress) → Still p q → q.chain_unbroken ≡ false → ChainIsRight acts p → ChainIsRight all q
+  chain_closed acts all p q k broken h =
+      record { next_is_chained = λ above. still_chained plan commands p q k h.next_is_chained above; chain_unbroken = λ e. absurd (both_ways q.chain_unbroken broken e) }
+
+  -- `ChainIsRight` holds at the beginning of a cycle
+  chain_at_start : (acts : List Act) (q : Progress) → AtCycleStart (cycle_length plan commands) q → ChainIsRight acts q
+  chain_at_start acts q a =
+      let none : place_next commands q ≤ plan.setup = omega (arith, a.unsent) in
+      record { next_is_chained = λ above. absurd (omega (arith, none, above)); chain_unbroken = λ e. absurd (both_ways q.chain_unbroken a.chain_unbroken e) }
+
+  -- `ChainIsRight` holds after a command is recorded without being sent (`Next`, with the chain broken), if one was unsent, and
+  -- no more were than `commands` has
+  chain_skipped : (acts : List Act) (p q : Progress) → Next (is_chained_after_next commands p) p q → q.chain_unbroken ≡ false → 0 < p.unsent
+      → p.unsent ≤ length commands → ChainIsRight acts q
+  chain_skipped acts p q n broken some within =
+      let place_is = next_place commands p q n.unsent some within in
+      record { next_is_chained = λ above. next_chained commands p q n place_is; chain_unbroken = λ e. absurd (both_ways q.chain_unbroken broken e) }
+
+  -- `ChainIsRight` holds after the further attempts of a chain are left out (`Past`), if no more commands were unsent than
+  -- `commands` has
+  chain_past : (acts : List Act) (p q : Progress) → Past commands p q → p.unsent ≤ length commands → ChainIsRight acts q
+  chain_past acts p q k within =
+      record {
+        next_is_chained = λ above.
+            k.chained ∙ ap (λ (b : Bool). b || is_chained (drop (place_next commands p + p.next_others) commands)) (sym k.missed)
+            ∙ ap (λ (xs : List Task). q.missed || is_chained xs) (drop_past commands p.unsent p.next_others within)
+            ∙ ap (λ (n : ℕ). q.missed || is_chained (drop (length commands - n) commands)) (sym k.unsent);
+        chain_unbroken = λ e. absurd (both_ways q.chain_unbroken k.chain_unbroken e);
+      }
+
+  -- `ChainIsRight` holds after a command of a cycle is sent, if one was unsent, and no more were than `commands` has; given
+  -- that, if a chain goes on after the act, the station has synchronized
+  chain_sent : (acts : List Act) (act : Act) (p q : Progress) → (here : p ≡ turned (at acts).progress) → (there : (at (acts ++ act ∷ [])).progress ≡ q)
+      → (sends : action_at plan (at acts) ≡ Send) → (begins : q.chain_unbroken ≡ true → has_begun q ≡ true)
+      → (goes_on : Next (is_chained_after_next commands p) p q) → (some : 0 < p.unsent) → (within : p.unsent ≤ length commands) → ChainIsRight (acts ++ act ∷ []) q
+  chain_sent acts act p q here there is begins n some within =
+      let place_is = next_place commands p q n.unsent some within in
+      record {
+        next_is_chained = λ above. next_chained commands p q n place_is;
+        chain_unbroken = λ e. record {
+          before = acts;
+          request = act;
+          between = [];
+          order = refl;
+          sends = is;
+          cycle = ap (λ (k : ℕ). plan.cycles - k) n.left ∙ ap (λ (x : Progress). cycles_begun plan x) here;
+          place = place_is ∙ ap (λ (x : Progress). place_next commands x + 1) here;
+          stays = tt;
+          begun = begins e;
+          passes = still_passes (at acts) (at (acts ++ act ∷ [])) (at acts).passes (leaves_nothing_out acts act)
+              (ap (λ (x : Progress). x.chain_unbroken) there ∙ e) refl;
+          keeps = (begun_there acts (act ∷ []) (acts ++ act ∷ []) q refl there (begins e), tt);
+          no_setup = (λ prepares. let both : Send ≡ Prepare = sym is ∙ prepares in cc, tt);
+        };
+      }
+
+  -- no more commands are unsent than `commands` has
+  few_unsent : (acts : List Act) → (at acts).progress.unsent ≤ length commands
+  few_unsent acts = let fine = invariant_holds plan commands scope acts in omega (arith, fine.unsent)
+
+  -- `ChainIsRight` is preserved by an act of the action that is next, whose conditions hold, if the act changes the fields as
+  -- `ChangesChain` says; given that, if a chain goes on after the act, a station that had synchronized still has
+  chain_moved : (acts : List Act) (act : Act) (action : Action) (w : Waiting) (q : Progress) → (is_next : action_at plan (at acts) ≡ action)
+      → (needs : HoldsBefore plan (at acts).progress w action) → (performs : Performs commands (at acts) action act) → (there : (at (acts ++ act ∷ [])).progress ≡ q)
+      → (begins : has_begun (at acts).progress ≡ true → q.chain_unbroken ≡ true → has_begun q ≡ true)
+      → (steps : ChangesChain plan commands action (turned (at acts).progress) q) → ChainIsRight acts (turned (at acts).progress) → ChainIsRight (acts ++ act ∷ []) q
+  chain_moved acts act Begin w q is needs o there begins (inl k) h =
+      chain_still acts act _ q there k begins (stays_open plan commands Begin (at acts) act o (λ why e. cc))
+      (λ e. let both : Begin ≡ Prepare = sym is ∙ e in cc) h
+  chain_moved acts act Begin w q is needs o there begins (inr a) h = chain_at_start (acts ++ act ∷ []) q a
+  chain_moved acts act Renew w q is needs o there begins (inl k) h =
+      chain_still acts act _ q there k begins (stays_open plan commands Renew (at acts) act o (λ why e. cc))
+      (λ e. let both : Renew ≡ Prepare = sym is ∙ e in cc) h
+  chain_moved acts act Renew w q is needs o there begins (inr k) h = chain_closed acts (acts ++ act ∷ []) _ q k.0 k.1 h
+  chain_moved acts act Send w q is needs o there begins n h =
+      chain_sent acts act (turned (at acts).progress) q refl there is (begins needs.1) n needs.2 (few_unsent acts)
+  chain_moved acts act Skip w q is needs o there begins (inl k) h =
+      chain_still acts act _ q there k begins (stays_open plan commands Skip (at acts) act o (λ why e. cc))
+      (λ e. let both : Skip ≡ Prepare = sym is ∙ e in cc) h
+  chain_moved acts act Skip w q is needs o there begins (inr n) h =
+      chain_skipped (acts ++ act ∷ []) (turned (at acts).progress) q n.0 n.1 needs.2 (few_unsent acts)
+  chain_moved acts act Pass w q is needs o there begins (inl k) h =
+      chain_still acts act _ q there k begins (stays_open plan commands Pass (at acts) act o (λ why e. cc))
+      (λ e. let both : Pass ≡ Prepare = sym is ∙ e in cc) h
+  chain_moved acts act Pass w q is needs o there begins (inr k) h =
+      chain_past (acts ++ act ∷ []) (turned (at acts).progress) q k (few_unsent acts)
+  chain_moved acts act Prepare w q is needs o there begins k h = chain_closed acts (acts ++ act ∷ []) _ q k.0 k.1 h
+  chain_moved acts act (Close why) w q is needs o there begins k h = chain_closed acts (acts ++ act ∷ []) _ q k.0 k.1 h
+  chain_moved acts act (Stop why) w q is needs o there begins k h = absurd o
+  chain_moved acts act next w q is needs o there begins k h =
+      chain_still acts act _ q there k begins (stays_open plan commands next (at acts) act o (λ why e. cc))
+      (λ e. let both : next ≡ Prepare = sym is ∙ e in cc) h
+
+  -- `ChainIsRight` is preserved by all acts of a run
+  chain_along : (done acts : List Act) → Runs plan commands (at done) acts → ChainIsRight done (at done).progress → ChainIsRight (done ++ acts) (at (done ++ acts)).progress
+  chain_along done [] runs h = subst (λ (xs : List Act). ChainIsRight xs (at xs).progress) (sym (append-nil done)) h
+  chain_along done (act ∷ acts) runs h =
+      let s = at done in
+      let t = moved plan commands (action_at plan s) (with_progress turned s) act in
+      let next = after_all-append plan commands (opening plan scope) done (act ∷ []) in
+      let far : (at (done ++ act ∷ [])).progress ≡ t.progress = ap (λ (x : Model). x.progress) next ∙ ended_progress t in
+      let at_turn : ChainIsRight done (turned s.progress) = record {
+        next_is_chained = h.next_is_chained;
+        chain_unbroken = λ e.
+            let w = h.chain_unbroken e in record {
+              before = w.before;
+              request = w.request;
+              between = w.between;
+              order = w.order;
+              sends = w.sends;
+              cycle = w.cycle;
+              place = w.place;
+              stays = w.stays;
+              begun = w.begun;
+              passes = w.passes;
+              keeps = w.keeps;
+              no_setup = w.no_setup;
+            };
       } in
-      (linked, w.keeps, w.no_setup)
+      let one = chain_moved done act (action_at plan s) (waiting_of s) t.progress refl (action_for plan s.progress (waiting_of s)) runs.0 far
+      (begun_kept plan commands s (action_at plan s) act runs.0) (moved_steps plan commands (action_at plan s) (with_progress turned s) act) at_turn in
+      let here = subst (λ (p : Progress). ChainIsRight (done ++ act ∷ []) p) (sym far) one in
+      let goes_on = subst (λ (x : Model). Runs plan commands x acts) (sym next) runs.1 in
+      subst (λ (xs : List Act). ChainIsRight xs (at xs).progress) (append_assoc done (act ∷ []) acts)
+      (chain_along (done ++ act ∷ []) acts goes_on here)
 
-  -- the lemma above, if the next command may be sent (`MayGo`): as it is chained, that is because the one before it was
-  -- answered well
-  of_may : MayGo s.progress (waiting_of s) → (l : IsLinked plan commands scope acts) × StaysBegun plan commands (state_after plan commands scope l.before) (l.request ∷ l.between)
-      × PreparesNothing plan commands (state_after plan commands scope l.before) (l.request ∷ l.between)
-  of_may (inl free) = absurd (both_ways s.progress.next_is_chained free next_is_chained)
-  of_may (inr it) = of_last it.0 it.2 (ends_well s.records it.1) (h.chain_unbroken it.2)
+  -- `ChainIsRight` holds after every run
+  chain_holds : (acts : List Act) → Runs plan commands (opening plan scope) acts → ChainIsRight acts (at acts).progress
+  chain_holds acts runs = chain_along [] acts runs (record { next_is_chained = λ above. sym (ap is_chained (none_behind commands)); chain_unbroken = λ e. cc })
 
--- a chained command is sent only once the one before it was answered well, as `IsLinked` says
-pub chain_kept : (plan : Plan) (commands : List Task) (scope : Scope) (acts : List Act) → Runs plan commands (opening plan scope) acts
-    → action_at plan (state_after plan commands scope acts) ≡ Send → IsChained plan commands (state_after plan commands scope acts) → IsLinked plan commands scope acts
-chain_kept plan commands scope acts runs is chained = (chain_whole plan commands scope acts runs is chained).0
+  -- after every run, if the next command isn't the first of its cycle, `next_is_chained` is what the text says of it, or true in
+  -- a missed cycle
+  pub chained_as_text_says : (acts : List Act) → Runs plan commands (opening plan scope) acts → plan.setup < place_next commands (at acts).progress
+      → (at acts).progress.next_is_chained ≡ ((at acts).progress.missed || is_chained (drop (place_next commands (at acts).progress) commands))
+  chained_as_text_says acts runs above = (chain_holds acts runs).next_is_chained above
+
+  -- `IsLinked` holds: the command before the next one was sent, and was answered well. Since it was sent, the station has
+  -- synchronized after each act, and no act sent a command of the setup
+  abbrev pub IsLinkedStill : List Act → Type 0
+  IsLinkedStill acts =
+      (l : IsLinked plan commands scope acts) × StaysBegun plan commands (at l.before) (l.request ∷ l.between)
+      × PreparesNothing plan commands (at l.before) (l.request ∷ l.between)
+
+  -- if a chained command is to be sent, `IsLinkedStill` holds
+  pub chain_linked : (acts : List Act) → Runs plan commands (opening plan scope) acts → action_at plan (at acts) ≡ Send → IsChained plan commands (at acts)
+      → IsLinkedStill acts
+  chain_linked acts runs is chained = of_may needs.4 where
+    -- the model after these acts
+    s : Model
+    s = at acts
+
+    -- the fields on chains of that model say what happened
+    h : ChainIsRight acts s.progress
+    h = chain_holds acts runs
+
+    -- the invariant of every run holds of it
+    fine : Invariant plan commands s
+    fine = invariant_holds plan commands scope acts
+
+    -- the conditions of sending hold
+    needs : HoldsBefore plan s.progress (waiting_of s) Send
+    needs = subst (λ (o : Action). HoldsBefore plan s.progress (waiting_of s) o) is (action_for plan s.progress (waiting_of s))
+
+    -- the next command waits for the answer of the one before it
+    next_is_chained : s.progress.next_is_chained ≡ true
+    next_is_chained = h.next_is_chained chained.0 ∙ ap (λ (b : Bool). s.progress.missed || b) chained.1 ∙ or_right s.progress.missed true refl
+
+    -- the command before the next one, if no command is outstanding: `IsUnbroken` says that it was sent, and `EndsAnsweredWell`
+    -- that the last record was answered well; that record is its own, so `IsLinked` holds of it
+    of_last : commands_in s.marks ≡ 0 → s.progress.chain_unbroken ≡ true → EndsAnsweredWell s.records → IsUnbroken acts s.progress
+        → IsLinkedStill acts
+    of_last settled it l w =
+        let b = at w.before in
+        let before = invariant_holds plan commands scope w.before in
+        let asked = subst (λ (o : Action). HoldsBefore plan b.progress (waiting_of b) o) w.sends (action_for plan b.progress (waiting_of b)) in
+        let some = asked.2 in
+        let below = before.begun some in
+        let many : 0 < cycles_begun plan b.progress = omega (arith, below) in
+        let place = place_next commands b.progress in
+        let cycle = cycles_begun plan b.progress in
+        let left : 0 < length (drop place commands) = let n = length-drop place commands in omega (arith, n, some, before.unsent) in
+        let within : plan.setup ≤ place = omega (arith, some, before.unsent) in
+        let sent = last_sent plan commands cycle place (drop place commands) refl left many within in
+        let b_passes = b.passes in
+        let there : commands_reached plan.setup commands (cycles_begun plan s.progress) (place_next commands s.progress) ≡ commands_reached plan.setup commands cycle (place + 1) =
+        ap (λ (n : ℕ). commands_reached plan.setup commands n (place_next commands s.progress)) w.cycle ∙ ap (λ (n : ℕ). commands_reached plan.setup commands cycle n) w.place in
+        let one : Request = record { cycle = cycle; place = place; asked = of_task sent.0 } in
+        let all : Interleave (of_text commands (map of_record s.records)) b_passes (commands_reached plan.setup commands cycle place ++ one ∷ []) =
+        subst (λ (xs : List Request). Interleave (of_text commands (map of_record s.records)) b_passes xs) (there ∙ sym sent.1)
+        (subst (λ (ys : List Request). Interleave (of_text commands (map of_record s.records)) ys
+        (commands_reached plan.setup commands (cycles_begun plan s.progress) (place_next commands s.progress))) w.passes
+        (subst (λ (xs : List Request). Interleave xs s.passes (commands_reached plan.setup commands (cycles_begun plan s.progress) (place_next commands s.progress)))
+        (ap (of_text commands) (row_settled s.marks s.client.waiting s.records settled)) fine.each)) in
+        let front = interleave_all (IsInFront cycle place) (of_text commands (row b.marks b.client.waiting b.records)) b_passes
+        (commands_reached plan.setup commands cycle place) before.each
+        (sent_before plan.setup commands cycle place within) in
+        let kept = interleave_last one (of_text commands (map of_record s.records)) b_passes (commands_reached plan.setup commands cycle place) all
+        (λ xs e. not_before_equal cycle place cycle place (all_last (IsInFront cycle place) xs one (subst (AllByRecursion (IsInFront cycle place)) e front)) refl refl) in
+        let split = map-append of_record l.earlier (l.answer ∷ []) in
+        let listed_all : map of_record s.records ≡ map of_record l.earlier ++ of_record l.answer ∷ [] = ap (map of_record) l.last ∙ split in
+        let of_a_cycle : 0 < l.answer.cycle = last_of_cycle plan commands scope acts runs settled it (map of_record l.earlier) (of_record l.answer) listed_all in
+        let ends : of_text commands (map of_record l.earlier) ++ in_text commands (of_record l.answer) ∷ [] ≡ kept.0 ++ one ∷ [] =
+        sym (of_text_last commands (map of_record l.earlier) (of_record l.answer) of_a_cycle) ∙ ap (of_text commands) (sym listed_all) ∙ kept.1 in
+        let own = (same_from_push (of_text commands (map of_record l.earlier)) kept.0 (in_text commands (of_record l.answer)) one ends).1 in
+        let true_one = all_last (AnswerIsJustified plan commands scope acts) l.earlier l.answer
+        (subst (λ (rs : List Record). AllByRecursion (AnswerIsJustified plan commands scope acts) rs) l.last (answers_true plan commands scope acts runs)) in
+        let listed = all_last (λ (r : Record). IsAsListed scope.reads commands r) l.earlier l.answer
+        (subst (λ (rs : List Record). AllByRecursion (λ (r : Record). IsAsListed scope.reads commands r) rs) l.last (as_listed plan commands scope acts)) in
+        let linked : IsLinked plan commands scope acts = record {
+          before = w.before;
+          request = w.request;
+          between = w.between;
+          order = w.order;
+          sends = w.sends;
+          cycle = w.cycle;
+          place = w.place;
+          stays = w.stays;
+          earlier = l.earlier;
+          answer = l.answer;
+          last = l.last;
+          own_cycle = ap (λ (r : Request). r.cycle) own;
+          own_place = ap (λ (r : Request). r.place) own;
+          good = record { line = l.line; quality = l.quality; said = l.said; answered = l.answered; well = l.well; says = listed l.quality l.said l.line l.answered };
+          in_time = true_one l.line (ap line_of l.answered);
+        } in
+        (linked, w.keeps, w.no_setup)
+
+    -- the lemma above, if the next command may be sent (`MayGo`): as it is chained, that is because the one before it was
+    -- answered well
+    of_may : MayGo s.progress (waiting_of s) → IsLinkedStill acts
+    of_may (inl free) = absurd (both_ways s.progress.next_is_chained free next_is_chained)
+    of_may (inr it) = of_last it.0 it.2 (ends_well s.records it.1) (h.chain_unbroken it.2)
+
+  -- a chained command is sent only once the one before it was answered well, as `IsLinked` says
+  pub chain_kept : (acts : List Act) → Runs plan commands (opening plan scope) acts
+      → action_at plan (at acts) ≡ Send → IsChained plan commands (at acts) → IsLinked plan commands scope acts
+  chain_kept acts runs is chained = (chain_linked acts runs is chained).0

@@ -23,18 +23,18 @@ use Rattle.gc_station.specs.declared.progress.Waiting.{Waiting}
 use Rattle.gc_links.specs.Acts.{Act, Untold, Cut, Ended, Broke, Closed}
 use Rattle.gc_station.specs.Deciding.{has_begun, is_up, is_past, action_in}
 use Rattle.gc_station.specs.Marks.{commands_in}
-use Rattle.gc_station.specs.Progressing.{turned, moment_noted, failing, quieted, time_passed, is_finished, is_idle, cleared, closed, is_spared}
-use Rattle.gc_station.specs.Closing.{IsAlone, IsReasoned, Shows, ClosesForACause, EndsAfter, EndsDisconnected, Ends, StopsForACause, EndsAgain}
+use Rattle.gc_station.specs.Progressing.{turned, moment_noted, failing, quieted, time_passed, is_finished, is_idle, cleared, request_noted, null_sent, closed, is_spared}
+use Rattle.gc_station.specs.Closing.{HasFreshClient, IsReasoned, Shows, ClosesForACause, EndsAfter, EndsDisconnected, Ends, StopsForACause, EndsAtFailure}
 use Rattle.gc_station.specs.Reasons.{HoldsBefore, IsAtItsEnd, IsFinished}
 use Rattle.gc_station.specs.Runs.{state_after}
-use Rattle.gc_station.specs.Model.{Model, request_text, null_text, first_text, waiting_of, opening, action_at, with_progress, with_moment, is_heard, lines_completed, after_piece, Performs, moved, after, after_all, Runs, text_or_null}
+use Rattle.gc_station.specs.Model.{Model, request_text, null_text, first_text, waiting_of, opening, action_at, with_progress, with_moment, asks_null, is_heard, lines_completed, after_piece, Performs, moved, after, after_all, Runs, text_or_null}
 use Rattle.gc_station.specs.NextCommand.{commands_before, place_next}
 use Rattle.gc_station.proofs.Counts.{ended_progress}
 use Rattle.gc_station.proofs.EachRun.{invariant_holds}
 use Rattle.gc_station.proofs.Facts.{action_for, finished_so}
 use Rattle.gc_station.proofs.Invariant.{Invariant, says_done}
 use Rattle.gc_station.proofs.Going.{after_all-append}
-use Rattle.gc_station.proofs.Walk.{asked_along, came_along, quieted_along, walk}
+use Rattle.gc_station.proofs.Walk.{asked_along, came_along, quieted_along, sending, sending_setup, Putting, walk}
 use Rattle.gc_station.proofs.Turns.{again_down, closed_down}
 use Rattle.gc_station.specs.Scopes.{Scope}
 
@@ -53,6 +53,16 @@ Failed before behind why act = (is_up behind ≡ false → is_up before ≡ fals
 -- phase is as before the act (`before`)
 abbrev Decides : Type 0 → (before behind : Phase) → Cause → Act → Type 0
 Decides Other before behind why act = Failed before behind why act ⊎ (Other ⊎ (behind ≡ before))
+
+-- an act shows no cause if P holds of it, and P holds of no act that shows one: of no end of the connection, no failed read, no
+-- clock that can't be read and no write that is cut
+pub no_cause_shown : (P : Act → Type 0) → (P Ended → ⊥) → (P Broke → ⊥) → (P Untold → ⊥) → ((text : List ℕ) (n : ℕ) → P (Cut text n) → ⊥)
+    → (why : Cause) (act : Act) → P act → Shows why act → ⊥
+no_cause_shown P ended broke untold cut cause.End act holds shows = ended (subst P shows holds)
+no_cause_shown P ended broke untold cut cause.Read act holds shows = broke (subst P shows holds)
+no_cause_shown P ended broke untold cut cause.Clock act holds shows = untold (subst P shows holds)
+no_cause_shown P ended broke untold cut (cause.Write requests bytes) act holds shows = cut shows.0 bytes (subst P shows.1 holds)
+no_cause_shown P ended broke untold cut why act holds shows = shows
 
 -- a failure for `why`, which the act shows, sets the phase to closing if there is a connection (`up`) and to over if there is
 -- none. If that decides the end for the cause c, the act decides it: c is `why`
@@ -89,10 +99,10 @@ no_try : (spared : Bool) (tries : ℕ) → spared || nat_lt 0 tries ≡ false �
 no_try true tries e = cc
 no_try false tries e = (refl, grind (arith, nat_tests, e))
 
--- if the phase after a lost connection or a failed attempt ends the run, the cause is as `EndsAgain` says. `done`: nothing is
+-- if the phase after a lost connection or a failed attempt ends the run, the cause is as `EndsAtFailure` says. `done`: nothing is
 -- left to be sent and none is outstanding; `some`: a try is left, or none is needed
 again_ends : (plan : Plan) (other c : Cause) (n : ℕ) (p : Progress) (done some : Bool) → is_finished n p ≡ done → (is_spared plan other p || nat_lt 0 p.tries) ≡ some
-    → end_of (if done then Over cause.Done else if some then Pausing else Over other) ≡ Some c → EndsAgain plan p n other c
+    → end_of (if done then Over cause.Done else if some then Pausing else Over other) ≡ Some c → EndsAtFailure plan p n other c
 again_ends plan other c n p true some finished tries e = inl (cc, finished_so n p finished)
 again_ends plan other c n p false true finished tries e = cc
 again_ends plan other c n p false false finished tries e = let none = no_try (is_spared plan other p) p.tries tries in inr (cc, finished, none.0, none.1)
@@ -129,6 +139,16 @@ pub cleared_up : (begun : Bool) → is_up (if begun then Draining else Ready) �
 cleared_up true = refl
 cleared_up false = refl
 
+-- `DecidesSo` holds after an act of the action `next` that puts these bytes (`Putting`), if the model t after a whole write has
+-- the phase of the model s, from before the act
+put_decides : (plan : Plan) (s : Model) (next : Action) (c : Cause) (requests : ℕ) (text : List ℕ) (t : Model) → t.progress.phase ≡ s.progress.phase
+    → Putting (DecidesSo plan s next c) requests text t
+put_decides plan s next c requests text t same = (
+  λ m g. inr (inr same),
+  λ n g. fail_decides s.progress.phase t.progress.phase (is_up t.progress.phase) (cause.Write requests n) c (Cut text n) refl (text, refl)
+      (λ d. sym (ap is_up same) ∙ d) g,
+)
+
 -- `DecidesSo` holds after an act, given that a close for `Done` is next only if all is done (`IsFinished`)
 moved_decides : (plan : Plan) (commands : List Task) (next : Action) (s : Model) (act : Act) (c : Cause) → Performs commands s next act
     → (next ≡ action.Close cause.Done → IsFinished (commands_in s.marks) s.progress)
@@ -146,25 +166,23 @@ moved_decides plan commands action.Clear s act c o done e =
           (λ d. absurd (both_ways (is_up (if has_begun s.progress then Draining else Ready)) d (cleared_up (has_begun s.progress)))) g,
     ) e
 moved_decides plan commands action.Ask s act c o done e =
-    let text = null_text s.progress.word in
-    let at = s.progress.phase in
-    walk plan commands (DecidesSo plan s action.Ask c) action.Ask (with_progress turned s) act o
-    (λ m g. inr (inr refl), λ n g. fail_decides at at (is_up at) (cause.Write (commands_before plan commands (turned s.progress)) n) c (Cut text n) refl (text, refl) (λ d. d) g) e
+    let t = with_progress turned s in
+    walk plan commands (DecidesSo plan s action.Ask c) action.Ask t act o
+    (put_decides plan s action.Ask c (commands_before plan commands t.progress) (null_text s.progress.word) (with_progress (null_sent plan) t) refl) e
 moved_decides plan commands action.Prepare s act c o done e =
+    let t = with_progress turned s in
     let text = text_or_null s.progress.moment.utc s.client (drop s.progress.prepared commands) in
-    let at = s.progress.phase in
-    walk plan commands (DecidesSo plan s action.Prepare c) action.Prepare (with_progress turned s) act o
-    (λ m g. inr (inr refl), λ n g. fail_decides at at (is_up at) (cause.Write (commands_before plan commands (turned s.progress)) n) c (Cut text n) refl (text, refl) (λ d. d) g) e
+    walk plan commands (DecidesSo plan s action.Prepare c) action.Prepare t act o
+    (put_decides plan s action.Prepare c (commands_before plan commands t.progress) text (sending_setup plan commands t) refl) e
 moved_decides plan commands action.Send s act c o done e =
+    let t = with_progress turned s in
     let text = first_text s.progress.moment.utc s.client (drop (place_next commands s.progress) commands) in
-    let at = s.progress.phase in
-    walk plan commands (DecidesSo plan s action.Send c) action.Send (with_progress turned s) act o
-    (λ m g. inr (inr refl), λ n g. fail_decides at at (is_up at) (cause.Write (commands_before plan commands (turned s.progress)) n) c (Cut text n) refl (text, refl) (λ d. d) g) e
+    walk plan commands (DecidesSo plan s action.Send c) action.Send t act o
+    (put_decides plan s action.Send c (commands_before plan commands t.progress) text (sending plan commands t) refl) e
 moved_decides plan commands action.Flush s act c o done e =
-    let text = request_text s.client (Table NullProc) in
-    let at = s.progress.phase in
-    walk plan commands (DecidesSo plan s action.Flush c) action.Flush (with_progress turned s) act o
-    (λ m g. inr (inr refl), λ n g. fail_decides at at (is_up at) (cause.Write (commands_before plan commands (turned s.progress)) n) c (Cut text n) refl (text, refl) (λ d. d) g) e
+    let t = with_progress turned s in
+    walk plan commands (DecidesSo plan s action.Flush c) action.Flush t act o
+    (put_decides plan s action.Flush c (commands_before plan commands t.progress) (request_text s.client (Table NullProc)) (with_progress request_noted (asks_null plan t)) refl) e
 moved_decides plan commands (action.Read until) s act c o done e =
     let t = with_progress turned s in
     walk plan commands (DecidesSo plan s (action.Read until) c) (action.Read until) t act o (
@@ -193,30 +211,28 @@ not_twice plan commands s act c phase is e o same = cc
 abbrev pub Decided : Plan → Model → Phase → Cause → Act → Type 0
 Decided plan s behind c act = Failed s.progress.phase behind c act ⊎ Gone plan s (action_at plan s) behind c act
 
--- if the end is decided after an act, before what is outstanding is lost, the act decided it; given that a close for `Done` is
--- next only if all is done (`IsFinished`)
-moved_decided : (plan : Plan) (commands : List Task) (s : Model) (act : Act) (c : Cause) → Performs commands s (action_at plan s) act
-    → (action_at plan s ≡ action.Close cause.Done → IsFinished (commands_in s.marks) s.progress)
-    → end_of (moved plan commands (action_at plan s) (with_progress turned s) act).progress.phase ≡ Some c
-    → Decided plan s (moved plan commands (action_at plan s) (with_progress turned s) act).progress.phase c act
-moved_decided plan commands s act c o done e = pick (moved_decides plan commands (action_at plan s) s act c o done e) where
-  -- the lemma above, without the case that the phase is as before, which can't be
-  pick : Decides (Gone plan s (action_at plan s) (moved plan commands (action_at plan s) (with_progress turned s) act).progress.phase c act) s.progress.phase
-      (moved plan commands (action_at plan s) (with_progress turned s) act).progress.phase c act
-      → Decided plan s (moved plan commands (action_at plan s) (with_progress turned s) act).progress.phase c act
-  pick (inl shows) = inl shows
-  pick (inr (inl gone)) = inr gone
-  pick (inr (inr same)) = absurd (not_twice plan commands s act c s.progress.phase refl (ap end_of (sym same) ∙ e) o same)
-
--- if the end is decided after a whole act, the act decided it; given that a close for `Done` is next only if all is done
+-- if the end is decided after an act, the act decided it; given that a close for `Done` is next only if all is done
 -- (`IsFinished`)
 pub after_decided : (plan : Plan) (commands : List Task) (s : Model) (act : Act) (c : Cause) → Performs commands s (action_at plan s) act
     → (action_at plan s ≡ action.Close cause.Done → IsFinished (commands_in s.marks) s.progress)
     → end_of (after plan commands s act).progress.phase ≡ Some c → Decided plan s (after plan commands s act).progress.phase c act
 after_decided plan commands s act c o done e =
-    let same : (after plan commands s act).progress.phase ≡ (moved plan commands (action_at plan s) (with_progress turned s) act).progress.phase =
-    ap (λ (p : Progress). p.phase) (ended_progress (moved plan commands (action_at plan s) (with_progress turned s) act)) in
-    subst (λ (behind : Phase). Decided plan s behind c act) (sym same) (moved_decided plan commands s act c o done (sym (ap end_of same) ∙ e))
+    subst (λ (behind : Phase). Decided plan s behind c act) (sym same) (pick (moved_decides plan commands (action_at plan s) s act c o done ends)) where
+      -- the loss of what is outstanding, which comes last in an act, leaves the phase
+      same : (after plan commands s act).progress.phase ≡ (moved plan commands (action_at plan s) (with_progress turned s) act).progress.phase
+      same = ap (λ (p : Progress). p.phase) (ended_progress (moved plan commands (action_at plan s) (with_progress turned s) act))
+
+      -- so the end is decided before that, too
+      ends : end_of (moved plan commands (action_at plan s) (with_progress turned s) act).progress.phase ≡ Some c
+      ends = sym (ap end_of same) ∙ e
+
+      -- `moved_decides` without the case that the phase is as before, which can't be
+      pick : Decides (Gone plan s (action_at plan s) (moved plan commands (action_at plan s) (with_progress turned s) act).progress.phase c act) s.progress.phase
+          (moved plan commands (action_at plan s) (with_progress turned s) act).progress.phase c act
+          → Decided plan s (moved plan commands (action_at plan s) (with_progress turned s) act).progress.phase c act
+      pick (inl shows) = inl shows
+      pick (inr (inl gone)) = inr gone
+      pick (inr (inr still)) = absurd (not_twice plan commands s act c s.progress.phase refl (ap end_of (sym still) ∙ ends) o still)
 
 -- of a run, an act performs the action that was next, and the acts before it are a run
 pub runs_split : (plan : Plan) (commands : List Task) (s : Model) (earlier later : List Act) (act : Act) → Runs plan commands s (earlier ++ act ∷ later)
@@ -225,9 +241,9 @@ runs_split plan commands s [] later act runs = (tt, runs.0)
 runs_split plan commands s (x ∷ xs) later act runs = let r = runs_split plan commands (after plan commands s x) xs later act runs.1 in ((runs.0, r.0), r.1)
 
 -- if a null procedure of a synchronization is next, nothing is outstanding and the client is new
-goes_alone : (plan : Plan) (commands : List Task) (s : Model) (next : Action) → Invariant plan commands s → HoldsBefore plan s.progress (waiting_of s) next → IsAlone next s
-goes_alone plan commands s action.Ask fine needs = let new = fine.begins needs.1 in (new, nil_from_length s.marks (fine.paired ∙ ap (λ (c : ById Asked). length c.waiting) new))
-goes_alone plan commands s next fine needs = tt
+asks_when_fresh : (plan : Plan) (commands : List Task) (s : Model) (next : Action) → Invariant plan commands s → HoldsBefore plan s.progress (waiting_of s) next → HasFreshClient next s
+asks_when_fresh plan commands s action.Ask fine needs = let new = fine.begins needs.1 in (new, nil_from_length s.marks (fine.paired ∙ ap (λ (c : ById Asked). length c.waiting) new))
+asks_when_fresh plan commands s next fine needs = tt
 
 -- each act of a run is `IsReasoned`: it performs the action that is next, whose conditions hold
 pub act_reasoned : (plan : Plan) (commands : List Task) (scope : Scope) (earlier later : List Act) (act : Act)
@@ -238,7 +254,7 @@ act_reasoned plan commands scope earlier later act runs =
     record {
       obeys = (runs_split plan commands (opening plan scope) earlier later act runs).1;
       needs = needs;
-      alone = goes_alone plan commands s (action_at plan s) (invariant_holds plan commands scope earlier) needs;
+      is_fresh = asks_when_fresh plan commands s (action_at plan s) (invariant_holds plan commands scope earlier) needs;
     }
 
 -- a list of acts is empty, or has a last act

@@ -46,10 +46,11 @@ down_unused phase.Draining down = cc
 down_unused phase.Ready down = cc
 down_unused at down = refl
 
--- in a pause, whether it ends (`ends`) or not, no connection is in use
-paused_unused : (ends : Bool) (at : Phase) → at ≡ phase.Pausing → is_in_use (if ends then phase.Down else at) ≡ false
-paused_unused true at is = refl
-paused_unused false at is = ap is_in_use is
+-- in a pause, whether it ends (`ends`) or not, a test of phases gives the same as before, if it gives the same of `Down` and
+-- `Pausing`
+pub paused_alike : (test : Phase → Bool) (ends : Bool) (at : Phase) → at ≡ phase.Pausing → test phase.Down ≡ test phase.Pausing → test (if ends then phase.Down else at) ≡ test phase.Pausing
+paused_alike test true at is same = same
+paused_alike test false at is same = ap test is
 
 -- What has to hold after an act of an action if no call fails. After a read that gave nothing it is shown for a drain that goes
 -- on, and for one that was long enough and ends. All rows take a moment, though not each action reads the clock.
@@ -88,13 +89,14 @@ OnLine plan commands F (actions.Stop why) s acts = Unit {0}
 
 module _ (plan : Plan) (commands : List Task) (F : Progress → List Act → Type 0) (unused : (p : Progress) (acts : List Act) → is_in_use p.phase ≡ false → F p acts) where
   -- the fact holds after these acts and one more, of the progress of the model after them
-  abbrev FactBehind : List Act → Act → Model → Type 0
+  abbrev pub FactBehind : List Act → Act → Model → Type 0
   FactBehind acts act t = F t.progress (acts ++ act ∷ [])
 
   -- `Silenced` gives the fact after a read that gave nothing, in any phase
   silent_on : (until : Until) (m : Moment) (p : Progress) (at : Phase) (acts : List Act) → p.phase ≡ at → Silenced plan F until m p acts
       → F (quieted plan at (time_passed until m p)) (acts ++ Silent m ∷ [])
-  silent_on until m p phase.Pausing acts is h = unused _ (acts ++ Silent m ∷ []) (paused_unused (is_past p.pause (time_passed until m p) && not (is_idle plan (time_passed until m p))) p.phase is)
+  silent_on until m p phase.Pausing acts is h =
+      unused _ (acts ++ Silent m ∷ []) (paused_alike is_in_use (is_past p.pause (time_passed until m p) && not (is_idle plan (time_passed until m p))) p.phase is refl)
   silent_on until m p phase.Draining acts is h = by_test (is_quiet plan (time_passed until m p)) refl where
     -- the lemma above for a drain, whether it was long enough (`true`) or not
     by_test : (b : Bool) → is_quiet plan (time_passed until m p) ≡ b → F (if b then drained (time_passed until m p) else time_passed until m p) (acts ++ Silent m ∷ [])
@@ -105,7 +107,7 @@ module _ (plan : Plan) (commands : List Task) (F : Progress → List Act → Typ
   -- `OnLine` of an action gives the fact after an act of it: if the act leaves no connection in use, the fact holds anyway
   -- (`unused`)
   pub on_line : (next : Action) (s : Model) (act : Act) (acts : List Act) → Performs commands s next act → OnLine plan commands F next (with_progress turned s) acts
-      → F (moved plan commands next (with_progress turned s) act).progress (acts ++ act ∷ [])
+      → FactBehind acts act (moved plan commands next (with_progress turned s) act)
   on_line actions.Open s act acts o h = walk plan commands (FactBehind acts) actions.Open (with_progress turned s) act o
       (h, λ n. unused _ _ (down_unused _ (again_down plan (commands_in s.marks) cause.Open (turned s.progress))))
   on_line actions.Clear s act acts o h = walk plan commands (FactBehind acts) actions.Clear (with_progress turned s) act o

@@ -9,9 +9,9 @@ use Rattle.gc_station.specs.Deciding.{later}
 use Rattle.gc_station.specs.declared.tally.Counts.{Counts}
 use Rattle.gc_station.specs.declared.tally.Tally.{Tally}
 
--- a command may be counted in the count of its attempt or in the number `rest` of commands after it. `before` is the count of the
--- chains before, `counts` whether the command has the ending that is counted. In an attempt that is `followed` by another one no
--- command counts
+-- a count comes to the same whether a command is counted with its attempt (`attempt`) or with the commands after it (`rest`).
+-- `before` is the count of the chains before, and `counts` says whether the command has the ending that is counted. If another
+-- attempt follows (`followed`), neither the attempt nor the command counts
 counted_either_way : (followed counts : Bool) (before attempt rest : ℕ)
     → capped (before + ((if followed then 0 else (if counts then one_more attempt else attempt)) + rest))
     ≡ capped (before + ((if followed then 0 else attempt) + (if followed then rest else (if counts then suc rest else rest))))
@@ -19,14 +19,10 @@ counted_either_way true counts before attempt rest = refl
 counted_either_way false true before attempt rest = omega arith
 counted_either_way false false before attempt rest = refl
 
--- 0 is chosen, whether an attempt is followed or not
-zero_chosen : (followed : Bool) → ◌≡◌ {A = ℕ} (if followed then 0 else 0) 0
-zero_chosen true = refl
-zero_chosen false = refl
-
 -- an attempt without commands so far adds nothing to a count, whether it is followed or not
 adds_nothing : (followed : Bool) (before rest : ℕ) → capped (before + ((if followed then 0 else 0) + rest)) ≡ capped (before + (0 + rest))
-adds_nothing followed before rest = ap (λ n. capped (before + (n + rest))) (zero_chosen followed)
+adds_nothing true before rest = refl
+adds_nothing false before rest = refl
 
 -- once the next chain begins, the count of the last attempt (`attempt`) is among those of the chains before, and the attempt that
 -- begins, `followed` by another one or not, has none yet
@@ -41,21 +37,44 @@ attempt_begun c further =
 
 -- to count the records with an ending for which `so` is true, with r before `rs` unless its attempt is followed (q), is to count
 -- those of `rs`, and one more if r is there and has such an ending
-in_front : (so : End → Bool) (q : Bool) (r : Record) (rs : List Record)
+counted_in_front : (so : End → Bool) (q : Bool) (r : Record) (rs : List Record)
     → how_many so (if q then rs else r ∷ rs) ≡ (if q then how_many so rs else (if so r.end then suc (how_many so rs) else how_many so rs))
-in_front so true r rs = refl
-in_front so false r rs = refl
+counted_in_front so true r rs = refl
+counted_in_front so false r rs = refl
+
+-- the tally `t` with one more in the count that counts this ending
+abbrev with_counted : End → Tally → Tally
+with_counted end t = record {
+  answered = if is_answered end then one_more t.answered else t.answered;
+  late = if is_late end then one_more t.late else t.late;
+  lost = if is_lost end then one_more t.lost else t.lost;
+  skipped = if is_skipped end then one_more t.skipped else t.skipped;
+  unreadable = if is_unreadable end then one_more t.unreadable else t.unreadable;
+  missed = if is_missed end then one_more t.missed else t.missed;
+  elsewhere = if is_elsewhere end then one_more t.elsewhere else t.elsewhere;
+  again = t.again;
+}
+
+-- a command is counted in the count of its ending, and in no other
+counted_so : (end : End) (t : Tally) → counted end t ≡ with_counted end t
+counted_so (Answered quality answer line) t = refl
+counted_so (Unreadable line fault) t = refl
+counted_so (Elsewhere line) t = refl
+counted_so Late t = refl
+counted_so Lost t = refl
+counted_so Skipped t = refl
+counted_so Missed t = refl
 
 -- a count that grows by one for each command with this ending (`so`), stays for any other, adds up, and doesn't depend on `again`
-module _ (count : Tally → ℕ) (so : End → Bool) (step : (end : End) (t : Tally) → count (counted end t) ≡ (if so end then one_more (count t) else count t))
+module _ (count : Tally → ℕ) (so : End → Bool) (step : (end : End) (t : Tally) → count (with_counted end t) ≡ (if so end then one_more (count t) else count t))
     (adds : (a b : Tally) → count (sum a b) ≡ later (count a) (count b)) (none : count none_yet ≡ 0) (stays : (t : Tally) (n : ℕ) → count (record t { again = n }) ≡ count t) where
-  -- a count x with r, the next command of an attempt, counted with that attempt is the same as with r counted among the records
-  -- instead, in front of `rs`. If the attempt is followed (q), r isn't counted either way
+  -- if x is the count with r, the next command of an attempt, counted with that attempt (t), x is also the count with r counted
+  -- among the records in its place, in front of `rs`. If the attempt is followed (q), r isn't counted either way
   counts_next : (x s : ℕ) (t : Tally) (r : Record) (rs : List Record) (q : Bool) → x ≡ capped (s + ((if q then 0 else count (counted r.end t)) + how_many so rs))
       → x ≡ capped (s + ((if q then 0 else count t) + how_many so (if q then rs else r ∷ rs)))
   counts_next x s t r rs q is =
-      is ∙ ap (λ n. capped (s + ((if q then 0 else n) + how_many so rs))) (step r.end t) ∙ counted_either_way q (so r.end) s (count t) (how_many so rs)
-      ∙ ap (λ n. capped (s + ((if q then 0 else count t) + n))) (sym (in_front so q r rs))
+      is ∙ ap (λ n. capped (s + ((if q then 0 else n) + how_many so rs))) (ap count (counted_so r.end t) ∙ step r.end t) ∙ counted_either_way q (so r.end) s (count t) (how_many so rs)
+      ∙ ap (λ n. capped (s + ((if q then 0 else count t) + n))) (sym (counted_in_front so q r rs))
 
   -- a count after these records is the sum of that of the chains before, of that of the attempt before unless a further one
   -- follows, and of the number of records of last attempts with its ending; at most 2^64 - 1
@@ -89,16 +108,6 @@ module _ (count : Tally → ℕ) (so : End → Bool) (step : (end : End) (t : Ta
       counts nothing_yet records ∙ ap (λ n. capped (n + ((if is_followed records then 0 else n) + how_many so (last_attempts records)))) none
       ∙ adds_nothing (is_followed records) 0 (how_many so (last_attempts records)) ∙ omega arith
 
--- a command that is counted leaves how many chains were sent again
-same_again : (end : End) (t : Tally) → (counted end t).again ≡ t.again
-same_again (Answered quality answer line) t = refl
-same_again (Unreadable line fault) t = refl
-same_again (Elsewhere line) t = refl
-same_again Late t = refl
-same_again Lost t = refl
-same_again Skipped t = refl
-same_again Missed t = refl
-
 -- the number of further attempts of chains, after these records, is that before them plus those among them, at most 2^64 - 1, if
 -- none is counted in the attempt itself
 again_counts : (c : Counts) (rs : List Record) → c.attempt.again ≡ 0 → (total (tallied c rs)).again ≡ capped (c.settled.again + further_attempts rs)
@@ -110,58 +119,23 @@ again_counts c (r ∷ rs) none = by_tests (λ d n. again_counts d rs n) (nat_eq 
       → (total (tallied (if z then c else (let d = (if l then attempt_begun c f else c) in record d { attempt = counted r.end d.attempt })) rs)).again
       ≡ capped (c.settled.again + (if not z && l && f then suc (further_attempts rs) else further_attempts rs))
   by_tests ih true l f = ih c none
-  by_tests ih false false f = ih (record c { attempt = counted r.end c.attempt }) (same_again r.end c.attempt ∙ none)
+  by_tests ih false false f = ih (record c { attempt = counted r.end c.attempt }) (ap (λ (t : Tally). t.again) (counted_so r.end c.attempt) ∙ none)
   by_tests ih false true true =
-      ih (record { settled = record c.settled { again = one_more c.settled.again }; attempt = counted r.end none_yet }) (same_again r.end none_yet) ∙ omega arith
+      ih (record { settled = record c.settled { again = one_more c.settled.again }; attempt = counted r.end none_yet }) (ap (λ (t : Tally). t.again) (counted_so r.end none_yet)) ∙ omega arith
   by_tests ih false true false =
-      ih (record { settled = sum c.settled c.attempt; attempt = counted r.end none_yet }) (same_again r.end none_yet)
+      ih (record { settled = sum c.settled c.attempt; attempt = counted r.end none_yet }) (ap (λ (t : Tally). t.again) (counted_so r.end none_yet))
       ∙ ap (λ n. capped (later c.settled.again n + further_attempts rs)) none ∙ omega arith
-
--- the count of answered commands grows by one for an answered command alone
-answered : (end : End) (t : Tally) → (counted end t).answered ≡ (if is_answered end then one_more t.answered else t.answered)
-answered (Answered quality answer line) t = refl
-answered end t = refl
-
--- the count of unreadable replies grows by one for an unreadable one alone
-unreadable : (end : End) (t : Tally) → (counted end t).unreadable ≡ (if is_unreadable end then one_more t.unreadable else t.unreadable)
-unreadable (Unreadable line fault) t = refl
-unreadable end t = refl
-
--- the count of commands that are elsewhere grows by one for such a command alone
-elsewhere : (end : End) (t : Tally) → (counted end t).elsewhere ≡ (if is_elsewhere end then one_more t.elsewhere else t.elsewhere)
-elsewhere (Elsewhere line) t = refl
-elsewhere end t = refl
-
--- the count of late commands grows by one for a late one alone
-late : (end : End) (t : Tally) → (counted end t).late ≡ (if is_late end then one_more t.late else t.late)
-late Late t = refl
-late end t = refl
-
--- the count of lost commands grows by one for a lost one alone
-lost : (end : End) (t : Tally) → (counted end t).lost ≡ (if is_lost end then one_more t.lost else t.lost)
-lost Lost t = refl
-lost end t = refl
-
--- the count of skipped commands grows by one for a skipped one alone
-skipped : (end : End) (t : Tally) → (counted end t).skipped ≡ (if is_skipped end then one_more t.skipped else t.skipped)
-skipped Skipped t = refl
-skipped end t = refl
-
--- the count of missed commands grows by one for a missed one alone
-missed : (end : End) (t : Tally) → (counted end t).missed ≡ (if is_missed end then one_more t.missed else t.missed)
-missed Missed t = refl
-missed end t = refl
 
 -- each count of a tally is the number of the records of last attempts with its ending, and `again` is the number of further
 -- attempts; each at most 2^64 - 1
 pub count_records : TalliesCountRecords
 count_records = record {
-  answered = counts_all (λ (t : Tally). t.answered) is_answered answered (λ a b. refl) refl (λ t n. refl);
-  unreadable = counts_all (λ (t : Tally). t.unreadable) is_unreadable unreadable (λ a b. refl) refl (λ t n. refl);
-  late = counts_all (λ (t : Tally). t.late) is_late late (λ a b. refl) refl (λ t n. refl);
-  lost = counts_all (λ (t : Tally). t.lost) is_lost lost (λ a b. refl) refl (λ t n. refl);
-  skipped = counts_all (λ (t : Tally). t.skipped) is_skipped skipped (λ a b. refl) refl (λ t n. refl);
-  missed = counts_all (λ (t : Tally). t.missed) is_missed missed (λ a b. refl) refl (λ t n. refl);
-  elsewhere = counts_all (λ (t : Tally). t.elsewhere) is_elsewhere elsewhere (λ a b. refl) refl (λ t n. refl);
+  answered = counts_all (λ (t : Tally). t.answered) is_answered (λ end t. refl) (λ a b. refl) refl (λ t n. refl);
+  unreadable = counts_all (λ (t : Tally). t.unreadable) is_unreadable (λ end t. refl) (λ a b. refl) refl (λ t n. refl);
+  late = counts_all (λ (t : Tally). t.late) is_late (λ end t. refl) (λ a b. refl) refl (λ t n. refl);
+  lost = counts_all (λ (t : Tally). t.lost) is_lost (λ end t. refl) (λ a b. refl) refl (λ t n. refl);
+  skipped = counts_all (λ (t : Tally). t.skipped) is_skipped (λ end t. refl) (λ a b. refl) refl (λ t n. refl);
+  missed = counts_all (λ (t : Tally). t.missed) is_missed (λ end t. refl) (λ a b. refl) refl (λ t n. refl);
+  elsewhere = counts_all (λ (t : Tally). t.elsewhere) is_elsewhere (λ end t. refl) (λ a b. refl) refl (λ t n. refl);
   again = λ records. again_counts nothing_yet records refl ∙ omega arith;
 }

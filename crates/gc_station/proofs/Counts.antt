@@ -1,6 +1,6 @@
 -- What each act leaves of the counts: the turns, the cycles that haven't begun, and the commands of the cycle that are left
 -- (`unsent`): neither sent, nor recorded without being sent, nor left out. An act is one call on the link, with its result.
-use Rattle.std.proofs.Common.{◌≡◌, ℕ, ◌-◌, ◌≤◌, ◌⊎◌, inl, inr, Bool, true, false, List, refl, ap, subst, arith}
+use Rattle.std.proofs.Common.{◌≡◌, ℕ, ◌-◌, ◌≤◌, ◌⊎◌, inl, inr, Bool, List, refl, ap, subst, arith}
 use Rattle.gc_texts.specs.declared.tasks.Task.{Task}
 use Rattle.gc_station.specs.declared.plan.Plan.{Plan}
 use Rattle.gc_station.specs.declared.cause.Cause.TheVariants as cause
@@ -8,7 +8,7 @@ use Rattle.gc_station.specs.declared.progress.Action.{Action}
 use Rattle.gc_station.specs.declared.progress.Action.TheVariants.{Begin, Send, Skip, Pass}
 use Rattle.gc_station.specs.declared.progress.Progress.{Progress}
 use Rattle.gc_links.specs.Acts.{Act, Told, Cut}
-use Rattle.gc_station.proofs.Walk.{moved_changed, is_sent}
+use Rattle.gc_station.proofs.Walk.{losing_along, moved_changed, is_sent}
 use Rattle.gc_station.specs.Model.{Model, cycle_length, moved, losing, ended}
 use Rattle.gc_station.specs.NextCommand.{commands_before}
 use Rattle.gc_station.specs.Progressing.{failing, skipped, loses_all}
@@ -20,8 +20,8 @@ pub record KeepsCounts (p q : Progress) : Type 0 where
   pub unsent : q.unsent ≡ p.unsent
 
 -- `KeepsCounts`, from its three parts
-pub kept : (p q : Progress) → q.turns ≡ p.turns → q.left ≡ p.left → q.unsent ≡ p.unsent → KeepsCounts p q
-kept p q turns left unsent = record { turns = turns; left = left; unsent = unsent }
+pub keeps_counts : (p q : Progress) → q.turns ≡ p.turns → q.left ≡ p.left → q.unsent ≡ p.unsent → KeepsCounts p q
+keeps_counts p q turns left unsent = record { turns = turns; left = left; unsent = unsent }
 
 -- the progress with a cycle of `count` commands begun, as far as these counts go
 abbrev pub counted_begun : ℕ → Progress → Progress
@@ -46,23 +46,22 @@ Counts count _ p q = KeepsCounts p q
 
 -- each act does to the counts what `Counts` says
 pub moved_counts : (plan : Plan) (commands : List Task) (action : Action) (s : Model) (act : Act) → Counts (cycle_length plan commands) action s.progress (moved plan commands action s act).progress
-moved_counts plan commands Begin s (Told m) = inr (kept (counted_begun (cycle_length plan commands) s.progress) _ refl refl refl)
-moved_counts plan commands Begin s act = inl (kept s.progress _ refl refl refl)
-moved_counts plan commands Skip s (Told m) = inr (kept (counted_sent s.progress) _ refl refl refl)
-moved_counts plan commands Skip s act = inl (kept s.progress _ refl refl refl)
-moved_counts plan commands Pass s (Told m) = inr (kept (counted_passed s.progress) _ refl refl refl)
-moved_counts plan commands Pass s act = inl (kept s.progress _ refl refl refl)
+moved_counts plan commands Begin s (Told m) = inr (keeps_counts (counted_begun (cycle_length plan commands) s.progress) _ refl refl refl)
+moved_counts plan commands Begin s act = inl (keeps_counts s.progress _ refl refl refl)
+moved_counts plan commands Skip s (Told m) = inr (keeps_counts (counted_sent s.progress) _ refl refl refl)
+moved_counts plan commands Skip s act = inl (keeps_counts s.progress _ refl refl refl)
+moved_counts plan commands Pass s (Told m) = inr (keeps_counts (counted_passed s.progress) _ refl refl refl)
+moved_counts plan commands Pass s act = inl (keeps_counts s.progress _ refl refl refl)
 moved_counts plan commands Send s (Cut bytes n) = subst (λ (x : Model). KeepsCounts (counted_sent s.progress)
-    (failing (cause.Write (commands_before plan commands s.progress) n) x.progress)) (is_sent plan commands s) (kept (counted_sent s.progress) _ refl refl refl)
-moved_counts plan commands Send s act = subst (λ (x : Model). KeepsCounts (counted_sent s.progress) x.progress) (is_sent plan commands s) (kept (counted_sent s.progress) _ refl refl refl)
+    (failing (cause.Write (commands_before plan commands s.progress) n) x.progress)) (is_sent plan commands s) (keeps_counts (counted_sent s.progress) _ refl refl refl)
+moved_counts plan commands Send s act = subst (λ (x : Model). KeepsCounts (counted_sent s.progress) x.progress) (is_sent plan commands s) (keeps_counts (counted_sent s.progress) _ refl refl refl)
 moved_counts plan commands action s act =
     let is = moved_changed plan commands action s act in
-    kept s.progress _ (ap (λ (x : Model). x.progress.turns) is) (ap (λ (x : Model). x.progress.left) is) (ap (λ (x : Model). x.progress.unsent) is)
+    keeps_counts s.progress _ (ap (λ (x : Model). x.progress.turns) is) (ap (λ (x : Model). x.progress.left) is) (ap (λ (x : Model). x.progress.unsent) is)
 
 -- the loss of requests, all or none, changes no progress
 pub losing_progress : (all : Bool) (s : Model) → (losing all s).progress ≡ s.progress
-losing_progress true s = refl
-losing_progress false s = refl
+losing_progress all s = losing_along (λ (t : Model). t.progress ≡ s.progress) all s refl refl
 
 -- the loss of what is outstanding, at the end of an act, changes no progress
 pub ended_progress : (s : Model) → (ended s).progress ≡ s.progress
@@ -70,8 +69,7 @@ ended_progress s = losing_progress (loses_all s.progress) s
 
 -- the loss of requests, all or none, leaves no command out
 losing_passes : (all : Bool) (s : Model) → (losing all s).passes ≡ s.passes
-losing_passes true s = refl
-losing_passes false s = refl
+losing_passes all s = losing_along (λ (t : Model). t.passes ≡ s.passes) all s refl refl
 
 -- the loss of what is outstanding, at the end of an act, leaves no command out
 pub ended_passes : (s : Model) → (ended s).passes ≡ s.passes

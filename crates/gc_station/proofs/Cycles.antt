@@ -30,11 +30,10 @@ use Rattle.gc_station.proofs.Interleaving.{drop_past}
 use Rattle.gc_station.proofs.Closings.{runs_split, needs_of}
 use Rattle.gc_station.proofs.Always.{always, progress_after_act}
 use Rattle.gc_station.proofs.EachRun.{invariant_holds}
-use Rattle.gc_station.proofs.Facts.{action_for, or_second, and_second}
+use Rattle.gc_station.proofs.Facts.{action_for, begin_due, or_second, and_second}
 use Rattle.gc_station.proofs.Invariant.{Invariant}
 use Rattle.gc_station.proofs.Walk.{asked_along, came_along, quieted_along, closed_along, moved_changed, walk}
 use Rattle.gc_station.proofs.Ticking.{Ticks, ticked, rises_front, rises_last, latest_more, last_ticks}
-use Rattle.gc_station.proofs.Due.{begin_due}
 use Rattle.gc_station.proofs.Staying.{Stays, stays}
 
 -- Acts that stay in their cycle.
@@ -70,14 +69,19 @@ closed_same plan s why =
 -- What every run keeps of its cycles.
 
 module _ (plan : Plan) (commands : List Task) (scope : Scope) (some : 0 < plan.every) where
+  -- the model after these acts
+  abbrev at : List Act → Model
+  at acts = state_after plan commands scope acts
+
   -- why the next command of p waits for the answer of the one before it: its cycle is missed, or the text chains it
   abbrev pub WaitsForAnswer : Progress → Type 0
   WaitsForAnswer p = (p.missed ≡ true) ⊎ ((plan.setup < place_next commands p) × (is_chained (drop (place_next commands p) commands) ≡ true))
 
-  -- with the progress p a station is within a cycle: `earlier` came before it, it began at `moment`, `late` milliseconds after it
-  -- was due; and the fields of p on it are right. `began` is its due moment, which isn't later than the moment read last, and
-  -- `due` the same by the clock of time stamps; `missed` says whether the next cycle was due by `moment`. If it is missed, each
-  -- command counts as chained, and no chain goes on; and a command counts as chained only for a reason (`WaitsForAnswer`)
+  -- with the progress p a station is within a cycle: `earlier` cycles came before it, it began at `moment`, `late` milliseconds
+  -- after it was due; and the fields of p on it are right. `began` is its due moment, which isn't later than the moment read
+  -- last, and `due` the same by the clock of time stamps; `missed` says whether the next cycle was due by `moment`. If it is
+  -- missed, each command counts as chained, and no chain goes on; and a command counts as chained only for a reason
+  -- (`WaitsForAnswer`)
   pub record Cycling (acts : List Act) (p : Progress) : Type 0 where
     pub earlier : ℕ
     pub moment : Moment
@@ -146,8 +150,8 @@ module _ (plan : Plan) (commands : List Task) (scope : Scope) (some : 0 < plan.e
       (λ e. by_chain (c.chained (sym k.still.next_is_chained ∙ e)) place_is k.still.missed) c) where
         -- what makes the next command wait, still does: its cycle is missed, or the text chains it
         by_chain : WaitsForAnswer p → place_next commands q ≡ place_next commands p → q.missed ≡ p.missed → WaitsForAnswer q
-        by_chain (inl missed) at same = inl (same ∙ missed)
-        by_chain (inr (above, is)) at same = inr (subst (λ (x : ℕ). plan.setup < x) (sym at) above, ap (λ (x : ℕ). is_chained (drop x commands)) at ∙ is)
+        by_chain (inl missed) place_is same = inl (same ∙ missed)
+        by_chain (inr (above, is)) place_is same = inr (subst (λ (x : ℕ). plan.setup < x) (sym place_is) above, ap (λ (x : ℕ). is_chained (drop x commands)) place_is ∙ is)
 
   -- `Begun` is preserved by an act with which the next `count` commands of the cycle had their turn, at least one, if the clock
   -- doesn't go back and the act reads moments as `Ticks` says. Before the act a command was unsent, and no more than a cycle has;
@@ -160,17 +164,17 @@ module _ (plan : Plan) (commands : List Task) (scope : Scope) (some : 0 < plan.e
   begun_next acts act count p q left unsent missed due next_is_chained more chain_unbroken t rises here within (inl none) = let nothing = none.1 in absurd (omega (arith, nothing, here))
   begun_next acts act count p q left unsent missed due next_is_chained more chain_unbroken t rises here within (inr c) =
       let above : plan.setup < place_next commands q = omega (arith, unsent, here, within, more) in
-      let at : drop (place_next commands p + count) commands ≡ drop (place_next commands q) commands =
+      let others : drop (place_next commands p + count) commands ≡ drop (place_next commands q) commands =
       drop_past commands p.unsent count (omega (arith, within)) ∙ ap (λ (x : ℕ). drop (length commands - x) commands) (sym unsent) in
       inr (cycling_on acts act p q left missed due t rises
       (λ was. (next_is_chained ∙ or_left p.missed (is_chained (drop (place_next commands p + count) commands)) was, chain_unbroken was))
-      (λ e. by_missed p.missed refl (sym next_is_chained ∙ e) above at) c) where
+      (λ e. by_missed p.missed refl (sym next_is_chained ∙ e) above others) c) where
         -- what makes the new next command wait: its cycle is missed (`true`), or the text chains it
         by_missed : (b : Bool) → p.missed ≡ b → is_chained_after count commands p ≡ true → plan.setup < place_next commands q
             → drop (place_next commands p + count) commands ≡ drop (place_next commands q) commands → WaitsForAnswer q
-        by_missed true is e above at = inl (missed ∙ is)
-        by_missed false is e above at =
-            inr (above, ap is_chained (sym at) ∙ or_second p.missed (is_chained (drop (place_next commands p + count) commands)) e is)
+        by_missed true is e above others = inl (missed ∙ is)
+        by_missed false is e above others =
+            inr (above, ap is_chained (sym others) ∙ or_second p.missed (is_chained (drop (place_next commands p + count) commands)) e is)
 
   -- `Cycling` holds after the act that begins a cycle at the moment m, if a cycle was left, and the cycle counts as begun at b,
   -- which is its due moment and isn't later than m
@@ -193,12 +197,12 @@ module _ (plan : Plan) (commands : List Task) (scope : Scope) (some : 0 < plan.e
   }
 
   -- of the acts up to the one that begins a cycle at the moment m, `BeginsAt` holds
-  pub begins_here : (acts : List Act) (m : Moment) (n : ℕ) → action_at plan (state_after plan commands scope acts) ≡ actions.Begin
-      → cycles_begun plan (state_after plan commands scope acts).progress ≡ n → BeginsAt plan commands scope (acts ++ Told m ∷ []) n m
+  pub begins_here : (acts : List Act) (m : Moment) (n : ℕ) → action_at plan (at acts) ≡ actions.Begin
+      → cycles_begun plan (at acts).progress ≡ n → BeginsAt plan commands scope (acts ++ Told m ∷ []) n m
   begins_here acts m n is number = record { before = acts; behind = []; order = refl; begins = is; number = number }
 
-  -- what is known of a cycle that is begun at the moment m: `earlier` came before it, and the moment that counts as its beginning
-  -- (`start`) is its due moment, and isn't later than m
+  -- what is known of a cycle that is begun at the moment m: `earlier` cycles came before it, and the moment that counts as its
+  -- beginning (`start`) is its due moment, and isn't later than m
   pub record Start (acts : List Act) (m : Moment) (p : Progress) : Type 0 where
     pub earlier : ℕ
     pub start : ℕ
@@ -208,8 +212,8 @@ module _ (plan : Plan) (commands : List Task) (scope : Scope) (some : 0 < plan.e
     pub late : BeginsLate plan commands scope (acts ++ Told m ∷ []) earlier m (m.elapsed - start)
 
   -- the first cycle has a `Start`: it is due at the moment at which it begins
-  pub start_first : (acts : List Act) (m : Moment) (p : Progress) → action_at plan (state_after plan commands scope acts) ≡ actions.Begin
-      → cycles_begun plan (state_after plan commands scope acts).progress ≡ cycles_begun plan p
+  pub start_first : (acts : List Act) (m : Moment) (p : Progress) → action_at plan (at acts) ≡ actions.Begin
+      → cycles_begun plan (at acts).progress ≡ cycles_begun plan p
       → p.left ≡ plan.cycles → Start acts m p
   start_first acts m p is same all =
       let none : cycles_begun plan p ≡ 0 = omega (arith, all) in
@@ -225,8 +229,8 @@ module _ (plan : Plan) (commands : List Task) (scope : Scope) (some : 0 < plan.e
 
   -- a later cycle that begins when it is due, if the clock doesn't go back, has a `Start`: it is due `every` milliseconds after
   -- the one before it was due, and begins then or later
-  pub start_more : (acts : List Act) (m : Moment) (p : Progress) → (begins : action_at plan (state_after plan commands scope acts) ≡ actions.Begin)
-      → (same : cycles_begun plan (state_after plan commands scope acts).progress ≡ cycles_begun plan p)
+  pub start_more : (acts : List Act) (m : Moment) (p : Progress) → (begins : action_at plan (at acts) ≡ actions.Begin)
+      → (same : cycles_begun plan (at acts).progress ≡ cycles_begun plan p)
       → (due : is_due plan p ≡ true) → (rises : ClockRises p.moment.elapsed (Told m ∷ [])) → Cycling acts p → Start acts m p
   start_more acts m p is same due rises c =
       let few = c.fewer in
@@ -251,15 +255,15 @@ module _ (plan : Plan) (commands : List Task) (scope : Scope) (some : 0 < plan.e
       }
 
   -- a cycle that begins when it is due, the first or a further one, has a `Start`, if the clock doesn't go back
-  pub starts : (acts : List Act) (m : Moment) (p : Progress) → (begins : action_at plan (state_after plan commands scope acts) ≡ actions.Begin)
-      → (same : cycles_begun plan (state_after plan commands scope acts).progress ≡ cycles_begun plan p)
+  pub starts : (acts : List Act) (m : Moment) (p : Progress) → (begins : action_at plan (at acts) ≡ actions.Begin)
+      → (same : cycles_begun plan (at acts).progress ≡ cycles_begun plan p)
       → (due : is_due plan p ≡ true) → (rises : ClockRises p.moment.elapsed (Told m ∷ [])) → Begun acts p → Start acts m p
   starts acts m p is same due rises (inl none) = start_first acts m p is same none.0
   starts acts m p is same due rises (inr c) = start_more acts m p is same due rises c
 
   -- if `Begun` holds, `Cycling` holds after the act that begins a cycle when it is due, if the clock doesn't go back
-  pub begun_begins : (acts : List Act) (m : Moment) (p : Progress) → (begins : action_at plan (state_after plan commands scope acts) ≡ actions.Begin)
-      → (same : cycles_begun plan (state_after plan commands scope acts).progress ≡ cycles_begun plan p)
+  pub begun_begins : (acts : List Act) (m : Moment) (p : Progress) → (begins : action_at plan (at acts) ≡ actions.Begin)
+      → (same : cycles_begun plan (at acts).progress ≡ cycles_begun plan p)
       → (due : is_due plan p ≡ true) → (unbegun : 0 < p.left) → (within : p.left ≤ plan.cycles) → (rises : ClockRises p.moment.elapsed (Told m ∷ [])) → Begun acts p
       → Cycling (acts ++ Told m ∷ []) (cycle_begun plan (cycle_length plan commands) m p)
   begun_begins acts m p is same due left within rises h =
@@ -307,57 +311,51 @@ module _ (plan : Plan) (commands : List Task) (scope : Scope) (some : 0 < plan.e
     by_test true e (inr going) = absurd (both_ways p.chain_unbroken (c.held e).1 going.2)
 
   -- an act of each action does to the moment read last, and to `Begun`, what `KeepsBegunOf` says
-  pub on_moved : (acts : List Act) (next : Action) (act : Act) → (is_next : action_at plan (state_after plan commands scope acts) ≡ next)
-      → (performs : Performs commands (state_after plan commands scope acts) next act) → Invariant plan commands (state_after plan commands scope acts)
-      → (needs : HoldsBefore plan (state_after plan commands scope acts).progress (waiting_of (state_after plan commands scope acts)) next)
-      → Begun acts (turned (state_after plan commands scope acts).progress)
-      → KeepsBegunOf acts (turned (state_after plan commands scope acts).progress) act (moved plan commands next (with_progress turned (state_after plan commands scope acts)) act)
+  pub on_moved : (acts : List Act) (next : Action) (act : Act) → (is_next : action_at plan (at acts) ≡ next) → (performs : Performs commands (at acts) next act)
+      → Invariant plan commands (at acts) → (needs : HoldsBefore plan (at acts).progress (waiting_of (at acts)) next) → Begun acts (turned (at acts).progress)
+      → KeepsBegunOf acts (turned (at acts).progress) act (moved plan commands next (with_progress turned (at acts)) act)
   on_moved acts actions.ReadClock act is o fine needs h =
-      let s = with_progress turned (state_after plan commands scope acts) in
+      let s = with_progress turned (at acts) in
       walk plan commands (KeepsBegunOf acts s.progress) actions.ReadClock s act o
       (λ m. on_same acts s.progress (Told m) _ h (stays s.progress _ refl refl refl refl refl (inl refl), (refl, refl)), λ n. begun_after_failure acts s Untold cause.Clock h (refl, refl))
   on_moved acts actions.Renew act is o fine needs h =
-      let s = with_progress turned (state_after plan commands scope acts) in
+      let s = with_progress turned (at acts) in
       walk plan commands (KeepsBegunOf acts s.progress) actions.Renew s act o
       (λ m. on_same acts s.progress (Told m) _ h (stays s.progress _ refl refl refl refl refl (inr refl), (refl, refl)), λ n. begun_after_failure acts s Untold cause.Clock h (refl, refl))
   on_moved acts actions.Begin act is o fine needs h =
-      let s = with_progress turned (state_after plan commands scope acts) in
+      let s = with_progress turned (at acts) in
       walk plan commands (KeepsBegunOf acts s.progress) actions.Begin s act o (
-        λ m. (
-          refl,
-          λ rises. inr (begun_begins acts m s.progress is refl
-              (begin_due plan (state_after plan commands scope acts).progress (waiting_of (state_after plan commands scope acts)) is) needs.4 fine.left rises h),
-        ),
+        λ m. (refl, λ rises. inr (begun_begins acts m s.progress is refl (begin_due plan (at acts).progress (waiting_of (at acts)) is) needs.4 fine.left rises h)),
         λ n. begun_after_failure acts s Untold cause.Clock h (refl, refl),
       )
   on_moved acts actions.Open act is o fine needs h =
-      let s = with_progress turned (state_after plan commands scope acts) in
+      let s = with_progress turned (at acts) in
       walk plan commands (KeepsBegunOf acts s.progress) actions.Open s act o (
         λ m. on_same acts s.progress Opened _ h (stays s.progress _ refl refl refl refl refl (inl refl), (refl, refl)),
         λ n. on_same acts s.progress Unopened _
             h (stays s.progress _ refl refl refl refl refl (inr refl), (refl, refl)),
       )
   on_moved acts actions.Send act is o fine needs h =
-      let s = with_progress turned (state_after plan commands scope acts) in
-      let free = not_missed acts s.progress (waiting_of (state_after plan commands scope acts)) needs.2 needs.4 h in
+      let s = with_progress turned (at acts) in
+      let free = not_missed acts s.progress (waiting_of (at acts)) needs.2 needs.4 h in
       walk plan commands (KeepsBegunOf acts s.progress) actions.Send s act o (
         λ m. (refl, λ rises. begun_next acts _ 1 s.progress _ refl refl refl refl refl (omega arith) (λ e. absurd (both_ways s.progress.missed free e)) (refl, refl) rises needs.2 fine.unsent h),
         λ n. (refl, λ rises. begun_next acts _ 1 s.progress _ refl refl refl refl refl (omega arith) (λ e. absurd (both_ways s.progress.missed free e)) (refl, refl) rises needs.2 fine.unsent h),
       )
   on_moved acts actions.Prepare act is o fine needs h =
-      let s = with_progress turned (state_after plan commands scope acts) in
+      let s = with_progress turned (at acts) in
       walk plan commands (KeepsBegunOf acts s.progress) actions.Prepare s act o (
         λ m. on_same acts s.progress _ _ h (stays s.progress _ refl refl refl refl refl (inr refl), (refl, refl)),
         λ n. on_same acts s.progress _ _ h (stays s.progress _ refl refl refl refl refl (inr refl), (refl, refl)),
       )
   on_moved acts actions.Skip act is o fine needs h =
-      let s = with_progress turned (state_after plan commands scope acts) in
+      let s = with_progress turned (at acts) in
       walk plan commands (KeepsBegunOf acts s.progress) actions.Skip s act o (
         λ m. (refl, λ rises. begun_next acts (Told m) 1 s.progress _ refl refl refl refl refl (omega arith) (λ e. refl) (refl, refl) rises needs.2 fine.unsent h),
         λ n. begun_after_failure acts s Untold cause.Clock h (refl, refl),
       )
   on_moved acts actions.Pass act is o fine needs h =
-      let s = with_progress turned (state_after plan commands scope acts) in
+      let s = with_progress turned (at acts) in
       walk plan commands (KeepsBegunOf acts s.progress) actions.Pass s act o (
         λ m. (
           refl,
@@ -367,7 +365,7 @@ module _ (plan : Plan) (commands : List Task) (scope : Scope) (some : 0 < plan.e
         λ n. begun_after_failure acts s Untold cause.Clock h (refl, refl),
       )
   on_moved acts (actions.Read until) act is o fine needs h =
-      let s = with_progress turned (state_after plan commands scope acts) in
+      let s = with_progress turned (at acts) in
       walk plan commands (KeepsBegunOf acts s.progress) (actions.Read until) s act o (
         λ bytes m. on_same acts s.progress (Gave bytes m) (piece_at plan until bytes m s).progress h (gave_same plan commands until s bytes m),
         λ m. on_same acts s.progress (Silent m) (moved plan commands (actions.Read until) s (Silent m)).progress h (silent_same plan s.progress.phase s.progress until m),
@@ -376,11 +374,11 @@ module _ (plan : Plan) (commands : List Task) (scope : Scope) (some : 0 < plan.e
         begun_after_failure acts s Untold cause.Clock h (refl, refl),
       )
   on_moved acts (actions.Close why) act is o fine needs h =
-      let s = with_progress turned (state_after plan commands scope acts) in
+      let s = with_progress turned (at acts) in
       walk plan commands (KeepsBegunOf acts s.progress) (actions.Close why) s act o (on_same acts s.progress Closed _ h (closed_same plan s why))
   on_moved acts (actions.Stop why) act is o fine needs h = absurd o
   on_moved acts next act is o fine needs h =
-      let s = with_progress turned (state_after plan commands scope acts) in
+      let s = with_progress turned (at acts) in
       walk plan commands (KeepsBegunOf acts s.progress) next s act o (
         λ m. on_same acts s.progress _ _ h (stays s.progress _ refl refl refl refl refl (inl refl), (refl, refl)),
         λ n. on_same acts s.progress _ _ h
@@ -409,18 +407,18 @@ module _ (plan : Plan) (commands : List Task) (scope : Scope) (some : 0 < plan.e
 
   -- if the clock doesn't go back in these acts, the moment read last is the last that they read, and `Begun` holds after them
   abbrev pub BegunIfClockRises : List Act → Type 0
-  BegunIfClockRises acts = ClockRises 0 acts → ((state_after plan commands scope acts).progress.moment.elapsed ≡ latest 0 acts) × Begun acts (state_after plan commands scope acts).progress
+  BegunIfClockRises acts = ClockRises 0 acts → ((at acts).progress.moment.elapsed ≡ latest 0 acts) × Begun acts (at acts).progress
 
   -- if the clock doesn't go back in acts and one more, it doesn't at the last act, counted from the moment read before it
-  pub rises_here : (acts : List Act) (act : Act) → ClockRises 0 (acts ++ act ∷ []) → (state_after plan commands scope acts).progress.moment.elapsed ≡ latest 0 acts
-      → ClockRises (state_after plan commands scope acts).progress.moment.elapsed (act ∷ [])
-  rises_here acts act rises at = subst (λ (n : ℕ). ClockRises n (act ∷ [])) (sym at) (rises_last 0 acts act rises)
+  pub rises_here : (acts : List Act) (act : Act) → ClockRises 0 (acts ++ act ∷ []) → (at acts).progress.moment.elapsed ≡ latest 0 acts
+      → ClockRises (at acts).progress.moment.elapsed (act ∷ [])
+  rises_here acts act rises same = subst (λ (n : ℕ). ClockRises n (act ∷ [])) (sym same) (rises_last 0 acts act rises)
 
   -- `BegunIfClockRises` is preserved by one act of a run more
-  pub begun_step : (done : List Act) (act : Act) → Runs plan commands (opening plan scope) done
-      → Performs commands (state_after plan commands scope done) (action_at plan (state_after plan commands scope done)) act → BegunIfClockRises done → BegunIfClockRises (done ++ act ∷ [])
-  begun_step done act runs o h rises =
-      let s = state_after plan commands scope done in
+  begun_step : (done : List Act) (act : Act) → Performs commands (at done) (action_at plan (at done)) act → BegunIfClockRises done
+      → BegunIfClockRises (done ++ act ∷ [])
+  begun_step done act o h rises =
+      let s = at done in
       let old = h (rises_front 0 done act rises) in
       let on = on_moved done (action_at plan s) act refl o (invariant_holds plan commands scope done) (action_for plan s.progress (waiting_of s)) (begun_turned done s.progress old.1) in
       let t = moved plan commands (action_at plan s) (with_progress turned s) act in
@@ -431,11 +429,12 @@ module _ (plan : Plan) (commands : List Task) (scope : Scope) (some : 0 < plan.e
 
   -- `BegunIfClockRises` holds after every run
   pub begun_if_clock_rises : (acts : List Act) → Runs plan commands (opening plan scope) acts → BegunIfClockRises acts
-  begun_if_clock_rises acts runs = always plan commands (opening plan scope) (λ (xs : List Act) (t : Model). BegunIfClockRises xs) begun_step (λ rises. (refl, inl (refl, refl))) acts runs
+  begun_if_clock_rises acts runs = always plan commands (opening plan scope) (λ (xs : List Act) (t : Model). BegunIfClockRises xs) (λ done act before. begun_step done act)
+      (λ rises. (refl, inl (refl, refl))) acts runs
 
   -- if the cycle that a station is within (`Cycling`) isn't missed, it is the last that began, and it began before the next one
   -- was due
-  pub last_began : (acts : List Act) (p : Progress) → p ≡ (state_after plan commands scope acts).progress → (c : Cycling acts p) → p.missed ≡ false
+  pub last_began : (acts : List Act) (p : Progress) → p ≡ (at acts).progress → (c : Cycling acts p) → p.missed ≡ false
       → (last : LastBegan plan commands scope acts) × (last.late < plan.every)
   last_began acts p is c free = (
     record { n = c.earlier; moment = c.moment; late = c.late; begins = c.begins; number = sym (ap (λ (q : Progress). cycles_begun plan q) is) ∙ c.count },
@@ -444,25 +443,25 @@ module _ (plan : Plan) (commands : List Task) (scope : Scope) (some : 0 < plan.e
 
   -- if a command is sent, its cycle began before the next one was due, if the clock doesn't go back
   pub sent_in_time : (acts : List Act) → Runs plan commands (opening plan scope) acts → ClockRises 0 acts
-      → action_at plan (state_after plan commands scope acts) ≡ actions.Send → (last : LastBegan plan commands scope acts) × (last.late < plan.every)
+      → action_at plan (at acts) ≡ actions.Send → (last : LastBegan plan commands scope acts) × (last.late < plan.every)
   sent_in_time acts runs rises is =
-      let s = state_after plan commands scope acts in
+      let s = at acts in
       let needs = needs_of plan s actions.Send is in
       let cycle_begun = (begun_if_clock_rises acts runs rises).1 in
       let free = not_missed acts s.progress (waiting_of s) needs.2 needs.4 cycle_begun in
       by_begun needs.2 cycle_begun free where
         -- the lemma above, by whether a cycle has begun: one has, as a command is unsent
-        by_begun : 0 < (state_after plan commands scope acts).progress.unsent → Begun acts (state_after plan commands scope acts).progress
-            → (state_after plan commands scope acts).progress.missed ≡ false → (last : LastBegan plan commands scope acts) × (last.late < plan.every)
+        by_begun : 0 < (at acts).progress.unsent → Begun acts (at acts).progress
+            → (at acts).progress.missed ≡ false → (last : LastBegan plan commands scope acts) × (last.late < plan.every)
         by_begun here (inl none) free = let nothing = none.1 in absurd (omega (arith, nothing, here))
-        by_begun here (inr c) free = last_began acts (state_after plan commands scope acts).progress refl c free
+        by_begun here (inr c) free = last_began acts (at acts).progress refl c free
 
   -- if the clock doesn't go back, a cycle that begins does so at its due moment, or `late` milliseconds after it
   pub begins_due : (acts later : List Act) (m : Moment) → Runs plan commands (opening plan scope) (acts ++ Told m ∷ later) → ClockRises 0 (acts ++ Told m ∷ [])
-      → action_at plan (state_after plan commands scope acts) ≡ actions.Begin
-      → (late : ℕ) × BeginsLate plan commands scope (acts ++ Told m ∷ []) (cycles_begun plan (state_after plan commands scope acts).progress) m late
+      → action_at plan (at acts) ≡ actions.Begin
+      → (late : ℕ) × BeginsLate plan commands scope (acts ++ Told m ∷ []) (cycles_begun plan (at acts).progress) m late
   begins_due acts later m runs rises is =
-      let s = state_after plan commands scope acts in
+      let s = at acts in
       let split = runs_split plan commands (opening plan scope) acts later (Told m) runs in
       let old = begun_if_clock_rises acts split.0 (rises_front 0 acts (Told m) rises) in
       let x = starts acts m s.progress is refl (begin_due plan s.progress (waiting_of s) is) (rises_here acts (Told m) rises old.0) old.1 in

@@ -1,25 +1,24 @@
 -- The records and the outstanding commands are, in order, the commands that had their turn, but for those of attempts that were
 -- left out, whatever the link does. (`sent` stands for these commands, whether they were sent or recorded without being sent.) A
 -- mark says which command an outstanding request is of, or `None` of a null procedure.
-use Rattle.std.proofs.Common.{◌≡◌, ℕ, zero, suc, ◌+◌, ◌-◌, ◌<◌, ◌≤◌, Bool, true, false, nat_eq, List, [], ◌∷◌, ◌++◌, length, take, drop, map, Option, Some, None, refl, sym, ap, ◌∙◌, arith, append_assoc, append-nil}
-use Rattle.std.proofs.lemmas.List.{length-map, length-drop, map-append, take_all, drop-append-le}
+use Rattle.std.proofs.Common.{◌≡◌, ℕ, zero, suc, ◌+◌, ◌-◌, ◌<◌, ◌≤◌, nat_eq, List, [], ◌∷◌, ◌++◌, length, take, drop, map, Option, Some, None, ◌⊎◌, inl, inr, refl, sym, ap, ◌∙◌, arith, append_assoc, append-nil, take-add, not, if◌then◌else◌}
+use Rattle.std.proofs.lemmas.List.{length-map, length-drop, length-take, map-append, take_all, drop_all, drop-append-le}
 use Rattle.gc_catalogue.specs.declared.answer.Reading.{Reading}
 use Rattle.gc_catalogue.specs.declared.asked.Asked.{Asked}
 use Rattle.gc_client.specs.declared.pending.Pending.{Pending}
 use Rattle.gc_client.specs.Rule.{Settlement, expired}
 use Rattle.gc_client.specs.OneForOne.{Wanted, of_settled, of_pending}
-use Rattle.gc_client.proofs.Lists.{head_of_drop, take_turn}
 use Rattle.gc_client.proofs.OneForOne.{expired_parts}
 use Rattle.gc_texts.specs.declared.near.Expected.{Expected}
 use Rattle.gc_texts.specs.declared.tasks.Task.{Task}
 use Rattle.gc_station.specs.declared.mark.Mark.{Mark}
-use Rattle.gc_station.specs.Lists.{with_unless}
 use Rattle.gc_station.specs.EachOnce.{Request, requests, of_task, all_cycles, commands_reached, of_record, of_waiting, still_waiting, of_cycles, of_text, in_text}
 use Rattle.gc_station.specs.Requests.{asked_at, of_command}
 use Rattle.gc_station.proofs.Timing.{asked_text, unsent_text}
 use Rattle.gc_station.proofs.Facts.{not_none}
 use Rattle.gc_station.specs.Marks.{commands_in, record_of, records_of}
 use Rattle.gc_station.specs.Records.{Record}
+use Rattle.std.proofs.lemmas.List.Elements.{filter-append}
 
 -- the requests of one cycle for two lists of commands are those of the first list, and after them those of the second, from the
 -- next place on
@@ -77,34 +76,26 @@ marked_none (m ∷ ms) [] e = refl
 marked_none (None ∷ ms) (a ∷ asks) e = marked_none ms asks e
 marked_none (Some mark ∷ ms) (a ∷ asks) e = absurd (omega (arith, e))
 
--- the requests of cycles in two lists, one after the other, are those in the first list, and after them those in the second
-pub cycles_append : (xs ys : List Request) → of_cycles (xs ++ ys) ≡ of_cycles xs ++ of_cycles ys
-cycles_append [] ys = refl
-cycles_append (x ∷ xs) ys = by_cycle (nat_eq x.cycle 0) (cycles_append xs ys) where
-  -- the lemma above, whether the first request is of the setup (`true`) or of a cycle
-  by_cycle : (b : Bool) → of_cycles (xs ++ ys) ≡ of_cycles xs ++ of_cycles ys → with_unless b x (of_cycles (xs ++ ys)) ≡ with_unless b x (of_cycles xs) ++ of_cycles ys
-  by_cycle true others = others
-  by_cycle false others = ap (λ zs. x ∷ zs) others
-
 -- the requests of cycles in two lists, as the text has them, are those in the first list, and after them those in the second
 pub listed_append : (commands : List Task) (xs ys : List Request) → of_text commands (xs ++ ys) ≡ of_text commands xs ++ of_text commands ys
-listed_append commands xs ys = ap (map (in_text commands)) (cycles_append xs ys) ∙ map-append (in_text commands) (of_cycles xs) (of_cycles ys)
+listed_append commands xs ys = ap (map (in_text commands)) (filter-append _ xs ys) ∙ map-append (in_text commands) (of_cycles xs) (of_cycles ys)
 
 -- `of_cycles` keeps all requests of a cycle other than 0, which is the setup
 cycles_all : (cycle place : ℕ) (asks : List (Wanted Asked)) → 0 < cycle → of_cycles (requests cycle place asks) ≡ requests cycle place asks
 cycles_all cycle place [] some = refl
 cycles_all cycle place (a ∷ others) some =
     let one : Request = record { cycle = cycle; place = place; asked = a } in
-    ap (λ b. with_unless b one (of_cycles (requests cycle (place + 1) others))) (not_none cycle some) ∙ ap (λ xs. one ∷ xs) (cycles_all cycle (place + 1) others some)
-
--- the records `rs`, and after them the outstanding commands (the requests `ws` with their marks `ms`), are of the requests
--- `sent`, as far as they are of a cycle, and as the text has them
-abbrev pub EachIs : List Task → List (Option Mark) → List (Pending Asked) → List Record → List Request → Type 0
-EachIs commands ms ws rs sent = of_text commands (map of_record rs ++ still_waiting ms ws) ≡ sent
+    let rest = of_cycles (requests cycle (place + 1) others) in
+    ap (λ b. if not b then one ∷ rest else rest) (not_none cycle some) ∙ ap (λ xs. one ∷ xs) (cycles_all cycle (place + 1) others some)
 
 -- the requests of the records, followed by those of the outstanding commands
 abbrev pub row : List (Option Mark) → List (Pending Asked) → List Record → List Request
 row ms ws rs = map of_record rs ++ still_waiting ms ws
+
+-- the records `rs`, and after them the outstanding commands (the requests `ws` with their marks `ms`), are of the requests
+-- `sent`, as far as they are of a cycle, and as the text has them
+abbrev pub EachIs : List Task → List (Option Mark) → List (Pending Asked) → List Record → List Request → Type 0
+EachIs commands ms ws rs sent = of_text commands (row ms ws rs) ≡ sent
 
 -- a moment, at which requests may time out, leaves the row
 pub row_moment : (ms : List (Option Mark)) (ws : List (Pending Asked)) (rs : List Record) (m : ℕ) → row ms (map (expired m) ws) rs ≡ row ms ws rs
@@ -115,23 +106,15 @@ pub each_moment : (commands : List Task) (ms : List (Option Mark)) (ws : List (P
     → EachIs commands ms ws rs sent → EachIs commands ms (map (expired m) ws) rs sent
 each_moment commands ms ws rs sent m h = ap (of_text commands) (row_moment ms ws rs m) ∙ h
 
--- if no command is outstanding, and `EachIs` holds, the records alone are of the requests `sent`
-pub each_settled : (commands : List Task) (ms : List (Option Mark)) (ws : List (Pending Asked)) (rs : List Record) (sent : List Request)
-    → commands_in ms ≡ 0 → EachIs commands ms ws rs sent → of_text commands (map of_record rs) ≡ sent
-each_settled commands ms ws rs sent none h =
-    ap (of_text commands) (sym (append-nil (map of_record rs)) ∙ sym (ap (λ xs. map of_record rs ++ xs) (waiting_marked ms ws ∙ marked_none ms (map of_pending ws) none))) ∙ h
+-- if no command is outstanding, the row is that of the records alone
+pub row_settled : (ms : List (Option Mark)) (ws : List (Pending Asked)) (rs : List Record) → commands_in ms ≡ 0 → row ms ws rs ≡ map of_record rs
+row_settled ms ws rs none =
+    ap (λ xs. map of_record rs ++ xs) (waiting_marked ms ws ∙ marked_none ms (map of_pending ws) none) ∙ append-nil (map of_record rs)
 
--- if no command is outstanding, and the records are of the requests `sent`, `EachIs` holds
-pub each_nothing : (commands : List Task) (ms : List (Option Mark)) (ws : List (Pending Asked)) (rs : List Record) (sent : List Request)
-    → commands_in ms ≡ 0 → of_text commands (map of_record rs) ≡ sent → EachIs commands ms ws rs sent
-each_nothing commands ms ws rs sent none h =
-    ap (of_text commands) (ap (λ xs. map of_record rs ++ xs) (waiting_marked ms ws ∙ marked_none ms (map of_pending ws) none) ∙ append-nil (map of_record rs)) ∙ h
-
--- if nothing is outstanding, and `EachIs` holds, the records alone are of the requests `sent`, whatever the marks
-pub each_empty : (commands : List Task) (ms : List (Option Mark)) (ws : List (Pending Asked)) (rs : List Record) (sent : List Request)
-    → ws ≡ [] → EachIs commands ms ws rs sent → of_text commands (map of_record rs) ≡ sent
-each_empty commands ms ws rs sent none h =
-    ap (of_text commands) (sym (append-nil (map of_record rs)) ∙ sym (ap (λ xs. map of_record rs ++ xs) (ap (still_waiting ms) none ∙ nothing ms))) ∙ h where
+-- if nothing is outstanding, the row is that of the records alone, whatever the marks
+pub row_empty : (ms : List (Option Mark)) (ws : List (Pending Asked)) (rs : List Record) → ws ≡ [] → row ms ws rs ≡ map of_record rs
+row_empty ms ws rs none =
+    ap (λ xs. map of_record rs ++ xs) (ap (still_waiting ms) none ∙ nothing ms) ∙ append-nil (map of_record rs) where
       -- if no request is outstanding, no command is
       nothing : (ms : List (Option Mark)) → still_waiting ms [] ≡ []
       nothing [] = refl
@@ -172,56 +155,55 @@ pub each_null : (commands : List Task) (ms : List (Option Mark)) (ws : List (Pen
     → EachIs commands ms ws rs sent → EachIs commands (ms ++ None ∷ []) (ws ++ p ∷ []) rs sent
 each_null commands ms ws p rs sent paired h = ap (λ xs. of_text commands (map of_record rs ++ xs)) (more_waiting ms ws None p paired ∙ append-nil (still_waiting ms ws)) ∙ h
 
--- the commands before the next place are those before this place, and the one at it
-take_next : (commands : List Task) (place : ℕ) (task : Task) (others : List Task) → drop place commands ≡ task ∷ others → take (place + 1) commands ≡ take place commands ++ task ∷ []
-take_next commands place task others e =
-    let next : place + 1 ≡ suc place = omega arith in ap (λ n. take n commands) next ∙ take_turn commands place task (head_of_drop commands place task others e)
-
--- before a place at which there is a command, there are as many commands as the place says
-take_place : (commands : List Task) (place : ℕ) (task : Task) (others : List Task) → drop place commands ≡ task ∷ others → length (take place commands) ≡ place
-take_place commands zero task others e = refl
-take_place [] (suc n) task others e = cc
-take_place (c ∷ cs) (suc n) task others e = ap suc (take_place cs n task others e)
-
 -- a command of the setup (its mark has the cycle 0) that is sent preserves `EachIs`, where each outstanding request has a mark
 pub each_prepared : (commands : List Task) (mark : Mark) (ms : List (Option Mark)) (ws : List (Pending Asked)) (p : Pending Asked) (rs : List Record) (sent : List Request) → mark.cycle ≡ 0
     → length ms ≡ length ws → EachIs commands ms ws rs sent → EachIs commands (ms ++ Some mark ∷ []) (ws ++ p ∷ []) rs sent
 each_prepared commands mark ms ws p rs sent none paired h =
     let front = map of_record rs in
     let waits = still_waiting ms ws in
-    let one : Request = record { cycle = mark.cycle; place = mark.place; asked = of_pending p } in
+    let one = of_waiting mark p in
     ap (of_text commands) (ap (λ xs. front ++ xs) (more_waiting ms ws (Some mark) p paired) ∙ sym (append_assoc front waits (one ∷ [])))
     ∙ listed_append commands (front ++ waits) (one ∷ [])
-    ∙ ap (λ n. of_text commands (front ++ waits) ++ map (in_text commands) (with_unless (nat_eq n 0) one [])) none
+    ∙ ap (λ n. of_text commands (front ++ waits) ++ map (in_text commands) (if not (nat_eq n 0) then one ∷ [] else [])) none
     ∙ append-nil (of_text commands (front ++ waits)) ∙ h
 
--- the first `place` commands have none after the first `setup`, if `place` is at most `setup`
+-- nothing is left of the first `place` commands without the first `setup`, if `place` is at most `setup`
 none_taken : (setup place : ℕ) (commands : List Task) → place ≤ setup → drop setup (take place commands) ≡ []
-none_taken zero zero commands e = refl
-none_taken (suc s) zero commands e = refl
-none_taken zero (suc p) commands e = absurd (omega (arith, e))
-none_taken (suc s) (suc p) [] e = refl
-none_taken (suc s) (suc p) (c ∷ cs) e = none_taken s p cs (omega (arith, e))
+none_taken setup place commands e = let many = length-take place commands in drop_all setup (take place commands) (omega (arith, many, e))
+
+-- from a place after the setup on, in a cycle that has begun: the commands that had their turn, with the next `count` ones after
+-- them, are those that had their turn at a place `count` further on, or at the end of the list if that is nearer
+pub sent_past : (setup : ℕ) (commands : List Task) (begun place count place' : ℕ) → setup ≤ place → place ≤ length commands → 0 < begun
+    → (place' ≡ place + count) ⊎ ((place' ≡ length commands) × (length commands ≤ place + count))
+    → commands_reached setup commands begun place ++ requests begun place (map of_task (take count (drop place commands))) ≡ commands_reached setup commands begun place'
+sent_past setup commands zero place count place' low within some at = absurd (omega (arith, some))
+sent_past setup commands (suc n) place count place' low within some at =
+    let front = drop setup (take place commands) in
+    let taken = map of_task front in
+    let more = map of_task (take count (drop place commands)) in
+    let cycles = all_cycles setup commands n in
+    let many : length (take place commands) ≡ place = let l = length-take place commands in omega (arith, l, within) in
+    let count_is : setup + length taken ≡ place = let m = length-map front of_task in let d = length-drop setup (take place commands) in omega (arith, m, d, many, low) in
+    append_assoc cycles (requests (suc n) setup taken) (requests (suc n) place more)
+    ∙ ap (λ b. cycles ++ (requests (suc n) setup taken ++ requests (suc n) b more)) (sym count_is)
+    ∙ ap (λ xs. cycles ++ xs) (sym (requests-append (suc n) setup taken more))
+    ∙ ap (λ xs. cycles ++ requests (suc n) setup xs) (sym (map-append of_task front (take count (drop place commands)))
+    ∙ ap (map of_task) (sym (drop-append-le setup (take place commands) (take count (drop place commands)) (omega (arith, many, low))) ∙ ap
+    (drop setup) (sym (take-add place count commands) ∙ as_many at))) where
+      -- the first `place + count` commands are those before the new place
+      as_many : ((place' ≡ place + count) ⊎ ((place' ≡ length commands) × (length commands ≤ place + count))) → take (place + count) commands ≡ take place' commands
+      as_many (inl is) = ap (λ (k : ℕ). take k commands) (sym is)
+      as_many (inr is) = take_all (place + count) commands is.1 ∙ sym (take_all place' commands (omega (arith, is.0)))
 
 -- at a place after the setup, in a cycle that has begun: the commands that had their turn, with the next one after them, are
 -- those that had their turn one place later
 pub sent_next : (setup : ℕ) (commands : List Task) (begun place : ℕ) (task : Task) (others : List Task) → drop place commands ≡ task ∷ others → setup ≤ place → 0 < begun
     → commands_reached setup commands begun place ++ requests begun place (of_task task ∷ []) ≡ commands_reached setup commands begun (place + 1)
-sent_next setup commands zero place task others at within some = absurd (omega (arith, some))
-sent_next setup commands (suc n) place task others at within some =
-    let one : List (Wanted Asked) = of_task task ∷ [] in
-    let front = drop setup (take place commands) in
-    let taken = map of_task front in
-    let cycles = all_cycles setup commands n in
-    let size : length (take place commands) ≡ place = take_place commands place task others at in
-    let taken_len : length taken ≡ length (take place commands) - setup = length-map front of_task ∙ length-drop setup (take place commands) in
-    let taken_at : setup + length taken ≡ place = omega (arith, taken_len, size, within) in
-    let more : drop setup (take (place + 1) commands) ≡ front ++ task ∷ [] =
-    ap (drop setup) (take_next commands place task others at) ∙ drop-append-le setup (take place commands) (task ∷ []) (omega (arith, size, within)) in
-    append_assoc cycles (requests (suc n) setup taken) (requests (suc n) place one)
-    ∙ ap (λ b. cycles ++ (requests (suc n) setup taken ++ requests (suc n) b one)) (sym taken_at)
-    ∙ ap (λ xs. cycles ++ xs) (sym (requests-append (suc n) setup taken one))
-    ∙ ap (λ xs. cycles ++ requests (suc n) setup xs) (sym (map-append of_task front (task ∷ [])) ∙ ap (map of_task) (sym more))
+sent_next setup commands begun place task others at within some =
+    let next : take 1 (drop place commands) ≡ task ∷ [] = ap (take 1) at in
+    let left : length commands - place ≡ length (task ∷ others) = sym (length-drop place commands) ∙ ap length at in
+    ap (λ (ts : List Task). commands_reached setup commands begun place ++ requests begun place (map of_task ts)) (sym next)
+    ∙ sent_past setup commands begun place 1 (place + 1) within (omega (arith, left)) some (inl refl)
 
 -- if `EachIs` holds of the requests `kept`, and each outstanding request has a mark, it holds after the next command of a cycle
 -- is sent, with the request of that command after `kept`
@@ -251,11 +233,10 @@ each_skipped commands begun place ms ws rs r task others none at is some kept h 
     let one = requests begun place (of_command task.command ∷ []) in
     let listed = requests begun place (of_task task ∷ []) in
     let front = map of_record rs in
-    each_nothing commands ms ws (rs ++ r ∷ []) (kept ++ listed) none
-    (ap (of_text commands) (map-append of_record rs (r ∷ []) ∙ ap (λ xs. front ++ xs) is)
+    ap (of_text commands) (row_settled ms ws (rs ++ r ∷ []) none ∙ map-append of_record rs (r ∷ []) ∙ ap (λ xs. front ++ xs) is)
     ∙ listed_append commands front one ∙ ap (λ xs. of_text commands front ++ map (in_text commands) xs) (cycles_all begun place (of_command task.command ∷ []) some)
     ∙ ap (λ x. of_text commands front ++ x ∷ []) (unsent_text commands begun place task others at)
-    ∙ ap (λ xs. xs ++ listed) (each_settled commands ms ws rs kept none h))
+    ∙ ap (λ xs. xs ++ listed) (ap (of_text commands) (sym (row_settled ms ws rs none)) ∙ h)
 
 -- at the end of a cycle, all commands of the cycles so far had their turn
 pub sent_whole : (setup : ℕ) (commands : List Task) (begun place : ℕ) → place ≡ length commands → commands_reached setup commands begun place ≡ all_cycles setup commands begun

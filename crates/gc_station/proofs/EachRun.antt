@@ -2,7 +2,7 @@
 -- `Mid` of `Midway`: the counts, the client, the marks and the records belong together, and the phase fits them, before what is
 -- outstanding is lost. An act is one call on the link, with its result. A mark says which command an outstanding request is of,
 -- or `None` of a null procedure.
-use Rattle.std.proofs.Common.{◌≡◌, ℕ, ◌++◌, ◌-◌, ◌<◌, ◌⊎◌, inl, inr, ◌||◌, ◌&&◌, Bool, true, false, not, List, [], ◌∷◌, length, drop, map, nat_eq, Option, refl, sym, ap, ◌∙◌, subst, arith, append-nil, if◌then◌else◌}
+use Rattle.std.proofs.Common.{◌≡◌, ℕ, ◌-◌, ◌<◌, ◌⊎◌, inl, inr, ◌||◌, ◌&&◌, Bool, true, false, not, List, [], ◌∷◌, length, drop, map, nat_eq, Option, refl, sym, ap, ◌∙◌, subst, arith, append-nil, if◌then◌else◌}
 use Rattle.std.proofs.lemmas.List.{length-drop}
 use Rattle.std.proofs.lemmas.Bool.{both_ways}
 use Rattle.gc_client.proofs.Lists.{head_of_drop}
@@ -22,7 +22,7 @@ use Rattle.gc_station.specs.declared.progress.Progress.{Progress}
 use Rattle.gc_station.specs.declared.progress.Waiting.{Waiting}
 use Rattle.gc_links.specs.Acts.{Act, Told}
 use Rattle.gc_station.specs.Deciding.{later, has_begun, is_up}
-use Rattle.gc_station.specs.EachOnce.{EachOnce, Interleave, Request, still_waiting, commands_reached, of_record, all_cycles, of_text}
+use Rattle.gc_station.specs.EachOnce.{EachOnce, Interleave, Request, commands_reached, of_record, all_cycles, of_text, AreRecordedOnce, reached}
 use Rattle.gc_station.specs.Marks.{commands_in}
 use Rattle.gc_station.specs.Progressing.{turned, moment_noted, skipped_at, early_noted, cycle_begun, skipped, attempts_left_out, cleared, request_noted, null_sent, renewed, sent, is_over, is_over_in, setup_sent}
 use Rattle.gc_station.specs.Reasons.{HoldsBefore}
@@ -31,13 +31,14 @@ use Rattle.gc_station.specs.Runs.{state_after}
 use Rattle.gc_station.specs.Tasked.{EachRecordIsOfItsTask}
 use Rattle.gc_texts.specs.Endings.{Skipped, Missed}
 use Rattle.gc_station.specs.Model.{Model, opening, action_at, waiting_of, with_progress, asks_null, asks_first, asks_next, next_left_out, with_passes, with_listed, listed_after_skip, after_pass, with_records, unsent_record, first_unsent_record, after_clock, moved, after, after_all, cycle_length, asks_or_null, asks_setup}
-use Rattle.gc_station.specs.NextCommand.{place_next, expected_first, mark_next, is_chained_after_next, others_after_next, is_chained_after, others_after, mark_setup}
+use Rattle.gc_station.specs.NextCommand.{place_next, expected_first, mark_next, is_chained_after_next, others_after_next, is_chained_after, others_after, mark_setup, cycles_begun}
 use Rattle.gc_station.proofs.Acting.{mid_fail, mid_moment, mid_clock, mid_put, mid_open, mid_close, mid_read}
-use Rattle.gc_station.proofs.Each.{each_empty, sent_whole}
+use Rattle.gc_station.proofs.Each.{row_empty, sent_whole}
 use Rattle.gc_station.proofs.Facts.{action_for}
 use Rattle.gc_station.proofs.Invariant.{Invariant, is_bare, says_done}
-use Rattle.gc_station.proofs.Midway.{Placed, Mid, mid_of, sound_null, sound_sent, sound_skipped, sound_passed, sound_begun, invariant_ended, sound_prepared}
+use Rattle.gc_station.proofs.Midway.{ledger_at, Placed, Mid, mid_of, sound_null, sound_sent, sound_skipped, sound_passed, sound_begun, invariant_ended, sound_prepared}
 use Rattle.gc_station.proofs.Tasked.{unsent_end}
+use Rattle.gc_station.proofs.Walk.{acts_along}
 use Rattle.gc_station.specs.Scopes.{Scope}
 
 -- `Mid` is preserved if no record is added
@@ -45,8 +46,8 @@ mid_nothing : (plan : Plan) (commands : List Task) (s : Model) → Mid plan comm
 mid_nothing plan commands s mid = subst (λ (rs : List Record). Mid plan commands (record s { records = rs })) (sym (append-nil s.records)) mid
 
 -- the phase `Ready` is `Placed`: it says nothing of the counts, the kept bytes and the marks
-going_placed : (phase : Phase) (left unsent : ℕ) (rest : List ℕ) (marks : List (Option Mark)) → phase ≡ Ready → Placed phase left unsent rest marks
-going_placed phase left unsent rest marks is = record { empty = λ e. absurd (both_ways (is_bare phase) (ap is_bare is) e); finished = λ e. absurd (both_ways (says_done phase) (ap says_done is) e) }
+ready_placed : (phase : Phase) (left unsent : ℕ) (rest : List ℕ) (marks : List (Option Mark)) → phase ≡ Ready → Placed phase left unsent rest marks
+ready_placed phase left unsent rest marks is = record { empty = λ e. absurd (both_ways (is_bare phase) (ap is_bare is) e); finished = λ e. absurd (both_ways (says_done phase) (ap says_done is) e) }
 
 -- the beginning of a cycle preserves `Mid`, in the phase `Ready`, if a cycle is left and no command of the one before is unsent
 mid_begun : (plan : Plan) (commands : List Task) (s : Model) (m : Moment) → (is_ready : s.progress.phase ≡ Ready) → (none_unsent : s.progress.unsent ≡ 0)
@@ -54,8 +55,8 @@ mid_begun : (plan : Plan) (commands : List Task) (s : Model) (m : Moment) → (i
     → Mid plan commands (with_progress (cycle_begun plan (cycle_length plan commands) m) s)
 mid_begun plan commands s m is none some mid =
     let p = s.progress in (
-      sound_begun plan commands p.left p.unsent s.client s.marks s.records s.passes none some mid.0,
-      going_placed p.phase (p.left - 1) (cycle_length plan commands) s.rest s.marks is,
+      sound_begun plan commands (ledger_at s p) none some mid.0,
+      ready_placed p.phase (p.left - 1) (cycle_length plan commands) s.rest s.marks is,
     )
 
 -- a line feed that was sent in the phase `Clearing` preserves `Mid`
@@ -71,12 +72,12 @@ mid_flushed : (plan : Plan) (commands : List Task) (s : Model) → s.progress.ph
     → Mid plan commands (with_progress request_noted (asks_null plan s))
 mid_flushed plan commands s is room mid =
     let p = s.progress in (
-      sound_null plan commands p.left p.unsent s.client s.marks s.records s.passes 0 (Table NullProc) (later p.moment.elapsed plan.deadline) room refl mid.0,
-      going_placed p.phase p.left p.unsent s.rest (asks_null plan s).marks is,
+      sound_null plan commands (ledger_at s p) 0 (Table NullProc) (later p.moment.elapsed plan.deadline) room refl mid.0,
+      ready_placed p.phase p.left p.unsent s.rest (asks_null plan s).marks is,
     )
 
--- of the commands `left`, from the cycle's next one on, the first, if it is sent in the phase `Ready`, with a command unsent and
--- room for a request, preserves `Mid`
+-- `left` are the commands from the cycle's next one on. To send the first of them preserves `Mid`, in the phase `Ready`, if a
+-- command is unsent and there is room for a request
 mid_first : (plan : Plan) (commands : List Task) (next_is_chained : Bool) (next_others : ℕ) (s : Model) (left : List Task) → (there : drop (place_next commands s.progress) commands ≡ left)
     → (is_ready : s.progress.phase ≡ Ready) → (some : 0 < s.progress.unsent) → (room : length s.client.waiting < 7) → Mid plan commands s
     → Mid plan commands (with_progress (sent next_is_chained next_others) (asks_first (mark_next plan commands s.progress) left s))
@@ -87,18 +88,19 @@ mid_first plan commands next_is_chained next_others s [] at is some room mid =
 mid_first plan commands next_is_chained next_others s (task ∷ others) at is some room mid =
     let p = s.progress in
     let t = asks_first (mark_next plan commands p) (task ∷ others) s in (
-      sound_sent plan commands p.left p.unsent s.client s.marks s.records s.passes p.moment.utc (later p.moment.elapsed task.deadline)
+      sound_sent plan commands (ledger_at s p) p.moment.utc (later p.moment.elapsed task.deadline)
           (expected_first (drop (place_next commands p) commands)) task others room some at mid.0,
-      going_placed p.phase p.left (p.unsent - 1) s.rest t.marks is,
+      ready_placed p.phase p.left (p.unsent - 1) s.rest t.marks is,
     )
 
--- the next command of a cycle, if it is sent in the phase `Ready`, with a command unsent and room for a request, preserves `Mid`
+-- to send the next command of a cycle preserves `Mid`, in the phase `Ready`, if a command is unsent and there is room for a
+-- request
 mid_sent : (plan : Plan) (commands : List Task) (next_is_chained : Bool) (next_others : ℕ) (s : Model) → s.progress.phase ≡ Ready → 0 < s.progress.unsent
     → length s.client.waiting < 7 → Mid plan commands s → Mid plan commands (with_progress (sent next_is_chained next_others) (asks_next plan commands s))
 mid_sent plan commands next_is_chained next_others s is some room mid = mid_first plan commands next_is_chained next_others s (drop (place_next commands s.progress) commands) refl is some room mid
 
--- of the commands `left`, from the setup's next one on, the first, if it is sent in the phase `Ready` and with room for a
--- request, preserves `Mid`; and so does a null procedure in its place, if there is none
+-- `left` are the commands from the setup's next one on. To send the first of them, or a null procedure if there is none,
+-- preserves `Mid`, in the phase `Ready`, if there is room for a request
 mid_prepares : (plan : Plan) (commands : List Task) (s : Model) (left : List Task) → drop s.progress.prepared commands ≡ left → s.progress.phase ≡ Ready
     → length s.client.waiting < 7 → Mid plan commands s
     → Mid plan commands (with_progress (setup_sent plan) (asks_or_null plan (mark_setup commands s.progress) left s))
@@ -106,13 +108,13 @@ mid_prepares plan commands s [] at is room mid = mid_flushed plan commands s is 
 mid_prepares plan commands s (task ∷ others) at is room mid =
     let p = s.progress in
     let t = asks_or_null plan (mark_setup commands p) (task ∷ others) s in (
-      sound_prepared plan commands p.left p.unsent s.client s.marks s.records s.passes (later p.moment.elapsed task.deadline) (mark_setup commands p) task room refl
+      sound_prepared plan commands (ledger_at s p) (later p.moment.elapsed task.deadline) (mark_setup commands p) task room refl
           (head_of_drop commands p.prepared task others at) mid.0,
-      going_placed p.phase p.left p.unsent s.rest t.marks is,
+      ready_placed p.phase p.left p.unsent s.rest t.marks is,
     )
 
--- of the commands `left`, from the cycle's next one on, the first, if it is recorded without being sent in the phase `Ready`,
--- with a command unsent and none outstanding, preserves `Mid`
+-- `left` are the commands from the cycle's next one on. To record the first of them without sending it preserves `Mid`, in the
+-- phase `Ready`, if a command is unsent and none is outstanding
 mid_skips : (plan : Plan) (commands : List Task) (next_is_chained : Bool) (next_others : ℕ) (s : Model) (m : Moment) (left : List Task)
     → (there : drop (place_next commands s.progress) commands ≡ left)
     → (is_ready : s.progress.phase ≡ Ready) → (some : 0 < s.progress.unsent) → (settled : commands_in s.marks ≡ 0) → Mid plan commands s
@@ -124,9 +126,9 @@ mid_skips plan commands next_is_chained next_others s m [] at is some none mid =
     absurd (omega (arith, n, some, sound.unsents))
 mid_skips plan commands next_is_chained next_others s m (task ∷ others) at is some none mid =
     let p = s.progress in (
-      sound_skipped plan commands p.left p.unsent s.client s.marks s.records s.passes (skipped_at m p) (if p.missed then Missed else Skipped)
+      sound_skipped plan commands (ledger_at s p) (skipped_at m p) (if p.missed then Missed else Skipped)
           (mark_next plan commands p).expected.turn task others none some at (unsent_end p.missed) mid.0,
-      going_placed p.phase p.left (p.unsent - 1) s.rest s.marks is,
+      ready_placed p.phase p.left (p.unsent - 1) s.rest s.marks is,
     )
 
 -- an act that is to record the next command of a cycle without sending it preserves `Mid`, in the phase `Ready`, with a command
@@ -148,8 +150,8 @@ mid_pass plan commands s (Told m) is some mid =
     let n = p.next_others in
     mid_moment plan commands (with_progress (λ q. early_noted plan (commands_in s.marks) (attempts_left_out (is_chained_after n commands p) (others_after n commands p) m q))
     (with_passes (next_left_out plan commands p) s)) m (
-      sound_passed plan commands p.left p.unsent n s.client s.marks s.records s.passes some mid.0,
-      going_placed p.phase p.left (p.unsent - n) s.rest s.marks is,
+      sound_passed plan commands (ledger_at s p) n some mid.0,
+      ready_placed p.phase p.left (p.unsent - n) s.rest s.marks is,
     )
 mid_pass plan commands s act is some mid = mid_fail plan commands s cause.Clock refl mid
 
@@ -205,8 +207,7 @@ invariant_after plan commands s act fine =
 
 -- acts preserve the invariant of every run
 pub invariant_all : (plan : Plan) (commands : List Task) (s : Model) (acts : List Act) → Invariant plan commands s → Invariant plan commands (after_all plan commands s acts)
-invariant_all plan commands s [] fine = fine
-invariant_all plan commands s (act ∷ acts) fine = invariant_all plan commands (after plan commands s act) acts (invariant_after plan commands s act fine)
+invariant_all plan commands s acts fine = acts_along plan commands (Invariant plan commands) (invariant_after plan commands) s acts fine
 
 -- the invariant of every run holds at the start
 pub invariant_opening : (plan : Plan) (commands : List Task) (scope : Scope) → Invariant plan commands (opening plan scope)
@@ -246,7 +247,7 @@ stop_over plan p w why (down, inr turns) = either_way (is_over_in p.phase) (is_u
 -- if a run stops nothing is outstanding, and the records, with the attempts that were left out (`passes`) between them, are of
 -- the commands that had their turn, in order; if it stops as done, no cycle and no command is left
 pub stopped : (plan : Plan) (commands : List Task) (s : Model) (why : Cause) → Invariant plan commands s → action_at plan s ≡ action.Stop why
-    → (s.client.waiting ≡ []) × Interleave (of_text commands (map of_record s.records)) s.passes (commands_reached plan.setup commands (plan.cycles - s.progress.left) (place_next commands s.progress))
+    → (s.client.waiting ≡ []) × AreRecordedOnce commands s (reached plan commands s)
     × (why ≡ cause.Done → (s.progress.left ≡ 0) × (s.progress.unsent ≡ 0))
 stopped plan commands s why fine stop =
     let p = s.progress in
@@ -254,8 +255,8 @@ stopped plan commands s why fine stop =
     let is : HoldsBefore plan p w (action.Stop why) = subst (λ (o : Action). HoldsBefore plan p w o) stop (action_for plan p w) in
     let nothing = fine.over (stop_over plan p w why is) in (
       nothing,
-      subst (λ (xs : List Request). Interleave xs s.passes (commands_reached plan.setup commands (plan.cycles - p.left) (place_next commands p)))
-          (sym (each_empty commands s.marks s.client.waiting s.records (of_text commands (map of_record s.records ++ still_waiting s.marks s.client.waiting)) nothing refl)) fine.each,
+      subst (λ (xs : List Request). Interleave xs s.passes (commands_reached plan.setup commands (cycles_begun plan p) (place_next commands p)))
+          (ap (of_text commands) (row_empty s.marks s.client.waiting s.records nothing)) fine.each,
       by_reason is.1,
     ) where
       -- if the run stops as done nothing is left: its phase says that it is done, as it isn't for its turns
@@ -275,10 +276,10 @@ each_once plan commands scope acts =
       done = λ stop.
           let it = stopped plan commands s cause.Done fine stop in
           let none = it.2 refl in
-          let cycles : plan.cycles - s.progress.left ≡ plan.cycles = omega (arith, none.0) in
+          let cycles : cycles_begun plan s.progress ≡ plan.cycles = omega (arith, none.0) in
           let place : place_next commands s.progress ≡ length commands = omega (arith, none.1) in
           subst (λ (xs : List Request). Interleave (of_text commands (map of_record s.records)) s.passes xs)
-          (sent_whole plan.setup commands (plan.cycles - s.progress.left) (place_next commands s.progress) place ∙ ap (all_cycles plan.setup commands) cycles) it.1;
+          (sent_whole plan.setup commands (cycles_begun plan s.progress) (place_next commands s.progress) place ∙ ap (all_cycles plan.setup commands) cycles) it.1;
     }
 
 -- each record after any acts is of its task

@@ -1,6 +1,6 @@
--- What holds if an action is next: its conditions (`HoldsBefore`), whether the moment was read (`Timely`, `Wakes`), and that a
--- request has room. `Holds` has all of these, and is shown once for each function that decides.
-use Rattle.std.proofs.Common.{◌≡◌, ℕ, ◌<◌, ◌≤◌, ◌⊎◌, ◌&&◌, ◌||◌, Bool, true, false, not, nat_lt, nat_le, nat_eq, refl, sym, ap, ◌∙◌, inl, inr, arith}
+-- What holds if an action is next: its conditions (`HoldsBefore`), that a cycle begins only if it is due, and whether the moment
+-- was read (`Timely`, `Wakes`). `Holds` has all of these, and is shown once for each function that decides.
+use Rattle.std.proofs.Common.{◌≡◌, ℕ, ◌<◌, ◌≤◌, ◌⊎◌, ◌&&◌, ◌||◌, Bool, true, false, not, nat_lt, nat_le, nat_eq, refl, sym, ap, ◌∙◌, subst, inl, inr, arith}
 use Rattle.std.proofs.lemmas.Bool.{ltb-true, ltb-false, leb-true, eqb-true, not-true, and_parts, and_cases, not-false, false_from_ne_true, cond_both}
 use Rattle.std.proofs.lemmas.Bool.Decides.{nat_tests}
 use Rattle.gc_client.specs.declared.window.TheConstants.{WINDOW}
@@ -64,13 +64,14 @@ no_room plan p w (inr e) = inr (inr (inl (ltb-false w.all WINDOW e)))
 abbrev pub CanRead : Progress → Type 0
 CanRead p = (p.clock_due ≡ false) × (p.phase ≡ Clearing → ⊥)
 
--- if this action reads the clock alone, the moment is out of date; if it connects, the moment was read; and if it reads, a read
--- may be made (`CanRead`)
-abbrev pub Timely : Progress → Action → Type 0
-Timely p action.ReadClock = p.clock_due ≡ true
-Timely p action.Open = p.clock_due ≡ false
-Timely p (action.Read until) = CanRead p
-Timely p _ = Unit {0}
+-- if this action reads the clock alone, the moment is out of date; if it begins a cycle, the cycle is due; if it connects, the
+-- moment was read; and if it reads, a read may be made (`CanRead`)
+abbrev pub Timely : Plan → Progress → Action → Type 0
+Timely plan p action.ReadClock = p.clock_due ≡ true
+Timely plan p action.Begin = is_due plan p ≡ true
+Timely plan p action.Open = p.clock_due ≡ false
+Timely plan p (action.Read until) = CanRead p
+Timely plan p _ = Unit {0}
 
 -- A request is sent, the station resynchronizes, and a connection is closed for a dead line, only in the phase `Ready`, after a
 -- moment that was read.
@@ -90,10 +91,16 @@ Wakes p action.Flush = Awake p
 Wakes p (action.Close cause.Dead) = (p.phase ≡ Closing cause.Dead) ⊎ Awake p
 Wakes p _ = Unit {0}
 
--- what holds if this action is next: its conditions (`HoldsBefore`), and whether the moment was read before it (`Timely`,
--- `Wakes`)
+-- what holds if this action is next: its conditions (`HoldsBefore`), that a cycle begins only if it is due, and whether the
+-- moment was read before it (`Timely`, `Wakes`)
 abbrev Holds : Plan → Progress → Waiting → Action → Type 0
-Holds plan p w next = HoldsBefore plan p w next × Timely p next × Wakes p next
+Holds plan p w next = HoldsBefore plan p w next × Timely plan p next × Wakes p next
+
+-- a station is in its cycles: it is `Awake`, has synchronized, and isn't preparing
+record IsMeasuring (plan : Plan) (p : Progress) (w : Waiting) : Type 0 where
+  awake : Awake p
+  begun : has_begun p ≡ true
+  set_up : is_preparing plan p w ≡ false
 
 -- in the phase `Ready` there is a connection
 awake_up : (p : Progress) → Awake p → is_up p.phase ≡ true
@@ -107,10 +114,10 @@ awake_reads p (now, is) = (now, λ c. let other : Ready ≡ Clearing = sym is �
 abbrev SevenIfAllTimedOut : Waiting → Type 0
 SevenIfAllTimedOut w = w.current ≡ 0 → WINDOW ≤ w.all
 
--- for a station that is `Awake` and has synchronized `Holds` is true of `action_waiting`, if nothing may be sent
+-- for a station that is `Awake` and has synchronized, `Holds` is true of `action_waiting`, if nothing may be sent
 -- (`NothingMayGo`), and seven requests are outstanding if all have timed out
-waits : (plan : Plan) (p : Progress) (w : Waiting) → Awake p → has_begun p ≡ true → NothingMayGo plan p w → SevenIfAllTimedOut w → Holds plan p w (action_waiting plan p w)
-waits plan p w awake begun nothing full =
+waiting_for : (plan : Plan) (p : Progress) (w : Waiting) → Awake p → has_begun p ≡ true → NothingMayGo plan p w → SevenIfAllTimedOut w → Holds plan p w (action_waiting plan p w)
+waiting_for plan p w awake begun nothing full =
     let P = Holds plan p w in
     let up = awake_up p awake in
     cond_both (is_dead plan p w) (action.Close cause.Dead) _ P (λ d. ((up, inr (nothing, d)), tt, inr awake))
@@ -127,14 +134,14 @@ no_room_full plan w (inl e) none = let few : width_of plan ≤ w.current = ltb-f
 no_room_full plan w (inr e) none = ltb-false w.all WINDOW e
 
 -- `action_room` is the action o if there is room for a request, and the action of a station that waits if there is none. For a
--- station that is `Awake` and has synchronized `Holds` is true of it, if `Holds` is true of o where there is room
+-- station that is `Awake` and has synchronized, `Holds` is true of it, if `Holds` is true of o where there is room
 room_for : (plan : Plan) (p : Progress) (w : Waiting) (o : Action) → Awake p → has_begun p ≡ true → (HasRoom plan w → Holds plan p w o) → Holds plan p w (action_room plan p w o)
 room_for plan p w o awake begun step =
     cond_both (has_room plan w) o _ (Holds plan p w) (λ e. step (room_there plan w e))
-    (λ e. let none = and_cases (nat_lt w.current (width_of plan)) (nat_lt w.all WINDOW) e in waits plan p w awake begun (no_room plan p w none) (no_room_full plan w none))
+    (λ e. let none = and_cases (nat_lt w.current (width_of plan)) (nat_lt w.all WINDOW) e in waiting_for plan p w awake begun (no_room plan p w none) (no_room_full plan w none))
 
--- for a station that is `Awake` and has synchronized `Holds` is true of `action_next` with the action o, if it is true of o where
--- there is room and the count `behind` is below seven, and a null procedure is wanted where it isn't
+-- for a station that is `Awake` and has synchronized, `Holds` is true of `action_next` with the action o, if it is true of o
+-- where there is room and the count `behind` is below seven, and a null procedure is wanted where that count isn't
 next_as : (plan : Plan) (p : Progress) (w : Waiting) (o : Action) → (awake : Awake p) → (begun : has_begun p ≡ true) → (near : p.behind < WINDOW → HasRoom plan w → Holds plan p w o)
     → (far : WINDOW ≤ p.behind → WantsNull plan p w) → Holds plan p w (action_next plan p w o)
 next_as plan p w o awake begun near far =
@@ -143,16 +150,13 @@ next_as plan p w o awake begun near far =
     (λ above. let many = ltb-false p.behind WINDOW above in cond_both (nat_eq w.current 0) _ _ P
     (λ given. room_for plan p w action.Flush awake begun (λ room. ((awake.1, begun, far many, eqb-true w.current 0 given, room), tt, awake)))
     (λ current. let under = some_left w.current current in
-    waits plan p w awake begun (inr (inr (inr (inr (inl (many, under)))))) (λ none. absurd (omega (arith, none, under)))))
+    waiting_for plan p w awake begun (inr (inr (inr (inr (inl (many, under)))))) (λ none. absurd (omega (arith, none, under)))))
 
--- for a station that is `Awake` and has synchronized `Holds` is true of `action_next` with `Send`, if a command is unsent that
--- may be sent (`MayGo`, `MayRetry`), it goes on with its chain if the end of the run was asked for, and the station isn't
--- preparing
-next_for : (plan : Plan) (p : Progress) (w : Waiting) → (awake : Awake p) → (begun : has_begun p ≡ true) → (some : 0 < p.unsent) → (may : MayGo p w) → (retry : MayRetry p w)
-    → (stays : StaysInItsChain p) → (set_up : is_preparing plan p w ≡ false)
-    → Holds plan p w (action_next plan p w action.Send)
-next_for plan p w awake begun some may retry stays ready =
-    next_as plan p w action.Send awake begun (λ near room. ((awake.1, begun, some, room, may, near, retry, stays, ready), tt, awake)) (λ many. inr (inl (some, may), many))
+-- for a station in its cycles (`IsMeasuring`), `Holds` is true of `action_next` with `Send` if a command is unsent, it may be
+-- sent (`MayGo`, `MayRetry`), and it goes on with its chain if the end of the run was asked for
+next_for : (plan : Plan) (p : Progress) (w : Waiting) → IsMeasuring plan p w → 0 < p.unsent → MayGo p w → MayRetry p w → StaysInItsChain p → Holds plan p w (action_next plan p w action.Send)
+next_for plan p w m some may retry stays =
+    next_as plan p w action.Send m.awake m.begun (λ near room. ((m.awake.1, m.begun, some, room, may, near, retry, stays, m.set_up), tt, m.awake)) (λ many. inr (inl (some, may), many))
 
 -- If the end of the run was asked for.
 
@@ -227,70 +231,66 @@ has_one cause.Stale p up = tt
 has_one cause.Stopped p up = tt
 has_one why p up = up
 
--- for a station that is `Awake` and has synchronized `Holds` is true of `action_waiting`, if a further chain is held back
+-- for a station that is `Awake` and has synchronized, `Holds` is true of `action_waiting`, if a further chain is held back
 held_back_for : (plan : Plan) (p : Progress) (w : Waiting) → Awake p → has_begun p ≡ true → is_held_back p w ≡ true → Holds plan p w (action_waiting plan p w)
 held_back_for plan p w awake begun held =
     let it = and_parts (p.stops && is_between p) (nat_lt 0 w.current) held in
     let asked = and_parts p.stops (is_between p) it.0 in
     let under : 0 < w.current = ltb-true 0 w.current it.1 in
-    waits plan p w awake begun (inr (inr (inr (inr (inr (asked.0, between_so p.unsent p.next_is_chained p.preparing asked.1, under)))))) (λ none. absurd (omega (arith, none, under)))
+    waiting_for plan p w awake begun (inr (inr (inr (inr (inr (asked.0, between_so p.unsent p.next_is_chained p.preparing asked.1, under)))))) (λ none. absurd (omega (arith, none, under)))
 
--- for a station that is `Awake` and has synchronized `Holds` is true of `action_done`, if each command of the cycle is settled,
--- the end of the run wasn't asked for, and it isn't preparing
-done_for : (plan : Plan) (p : Progress) (w : Waiting) → (awake : Awake p) → (begun : has_begun p ≡ true) → (none_unsent : p.unsent ≡ 0) → (settled : w.commands ≡ 0) → (unasked : p.stops ≡ false)
-    → (set_up : is_preparing plan p w ≡ false)
+-- for a station in its cycles (`IsMeasuring`), `Holds` is true of `action_done` if no command of the cycle is unsent or
+-- outstanding, and the end of the run wasn't asked for
+done_for : (plan : Plan) (p : Progress) (w : Waiting) → IsMeasuring plan p w → (none_unsent : p.unsent ≡ 0) → (settled : w.commands ≡ 0) → (unasked : p.stops ≡ false)
     → Holds plan p w (action_done plan p)
-done_for plan p w awake begun sent settled unasked ready =
+done_for plan p w m sent settled unasked =
     let P = Holds plan p w in
-    cond_both (nat_eq p.left 0) (action.Close cause.Done) _ P (λ e. ((awake_up p awake, inr (eqb-true p.left 0 e, sent, settled)), tt, tt))
-    (λ e. cond_both (is_due plan p) action.Begin (action.Read Due) P (λ d. ((awake.1, begun, sent, settled, some_left p.left e, unasked, ready), tt, tt)) (λ d. (tt, awake_reads p awake, tt)))
+    cond_both (nat_eq p.left 0) (action.Close cause.Done) _ P (λ e. ((awake_up p m.awake, inr (eqb-true p.left 0 e, sent, settled)), tt, tt))
+    (λ e. cond_both (is_due plan p) action.Begin (action.Read Due) P
+    (λ d. ((m.awake.1, m.begun, sent, settled, some_left p.left e, unasked, m.set_up), d, tt)) (λ d. (tt, awake_reads p m.awake, tt)))
 
 -- if no command may be sent before those that are outstanding are settled (`IsHeld`), one is unsent, and it begins no further
 -- attempt, that one is chained
-chained : (p : Progress) → IsHeld p → nat_eq p.unsent 0 ≡ false → p.next_others ≡ 0 → p.next_is_chained ≡ true
-chained p (inl none) e first = let some : 0 < p.unsent = some_left p.unsent e in absurd (omega (arith, none, some))
-chained p (inr (inl next_is_chained)) e first = next_is_chained
-chained p (inr (inr more)) e first = absurd (omega (arith, more, first))
+held_is_chained : (p : Progress) → IsHeld p → nat_eq p.unsent 0 ≡ false → p.next_others ≡ 0 → p.next_is_chained ≡ true
+held_is_chained p (inl none) e first = let some : 0 < p.unsent = some_left p.unsent e in absurd (omega (arith, none, some))
+held_is_chained p (inr (inl next_is_chained)) e first = next_is_chained
+held_is_chained p (inr (inr more)) e first = absurd (omega (arith, more, first))
 
--- for a station that is `Awake` and has synchronized `Holds` is true of `action_again`, if the next command begins a further
--- attempt, each command that was sent is settled, the next one goes on with its chain if the end of the run was asked for, and it
--- isn't preparing
-again_for : (plan : Plan) (p : Progress) (w : Waiting) → (awake : Awake p) → (begun : has_begun p ≡ true) → (some : 0 < p.unsent) → (settled : w.commands ≡ 0) → (more : 0 < p.next_others)
-    → (stays : StaysInItsChain p)
-    → (set_up : is_preparing plan p w ≡ false) → Holds plan p w (action_again plan p w)
-again_for plan p w awake begun some settled more stays ready =
+-- for a station in its cycles (`IsMeasuring`), `Holds` is true of `action_again` if the next command begins a further attempt,
+-- each command that was sent is settled, and the next one goes on with its chain if the end of the run was asked for
+again_for : (plan : Plan) (p : Progress) (w : Waiting) → IsMeasuring plan p w → 0 < p.unsent → (settled : w.commands ≡ 0) → (more : 0 < p.next_others) → StaysInItsChain p
+    → Holds plan p w (action_again plan p w)
+again_for plan p w m some settled more stays =
     cond_both (w.listed && not p.next_is_chained) _ action.Pass (Holds plan p w)
     (λ e. let it = and_parts w.listed (not p.next_is_chained) e in
-    next_for plan p w awake begun some (inl (not-true p.next_is_chained it.1)) (inr (settled, it.0)) stays ready)
-    (λ e. ((awake.1, begun, some, settled, more, by_test (and_cases w.listed (not p.next_is_chained) e), ready), tt, tt)) where
+    next_for plan p w m some (inl (not-true p.next_is_chained it.1)) (inr (settled, it.0)) stays)
+    (λ e. ((m.awake.1, m.begun, some, settled, more, by_test (and_cases w.listed (not p.next_is_chained) e), m.set_up), tt, tt)) where
       -- why the attempt is left out, by which of the two tests fails
       by_test : ((w.listed ≡ false) ⊎ (not p.next_is_chained ≡ false)) → (w.listed ≡ false) ⊎ (p.next_is_chained ≡ true)
       by_test (inl none) = inl none
       by_test (inr bound) = inr (not-false p.next_is_chained bound)
 
--- for a station that is `Awake` and has synchronized `Holds` is true of `action_settled`, if `IsHeld` holds, each command that
--- was sent is settled, a chain goes on if the end of the run was asked for, and it isn't preparing
-settled_for : (plan : Plan) (p : Progress) (w : Waiting) → (awake : Awake p) → (begun : has_begun p ≡ true) → (held : IsHeld p) → (settled : w.commands ≡ 0) → (only : IsInChainIfStopping p)
-    → (set_up : is_preparing plan p w ≡ false)
-    → Holds plan p w (action_settled plan p w)
-settled_for plan p w awake begun held settled only ready =
+-- for a station in its cycles (`IsMeasuring`), `Holds` is true of `action_settled` if each command that was sent is settled, no
+-- command could be sent before that (`IsHeld`), and a chain goes on if the end of the run was asked for
+settled_for : (plan : Plan) (p : Progress) (w : Waiting) → IsMeasuring plan p w → IsHeld p → (settled : w.commands ≡ 0) → IsInChainIfStopping p → Holds plan p w (action_settled plan p w)
+settled_for plan p w m held settled only =
     let P = Holds plan p w in
-    cond_both (nat_eq p.unsent 0) _ _ P (λ e. done_for plan p w awake begun (eqb-true p.unsent 0 e) settled (none_asked p only (eqb-true p.unsent 0 e)) ready)
-    (λ e. cond_both (nat_lt 0 p.next_others) _ _ P (λ more. again_for plan p w awake begun (some_left p.unsent e) settled (ltb-true 0 p.next_others more) (λ stops. (only stops).1) ready)
+    cond_both (nat_eq p.unsent 0) _ _ P (λ e. done_for plan p w m (eqb-true p.unsent 0 e) settled (none_asked p only (eqb-true p.unsent 0 e)))
+    (λ e. cond_both (nat_lt 0 p.next_others) _ _ P (λ more. again_for plan p w m (some_left p.unsent e) settled (ltb-true 0 p.next_others more) (λ stops. (only stops).1))
     (λ first. let none = none_left p.next_others first in cond_both (may_go p w) _ action.Skip P
-    (λ well. let it = and_parts w.well p.chain_unbroken well in next_for plan p w awake begun (some_left p.unsent e) (inr (settled, it.0, it.1)) (inl none) (λ stops. (only stops).1) ready)
-    (λ broken. ((awake.1, begun, some_left p.unsent e, settled, chained p held e none, broken, ready), tt, tt))))
+    (λ well. let it = and_parts w.well p.chain_unbroken well in next_for plan p w m (some_left p.unsent e) (inr (settled, it.0, it.1)) (inl none) (λ stops. (only stops).1))
+    (λ broken. ((m.awake.1, m.begun, some_left p.unsent e, settled, held_is_chained p held e none, broken, m.set_up), tt, tt))))
 
--- for a station that is `Awake` and has synchronized `Holds` is true of `action_sent`, if `IsHeld` holds, a chain goes on if the
--- end of the run was asked for, and it isn't preparing
-sent_for : (plan : Plan) (p : Progress) (w : Waiting) → (awake : Awake p) → (begun : has_begun p ≡ true) → (held : IsHeld p) → (only : IsInChainIfStopping p)
-    → (set_up : is_preparing plan p w ≡ false) → Holds plan p w (action_sent plan p w)
-sent_for plan p w awake begun held only ready =
+-- for a station in its cycles (`IsMeasuring`), `Holds` is true of `action_sent` if no command may be sent before all that were
+-- sent are settled (`IsHeld`), and a chain goes on if the end of the run was asked for
+sent_for : (plan : Plan) (p : Progress) (w : Waiting) → IsMeasuring plan p w → IsHeld p → IsInChainIfStopping p → Holds plan p w (action_sent plan p w)
+sent_for plan p w m held only =
     let P = Holds plan p w in
-    cond_both (nat_eq w.commands 0) _ _ P (λ e. settled_for plan p w awake begun held (eqb-true w.commands 0 e) only ready)
+    cond_both (nat_eq w.commands 0) _ _ P (λ e. settled_for plan p w m held (eqb-true w.commands 0 e) only)
     (λ e. cond_both (nat_eq w.current 0) _ _ P
-    (λ given. room_for plan p w action.Flush awake begun (λ room. ((awake.1, begun, inl (inl held, some_left w.commands e), eqb-true w.current 0 given, room), tt, awake)))
-    (λ some. let many = some_left w.current some in waits plan p w awake begun (inr (inr (inr (inl (inl held, some_left w.commands e, many))))) (λ none. absurd (omega (arith, none, many)))))
+    (λ given. room_for plan p w action.Flush m.awake m.begun (λ room. ((m.awake.1, m.begun, inl (inl held, some_left w.commands e), eqb-true w.current 0 given, room), tt, m.awake)))
+    (λ some. let many = some_left w.current some in
+    waiting_for plan p w m.awake m.begun (inr (inr (inr (inl (inl held, some_left w.commands e, many))))) (λ none. absurd (omega (arith, none, many)))))
 
 -- if no command is left, or the next one is sent only once all are settled, `IsHeld` holds
 held_so : (p : Progress) → (nat_lt 0 p.unsent && not (waits_for_all p)) ≡ false → IsHeld p
@@ -316,15 +316,15 @@ free_both p e = by_test p.next_is_chained (nat_lt 0 p.next_others) refl refl e w
   by_test false true bound more e = cc
   by_test false false bound more e = (bound, none_left p.next_others more)
 
--- for a station that is `Awake` and has synchronized `Holds` is true of `action_cycle`, if its setup is done, and the end of the
--- run wasn't asked for or the next command goes on with a chain that has begun (`IsInChainIfStopping`)
-cycle_for : (plan : Plan) (p : Progress) (w : Waiting) → Awake p → has_begun p ≡ true → IsInChainIfStopping p → is_preparing plan p w ≡ false → Holds plan p w (action_cycle plan p w)
-cycle_for plan p w awake begun only ready =
+-- for a station in its cycles (`IsMeasuring`), `Holds` is true of `action_cycle` if a chain goes on in case the end of the run
+-- was asked for (`IsInChainIfStopping`)
+cycle_for : (plan : Plan) (p : Progress) (w : Waiting) → IsMeasuring plan p w → IsInChainIfStopping p → Holds plan p w (action_cycle plan p w)
+cycle_for plan p w m only =
     cond_both (nat_lt 0 p.unsent && not (waits_for_all p)) _ _ (Holds plan p w)
     (λ some. let it = and_parts (nat_lt 0 p.unsent) (not (waits_for_all p)) some in
     let free = free_both p it.1 in
-    next_for plan p w awake begun (ltb-true 0 p.unsent it.0) (inl free.0) (inl free.1) (λ stops. (only stops).1) ready)
-    (λ none. sent_for plan p w awake begun (held_so p none) only ready)
+    next_for plan p w m (ltb-true 0 p.unsent it.0) (inl free.0) (inl free.1) (λ stops. (only stops).1))
+    (λ none. sent_for plan p w m (held_so p none) only)
 
 -- if the test says that all is done, `IsFinished` holds: no cycle and no command is left, and none is outstanding
 pub finished_so : (commands : ℕ) (p : Progress) → is_finished commands p ≡ true → IsFinished commands p
@@ -333,49 +333,50 @@ finished_so commands p e =
     let sent = and_parts (nat_eq p.left 0) (nat_eq p.unsent 0) it.0 in
     (eqb-true p.left 0 sent.0, eqb-true p.unsent 0 sent.1, eqb-true commands 0 it.1)
 
--- for a station that is `Awake` and has synchronized `Holds` is true of `action_next` with `Prepare`, if the next command of the
+-- for a station that is `Awake` and has synchronized, `Holds` is true of `action_next` with `Prepare`, if the next command of the
 -- setup may be sent (`MayPrepare`), and the end of the run wasn't asked for
 prepare_for : (plan : Plan) (p : Progress) (w : Waiting) → Awake p → has_begun p ≡ true → p.stops ≡ false → MayPrepare plan p w → Holds plan p w (action_next plan p w action.Prepare)
 prepare_for plan p w awake begun unasked may =
     next_as plan p w action.Prepare awake begun (λ near room. ((awake.1, begun, may, room, near, unasked), tt, awake)) (λ many. inr (inr may, many))
 
--- for a station that is `Awake` and has synchronized `Holds` is true of `action_next_of_setup`, if it is preparing, the next
+-- for a station that is `Awake` and has synchronized, `Holds` is true of `action_next_of_setup`, if it is preparing, the next
 -- command of the setup is the first or those before it are settled and answered well, and the end of the run wasn't asked for
-turn_for : (plan : Plan) (p : Progress) (w : Waiting) → (awake : Awake p) → (begun : has_begun p ≡ true) → (unasked : p.stops ≡ false) → (preparing : is_preparing plan p w ≡ true)
+next_of_setup_for : (plan : Plan) (p : Progress) (w : Waiting) → (awake : Awake p) → (begun : has_begun p ≡ true) → (unasked : p.stops ≡ false) → (preparing : is_preparing plan p w ≡ true)
     → (turn : (p.prepared ≡ 0) ⊎ ((w.commands ≡ 0) × (w.well ≡ true)))
     → Holds plan p w (action_next_of_setup plan p w)
-turn_for plan p w awake begun unasked on first =
+next_of_setup_for plan p w awake begun unasked on first =
     cond_both (nat_lt p.prepared plan.setup) _ (action.Read Limit) (Holds plan p w) (λ e. prepare_for plan p w awake begun unasked (on, ltb-true p.prepared plan.setup e, first))
     (λ e. (tt, awake_reads p awake, tt))
 
--- for a station that is `Awake` and has synchronized `Holds` is true of `action_preparing`, if it is preparing, and the end of
+-- for a station that is `Awake` and has synchronized, `Holds` is true of `action_preparing`, if it is preparing, and the end of
 -- the run wasn't asked for
 preparing_for : (plan : Plan) (p : Progress) (w : Waiting) → Awake p → has_begun p ≡ true → p.stops ≡ false → is_preparing plan p w ≡ true → Holds plan p w (action_preparing plan p w)
 preparing_for plan p w awake begun unasked on =
     let P = Holds plan p w in
     cond_both (is_finished w.commands p) (action.Close cause.Done) _ P (λ none. ((awake_up p awake, inr (finished_so w.commands p none)), tt, tt))
     (λ more. cond_both (is_idle plan p) (action.Read Due) _ P (λ idle. (tt, awake_reads p awake, tt))
-    (λ busy. cond_both (nat_eq p.prepared 0) _ _ P (λ e. turn_for plan p w awake begun unasked on (inl (eqb-true p.prepared 0 e)))
-    (λ sent. cond_both (nat_eq w.commands 0) _ _ P (λ e. cond_both w.well _ (action.Close cause.SetUp) P (λ well. turn_for plan p w awake begun unasked on (inr (eqb-true w.commands 0 e, well)))
+    (λ busy. cond_both (nat_eq p.prepared 0) _ _ P (λ e. next_of_setup_for plan p w awake begun unasked on (inl (eqb-true p.prepared 0 e)))
+    (λ sent. cond_both (nat_eq w.commands 0) _ _ P
+    (λ e. cond_both w.well _ (action.Close cause.SetUp) P (λ well. next_of_setup_for plan p w awake begun unasked on (inr (eqb-true w.commands 0 e, well)))
     (λ ill. ((awake_up p awake, inr (on, some_left p.prepared sent, eqb-true w.commands 0 e, ill)), tt, tt)))
     (λ waiting. cond_both (nat_eq w.current 0) _ _ P
     (λ given. room_for plan p w action.Flush awake begun (λ room.
     ((awake.1, begun, inl (inr (on, some_left p.prepared sent), some_left w.commands waiting), eqb-true w.current 0 given, room), tt, awake)))
     (λ some. let many = some_left w.current some in
-    waits plan p w awake begun (inr (inr (inr (inl (inr (on, some_left p.prepared sent), some_left w.commands waiting, many))))) (λ none. absurd (omega (arith, none, many))))))))
+    waiting_for plan p w awake begun (inr (inr (inr (inl (inr (on, some_left p.prepared sent), some_left w.commands waiting, many))))) (λ none. absurd (omega (arith, none, many))))))))
 
--- for a station that is `Awake` and has synchronized `Holds` is true of `action_begun`, unless the run ends because that was
+-- for a station that is `Awake` and has synchronized, `Holds` is true of `action_begun`, unless the run ends because that was
 -- asked for (`is_stopping`)
 begun_for : (plan : Plan) (p : Progress) (w : Waiting) → Awake p → has_begun p ≡ true → is_stopping p w ≡ false → Holds plan p w (action_begun plan p w)
 begun_for plan p w awake begun goes =
     cond_both (is_held_back p w) (action_waiting plan p w) _ (Holds plan p w) (λ held. held_back_for plan p w awake begun held)
     (λ free. let only = goes_only p w (awake_up p awake) begun goes free in cond_both (is_preparing plan p w) _ _ (Holds plan p w)
-    (λ on. preparing_for plan p w awake begun (unasked only (and_parts p.preparing _ on).0) on) (λ done. cycle_for plan p w awake begun only done)) where
+    (λ on. preparing_for plan p w awake begun (unasked only (and_parts p.preparing _ on).0) on) (λ done. cycle_for plan p w (record { awake = awake; begun = begun; set_up = done }) only)) where
       -- while the setup isn't done, the end of the run wasn't asked for
       unasked : IsInChainIfStopping p → p.preparing ≡ true → p.stops ≡ false
       unasked only on = false_from_ne_true p.stops (λ stops. let ready = (only stops).2 in let both : true ≡ false = sym on ∙ ready in cc)
 
--- for a station that is `Awake` and synchronizes `Holds` is true of `action_beginning`
+-- for a station that is `Awake` and synchronizes, `Holds` is true of `action_beginning`
 beginning_for : (plan : Plan) (p : Progress) (w : Waiting) → Awake p → has_begun p ≡ false → Holds plan p w (action_beginning plan p w)
 beginning_for plan p w awake begun =
     let P = Holds plan p w in
@@ -385,9 +386,10 @@ beginning_for plan p w awake begun =
     (λ d. cond_both (nat_le p.again p.moment.elapsed) action.Ask (action.Read Limit) P
     (λ e. ((awake.1, begun, leb-true p.again p.moment.elapsed e, busy), tt, awake)) (λ e. (tt, awake_reads p awake, tt)))))
 
--- for a station that is `Awake` `Holds` is true of `action_ready`, unless the run ends because that was asked for (`is_stopping`)
-ready : (plan : Plan) (p : Progress) (w : Waiting) → Awake p → is_stopping p w ≡ false → Holds plan p w (action_ready plan p w)
-ready plan p w awake goes = cond_both (has_begun p) _ _ (Holds plan p w) (λ begun. begun_for plan p w awake begun goes) (λ begun. beginning_for plan p w awake begun)
+-- for a station that is `Awake`, `Holds` is true of `action_ready`, unless the run ends because that was asked for
+-- (`is_stopping`)
+ready_for : (plan : Plan) (p : Progress) (w : Waiting) → Awake p → is_stopping p w ≡ false → Holds plan p w (action_ready plan p w)
+ready_for plan p w awake goes = cond_both (has_begun p) _ _ (Holds plan p w) (λ begun. begun_for plan p w awake begun goes) (λ begun. beginning_for plan p w awake begun)
 
 -- a close for which the phase is set already is as `Wakes` says
 closing_wakes : (p : Progress) (why : Cause) → p.phase ≡ Closing why → Wakes p (action.Close why)
@@ -396,29 +398,29 @@ closing_wakes p why is = tt
 
 -- `Holds` is true of `action_of_phase` in each phase, if the moment was read, unless the run ends because that was asked for
 -- (`is_stopping`)
-told_for : (plan : Plan) (phase : Phase) (p : Progress) (w : Waiting) → p.phase ≡ phase → p.clock_due ≡ false → is_stopping p w ≡ false → Holds plan p w (action_of_phase plan phase p w)
-told_for plan Down p w is now goes = (is, now, tt)
-told_for plan Pausing p w is now goes = (tt, (now, λ c. let other : Pausing ≡ Clearing = sym is ∙ c in cc), tt)
-told_for plan Clearing p w is now goes = (is, tt, tt)
-told_for plan Draining p w is now goes = (tt, (now, λ c. let other : Draining ≡ Clearing = sym is ∙ c in cc), tt)
-told_for plan Ready p w is now goes = ready plan p w (now, is) goes
-told_for plan (Closing why) p w is now goes = ((has_one why p (ap is_up is), inl is), tt, closing_wakes p why is)
-told_for plan (Over why) p w is now goes = ((ap is_up is, inl is), tt, tt)
+of_phase_for : (plan : Plan) (phase : Phase) (p : Progress) (w : Waiting) → p.phase ≡ phase → p.clock_due ≡ false → is_stopping p w ≡ false → Holds plan p w (action_of_phase plan phase p w)
+of_phase_for plan Down p w is now goes = (is, now, tt)
+of_phase_for plan Pausing p w is now goes = (tt, (now, λ c. let other : Pausing ≡ Clearing = sym is ∙ c in cc), tt)
+of_phase_for plan Clearing p w is now goes = (is, tt, tt)
+of_phase_for plan Draining p w is now goes = (tt, (now, λ c. let other : Draining ≡ Clearing = sym is ∙ c in cc), tt)
+of_phase_for plan Ready p w is now goes = ready_for plan p w (now, is) goes
+of_phase_for plan (Closing why) p w is now goes = ((has_one why p (ap is_up is), inl is), tt, closing_wakes p why is)
+of_phase_for plan (Over why) p w is now goes = ((ap is_up is, inl is), tt, tt)
 
 -- `Holds` is true of `action_without_turns` if all turns are used up
-up_for : (plan : Plan) (p : Progress) (w : Waiting) (up : Bool) → is_up p.phase ≡ up → p.turns ≡ 0 → Holds plan p w (action_without_turns up)
-up_for plan p w true is none = ((is, inr none), tt, tt)
-up_for plan p w false is none = ((is, inr (refl, none)), tt, tt)
+without_turns_for : (plan : Plan) (p : Progress) (w : Waiting) (up : Bool) → is_up p.phase ≡ up → p.turns ≡ 0 → Holds plan p w (action_without_turns up)
+without_turns_for plan p w true is none = ((is, inr none), tt, tt)
+without_turns_for plan p w false is none = ((is, inr (refl, none)), tt, tt)
 
 -- `Holds` is true of `action_on`
 on_for : (plan : Plan) (p : Progress) (w : Waiting) → Holds plan p w (action_on plan p w)
 on_for plan p w =
     let P = Holds plan p w in
-    cond_both (nat_eq p.turns 0) _ _ P (λ e. up_for plan p w (is_up p.phase) refl (eqb-true p.turns 0 e))
+    cond_both (nat_eq p.turns 0) _ _ P (λ e. without_turns_for plan p w (is_up p.phase) refl (eqb-true p.turns 0 e))
     (λ e. cond_both (is_stale plan p w) (action.Close cause.Stale) _ P (λ old. ((tt, inr old), tt, tt))
     (λ some. cond_both (is_stopping p w) (action.Close cause.Stopped) _ P
     (λ asked. let it = and_parts p.stops (is_resting p w) asked in ((tt, inr (it.0, resting_so p w it.1)), tt, tt))
-    (λ goes. cond_both p.clock_due action.ReadClock _ P (λ old. (tt, old, tt)) (λ now. told_for plan p.phase p w refl now goes))))
+    (λ goes. cond_both p.clock_due action.ReadClock _ P (λ old. (tt, old, tt)) (λ now. of_phase_for plan p.phase p w refl now goes))))
 
 -- `Holds` is true of `action_in` in each phase
 in_for : (plan : Plan) (phase : Phase) (p : Progress) (w : Waiting) → p.phase ≡ phase → Holds plan p w (action_in phase plan p w)
@@ -430,15 +432,19 @@ in_for plan phase p w is = on_for plan p w
 pub action_for : (plan : Plan) (p : Progress) (w : Waiting) → HoldsBefore plan p w (action_of plan p w)
 action_for plan p w = (in_for plan p.phase p w refl).0
 
--- the action that is next is `Timely`: it reads the clock alone only if the moment is out of date, connects only if the moment
--- was read, and reads only if a read may be made (`CanRead`)
-pub order_timely : (plan : Plan) (p : Progress) (w : Waiting) → Timely p (action_of plan p w)
-order_timely plan p w = (in_for plan p.phase p w refl).1
+-- the action that is next is `Timely`: it reads the clock alone only if the moment is out of date, begins a cycle only if the
+-- cycle is due, connects only if the moment was read, and reads only if a read may be made (`CanRead`)
+pub action_timely : (plan : Plan) (p : Progress) (w : Waiting) → Timely plan p (action_of plan p w)
+action_timely plan p w = (in_for plan p.phase p w refl).1
+
+-- if the beginning of a cycle is next, the cycle is due
+pub begin_due : (plan : Plan) (p : Progress) (w : Waiting) → action_of plan p w ≡ action.Begin → is_due plan p ≡ true
+begin_due plan p w is = subst (λ (next : Action). Timely plan p next) is (action_timely plan p w)
 
 -- the action that is next is as `Wakes` says: it sends a request, resynchronizes or closes a dead line only if requests may be
 -- sent and the moment was read, or the phase says already that the dead line is to be closed
-pub order_wakes : (plan : Plan) (p : Progress) (w : Waiting) → Wakes p (action_of plan p w)
-order_wakes plan p w = (in_for plan p.phase p w refl).2
+pub action_wakes : (plan : Plan) (p : Progress) (w : Waiting) → Wakes p (action_of plan p w)
+action_wakes plan p w = (in_for plan p.phase p w refl).2
 
 -- the conditions of an action give what its call needs (`IsFitting`)
 fits : (plan : Plan) (p : Progress) (w : Waiting) (next : Action) → HoldsBefore plan p w next → IsFitting p w.all next
@@ -450,5 +456,5 @@ fits plan p w action.Flush is = is.4.1
 fits plan p w next is = tt
 
 -- the action that is next has what its call needs
-pub order_fits : (plan : Plan) (p : Progress) (w : Waiting) → IsFitting p w.all (action_of plan p w)
-order_fits plan p w = fits plan p w (action_of plan p w) (action_for plan p w)
+pub action_fits : (plan : Plan) (p : Progress) (w : Waiting) → IsFitting p w.all (action_of plan p w)
+action_fits plan p w = fits plan p w (action_of plan p w) (action_for plan p w)

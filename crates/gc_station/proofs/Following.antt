@@ -16,13 +16,13 @@ use Rattle.gc_station.specs.Marks.{records_of}
 use Rattle.gc_station.specs.Parts.{Turn, Part, nothing, joined, part_of_act, in_front, parts_of, sent_of}
 use Rattle.gc_station.specs.Progressing.{turned, loses_all}
 use Rattle.gc_station.specs.Records.{Record}
-use Rattle.gc_station.specs.Model.{Model, action_at, waiting_of, with_progress, moved, losing, after, after_all, Runs}
+use Rattle.gc_station.specs.Model.{Model, action_at, waiting_of, with_progress, moved, losing, after, after_all, Runs, ended}
 use Rattle.gc_station.proofs.Booking.{Books, books_both, books_nothing, books_restart, sent_records, restarting}
 use Rattle.gc_station.proofs.Counts.{losing_progress}
 use Rattle.gc_station.proofs.EachRun.{invariant_after, mid_moved}
 use Rattle.gc_station.proofs.Facts.{action_for}
-use Rattle.gc_station.proofs.Invariant.{Invariant}
-use Rattle.gc_station.proofs.Parting.{Leads, leads, keeps_action}
+use Rattle.gc_station.proofs.Invariant.{Paired, Invariant}
+use Rattle.gc_station.proofs.Parting.{LeadsBy, Leads, leads, keeps_action}
 use Rattle.gc_station.proofs.Readings.{moved_reads, losing_reads}
 use Rattle.gc_station.proofs.Records.{records-none}
 
@@ -61,7 +61,7 @@ follows_on reads commands c c1 ms ms1 rs rs1 p (q ∷ next ∷ ps) end h g =
 -- After an act.
 
 -- if each outstanding request has a mark, and all are lost (`all`), the restart of the client leads to the model after the loss
-leads_lost : (commands : List Task) (t : Model) (all : Bool) → all ≡ true → length t.marks ≡ length t.client.waiting → Leads commands t restarting (losing all t)
+leads_lost : (commands : List Task) (t : Model) (all : Bool) → all ≡ true → Paired t → Leads commands t restarting (losing all t)
 leads_lost commands t true is paired =
     subst (λ (rs : List Record). Books t.reads commands t.client t.marks (sent_of t.records) restarting fresh
     (drop (length (map lost t.client.waiting)) t.marks) rs) (sym (sent_records t.reads t.records t.progress.moment.utc t.marks (map lost t.client.waiting)))
@@ -99,10 +99,6 @@ joined_nothing p =
     ∙ ap (λ (steps : List (Step Asked)). record { turns = p.turns; steps = steps; marks = p.marks ++ [] }) (append-nil p.steps)
     ∙ ap (λ (marks : List (Option Mark)). record { turns = p.turns; steps = p.steps; marks = marks }) (append-nil p.marks)
 
--- the part p leads from one model to another, with these readings of replies
-abbrev LeadsBy : (Asked → List ℕ → Reading) → List Task → Model → Part → Model → Type 0
-LeadsBy reads commands s p t = Books reads commands s.client s.marks (sent_of s.records) p t.client t.marks (sent_of t.records)
-
 -- `Leads` gives `LeadsBy` with the model's own readings
 leads_by : (reads : Asked → List ℕ → Reading) (commands : List Task) (s : Model) (p : Part) (t : Model) → s.reads ≡ reads → Leads commands s p t → LeadsBy reads commands s p t
 leads_by reads commands s p t is h = subst (λ (r : Asked → List ℕ → Reading). LeadsBy r commands s p t) is h
@@ -110,9 +106,9 @@ leads_by reads commands s p t is h = subst (λ (r : Asked → List ℕ → Readi
 module _ (plan : Plan) (commands : List Task) (reads : Asked → List ℕ → Reading) where
   -- if `LeadsBy` holds from s to t, and the client of t is new, as while the station synchronizes, `LeadsBy` holds from s to the
   -- model after the loss, too
-  leads_idly : (s : Model) (p : Part) (t : Model) → t.reads ≡ reads → t.client ≡ fresh → LeadsBy reads commands s p t → LeadsBy reads commands s p (losing (loses_all t.progress) t)
+  leads_idly : (s : Model) (p : Part) (t : Model) → t.reads ≡ reads → t.client ≡ fresh → LeadsBy reads commands s p t → LeadsBy reads commands s p (ended t)
   leads_idly s p t same is h =
-      let u = losing (loses_all t.progress) t in
+      let u = ended t in
       subst (λ (x : Part). LeadsBy reads commands s x u) (joined_nothing p)
       (books_both reads commands s.client t.client u.client s.marks t.marks u.marks (sent_of s.records) (sent_of t.records) (sent_of u.records) p nothing h
       (leads_by reads commands t nothing u same (idle_lost commands t (loses_all t.progress) is)))
@@ -120,21 +116,21 @@ module _ (plan : Plan) (commands : List Task) (reads : Asked → List ℕ → Re
   -- an act leads from the model s to t by its part p, and the parts `ps` of later acts lead from the model after the act to
   -- `end`: then p and `ps` lead from s to `end` (`BooksInParts`). p is a part of its own if the station had synchronized and
   -- all that is outstanding is lost, and else the front of the first part of `ps`
-  one_more : (s : Model) (p : Part) (t : Model) (ps : List Part) (end : Model) (begun lost_all : Bool) → (same_reads : t.reads ≡ reads) → (is_begun : has_begun s.progress ≡ begun)
+  follows_act : (s : Model) (p : Part) (t : Model) (ps : List Part) (end : Model) (begun lost_all : Bool) → (same_reads : t.reads ≡ reads) → (is_begun : has_begun s.progress ≡ begun)
       → (is_lost : loses_all t.progress ≡ lost_all)
-      → (fine_after : Invariant plan commands (losing (loses_all t.progress) t)) → (paired : length t.marks ≡ length t.client.waiting)
-      → (led : LeadsBy reads commands s p t) → (led_idle : has_begun s.progress ≡ false → LeadsBy reads commands s p (losing (loses_all t.progress) t))
-      → (let u = losing (loses_all t.progress) t in BooksInParts reads commands u.client u.marks (sent_of u.records) ps end)
+      → (fine_after : Invariant plan commands (ended t)) → (paired : Paired t)
+      → (led : LeadsBy reads commands s p t) → (led_idle : has_begun s.progress ≡ false → LeadsBy reads commands s p (ended t))
+      → (let u = ended t in BooksInParts reads commands u.client u.marks (sent_of u.records) ps end)
       → BooksInParts reads commands s.client s.marks (sent_of s.records) (in_front p (begun && lost_all) ps) end
-  one_more s p t ps end false lost_all same w l later paired h k others =
-      let u = losing (loses_all t.progress) t in
+  follows_act s p t ps end false lost_all same w l later paired h k others =
+      let u = ended t in
       follows_on reads commands s.client u.client s.marks u.marks (sent_of s.records) (sent_of u.records) p ps end (k w) others
-  one_more s p t ps end true false same w l later paired h k others =
+  follows_act s p t ps end true false same w l later paired h k others =
       let kept = kept_same t (loses_all t.progress) l in
       follows_on reads commands s.client t.client s.marks t.marks (sent_of s.records) (sent_of t.records) p ps end h
       (subst (λ (u : Model). BooksInParts reads commands u.client u.marks (sent_of u.records) ps end) kept others)
-  one_more s p t ps end true true same w l later paired h k others =
-      let u = losing (loses_all t.progress) t in
+  follows_act s p t ps end true true same w l later paired h k others =
+      let u = ended t in
       let new : u.client ≡ fresh = lost_fresh t (loses_all t.progress) l in
       let none : u.marks ≡ [] = nil_from_length u.marks (later.paired ∙ ap (λ (c : ById Asked). length c.waiting) new) in
       let lost_here = leads_by reads commands t restarting u same (leads_lost commands t (loses_all t.progress) l paired) in
@@ -161,6 +157,6 @@ module _ (plan : Plan) (commands : List Task) (reads : Asked → List ℕ → Re
       let same : t.reads ≡ reads = moved_reads plan commands o (with_progress turned s) act ∙ is_so in
       let h = leads_by reads commands s p t is_so (leads plan commands s o act fine is runs.0) in
       subst (λ b. BooksInParts reads commands s.client s.marks (sent_of s.records) (in_front p (has_begun s.progress && b) ps) end) (sym (ap loses_all (losing_progress (loses_all t.progress) t)))
-      (one_more s p t ps end (has_begun s.progress) (loses_all t.progress) same refl refl later (mid_moved plan commands s o act fine is).0.paired h
+      (follows_act s p t ps end (has_begun s.progress) (loses_all t.progress) same refl refl later (mid_moved plan commands s o act fine is).0.paired h
       (λ w. leads_idly s p t same (keeps_action plan commands s o act is runs.0 w (fine.begins w)).0 h)
       (follows u acts (losing_reads (loses_all t.progress) t ∙ same) later runs.1))

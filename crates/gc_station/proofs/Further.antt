@@ -18,6 +18,7 @@ use Rattle.gc_station.proofs.Counts.{KeepsCounts, Counts, moved_counts, ended_pr
 use Rattle.gc_station.proofs.EachRun.{invariant_holds}
 use Rattle.gc_station.proofs.Facts.{action_for}
 use Rattle.gc_station.proofs.Invariant.{Invariant}
+use Rattle.gc_station.proofs.Walk.{acts_along}
 use Rattle.gc_station.specs.Scopes.{Scope}
 
 -- no fewer cycles began by q than by p, and in the same cycle no fewer commands had their turn
@@ -57,9 +58,9 @@ not_back_twice p q r (inr a) (inr b) = inr (b.0 ∙ a.0, omega (arith, a.1, b.1)
 
 -- acts don't take the progress back
 not_back_all : (plan : Plan) (commands : List Task) (s : Model) (acts : List Act) → NotBack s.progress (after_all plan commands s acts).progress
-not_back_all plan commands s [] = inr (refl, omega arith)
-not_back_all plan commands s (act ∷ acts) = not_back_twice s.progress (after plan commands s act).progress (after_all plan commands s (act ∷ acts)).progress
-    (not_back_after plan commands s act) (not_back_all plan commands (after plan commands s act) acts)
+not_back_all plan commands s acts =
+    acts_along plan commands (λ (t : Model). NotBack s.progress t.progress)
+    (λ t act on. not_back_twice s.progress t.progress (after plan commands t act).progress on (not_back_after plan commands t act)) s acts (inr (refl, omega arith))
 
 -- after an act that makes one command fewer unsent (q), and further acts that don't go back (t), a station is further than before
 -- (s)

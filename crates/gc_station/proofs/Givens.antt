@@ -9,10 +9,10 @@ use Rattle.gc_station.specs.declared.progress.Action.{Action}
 use Rattle.gc_station.specs.declared.progress.Action.TheVariants as actions
 use Rattle.gc_links.specs.Acts.{Act, Gave, Closed}
 use Rattle.gc_station.specs.Given.{bytes_heard_with, bytes_heard_from, bytes_heard}
-use Rattle.gc_station.specs.Progressing.{turned, moment_noted, loses_all}
+use Rattle.gc_station.specs.Progressing.{turned, loses_all}
 use Rattle.gc_station.specs.Runs.{state_after}
-use Rattle.gc_station.specs.Model.{Model, opening, action_at, with_progress, with_moment, with_rest, lines_completed, after_piece, is_heard, Performs, moved, losing, after, after_all, Runs}
-use Rattle.gc_station.proofs.Walk.{lines_along, walk}
+use Rattle.gc_station.specs.Model.{Model, opening, action_at, with_progress, with_rest, lines_completed, after_piece, is_heard, Performs, moved, losing, after, after_all, Runs}
+use Rattle.gc_station.proofs.Walk.{lines_along, losing_along, walk, piece_before}
 use Rattle.gc_station.specs.Scopes.{Scope}
 
 -- the bytes of an unfinished line that are kept after an act, by whether bytes are heard and by the bytes kept before it (the
@@ -30,22 +30,21 @@ came_rest true (asked ∷ others) piece s = refl
 came_rest false word piece s = refl
 
 -- an act leaves the bytes of a line as `rest_with` says
-abbrev LeavesSo : Model → Act → Model → Type 0
-LeavesSo s act t = t.rest ≡ rest_with (is_heard s.progress.phase) act s.rest
+abbrev LeavesRest : Model → Act → Model → Type 0
+LeavesRest s act t = t.rest ≡ rest_with (is_heard s.progress.phase) act s.rest
 
 -- an act of each action leaves the bytes of a line as `rest_with` says
-moved_rest : (plan : Plan) (commands : List Task) (next : Action) (s : Model) (act : Act) → Performs commands s next act → LeavesSo s act (moved plan commands next (with_progress turned s) act)
+moved_rest : (plan : Plan) (commands : List Task) (next : Action) (s : Model) (act : Act) → Performs commands s next act → LeavesRest s act (moved plan commands next (with_progress turned s) act)
 moved_rest plan commands (actions.Read until) s act o =
-    walk plan commands (LeavesSo s) (actions.Read until) (with_progress turned s) act o
-    (λ bytes m. came_rest (is_heard s.progress.phase) s.progress.word bytes (with_moment m (with_progress (moment_noted m) (with_progress turned s))), λ m. refl, refl, refl, refl)
-moved_rest plan commands (actions.Close why) s act o = walk plan commands (LeavesSo s) (actions.Close why) (with_progress turned s) act o refl
+    walk plan commands (LeavesRest s) (actions.Read until) (with_progress turned s) act o
+    (λ bytes m. came_rest (is_heard s.progress.phase) s.progress.word bytes (piece_before m s), λ m. refl, refl, refl, refl)
+moved_rest plan commands (actions.Close why) s act o = walk plan commands (LeavesRest s) (actions.Close why) (with_progress turned s) act o refl
 moved_rest plan commands (actions.Stop why) s act o = absurd o
-moved_rest plan commands next s act o = walk plan commands (LeavesSo s) next (with_progress turned s) act o (λ m. refl, λ n. refl)
+moved_rest plan commands next s act o = walk plan commands (LeavesRest s) next (with_progress turned s) act o (λ m. refl, λ n. refl)
 
 -- the loss of what is outstanding leaves the bytes of a line
 losing_rest : (all : Bool) (s : Model) → (losing all s).rest ≡ s.rest
-losing_rest true s = refl
-losing_rest false s = refl
+losing_rest all s = losing_along (λ (t : Model). t.rest ≡ s.rest) all s refl refl
 
 -- an act of a run leaves the bytes of a line as `rest_with` says
 pub after_rest : (plan : Plan) (commands : List Task) (s : Model) (act : Act) → Performs commands s (action_at plan s) act

@@ -22,9 +22,9 @@ use Rattle.gc_station.specs.declared.progress.Progress.{Progress}
 use Rattle.gc_station.specs.Behind.{IsNearTheTable, CommandsAreSentNearTheTable}
 use Rattle.gc_station.specs.Deciding.{has_begun, is_none_left}
 use Rattle.gc_station.specs.Parts.{Part, joined, put_part, first_request_part, heard_steps, client_part, sync_part, part_of_act, in_front, parts_of, request_or_null_part, client_after}
-use Rattle.gc_station.specs.Progressing.{one_more_in_window, turned, moment_noted, time_passed, loses_all}
+use Rattle.gc_station.specs.Progressing.{one_more_in_window, turned, time_passed, loses_all}
 use Rattle.gc_station.specs.Reasons.{HoldsBefore}
-use Rattle.gc_station.specs.Model.{Model, opening, action_at, waiting_of, is_heard, with_progress, with_moment, with_rest, line_came, lines_came, lines_completed, after_piece, moved, losing, after, Performs, Runs}
+use Rattle.gc_station.specs.Model.{Model, opening, action_at, waiting_of, is_heard, with_progress, with_rest, line_came, lines_came, lines_completed, after_piece, moved, losing, after, Performs, Runs, ended}
 use Rattle.gc_station.specs.NextCommand.{place_next, mark_next, mark_setup}
 use Rattle.gc_station.proofs.Behind.{behind_by, CountsBehind, counts_steps, near_so, reached, course_append}
 use Rattle.gc_station.proofs.Booking.{sent_by, course_sent, course_client, sent_append, of_length}
@@ -33,9 +33,10 @@ use Rattle.gc_station.proofs.EachRun.{invariant_after, invariant_opening}
 use Rattle.gc_station.proofs.Facts.{action_for}
 use Rattle.gc_station.proofs.Invariant.{Invariant}
 use Rattle.gc_station.proofs.Parting.{Leads, leads, keeps_action}
-use Rattle.gc_station.proofs.Walk.{quieted_along, closed_along, walk}
+use Rattle.gc_station.proofs.Walk.{losing_along, quieted_along, closed_along, walk, piece_before}
 use Rattle.gc_station.proofs.Lists.{all_at, get_behind}
 use Rattle.gc_station.proofs.Asked.{steps_none, goes_begun}
+use Rattle.gc_station.specs.Links.{parts}
 
 -- What an act does.
 
@@ -85,7 +86,7 @@ module _ (plan : Plan) (commands : List Task) where
       walk plan commands (IsCounted action.Send s) action.Send (with_progress turned s) act obeys (λ m. one, λ n. one)
   counted s (action.Read until) act fine is obeys begun still =
       walk plan commands (IsCounted (action.Read until) s) (action.Read until) (with_progress turned s) act obeys (
-        λ bytes m. came_counted (is_heard s.progress.phase) s.progress.word bytes (with_moment m (with_progress (moment_noted m) (with_progress turned s))) begun,
+        λ bytes m. came_counted (is_heard s.progress.phase) s.progress.word bytes (piece_before m s) begun,
         λ m. quieted_along (λ (q : Progress). q.behind ≡ s.progress.behind) plan s.progress.phase (time_passed until m (turned s.progress)) refl refl refl,
         refl,
         refl,
@@ -111,15 +112,15 @@ no_send [] (f ∷ front) later target call deadline none e = cc
 no_send (x ∷ xs) [] later target call deadline none e = let same : x ≡ Send target call deadline = cc in subst SendsNothing same none.0
 no_send (x ∷ xs) (f ∷ front) later target call deadline none e = let tails : xs ≡ front ++ Send target call deadline ∷ later = cc in no_send xs front later target call deadline none.1 tails
 
--- steps that hear lines send nothing
-hears_nothing : (lines : List (List ℕ)) → AllByRecursion SendsNothing (map Hear lines)
-hears_nothing [] = tt
-hears_nothing (line ∷ others) = (tt, hears_nothing others)
+-- what holds of each step that hears a line holds of the steps that hear these lines
+hears_all : (P : Step Asked → Type 0) → ((line : List ℕ) → P (Hear line)) → (lines : List (List ℕ)) → AllByRecursion P (map Hear lines)
+hears_all P each [] = tt
+hears_all P each (line ∷ others) = (each line, hears_all P each others)
 
--- a piece that is heard, or discarded, sends nothing
-hearing_nothing : (heard : Bool) (rest piece : List ℕ) → AllByRecursion SendsNothing (heard_steps heard rest piece)
-hearing_nothing true rest piece = hears_nothing (lines_completed rest piece)
-hearing_nothing false rest piece = tt
+-- what holds of each step that hears a line holds of the steps for a piece, which is heard or discarded
+pub hearing_all : (P : Step Asked → Type 0) → ((line : List ℕ) → P (Hear line)) → (heard : Bool) (rest piece : List ℕ) → AllByRecursion P (heard_steps heard rest piece)
+hearing_all P each true rest piece = hears_all P each (lines_completed rest piece)
+hearing_all P each false rest piece = tt
 
 -- in a list of one step, no step comes before a send
 one_step : (x : Step Asked) (front later : List (Step Asked)) (target : ℕ) (call : Asked) (deadline : ℕ) → x ∷ [] ≡ front ++ Send target call deadline ∷ later → front ≡ []
@@ -138,53 +139,49 @@ module _ (plan : Plan) (commands : List Task) (s : Model) (k : ById Asked) (more
   GoesOut p = (p.steps ≡ front ++ Send target call deadline ∷ later) × (slice_get (p.marks ++ more) (length (sent_by k front)) ≡ Some (Some mark))
 
   -- in the part of a request for the first of some commands, no step comes before the send of a command
-  first_so : (now : ℕ) (its : Mark) (left : List Task) → GoesOut (first_request_part now its left) → front ≡ []
-  first_so now its [] h = absurd (no_send [] front later target call deadline tt h.0)
-  first_so now its (task ∷ others) h = one_step _ front later target call deadline h.0
+  first_goes_out : (now : ℕ) (its : Mark) (left : List Task) → GoesOut (first_request_part now its left) → front ≡ []
+  first_goes_out now its [] h = absurd (no_send [] front later target call deadline tt h.0)
+  first_goes_out now its (task ∷ others) h = one_step _ front later target call deadline h.0
 
   -- in the part of a request for the first of some commands of the setup, or of a null procedure in place of one, no step comes
   -- before the send of a command
-  setup_so : (now : ℕ) (its : Mark) (left : List Task) → GoesOut (request_or_null_part plan now its left) → front ≡ []
-  setup_so now its [] h = one_step _ front later target call deadline h.0
-  setup_so now its (task ∷ others) h = one_step _ front later target call deadline h.0
+  setup_goes_out : (now : ℕ) (its : Mark) (left : List Task) → GoesOut (request_or_null_part plan now its left) → front ≡ []
+  setup_goes_out now its [] h = one_step _ front later target call deadline h.0
+  setup_goes_out now its (task ∷ others) h = first_goes_out now its (task ∷ others) h
 
   -- with no step before it, the request of a null procedure isn't one with the mark of a command
-  null_not : front ≡ [] → slice_get ((None ∷ []) ++ more) (length (sent_by k front)) ≡ Some (Some mark) → ⊥
-  null_not e at = let first : ◌≡◌ {A = Option (Option Mark)} (Some None) (Some (Some mark)) = ap (λ l. slice_get ((None ∷ []) ++ more) (length (sent_by k l))) (sym e) ∙ at in cc
+  null_has_no_mark : front ≡ [] → slice_get ((None ∷ []) ++ more) (length (sent_by k front)) ≡ Some (Some mark) → ⊥
+  null_has_no_mark e at = let first : ◌≡◌ {A = Option (Option Mark)} (Some None) (Some (Some mark)) = ap (λ l. slice_get ((None ∷ []) ++ more) (length (sent_by k l))) (sym e) ∙ at in cc
 
   -- if a command is sent in the part of an action that puts bytes, no step of the part comes before the send, and the action
   -- sends a command
-  put_so : (o : Action) → GoesOut (put_part plan commands s o) → (front ≡ []) × SendsCommand o
-  put_so action.Flush h = absurd (null_not (one_step _ front later target call deadline h.0) h.1)
-  put_so action.Send h = (first_so s.progress.moment.elapsed (mark_next plan commands s.progress) (drop (place_next commands s.progress) commands) h, inl refl)
-  put_so action.Prepare h = (setup_so s.progress.moment.elapsed (mark_setup commands s.progress) (drop s.progress.prepared commands) h, inr refl)
-  put_so o h = absurd (no_send [] front later target call deadline tt h.0)
+  put_goes_out : (o : Action) → GoesOut (put_part plan commands s o) → (front ≡ []) × SendsCommand o
+  put_goes_out action.Flush h = absurd (null_has_no_mark (one_step _ front later target call deadline h.0) h.1)
+  put_goes_out action.Send h = (first_goes_out s.progress.moment.elapsed (mark_next plan commands s.progress) (drop (place_next commands s.progress) commands) h, inl refl)
+  put_goes_out action.Prepare h = (setup_goes_out s.progress.moment.elapsed (mark_setup commands s.progress) (drop s.progress.prepared commands) h, inr refl)
+  put_goes_out o h = absurd (no_send [] front later target call deadline tt h.0)
 
   -- if a command is sent in the part of an act, once the station has synchronized, no step of the part comes before the send, and
   -- the action sends a command
-  do_so : (o : Action) (act : Act) → GoesOut (client_part plan commands s o act) → (front ≡ []) × SendsCommand o
-  do_so o (Told m) h = absurd (no_send (Expire m.elapsed ∷ []) front later target call deadline (tt, tt) h.0)
-  do_so o (Silent m) h = absurd (no_send (Expire m.elapsed ∷ []) front later target call deadline (tt, tt) h.0)
-  do_so o (Gave piece m) h =
-      absurd (no_send (Expire m.elapsed ∷ heard_steps (is_heard s.progress.phase) s.rest piece) front later target call deadline (tt, hearing_nothing (is_heard s.progress.phase) s.rest piece) h.0)
-  do_so o (Put bytes) h = put_so o h
-  do_so o (Cut bytes count) h = put_so o h
-  do_so o act h = absurd (no_send [] front later target call deadline tt h.0)
+  client_goes_out : (o : Action) (act : Act) → GoesOut (client_part plan commands s o act) → (front ≡ []) × SendsCommand o
+  client_goes_out o (Told m) h = absurd (no_send (Expire m.elapsed ∷ []) front later target call deadline (tt, tt) h.0)
+  client_goes_out o (Silent m) h = absurd (no_send (Expire m.elapsed ∷ []) front later target call deadline (tt, tt) h.0)
+  client_goes_out o (Gave piece m) h =
+      absurd (no_send (Expire m.elapsed ∷ heard_steps (is_heard s.progress.phase) s.rest piece) front later target call deadline
+      (tt, hearing_all SendsNothing (λ line. tt) (is_heard s.progress.phase) s.rest piece) h.0)
+  client_goes_out o (Put bytes) h = put_goes_out o h
+  client_goes_out o (Cut bytes count) h = put_goes_out o h
+  client_goes_out o act h = absurd (no_send [] front later target call deadline tt h.0)
 
   -- no command is sent while the station synchronizes
-  begin_not : (o : Action) (act : Act) → GoesOut (sync_part s o act) → ⊥
-  begin_not action.Ask (Put bytes) h = no_send [] front later target call deadline tt h.0
-  begin_not action.Ask (Cut bytes count) h = no_send [] front later target call deadline tt h.0
-  begin_not action.Ask act h = no_send [] front later target call deadline tt h.0
-  begin_not (action.Read until) (Gave piece m) h = no_send [] front later target call deadline tt h.0
-  begin_not (action.Read until) act h = no_send [] front later target call deadline tt h.0
-  begin_not o act h = no_send [] front later target call deadline tt h.0
+  sync_sends_none : (o : Action) (act : Act) → GoesOut (sync_part s o act) → ⊥
+  sync_sends_none o act h = no_send [] front later target call deadline tt (sym (steps_none s o act) ∙ h.0)
 
   -- if a command is sent in the part of an act, whether the station has synchronized (`begun`) or not, no step of the part comes
   -- before the send, and the action sends a command
-  act_so : (o : Action) (act : Act) (begun : Bool) → GoesOut (if begun then client_part plan commands s o act else sync_part s o act) → (front ≡ []) × SendsCommand o
-  act_so o act true h = do_so o act h
-  act_so o act false h = absurd (begin_not o act h)
+  act_goes_out : (o : Action) (act : Act) (begun : Bool) → GoesOut (if begun then client_part plan commands s o act else sync_part s o act) → (front ≡ []) × SendsCommand o
+  act_goes_out o act true h = client_goes_out o act h
+  act_goes_out o act false h = absurd (sync_sends_none o act h)
 
 -- Lists.
 
@@ -238,12 +235,12 @@ module _ (plan : Plan) (commands : List Task) (s : Model) (o : Action) (act : Ac
   sends_near : (more : List (Option Mark)) (front later : List (Step Asked)) (target : ℕ) (call : Asked) (deadline : ℕ) (mark : Mark) → p.steps ≡ front ++ Send target call deadline ∷ later
       → slice_get (p.marks ++ more) (length (sent_by (reached done).client front)) ≡ Some (Some mark) → IsNearTheTable (reached (done ++ front))
   sends_near more front later target call deadline mark e at =
-      let so = act_so plan commands s (reached done).client more front later target call deadline mark o act (has_begun s.progress) (e, at) in
+      let so = act_goes_out plan commands s (reached done).client more front later target call deadline mark o act (has_begun s.progress) (e, at) in
       let near = by_action so.1 in
       subst (λ (l : List (Step Asked)). IsNearTheTable (reached l)) (sym (ap (λ l. done ++ l) so.0 ∙ append-nil done))
       (near_so (reached done) s.progress.behind counts near) where
         -- if a command is sent next, fewer than seven requests were sent after the last call of the table that a reply ended
-        by_action : (o ≡ action.Send) ⊎ (o ≡ action.Prepare) → s.progress.behind < 7
+        by_action : SendsCommand o → s.progress.behind < 7
         by_action (inl sends) = (subst (λ (x : Action). HoldsBefore plan s.progress (waiting_of s) x) sends is).5
         by_action (inr prepares) = (subst (λ (x : Action). HoldsBefore plan s.progress (waiting_of s) x) prepares is).4
 
@@ -285,8 +282,7 @@ none_sent b low = inl (omega arith)
 
 -- a client that is new stays new, whether what is outstanding is lost or not
 new_client : (t : Model) (all : Bool) → t.client ≡ fresh → (losing all t).client ≡ fresh
-new_client t true e = refl
-new_client t false e = e
+new_client t all e = losing_along (λ (u : Model). u.client ≡ fresh) all t refl e
 
 -- one act more, before the parts `ps` of the acts after it
 module _ (plan : Plan) (commands : List Task) (s : Model) (act : Act) (done : List (Step Asked)) (fine : Invariant plan commands s)
@@ -310,7 +306,7 @@ module _ (plan : Plan) (commands : List Task) (s : Model) (act : Act) (done : Li
 
   -- the model after the act
   abbrev u : Model
-  u = losing (loses_all t.progress) t
+  u = ended t
 
   -- the steps of the act's part, by whether the station has synchronized (b)
   part_is : (b : Bool) → has_begun s.progress ≡ b → part.steps ≡ (if b then client_part plan commands s o act else sync_part s o act).steps
@@ -367,7 +363,7 @@ module _ (plan : Plan) (commands : List Task) where
 -- null procedure of the synchronization
 pub behind_the_table : CommandsAreSentNearTheTable
 behind_the_table plan commands scope acts runs i part at front later target call deadline mark e its =
-    let all = near_all (parts_of plan commands (opening plan scope) acts)
+    let all = near_all (parts plan commands scope acts)
     (near_from plan commands (opening plan scope) acts [] (invariant_opening plan commands scope) runs refl (λ b. refl) (λ low. inl (omega arith))) in
-    all_at (IsNear []) (parts_of plan commands (opening plan scope) acts) i part all at front later target call deadline mark e
+    all_at (IsNear []) (parts plan commands scope acts) i part all at front later target call deadline mark e
     (ap (λ l. slice_get part.marks (length l)) (sym (course_sent front begun)) ∙ its)

@@ -1,7 +1,7 @@
 -- A run on the way: what was done so far (`Went`), and one act more. An act is one call on the link, with its result. At the
 -- start the link had recorded `told` and the book had taken `taken`, by now `told'` and `taken'`, and later those with more
 -- primes; each is `None` if it isn't known. `text` is how a record is written.
-use Rattle.std.proofs.Common.{◌≡◌, ℕ, ◌<◌, ◌≤◌, List, [], ◌∷◌, ◌++◌, length, Option, Some, None, Result, Ok, Err, refl, sym, ap, ◌∙◌, subst, append-nil, ◌-◌}
+use Rattle.std.proofs.Common.{◌≡◌, ℕ, ◌<◌, ◌≤◌, List, [], ◌∷◌, ◌++◌, Option, Some, None, Result, Ok, Err, refl, sym, ap, ◌∙◌, subst, append-nil, ◌-◌}
 use Rattle.std.specs.Io.KnownBytes.{Appends, Keeps}
 use Rattle.std.proofs.KnownBytes.{Appends-kept, Appends-nil, Keeps-refl}
 use Rattle.gc_texts.specs.declared.tasks.Task.{Task}
@@ -15,14 +15,14 @@ use Rattle.gc_links.specs.Acts.{Act, Closed, Tells}
 use Rattle.gc_station.specs.Progressing.{turned, loses_all}
 use Rattle.gc_station.specs.Records.{Record, texts_of}
 use Rattle.gc_station.specs.Runs.{state_after, FailedAtRecord, FailedAtSync}
-use Rattle.gc_station.specs.Model.{Model, opening, action_at, Performs, after, after_all, moved, ended, stepped, Runs, with_progress}
-use Rattle.gc_station.specs.Stations.{waiting_in, Refines, Took, Makes, Breaks, Made, ComesTo, OnCall, seen}
+use Rattle.gc_station.specs.Model.{Model, opening, action_at, Performs, after, after_all, moved, ended, stepped, Runs, with_progress, cycle_length}
+use Rattle.gc_station.specs.Stations.{waiting_in, Refines, Makes, Breaks, OnCall, seen, Does, Becomes, Steps}
 use Rattle.gc_station.specs.Deciding.{action_of}
 use Rattle.gc_station.proofs.Counts.{unsent_within, ended_progress}
 use Rattle.gc_station.proofs.Growing.{losing_records, moved_grew}
 use Rattle.gc_station.proofs.Hearing.{tells_more}
 use Rattle.gc_station.proofs.Making.{refines_with}
-use Rattle.gc_station.proofs.Readings.{losing_reads, stepped_reads, reads_as_in_scope, are_same}
+use Rattle.gc_station.proofs.Readings.{losing_reads, stepped_reads, reads_as_in_scope, same_readings}
 use Rattle.gc_station.proofs.Records.{part_grew, part_grows}
 use Rattle.gc_station.proofs.Turns.{left_to_do, less_stepped}
 use Rattle.gc_station.specs.Scopes.{Scope, AreReadings}
@@ -49,9 +49,8 @@ on_then action claim other step on = step on
 -- (`Made`)
 pub makes_step : {X E : Type 0} (plan : Plan) (commands : List Task) (action : Action) (text : Record → List ℕ) (told told' : Option (List Act))
     (taken taken' taken'' : Option (List ℕ)) (station mid new : Station) (p : Progress) (result : Result X E)
-    → p ≡ turned station.progress → Makes commands action (moved plan commands action) (seen told text taken (record station { progress = p })) (seen told' text taken' mid)
-    → ((s : Model) (start : Option (List ℕ)) → Refines mid s → Took text start taken' s → ComesTo text s.records new start taken'' (ended s) result)
-    → Made commands action (stepped plan commands action) (seen told text taken station) (seen told' text taken'' new) result
+    → p ≡ turned station.progress → Does plan commands action (seen told text taken (record station { progress = p })) (seen told' text taken' mid)
+    → Becomes ended text taken' taken'' mid new result → Steps plan commands action (seen told text taken station) (seen told' text taken'' new) result
 makes_step plan commands action text told told' taken taken' taken'' station mid new p (Ok r) e makes ends = record {
   act = makes.act;
   tells = makes.tells;
@@ -87,7 +86,7 @@ breaks_step plan commands action text told told' taken taken' station p e breaks
       let more = losing_records (loses_all mid.progress) mid in (
         turn_obeys commands action s breaks.act one.0,
         λ are. part_grows text s.records mid.records (ended mid).records start taken' more
-            (one.1 (are_same mid.reads (ended mid).reads (sym (losing_reads (loses_all mid.progress) mid)) are)),
+            (one.1 (same_readings mid.reads (ended mid).reads (sym (losing_reads (loses_all mid.progress) mid)) are)),
       );
 }
 
@@ -118,6 +117,10 @@ went_nothing plan commands scope text told taken station stands = record {
   took = Appends-nil taken;
 }
 
+-- if what a book has taken is the same, it took nothing more, as `Keeps` says
+pub kept_same : (taken taken' : Option (List ℕ)) → taken' ≡ taken → Keeps taken taken'
+kept_same taken taken' same = subst (λ (t : Option (List ℕ)). Keeps taken t) (sym same) (Keeps-refl taken)
+
 -- `Went` is preserved if a book took nothing more, as `Keeps` says: if what it took was known, it is known still, and the same
 abbrev pub went_kept : (plan : Plan) (commands : List Task) (scope : Scope) (text : Record → List ℕ) (told told' : Option (List Act))
     (taken taken' taken'' : Option (List ℕ)) (station : Station) → Keeps taken' taken''
@@ -130,14 +133,8 @@ went_kept plan commands scope text told told' taken taken' taken'' station keeps
   took = Appends-kept taken taken' taken'' (texts_of text (state_after plan commands scope w.acts).records) w.took keeps;
 }
 
--- `Went` is preserved if what a book has taken is the same
-abbrev pub went_same : (plan : Plan) (commands : List Task) (scope : Scope) (text : Record → List ℕ) (told told' : Option (List Act))
-    (taken taken' taken'' : Option (List ℕ)) (station : Station) → taken'' ≡ taken'
-    → Went plan commands scope text told told' taken taken' station → Went plan commands scope text told told' taken taken'' station
-went_same plan commands scope text told told' taken taken' taken'' station same w =
-    went_kept plan commands scope text told told' taken taken' taken'' station (subst (λ (t : Option (List ℕ)). Keeps taken' t) (sym same) (Keeps-refl taken')) w
-
--- if the records couldn't be made to last, and the connection was closed, the run ended as `FailedAtSync` says
+-- if `Went` holds, and the link recorded a close after that, the run is as `FailedAtSync` says: its book has all records, but
+-- couldn't make them last
 pub went_left : (plan : Plan) (commands : List Task) (scope : Scope) (text : Record → List ℕ) (told told' told'' : Option (List Act)) (taken taken' : Option (List ℕ)) (station : Station)
     → Went plan commands scope text told told' taken taken' station → Tells told' told'' (Closed ∷ []) → FailedAtSync plan commands scope text told told'' taken taken'
 went_left plan commands scope text told told' told'' taken taken' station w closed = record {
@@ -174,7 +171,7 @@ went_on plan commands scope text told told' told'' taken taken' taken'' station 
     let s = state_after plan commands scope w.acts in
     let one = makes.goes s taken w.stands (λ ok. w.took) in
     let same = stepped_reads plan commands action s makes.act ∙ reads_as_in_scope plan commands scope w.acts in
-    let took = one.2 (are_same (stepped plan commands action s makes.act).reads scope.reads same are) in
+    let took = one.2 (same_readings (stepped plan commands action s makes.act).reads scope.reads same are) in
     let whole = after_all-append plan commands (opening plan scope) w.acts (makes.act ∷ []) in
     let obeys : Performs commands s (action_at plan s) makes.act = subst (λ (o : Action). Performs commands s o makes.act) is one.0 in
     record {
@@ -185,7 +182,8 @@ went_on plan commands scope text told told' told'' taken taken' taken'' station 
       took = rw (whole, ← is) took;
     }
 
--- if the book failed at a record of the last act, and the connection was closed, the run ended as `FailedAtRecord` says
+-- if `Went` holds, the book failed at a record of the next act (`Breaks`), and the link recorded a close after that, the run is
+-- as `FailedAtRecord` says, if the scope has the readings of all lines (`AreReadings`)
 pub went_wrong : (plan : Plan) (commands : List Task) (scope : Scope) (text : Record → List ℕ) (told told' told'' told''' : Option (List Act))
     (taken taken' taken'' : Option (List ℕ)) (station : Station) (action : Action)
     → (w : Went plan commands scope text told told' taken taken' station)
@@ -197,7 +195,7 @@ went_wrong plan commands scope text told told' told'' told''' taken taken' taken
     let s = state_after plan commands scope w.acts in
     let one = breaks.goes s taken w.stands (λ ok. w.took) in
     let same = stepped_reads plan commands action s breaks.act ∙ reads_as_in_scope plan commands scope w.acts in
-    let took = one.1 (are_same (stepped plan commands action s breaks.act).reads scope.reads same are) in
+    let took = one.1 (same_readings (stepped plan commands action s breaks.act).reads scope.reads same are) in
     let whole = after_all-append plan commands (opening plan scope) w.acts (breaks.act ∷ []) in
     let obeys : Performs commands s (action_at plan s) breaks.act = subst (λ (o : Action). Performs commands s o breaks.act) is one.0 in
     record {
@@ -210,7 +208,7 @@ went_wrong plan commands scope text told told' told'' told''' taken taken' taken
 
 -- an act leaves no more commands unsent than a cycle has, and less to be done than before (`left_to_do`), so that a run ends
 pub record IsNearer (plan : Plan) (commands : List Task) (from to : Progress) : Type 0 where
-  pub within : to.unsent ≤ length commands - plan.setup
+  pub within : to.unsent ≤ cycle_length plan commands
   pub less : left_to_do to < left_to_do from
 
 -- a station stands for some model (`Refines`)
@@ -229,7 +227,7 @@ has_model_on plan commands text told told' taken taken' station new action makes
 pub went_nearer : (plan : Plan) (commands : List Task) (text : Record → List ℕ) (told told' : Option (List Act)) (taken taken' : Option (List ℕ)) (station new : Station) (action : Action)
     → action ≡ action_of plan station.progress (waiting_in station) → HasModel station
     → Makes commands action (stepped plan commands action) (seen told text taken station) (seen told' text taken' new)
-    → station.progress.unsent ≤ length commands - plan.setup → IsNearer plan commands station.progress new.progress
+    → station.progress.unsent ≤ cycle_length plan commands → IsNearer plan commands station.progress new.progress
 went_nearer plan commands text told told' taken taken' station new action is some makes within =
     let s = some.0 in
     let p = station.progress in
@@ -239,9 +237,9 @@ went_nearer plan commands text told told' taken taken' station new action is som
     let obeys : Performs commands s (action_of plan s.progress w) makes.act = subst (λ (x : Action). Performs commands s x makes.act) o one.0 in
     let mid : Model = moved plan commands action (with_progress turned s) makes.act in
     let next : new.progress ≡ (ended mid).progress = one.1.progress in
-    let below : s.progress.unsent ≤ length commands - plan.setup = subst (λ (p : Progress). p.unsent ≤ length commands - plan.setup) some.1.progress within in
+    let below : s.progress.unsent ≤ cycle_length plan commands = subst (λ (p : Progress). p.unsent ≤ cycle_length plan commands) some.1.progress within in
     record {
-      within = subst (λ (p : Progress). p.unsent ≤ length commands - plan.setup) (sym (next ∙ ended_progress mid)) (unsent_within plan commands action (with_progress turned s) makes.act below);
+      within = subst (λ (p : Progress). p.unsent ≤ cycle_length plan commands) (sym (next ∙ ended_progress mid)) (unsent_within plan commands action (with_progress turned s) makes.act below);
       less = subst (λ (q : Progress). left_to_do q < left_to_do p) (sym (next ∙ ap (λ (x : Action). (stepped plan commands x s makes.act).progress) o))
           (subst (λ (q : Progress). left_to_do (stepped plan commands (action_of plan s.progress w) s makes.act).progress < left_to_do q)
           (sym some.1.progress) (less_stepped plan commands s w makes.act obeys));

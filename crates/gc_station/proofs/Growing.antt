@@ -1,7 +1,6 @@
 -- The records of a model only grow: what comes is recorded after them (`Grew`), and none goes. An act is one call on the link,
 -- with its result. A piece is the bytes that one read gave.
-use Rattle.std.proofs.Common.{ℕ, Bool, true, false, List, [], ◌∷◌, ◌++◌, map, refl, sym, ◌∙◌, subst, append_assoc}
-use Rattle.gc_lines.specs.Frames.{rest_behind}
+use Rattle.std.proofs.Common.{ℕ, Bool, List, [], map, refl, sym, subst}
 use Rattle.gc_client.specs.Rule.{heard, hears, lost}
 use Rattle.gc_texts.specs.declared.tasks.Task.{Task}
 use Rattle.gc_station.specs.declared.plan.Plan.{Plan}
@@ -10,28 +9,29 @@ use Rattle.gc_station.specs.declared.progress.Action.TheVariants as actions
 use Rattle.gc_links.specs.Acts.{Act, Told, Gave}
 use Rattle.gc_station.specs.Marks.{records_of}
 use Rattle.gc_station.specs.Progressing.{moment_noted}
-use Rattle.gc_station.specs.Model.{Model, is_heard, with_progress, with_moment, with_rest, line_came, lines_came, lines_completed, after_piece, unsent_record, moved, losing}
-use Rattle.gc_station.proofs.Records.{Grew, grew_none}
-use Rattle.gc_station.proofs.Walk.{moved_changed}
+use Rattle.gc_station.specs.Model.{Model, is_heard, with_progress, with_moment, line_came, lines_came, after_piece, unsent_record, moved, losing}
+use Rattle.gc_station.specs.Records.{Record}
+use Rattle.gc_station.proofs.Records.{Grew, grew_none, grew_then}
+use Rattle.gc_station.proofs.Walk.{lines_along, came_along, losing_along, moved_changed}
+
+-- a line that is heard adds records, if any, to those of a model that only grew from `old`
+line_grew : (old : List Record) (s : Model) (line : List ℕ) → Grew old s.records → Grew old (line_came s line).records
+line_grew old s line grew =
+    grew_then old s.records (line_came s line).records grew (records_of s.reads s.progress.moment.utc s.marks (hears s.client line (heard line)).settlements, refl)
 
 -- lines that are heard only add records
 pub lines_records : (s : Model) (lines : List (List ℕ)) → Grew s.records (lines_came s lines).records
-lines_records s [] = grew_none s.records
-lines_records s (line ∷ others) =
-    let more = lines_records (line_came s line) others in
-    let added = records_of s.reads s.progress.moment.utc s.marks (hears s.client line (heard line)).settlements in
-    (added ++ more.0, more.1 ∙ append_assoc s.records added more.0)
+lines_records s lines = lines_along (λ (t : Model). Grew s.records t.records) (line_grew s.records) s lines (grew_none s.records)
 
 -- the loss of what is outstanding only adds records
 pub losing_records : (all : Bool) (s : Model) → Grew s.records (losing all s).records
-losing_records true s = (records_of s.reads s.progress.moment.utc s.marks (map lost s.client.waiting), refl)
-losing_records false s = grew_none s.records
+losing_records all s =
+    losing_along (λ (t : Model). Grew s.records t.records) all s (records_of s.reads s.progress.moment.utc s.marks (map lost s.client.waiting), refl) (grew_none s.records)
 
 -- a piece only adds records
 came_grew : (heard : Bool) (word piece : List ℕ) (s : Model) → Grew s.records (after_piece heard word piece s).records
-came_grew true [] piece s = lines_records (with_rest (rest_behind s.rest piece) s) (lines_completed s.rest piece)
-came_grew true (asked ∷ others) piece s = grew_none s.records
-came_grew false word piece s = grew_none s.records
+came_grew heard word piece s =
+    came_along (λ (t : Model). Grew s.records t.records) (line_grew s.records) heard word piece s (grew_none s.records) (grew_none s.records) (grew_none s.records)
 
 -- an act only adds records
 pub moved_grew : (plan : Plan) (commands : List Task) (action : Action) (s : Model) (act : Act) → Grew s.records (moved plan commands action s act).records

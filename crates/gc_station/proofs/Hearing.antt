@@ -18,7 +18,6 @@ use Rattle.gc_lines.specs.Lent.{lent_seen}
 use Rattle.gc_lines.specs.declared.frame.Lent.{Lent}
 use Rattle.gc_lines.specs.declared.frame.Lent.TheVariants as lent
 use Rattle.gc_lines.proofs.Passing.{Takes}
-use Rattle.gc_catalogue.specs.declared.answer.Reading.{Reading}
 use Rattle.gc_catalogue.specs.declared.asked.Asked.{Asked}
 use Rattle.gc_client.specs.declared.pending.Pending.{Pending}
 use Rattle.gc_client.specs.Rule.{ById, Settled, Settlement, hears, id_settled, settle, lost, restarts, place_in, expires, expired}
@@ -39,11 +38,11 @@ use Rattle.gc_station.specs.Progressing.{caught_up, line_noted, bytes_noted, ear
 use Rattle.gc_station.specs.Records.{Record, texts_of, WritesPart, WritesAll}
 use Rattle.gc_station.specs.Model.{Model, line_came, lines_came, lines_completed, with_rest, with_progress, with_moment, waiting_of, settles, piece_came, piece_synchronizing, after_piece}
 use Rattle.gc_station.specs.Stations.{waiting_in, Refines, Took, TookPart, ComesTo, station_expiring}
-use Rattle.gc_station.specs.Scopes.{AreReadings}
+use Rattle.gc_station.specs.Scopes.{AreReadings, ForEachReadings}
 use Rattle.gc_station.specs.Tallies.{nothing_yet, tallied}
 use Rattle.gc_station.proofs.Growing.{lines_records}
 use Rattle.gc_station.proofs.Making.{refines_with}
-use Rattle.gc_station.proofs.Readings.{lines_reads, are_same}
+use Rattle.gc_station.proofs.Readings.{lines_reads, same_readings}
 use Rattle.gc_station.proofs.Records.{Grew, grew_then, part_grew, part_grows, tallied-append, last-append}
 
 -- the lines of a frame and of the frames after it: first its line, if it has one
@@ -122,7 +121,7 @@ hearing_part text start taken taken' station s piece left used frame kept h t pa
     let whole : piece_came later mid ≡ piece_came piece s = sym (frame_first h.now left later t.now frame t.seen t.rests) ∙ h.goes in
     let more = lines_records (with_rest (rest_behind mid.rest later) mid) (lines_completed mid.rest later) in
     let same : mid.reads ≡ (piece_came piece s).reads = sym (lines_reads (with_rest (rest_behind mid.rest later) mid) (lines_completed mid.rest later)) ∙ ap (λ (x : Model). x.reads) whole in
-    let all = part_grows text h.now.records mid.records (piece_came later mid).records start taken' more (part (are_same mid.reads (piece_came piece s).reads same are)) in
+    let all = part_grows text h.now.records mid.records (piece_came later mid).records start taken' more (part (same_readings mid.reads (piece_came piece s).reads same are)) in
     part_grew text s.records h.now.records (piece_came piece s).records start taken' h.grown
     (subst (λ (x : Model). WritesPart text h.now.records x.records start taken') whole all)
 
@@ -209,23 +208,22 @@ records_same old mid s ids xs ys stands between e =
 
 -- from `mid` to `new` the tally counts the records of these settlements
 abbrev pub UpdatesTally : (mid new : Station) → List (Settlement Asked) → Type 0
-UpdatesTally mid new xs = (reads : Asked → List ℕ → Reading) → AreReadings reads → new.recorded.tally ≡ tallied mid.recorded.tally (records_of reads mid.progress.moment.utc mid.marks.items xs)
+UpdatesTally mid new xs = ForEachReadings (λ reads. new.recorded.tally ≡ tallied mid.recorded.tally (records_of reads mid.progress.moment.utc mid.marks.items xs))
 
 -- from `mid` to `new` the field `well` becomes whether the last command of these settlements was answered well; it stays if none
 -- of them is of a command
 abbrev pub UpdatesWell : (mid new : Station) → List (Settlement Asked) → Type 0
-UpdatesWell mid new xs = (reads : Asked → List ℕ → Reading) → AreReadings reads → new.recorded.well ≡ last_well mid.recorded.well (records_of reads mid.progress.moment.utc mid.marks.items xs)
+UpdatesWell mid new xs = ForEachReadings (λ reads. new.recorded.well ≡ last_well mid.recorded.well (records_of reads mid.progress.moment.utc mid.marks.items xs))
 
 -- from `mid` to `new` the field `listed` becomes whether a command of the attempt that was settled last ended as its rule names;
 -- it stays if none of these settlements is of a command
 abbrev pub UpdatesListed : (mid new : Station) → List (Settlement Asked) → Type 0
-UpdatesListed mid new xs = (reads : Asked → List ℕ → Reading) → AreReadings reads → new.recorded.listed ≡ listed_by reads mid.recorded.listed mid.marks.items xs
+UpdatesListed mid new xs = ForEachReadings (λ reads. new.recorded.listed ≡ listed_by reads mid.recorded.listed mid.marks.items xs)
 
 -- from `mid` to `new` the field `fresh` becomes the moment read last, if a command of these settlements was answered well; else
 -- it stays
 abbrev pub UpdatesFresh : (mid new : Station) → List (Settlement Asked) → Type 0
-UpdatesFresh mid new xs = (reads : Asked → List ℕ → Reading) → AreReadings reads
-    → new.recorded.fresh ≡ fresh_after mid.progress.moment.elapsed mid.recorded.fresh (records_of reads mid.progress.moment.utc mid.marks.items xs)
+UpdatesFresh mid new xs = ForEachReadings (λ reads. new.recorded.fresh ≡ fresh_after mid.progress.moment.elapsed mid.recorded.fresh (records_of reads mid.progress.moment.utc mid.marks.items xs))
 
 -- from `mid` to `new` the marks of `count` settlements were taken out; of the other fields, only those changed that records
 -- change
@@ -233,8 +231,9 @@ abbrev pub TakesMarks : (mid new : Station) → ℕ → Type 0
 TakesMarks mid new count =
     new ≡ record mid { marks = record { items = drop count mid.marks.items }; recorded = new.recorded }
 
--- if the records of settlements were written, the station is as the model after them, and the book has taken the records of that
--- model
+-- let the station `old` be as the model s, and its client have settled requests as x says (`Between`). If the records of these
+-- settlements were written, counted and noted, and their marks taken out, the station is as the model after them (`new`), and the
+-- book has taken the records of that model
 pub settles_ok : (text : Record → List ℕ) (old mid new : Station) (s : Model) (x : Settled Asked (ById Asked)) (xs : List (Settlement Asked)) (n : ℕ) (start taken' : Option (List ℕ))
     → (stands : Refines old s) → (between : Between old mid x.client) → (same : xs ≡ x.settlements) → (many : n ≡ length x.settlements) → (paired : StayPaired s.marks x)
     → (wrote : AreReadings s.reads → Appends start taken' (texts_of text (s.records ++ records_of s.reads mid.progress.moment.utc mid.marks.items xs)))
@@ -264,7 +263,8 @@ settles_ok text old mid new s x xs n start taken' stands between e many paired w
       λ are. subst (λ (rs : List Record). Appends start taken' (texts_of text (s.records ++ rs))) records (wrote are),
     )
 
--- if the book failed at a record of settlements, it took the model's earlier records and a part of the others
+-- if the book failed at a record of settlements, it took the earlier records of the model s and a part of the others, where the
+-- station `old` is as s, and its client has settled requests as x says (`Between`)
 pub settles_part : (text : Record → List ℕ) (old mid : Station) (s : Model) (x : Settled Asked (ById Asked)) (xs : List (Settlement Asked)) (start taken' : Option (List ℕ))
     → Refines old s → Between old mid x.client → xs ≡ x.settlements
     → (AreReadings s.reads → WritesPart text s.records (s.records ++ records_of s.reads mid.progress.moment.utc mid.marks.items xs) start taken')
@@ -272,8 +272,7 @@ pub settles_part : (text : Record → List ℕ) (old mid : Station) (s : Model) 
 settles_part text old mid s x xs start taken' stands between e wrote are =
     subst (λ (rs : List Record). WritesPart text s.records (s.records ++ rs) start taken') (records_same old mid s x.client xs x.settlements stands between e) (wrote are)
 
--- if the records of settlements were written, the station is as the model after them, and the book has taken the records of that
--- model; or the book failed at one of the new ones (`ComesTo`)
+-- as `settles_ok` and `settles_part` together, by whether the book took all records (`Ok`) or failed at one (`Err`)
 pub settles_either : {X E : Type 0} (text : Record → List ℕ) (old mid new : Station) (s : Model) (x : Settled Asked (ById Asked)) (xs : List (Settlement Asked)) (n : ℕ)
     (start taken' : Option (List ℕ)) (result : Result X E)
     → (stands : Refines old s) → (between : Between old mid x.client) → (same : xs ≡ x.settlements) → (many : n ≡ length x.settlements) → (paired : StayPaired s.marks x)
@@ -322,20 +321,21 @@ refines_expired station new p q m s stands e is = subst (λ (x : Station). Refin
 })
 
 -- as many requests are outstanding at a station as in its model
-pub all_same : (station : Station) (s : Model) → Refines station s → (waiting_in station).all ≡ (waiting_of s).all
-all_same station s stands = ap (λ (c : ById Asked). length c.waiting) stands.ids
+pub outstanding_same : (station : Station) (s : Model) → Refines station s → (waiting_in station).all ≡ (waiting_of s).all
+outstanding_same station s stands = ap (λ (c : ById Asked). length c.waiting) stands.ids
 
 -- as many commands are outstanding at a station as in its model
-pub commands_same : (station : Station) (s : Model) → Refines station s → (waiting_in station).commands ≡ (waiting_of s).commands
-commands_same station s stands = ap commands_in stands.marks
+pub outstanding_commands_same : (station : Station) (s : Model) → Refines station s → (waiting_in station).commands ≡ (waiting_of s).commands
+outstanding_commands_same station s stands = ap commands_in stands.marks
 
--- what a piece settled is counted alike from equal progresses, where as many requests and commands are outstanding
+-- once what a piece settled is counted, equal progresses still are equal, if as many commands were outstanding before the piece,
+-- and as many requests and commands are after it
 pub early_noted_same : (plan : Plan) (until : Until) (b b' : ℕ) (w w' : Waiting) (p p' : Progress) → b ≡ b' → w.all ≡ w'.all → w.commands ≡ w'.commands → p ≡ p'
     → early_noted plan w.commands (bytes_noted plan until b w p) ≡ early_noted plan w'.commands (bytes_noted plan until b' w' p')
 early_noted_same plan until b b' w w' p p' eb ea ec ep =
     ap (λ x. early x w.all w.commands p) eb ∙ ap (λ x. early b' x w.commands p) ea ∙ ap (λ x. early b' w'.all x p) ec ∙ ap (λ x. early b' w'.all w'.commands x) ep where
-      -- the progress once what a piece settled was counted, by how many commands were outstanding before the piece, and how
-      -- many requests and commands are outstanding after it
+      -- the progress once what a piece settled is counted, from p: `before` commands were outstanding before the piece, and `all`
+      -- requests, of which `commands` are of commands, are after it
       early : ℕ → ℕ → ℕ → Progress → Progress
       early before all commands p = early_noted plan commands (bytes_noted plan until before (record { all = all; current = 0; commands = commands; well = false; listed = false; fresh = 0 }) p)
 

@@ -29,22 +29,22 @@ use Rattle.gc_station.specs.declared.progress.Progress.{Progress}
 use Rattle.gc_station.specs.declared.progress.Waiting.{Waiting}
 use Rattle.gc_station.specs.Behind.{AreOfTable, TheTableIsNeverHeldUp}
 use Rattle.gc_station.specs.Deciding.{has_begun, is_none_left, action_next, action_room, action_waiting, width_of}
-use Rattle.gc_station.specs.Parts.{put_part, first_request_part, heard_steps, client_part, sync_part, part_of_act, request_or_null_part, client_stepped, client_after, course_at}
-use Rattle.gc_station.specs.Progressing.{one_more_in_window, turned, moment_noted, time_passed, is_over, loses_all}
+use Rattle.gc_station.specs.Parts.{put_part, first_request_part, client_part, sync_part, part_of_act, request_or_null_part, client_stepped, client_after, course_at}
+use Rattle.gc_station.specs.Progressing.{one_more_in_window, turned, time_passed, is_over, loses_all}
 use Rattle.gc_station.specs.Reasons.{HoldsBefore}
 use Rattle.gc_station.specs.Runs.{state_after}
-use Rattle.gc_station.specs.Model.{Model, opening, action_at, waiting_of, is_some_of_table, ends_with_table, is_heard, with_progress, with_moment, with_rest, lines_completed, after_piece, moved, losing, after, Performs}
+use Rattle.gc_station.specs.Model.{Model, opening, action_at, waiting_of, is_some_of_table, ends_with_table, is_heard, with_progress, with_rest, lines_completed, after_piece, moved, losing, after, Performs, ended}
 use Rattle.gc_station.specs.NextCommand.{place_next, mark_next, mark_setup}
 use Rattle.gc_station.proofs.Always.{always}
 use Rattle.gc_station.proofs.Behind.{behind_by, behind_step}
 use Rattle.gc_station.proofs.Counts.{losing_progress}
 use Rattle.gc_station.proofs.EachRun.{invariant_holds}
 use Rattle.gc_station.proofs.Facts.{action_for}
-use Rattle.gc_station.proofs.GoesBehind.{counted}
+use Rattle.gc_station.proofs.GoesBehind.{counted, hearing_all}
 use Rattle.gc_station.proofs.Invariant.{Invariant}
 use Rattle.gc_station.proofs.Parting.{leads, keeps_action}
 use Rattle.gc_station.proofs.Turns.{over_stays}
-use Rattle.gc_station.proofs.Walk.{asked_along, quieted_along, closed_along, walk}
+use Rattle.gc_station.proofs.Walk.{asked_along, quieted_along, closed_along, walk, piece_before}
 use Rattle.gc_station.proofs.Words.{renews_only}
 use Rattle.gc_station.proofs.Losing.{loses_nothing}
 use Rattle.gc_station.proofs.Lists.{all_drop, all_append}
@@ -142,16 +142,6 @@ level_steps c b (step ∷ steps) all h = level_steps (client_stepped c step) (be
 
 -- Acts.
 
--- steps that hear lines send nothing, so they send calls of the table alone
-hears_tables : (lines : List (List ℕ)) → AllByRecursion SendsTableCalls (map Hear lines)
-hears_tables [] = tt
-hears_tables (line ∷ others) = (tt, hears_tables others)
-
--- the steps for a piece, which is heard or discarded, send calls of the table alone, as they send nothing
-hearing_tables : (heard : Bool) (rest piece : List ℕ) → AllByRecursion SendsTableCalls (heard_steps heard rest piece)
-hearing_tables true rest piece = hears_tables (lines_completed rest piece)
-hearing_tables false rest piece = tt
-
 -- if a task asks for a call of the table, it does so at any moment
 table_at : (task : Task) (utc : ℕ) → is_of_table task.command.call ≡ true → is_of_table (call_at task utc) ≡ true
 table_at task utc is = by_clock task.now where
@@ -169,55 +159,55 @@ first_tables now mark (task ∷ others) all = (table_at task mark.sent all.0, tt
 -- if all of them are
 setup_tables : (plan : Plan) (now : ℕ) (mark : Mark) (left : List Task) → AreOfTable left → AllByRecursion SendsTableCalls (request_or_null_part plan now mark left).steps
 setup_tables plan now mark [] all = (refl, tt)
-setup_tables plan now mark (task ∷ others) all = (table_at task mark.sent all.0, tt)
+setup_tables plan now mark (task ∷ others) all = first_tables now mark (task ∷ others) all
+
+-- the count (`behind`) of the model t is 0
+abbrev NoneBehind : (t : Model) → Type 0
+NoneBehind t = t.progress.behind ≡ 0
 
 -- what every run of calls of the table keeps. `behind` counts the requests after the last call of the table that a reply ended:
 -- while the station synchronizes it is 0; afterwards, until the run is over, it is the number of outstanding requests
 record CountsWaiting (s : Model) : Type 0 where
-  begins : has_begun s.progress ≡ false → s.progress.behind ≡ 0
+  begins : has_begun s.progress ≡ false → NoneBehind s
   level : has_begun s.progress ≡ true → is_over s.progress ≡ false → Level s.client s.progress.behind
 
--- after an act the count (`behind`) is 0
-abbrev NoneBehind : Act → Model → Type 0
-NoneBehind act t = t.progress.behind ≡ 0
-
 -- while the station synchronizes, a piece, heard or discarded, leaves the count at 0
-came_none : (heard : Bool) (word piece : List ℕ) (s : Model) → is_none_left word ≡ false → s.progress.behind ≡ 0 → (after_piece heard word piece s).progress.behind ≡ 0
+came_none : (heard : Bool) (word piece : List ℕ) (s : Model) → is_none_left word ≡ false → NoneBehind s → NoneBehind (after_piece heard word piece s)
 came_none true [] piece s begins e = cc
 came_none true (asked ∷ others) piece s begins e = asked_along (λ (q : Progress). q.behind ≡ 0) (λ q line e. e) s.progress (lines_completed s.rest piece) e
 came_none false word piece s begins e = e
 
 -- if the station has synchronized, and the run isn't over, the client stays at the end of an act, as nothing is lost
-kept_client : (t : Model) → has_begun t.progress ≡ true → is_over t.progress ≡ false → (losing (loses_all t.progress) t).client ≡ t.client
+kept_client : (t : Model) → has_begun t.progress ≡ true → is_over t.progress ≡ false → (ended t).client ≡ t.client
 kept_client t begun going = ap (λ (b : Bool). (losing b t).client) (loses_nothing (has_begun t.progress) (is_over t.progress) begun going)
 
 module _ (plan : Plan) (commands : List Task) where
   -- while the station synchronizes, an act leaves the count at 0
-  none_behind : (s : Model) (o : Action) (act : Act) → HoldsBefore plan s.progress (waiting_of s) o → Performs commands s o act → has_begun s.progress ≡ false → s.progress.behind ≡ 0
-      → NoneBehind act (moved plan commands o (with_progress turned s) act)
+  none_behind : (s : Model) (o : Action) (act : Act) → HoldsBefore plan s.progress (waiting_of s) o → Performs commands s o act → has_begun s.progress ≡ false → NoneBehind s
+      → NoneBehind (moved plan commands o (with_progress turned s) act)
   none_behind s action.Renew act is obeys begins e = absurd (both_ways (has_begun s.progress) begins is.1)
   none_behind s action.Begin act is obeys begins e = absurd (both_ways (has_begun s.progress) begins is.1)
   none_behind s action.Prepare act is obeys begins e = absurd (both_ways (has_begun s.progress) begins is.1)
   none_behind s action.Send act is obeys begins e = absurd (both_ways (has_begun s.progress) begins is.1)
   none_behind s action.Skip act is obeys begins e = absurd (both_ways (has_begun s.progress) begins is.1)
   none_behind s action.Flush act is obeys begins e = absurd (both_ways (has_begun s.progress) begins is.1)
-  none_behind s action.Ask act is obeys begins e = walk plan commands NoneBehind action.Ask (with_progress turned s) act obeys (λ m. refl, λ n. refl)
+  none_behind s action.Ask act is obeys begins e = walk plan commands (λ a. NoneBehind) action.Ask (with_progress turned s) act obeys (λ m. refl, λ n. refl)
   none_behind s (action.Read until) act is obeys begins e =
-      walk plan commands NoneBehind (action.Read until) (with_progress turned s) act obeys (
-        λ bytes m. came_none (is_heard s.progress.phase) s.progress.word bytes (with_moment m (with_progress (moment_noted m) (with_progress turned s))) begins e,
+      walk plan commands (λ a. NoneBehind) (action.Read until) (with_progress turned s) act obeys (
+        λ bytes m. came_none (is_heard s.progress.phase) s.progress.word bytes (piece_before m s) begins e,
         λ m. quieted_along (λ (q : Progress). q.behind ≡ 0) plan s.progress.phase (time_passed until m (turned s.progress)) e e e,
         e,
         e,
         e,
       )
   none_behind s (action.Close why) act is obeys begins e =
-      walk plan commands NoneBehind (action.Close why) (with_progress turned s) act obeys
+      walk plan commands (λ a. NoneBehind) (action.Close why) (with_progress turned s) act obeys
       (closed_along (λ (q : Progress). q.behind ≡ 0) plan (waiting_of (with_rest [] (with_progress turned s))) why (turned s.progress) e e)
   none_behind s (action.Stop why) act is obeys begins e = absurd obeys
-  none_behind s o act is obeys begins e = walk plan commands NoneBehind o (with_progress turned s) act obeys (λ m. e, λ n. e)
+  none_behind s o act is obeys begins e = walk plan commands (λ a. NoneBehind) o (with_progress turned s) act obeys (λ m. e, λ n. e)
 
   -- if the station resynchronizes, the count is 0
-  renewed_none : (s : Model) (o : Action) (act : Act) (m : Moment) → o ≡ action.Renew → act ≡ Told m → (moved plan commands o (with_progress turned s) act).progress.behind ≡ 0
+  renewed_none : (s : Model) (o : Action) (act : Act) (m : Moment) → o ≡ action.Renew → act ≡ Told m → NoneBehind (moved plan commands o (with_progress turned s) act)
   renewed_none s o act m is told =
       ap (λ (x : Action). (moved plan commands x (with_progress turned s) act).progress.behind) is
       ∙ ap (λ (x : Act). (moved plan commands action.Renew (with_progress turned s) x).progress.behind) told
@@ -235,13 +225,13 @@ module _ (plan : Plan) (commands : List Task) (all : AreOfTable commands) where
   put_tables s o = tt
 
   -- an act sends calls of the table alone
-  do_tables : (s : Model) (o : Action) (act : Act) → AllByRecursion SendsTableCalls (client_part plan commands s o act).steps
-  do_tables s o (Told m) = (tt, tt)
-  do_tables s o (Silent m) = (tt, tt)
-  do_tables s o (Gave piece m) = (tt, hearing_tables (is_heard s.progress.phase) s.rest piece)
-  do_tables s o (Put bytes) = put_tables s o
-  do_tables s o (Cut bytes count) = put_tables s o
-  do_tables s o act = tt
+  client_tables : (s : Model) (o : Action) (act : Act) → AllByRecursion SendsTableCalls (client_part plan commands s o act).steps
+  client_tables s o (Told m) = (tt, tt)
+  client_tables s o (Silent m) = (tt, tt)
+  client_tables s o (Gave piece m) = (tt, hearing_all SendsTableCalls (λ line. tt) (is_heard s.progress.phase) s.rest piece)
+  client_tables s o (Put bytes) = put_tables s o
+  client_tables s o (Cut bytes count) = put_tables s o
+  client_tables s o act = tt
 
   module _ (s : Model) (act : Act) (fine : Invariant plan commands s) (obeys : Performs commands s (action_at plan s) act) (h : CountsWaiting s) where
     -- the action that the act performs
@@ -258,7 +248,7 @@ module _ (plan : Plan) (commands : List Task) (all : AreOfTable commands) where
 
     -- the model after the act
     abbrev u : Model
-    u = losing (loses_all t.progress) t
+    u = ended t
 
     -- the loss of what is outstanding changes no progress
     same_progress : u.progress ≡ t.progress
@@ -266,15 +256,15 @@ module _ (plan : Plan) (commands : List Task) (all : AreOfTable commands) where
 
     -- `Level` holds after the act, before what is outstanding is lost, if the station has synchronized before it and after it,
     -- and the run wasn't over before it
-    moves : has_begun s.progress ≡ true → has_begun t.progress ≡ true → is_over s.progress ≡ false → Level t.client t.progress.behind
-    moves begun still going =
+    level_moved : has_begun s.progress ≡ true → has_begun t.progress ≡ true → is_over s.progress ≡ false → Level t.client t.progress.behind
+    level_moved begun still going =
         let steps = (client_part plan commands s o act).steps in
         let led = leads plan commands s o act fine its obeys in
         let part : (part_of_act plan commands s o act).steps ≡ steps = ap (λ (b : Bool). (if b then client_part plan commands s o act else sync_part s o act).steps) begun in
         let client : client_after s.client steps ≡ t.client = ap (client_after s.client) (sym part) ∙ led.client in
         subst (λ (c : ById Asked). Level c t.progress.behind) client
         (subst (λ (n : ℕ). Level (client_after s.client steps) n) (sym (counted plan commands s o act fine its obeys begun still))
-        (level_steps s.client s.progress.behind steps (do_tables s o act) (h.level begun going)))
+        (level_steps s.client s.progress.behind steps (client_tables s o act) (h.level begun going)))
 
     -- the run wasn't over before the act
     wasnt_over : (b : Bool) → is_over s.progress ≡ b → is_over s.progress ≡ false
@@ -291,7 +281,7 @@ module _ (plan : Plan) (commands : List Task) (all : AreOfTable commands) where
           let now = sym (ap has_begun same_progress) ∙ still in
           let on = sym (ap is_over same_progress) ∙ going in
           subst (λ (c : ById Asked). Level c u.progress.behind) (sym (kept_client t now on))
-          (subst (λ (p : Progress). Level t.client p.behind) (sym same_progress) (moves begun now (wasnt_over (is_over s.progress) refl)));
+          (subst (λ (p : Progress). Level t.client p.behind) (sym same_progress) (level_moved begun now (wasnt_over (is_over s.progress) refl)));
     }
     counts_waiting_so false begins =
         let none = none_behind plan commands s o act its obeys begins (h.begins begins) in

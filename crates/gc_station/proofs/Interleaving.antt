@@ -1,7 +1,7 @@
 -- What had its turn is what was kept and what was left out, each in order (`Interleave`): one list grows with each command that
 -- had its turn, and so does one of the other two.
-use Rattle.std.proofs.Common.{Bool, true, false, nat_lt, ◌≡◌, ◌⊎◌, inl, inr, ℕ, zero, suc, ◌+◌, ◌-◌, ◌<◌, ◌≤◌, List, [], ◌∷◌, ◌++◌, length, take, drop, map, refl, sym, ap, ◌∙◌, subst, arith, append_assoc, take-add}
-use Rattle.std.proofs.lemmas.List.{length-map, length-drop, length-take, map-append, nil_from_length, take_all, drop-append-le}
+use Rattle.std.proofs.Common.{Bool, true, false, nat_lt, ◌≡◌, inl, inr, ℕ, zero, suc, ◌+◌, ◌-◌, ◌<◌, ◌≤◌, List, [], ◌∷◌, ◌++◌, length, take, drop, map, refl, sym, ap, ◌∙◌, subst, arith}
+use Rattle.std.proofs.lemmas.List.{length-map, length-drop, length-take, nil_from_length}
 use Rattle.std.proofs.lemmas.Bool.{ltb-true, ltb-false}
 use Rattle.std.specs.List.{AllByRecursion}
 use Rattle.gc_catalogue.specs.declared.asked.Asked.{Asked}
@@ -9,7 +9,6 @@ use Rattle.gc_client.specs.OneForOne.{Wanted}
 use Rattle.gc_texts.specs.declared.tasks.Task.{Task}
 use Rattle.gc_station.specs.EachOnce.{Interleave, Request, requests, of_task, all_cycles, commands_reached}
 use Rattle.gc_station.specs.Links.{IsBefore}
-use Rattle.gc_station.proofs.Each.{requests-append}
 use Rattle.gc_station.proofs.Lists.{all_append, all_on}
 
 -- a list is itself interleaved with nothing
@@ -46,30 +45,6 @@ interleave_all P xs ys [] h all = subst (AllByRecursion P) (sym h.1) tt
 interleave_all P xs ys (z ∷ zs) (inl k) all = interleave_all P k.0 ys zs k.2 all.1
 interleave_all P xs ys (z ∷ zs) (inr k) all = subst (AllByRecursion P) (sym k.1) (all.0, interleave_all P xs k.0 zs k.2 all.1)
 
--- from a place after the setup on, in a cycle that has begun: the commands that had their turn, with the next `count` ones after
--- them, are those that had their turn at a place `count` further on, or at the end of the list if that is nearer
-pub sent_past : (setup : ℕ) (commands : List Task) (begun place count place' : ℕ) → setup ≤ place → place ≤ length commands → 0 < begun
-    → (place' ≡ place + count) ⊎ ((place' ≡ length commands) × (length commands ≤ place + count))
-    → commands_reached setup commands begun place ++ requests begun place (map of_task (take count (drop place commands))) ≡ commands_reached setup commands begun place'
-sent_past setup commands zero place count place' low within some at = absurd (omega (arith, some))
-sent_past setup commands (suc n) place count place' low within some at =
-    let front = drop setup (take place commands) in
-    let taken = map of_task front in
-    let more = map of_task (take count (drop place commands)) in
-    let cycles = all_cycles setup commands n in
-    let many : length (take place commands) ≡ place = let l = length-take place commands in omega (arith, l, within) in
-    let count_is : setup + length taken ≡ place = let m = length-map front of_task in let d = length-drop setup (take place commands) in omega (arith, m, d, many, low) in
-    append_assoc cycles (requests (suc n) setup taken) (requests (suc n) place more)
-    ∙ ap (λ b. cycles ++ (requests (suc n) setup taken ++ requests (suc n) b more)) (sym count_is)
-    ∙ ap (λ xs. cycles ++ xs) (sym (requests-append (suc n) setup taken more))
-    ∙ ap (λ xs. cycles ++ requests (suc n) setup xs) (sym (map-append of_task front (take count (drop place commands)))
-    ∙ ap (map of_task) (sym (drop-append-le setup (take place commands) (take count (drop place commands)) (omega (arith, many, low))) ∙ ap
-    (drop setup) (sym (take-add place count commands) ∙ as_many at))) where
-      -- the first `place + count` commands are those before the new place
-      as_many : ((place' ≡ place + count) ⊎ ((place' ≡ length commands) × (length commands ≤ place + count))) → take (place + count) commands ≡ take place' commands
-      as_many (inl is) = ap (λ (k : ℕ). take k commands) (sym is)
-      as_many (inr is) = take_all (place + count) commands is.1 ∙ sym (take_all place' commands (omega (arith, is.0)))
-
 -- the commands after the next `count` ones are the same, counted from the place of the next one or by how many are unsent
 pub drop_past : (commands : List Task) (unsent count : ℕ) → unsent ≤ length commands → drop ((length commands - unsent) + count) commands ≡ drop (length commands - (unsent - count)) commands
 drop_past commands unsent count within = by_count (nat_lt unsent count) refl where
@@ -83,16 +58,24 @@ drop_past commands unsent count within = by_count (nat_lt unsent count) refl whe
       ∙ sym (nil_from_length (drop (length commands - (unsent - count)) commands) (omega (arith, y, more)))
   by_count false e = let few = ltb-false unsent count e in ap (λ (n : ℕ). drop n commands) (omega (arith, few, within))
 
+-- a request is of this cycle, and of a place below `end`
+abbrev IsBelow : (cycle end : ℕ) → Request → Type 0
+IsBelow cycle end r = (r.cycle ≡ cycle) × (r.place < end)
+
 -- the requests of a cycle are of it, and of places below the first one's plus their number
-requests_before : (cycle place : ℕ) (asks : List (Wanted Asked)) → AllByRecursion (λ (r : Request). (r.cycle ≡ cycle) × (r.place < place + length asks)) (requests cycle place asks)
-requests_before cycle place [] = tt
-requests_before cycle place (a ∷ others) =
-    ((refl, omega arith), all_by cycle (place + 1) (length others) place (length (a ∷ others)) (requests cycle (place + 1) others) (omega arith) (requests_before cycle (place + 1) others)) where
-      -- a place below one sum is below an equal sum
-      all_by : (cycle a m b n : ℕ) (rs : List Request) → a + m ≡ b + n → AllByRecursion (λ (r : Request). (r.cycle ≡ cycle) × (r.place < a + m)) rs
-          → AllByRecursion (λ (r : Request). (r.cycle ≡ cycle) × (r.place < b + n)) rs
-      all_by cycle a m b n [] e all = tt
-      all_by cycle a m b n (r ∷ rs) e all = ((all.0.0, omega (arith, all.0.1, e)), all_by cycle a m b n rs e all.1)
+requests_below : (cycle place : ℕ) (asks : List (Wanted Asked)) → AllByRecursion (IsBelow cycle (place + length asks)) (requests cycle place asks)
+requests_below cycle place [] = tt
+requests_below cycle place (a ∷ others) =
+    let further = requests_below cycle (place + 1) others in (
+      (refl, omega arith),
+      all_on (IsBelow cycle ((place + 1) + length others)) (IsBelow cycle (place + length (a ∷ others))) (requests cycle (place + 1) others)
+          (λ r h. let below : r.place < (place + 1) + length others = h.1 in (h.0, omega (arith, below))) further,
+    )
+
+-- a pair (c, p) of a cycle and a place doesn't come before an equal pair (d, q)
+pub not_before_equal : (c p d q : ℕ) → IsBefore c p d q → c ≡ d → p ≡ q → ⊥
+not_before_equal c p d q (inl less) e f = omega (arith, less, e)
+not_before_equal c p d q (inr same) e f = let below : p < q = same.1 in omega (arith, below, f)
 
 -- a request is of a place before this one: in an earlier cycle, or in the same one
 abbrev pub IsInFront : (cycle place : ℕ) → Request → Type 0
@@ -105,7 +88,7 @@ cycles_before setup commands (suc n) place =
     all_append (IsInFront (suc (suc n)) place) (all_cycles setup commands n) (requests (suc n) setup (map of_task (drop setup commands)))
     (all_on (IsInFront (suc n) place) (IsInFront (suc (suc n)) place) (all_cycles setup commands n) later (cycles_before setup commands n place))
     (all_on _ (IsInFront (suc (suc n)) place) (requests (suc n) setup (map of_task (drop setup commands))) (λ r h. inl (omega (arith, h.0)))
-    (requests_before (suc n) setup (map of_task (drop setup commands)))) where
+    (requests_below (suc n) setup (map of_task (drop setup commands)))) where
       -- what is before a cycle's place is before the next one's
       later : (r : Request) → IsInFront (suc n) place r → IsInFront (suc (suc n)) place r
       later r (inl less) = inl (omega (arith, less))
@@ -117,7 +100,7 @@ sent_before setup commands zero place low = tt
 sent_before setup commands (suc n) place low =
     all_append (IsInFront (suc n) place) (all_cycles setup commands n) (requests (suc n) setup (map of_task (drop setup (take place commands)))) (cycles_before setup commands n place)
     (all_on _ (IsInFront (suc n) place) (requests (suc n) setup (map of_task (drop setup (take place commands))))
-    (λ r h. inr (h.0, few r.place h.1)) (requests_before (suc n) setup (map of_task (drop setup (take place commands))))) where
+    (λ r h. inr (h.0, few r.place h.1)) (requests_below (suc n) setup (map of_task (drop setup (take place commands))))) where
       -- a place among those that were taken is below the next one
       few : (p : ℕ) → p < setup + length (map of_task (drop setup (take place commands))) → p < place
       few p less =

@@ -1,5 +1,5 @@
 -- What every run keeps, after each of its acts, whatever the link does.
-use Rattle.std.proofs.Common.{◌≡◌, ◌<◌, ◌≤◌, Bool, true, false, List, [], length, map, ◌-◌}
+use Rattle.std.proofs.Common.{◌≡◌, ◌<◌, ◌≤◌, Bool, true, false, List, [], length, map}
 use Rattle.std.specs.List.{AllByRecursion}
 use Rattle.gc_client.specs.OneForOne.{of_pending}
 use Rattle.gc_client.specs.Rule.{fresh}
@@ -13,7 +13,7 @@ use Rattle.gc_station.specs.Deciding.{has_begun}
 use Rattle.gc_station.specs.Marks.{commands_in}
 use Rattle.gc_station.specs.Progressing.{is_over}
 use Rattle.gc_station.specs.EachOnce.{IsEachOnce}
-use Rattle.gc_station.specs.Model.{Model}
+use Rattle.gc_station.specs.Model.{Model, cycle_length}
 use Rattle.gc_station.specs.Parts.{MarksAsk}
 use Rattle.gc_station.specs.Reasons.{IsFinished}
 use Rattle.gc_station.specs.Tasked.{IsOfItsTask}
@@ -39,14 +39,19 @@ says_done (Closing why) = is_done why
 says_done (Over why) = is_done why
 says_done _ = false
 
--- what every run keeps: the counts lie within the plan and the commands; each outstanding request has a mark, at most seven are
--- outstanding, and the next id is below 8; no bytes of a line are kept in a phase that `is_bare`; if the run is over nothing is
--- outstanding, and if it is done nothing is left; and each command had its turn once, in order
+-- the model has as many marks as outstanding requests, one for each
+abbrev pub Paired : Model → Type 0
+Paired s = length s.marks ≡ length s.client.waiting
+
+-- what every run keeps: the counts lie within the plan and the commands, and no command is unsent before the first cycle; each
+-- outstanding request has a mark, at most seven are outstanding, and the next id is below 8; no bytes of a line are kept in a
+-- phase that `is_bare`; if the run is over nothing is outstanding, and if it is done nothing is left; and each command had its
+-- turn once, in order
 pub record Invariant (plan : Plan) (commands : List Task) (s : Model) : Type 0 where
-  pub unsent : s.progress.unsent ≤ length commands - plan.setup
+  pub unsent : s.progress.unsent ≤ cycle_length plan commands
   pub left : s.progress.left ≤ plan.cycles
   pub begun : 0 < s.progress.unsent → s.progress.left < plan.cycles
-  pub paired : length s.marks ≡ length s.client.waiting
+  pub paired : Paired s
   pub window : length s.client.waiting ≤ 7
   pub digit : s.client.next < 8
   -- while it synchronizes nothing is outstanding, and the client is new

@@ -61,7 +61,6 @@ mod Row
 mod Ticking
 mod Timing
 mod Tasked
-mod Due
 mod Staying
 mod Cycles
 mod Unsent

@@ -23,7 +23,7 @@ use Rattle.gc_station.specs.Scopes.{Scope}
 use Rattle.gc_station.specs.ActKinds.{Puts}
 use Rattle.gc_station.specs.Model.{Model, Runs, opening, action_at, cycle_to_send, after, after_all}
 use Rattle.gc_station.specs.NextCommand.{place_next, cycles_begun, expected_first, mark_next}
-use Rattle.gc_station.proofs.Chaining.{StaysBegun, PreparesNothing, prepares_none, chain_whole}
+use Rattle.gc_station.proofs.Chaining.{StaysBegun, PreparesNothing, prepares_none, chain_linked}
 use Rattle.gc_station.proofs.EachRun.{invariant_holds}
 use Rattle.gc_station.proofs.Outs.{of_a_cycle, send_cycle, send_place, sends_of_cycle}
 use Rattle.gc_station.proofs.Further.{send_goes_on}
@@ -33,15 +33,16 @@ use Rattle.gc_station.proofs.OnePart.{runs_front, puts_text, same_part}
 use Rattle.gc_station.proofs.PartFronts.{IsFront, front_parts, front_no_longer}
 use Rattle.gc_station.proofs.Lists.{get_more, get_behind, cons_head, cons_tail, fronts}
 use Rattle.gc_station.proofs.Closings.{needs_of}
+use Rattle.gc_station.proofs.Interleaving.{not_before_equal}
 
 -- The commands go on.
 
 -- if the pair (i, m) comes before the pair (j, n), then (j, n) neither comes before (i, m) nor equals it
-apart : (i j m n : ℕ) → IsBefore i m j n → (j < i) ⊎ ((j ≡ i) × (n ≤ m)) → ⊥
-apart i j m n (inl l) (inl k) = omega (arith, l, k)
-apart i j m n (inl l) (inr k) = let same : j ≡ i = k.0 in omega (arith, l, same)
-apart i j m n (inr l) (inl k) = let same : i ≡ j = l.0 in omega (arith, same, k)
-apart i j m n (inr l) (inr k) = let less : m < n = l.1 in let le : n ≤ m = k.1 in omega (arith, less, le)
+before_not_after : (i j m n : ℕ) → IsBefore i m j n → (j < i) ⊎ ((j ≡ i) × (n ≤ m)) → ⊥
+before_not_after i j m n (inl l) (inl k) = omega (arith, l, k)
+before_not_after i j m n (inl l) (inr k) = let same : j ≡ i = k.0 in omega (arith, l, same)
+before_not_after i j m n (inr l) (inl k) = let same : i ≡ j = l.0 in omega (arith, same, k)
+before_not_after i j m n (inr l) (inr k) = let less : m < n = l.1 in let le : n ≤ m = k.1 in omega (arith, less, le)
 
 module _ (plan : Plan) (commands : List Task) (scope : Scope) where
   -- if a command of a cycle is to be sent after the acts `xs`, the station is further (`IsFurther`) after the act that sends it
@@ -65,15 +66,15 @@ module _ (plan : Plan) (commands : List Task) (scope : Scope) where
       -- the first command isn't sent at the act that sends the second one, or after it
       behind : (more : List Act) → x.before ≡ y.before ++ more → ⊥
       behind more e =
-          let front = subst (λ l. IsFront (parts_of plan commands (opening plan scope) y.before) (parts_of plan commands (opening plan scope) l)) (sym e)
+          let front = subst (λ l. IsFront (parts plan commands scope y.before) (parts plan commands scope l)) (sym e)
           (front_parts plan commands (opening plan scope) y.before more) in
-          let there = front_no_longer (parts_of plan commands (opening plan scope) y.before)
-          (parts_of plan commands (opening plan scope) x.before) j i y.first x.first front y.last x.last y.of_parts x.of_parts in
-          let counts_x : length x.first.marks ≡ m = x.count in
-          let counts_y : length y.first.marks ≡ n = y.count in
-          apart i j m n l (elim there [
+          let there = front_no_longer (parts plan commands scope y.before)
+          (parts plan commands scope x.before) j i y.so_far x.so_far front y.last x.last y.of_parts x.of_parts in
+          let counts_x : length x.so_far.marks ≡ m = x.count in
+          let counts_y : length y.so_far.marks ≡ n = y.count in
+          before_not_after i j m n l (elim there [
             | inl k ↦ inl k
-            | inr k ↦ (let le : length y.first.marks ≤ length x.first.marks = k.1 in inr (k.0, omega (arith, le, counts_x, counts_y)))
+            | inr k ↦ (let le : length y.so_far.marks ≤ length x.so_far.marks = k.1 in inr (k.0, omega (arith, le, counts_x, counts_y)))
           ])
 
   -- of two commands that were sent (x before y, in the order of parts and requests), the first one by `Send`, the second one is
@@ -118,7 +119,8 @@ put_asks plan commands s act bytes puts begun some = subst (λ (b : Bool). slice
 abbrev HasMark : List Part → ℕ → Mark → Type 0
 HasMark ps i mark = (part : Part) × (slice_get ps i ≡ Some part) × (m : ℕ) × (slice_get part.marks m ≡ Some (Some mark))
 
--- if the first request of an act's part has a mark, the first of the parts with the act before them has a request with it
+-- if the first request of the part p has this mark, the first of the parts `ps` with p before them (`in_front`) has a request
+-- with it
 first_has : (p : Part) (ends : Bool) (ps : List Part) (mark : Mark) → slice_get p.marks 0 ≡ Some (Some mark) → HasMark (in_front p ends ps) 0 mark
 first_has p true ps mark e = (p, refl, 0, e)
 first_has p false [] mark e = (p, refl, 0, e)
@@ -141,7 +143,7 @@ step_has p true ps qs (suc i) k mark some size has = has i (omega (arith, size))
 step_has p false [] qs i k mark some size has = absurd (omega (arith, some))
 step_has p false (x ∷ ps) qs i k mark some size has = on_has p qs i mark (has i size)
 
--- with an act before it there is at least one part
+-- with a part p before them (`in_front`), there is at least one part
 front_some : (p : Part) (ends : Bool) (ps : List Part) → (k : ℕ) × (length (in_front p ends ps) ≡ suc k)
 front_some p true ps = (length ps, refl)
 front_some p false [] = (0, refl)
@@ -170,11 +172,6 @@ mark_there plan commands s (x ∷ start) act rest i size e =
 
 -- Back along a chain.
 
--- a pair (c, p) of a cycle and a place doesn't come before an equal pair (d, q)
-not_further : (c p d q : ℕ) → IsBefore c p d q → c ≡ d → p ≡ q → ⊥
-not_further c p d q (inl l) e f = omega (arith, l, e)
-not_further c p d q (inr l) e f = let less : p < q = l.1 in omega (arith, less, f)
-
 module _ (plan : Plan) (commands : List Task) (scope : Scope) where
   -- the model after these acts
   abbrev at : List Act → Model
@@ -195,7 +192,7 @@ module _ (plan : Plan) (commands : List Task) (scope : Scope) where
           → place_next commands (at zs).progress ≡ place_next commands (at ws).progress → ws ≡ zs
       none_between [] zs ws is go c p = is ∙ append-nil zs
       none_between (act ∷ more) zs ws is go c p =
-          absurd (not_further (cycles_begun plan (at zs).progress) (place_next commands (at zs).progress) (cycles_begun plan (at ws).progress) (place_next commands (at ws).progress)
+          absurd (not_before_equal (cycles_begun plan (at zs).progress) (place_next commands (at zs).progress) (cycles_begun plan (at ws).progress) (place_next commands (at ws).progress)
           (subst (λ l. IsFurther plan commands (at zs) (at l)) (sym is) (send_goes_on plan commands scope zs more act go)) c p)
 
   -- the command at place a of this cycle was answered well among the acts `before`, as a request of the part that still goes on:
@@ -300,10 +297,10 @@ module _ (plan : Plan) (commands : List Task) (scope : Scope) where
       → (place : place_next commands (at acts).progress ≡ a + suc d) → (low : plan.setup ≤ a) → AreChained commands a (place_next commands (at acts).progress)
       → AnsweredInPart acts (cycles_begun plan (at acts).progress) a
   back_to zero a acts runs next place low chained =
-      let x = chain_whole plan commands scope acts runs next (omega (arith, place, low), chained (place_next commands (at acts).progress) (omega (arith, place)) (omega arith)) in
+      let x = chain_linked plan commands scope acts runs next (omega (arith, place, low), chained (place_next commands (at acts).progress) (omega (arith, place)) (omega arith)) in
       one_back acts a runs next (omega (arith, place)) x.0 x.1 x.2
   back_to (suc d) a acts runs next place low chained =
-      let x = chain_whole plan commands scope acts runs next (omega (arith, place, low), chained (place_next commands (at acts).progress) (omega (arith, place)) (omega arith)) in
+      let x = chain_linked plan commands scope acts runs next (omega (arith, place, low), chained (place_next commands (at acts).progress) (omega (arith, place)) (omega arith)) in
       let l = x.0 in
       let on : place_next commands (at acts).progress ≡ place_next commands (at l.before).progress + 1 = l.place in
       more_back acts a runs next l x.1 x.2
@@ -386,12 +383,12 @@ chains_stay plan commands scope acts runs i n part mark e f above =
       before = x.before;
       rest = x.act ∷ x.rest;
       order = x.order;
-      first = x.first;
+      so_far = x.so_far;
       of_parts = x.of_parts;
       last = x.last;
       count = x.count;
       chain = λ a low less chained.
-          subst (λ c. IsAnsweredEarlier plan commands scope x.before x.first c a) (sym cycle)
-          (in_part plan commands scope x.before i (cycles_begun plan (state_after plan commands scope x.before).progress) a x.first runs_there x.of_parts x.last
+          subst (λ c. IsAnsweredEarlier plan commands scope x.before x.so_far c a) (sym cycle)
+          (in_part plan commands scope x.before i (cycles_begun plan (state_after plan commands scope x.before).progress) a x.so_far runs_there x.of_parts x.last
           (back_to plan commands scope (mark.place - suc a) a x.before runs_there is.0 (omega (arith, place, less)) low (subst (λ p. AreChained commands a p) place chained)));
     }

@@ -1,7 +1,6 @@
 -- Whether a command of an attempt ended as the rule of its chain names, by the ends that records have: `listed` of a model is
 -- what its records say.
 use Rattle.std.proofs.Common.{◌≡◌, ◌⊎◌, inl, inr, ℕ, ◌+◌, ◌||◌, Bool, true, false, List, [], ◌∷◌, ◌++◌, Option, if◌then◌else◌, nat_eq, refl, sym, ap, ◌∙◌}
-use Rattle.std.specs.List.{AllByRecursion}
 use Rattle.std.proofs.lemmas.Bool.{or_right, eqb-true, eqb-false}
 use Rattle.std.proofs.lemmas.Option.{same_Some}
 use Rattle.gc_catalogue.specs.declared.answer.Answer.{Answer}
@@ -19,7 +18,7 @@ use Rattle.gc_station.specs.Attempts.{code_in, code_of}
 use Rattle.gc_station.specs.Marks.{end_of, answer_as}
 use Rattle.gc_station.specs.NextCommand.{in_attempt}
 use Rattle.gc_station.specs.Records.{Record}
-use Rattle.gc_station.specs.Retries.{turn_as, rule_as, code_of_end, is_listed, HasListed}
+use Rattle.gc_station.specs.Retries.{turn_as, rule_as, code_of_end, is_listed, HasListed, BeginNoAttempt}
 use Rattle.gc_station.proofs.Facts.{or_first}
 use Rattle.gc_station.proofs.Meets.{answer_line}
 
@@ -63,10 +62,6 @@ pub any_append : (reads : Asked → List ℕ → Reading) (commands : List Task)
     → any_listed reads commands b (xs ++ ys) ≡ any_listed reads commands (any_listed reads commands b xs) ys
 any_append reads commands [] ys b = refl
 any_append reads commands (x ∷ xs) ys b = any_append reads commands xs ys ((if nat_eq x.turn.link 0 then false else b) || is_listed reads commands x)
-
--- no attempt begins with these records
-abbrev BeginNoAttempt : List Record → Type 0
-BeginNoAttempt rs = AllByRecursion (λ (r : Record). r.turn.link ≡ 0 → ⊥) rs
 
 -- if `any_listed` holds of records, one of them ended as its rule names, with no attempt begun after it (`HasListed`); or b is
 -- true, and none of them begins an attempt

@@ -7,7 +7,7 @@ use Rattle.std.proofs.lemmas.Bool.{both_ways, not-true}
 use Rattle.gc_catalogue.specs.declared.answer.Reading.{Reading}
 use Rattle.gc_catalogue.specs.declared.asked.Asked.{Asked}
 use Rattle.gc_client.specs.declared.pending.Pending.{Pending}
-use Rattle.gc_client.specs.Ids.{id_at}
+use Rattle.gc_client.specs.Ids.{id_of}
 use Rattle.gc_client.specs.Rule.{ById, Settlement, Answered, Late, Lost, lost}
 use Rattle.gc_texts.specs.declared.wish.Wish.{Wish}
 use Rattle.gc_texts.specs.declared.tasks.Task.{Task}
@@ -39,7 +39,7 @@ use Rattle.gc_station.proofs.Invariant.{Invariant}
 use Rattle.gc_station.proofs.Going.{after_all-append}
 use Rattle.gc_station.proofs.Growing.{moved_grew}
 use Rattle.gc_station.proofs.Lists.{all_append, all_split, Cut as CutOf, AtEnd, Before, cut_at, rising_all}
-use Rattle.gc_station.proofs.Meets.{IsRecordOf, records_all, was_answered, was_late}
+use Rattle.gc_station.proofs.Meets.{IsRecordOf, all_records_at, was_answered, was_late}
 use Rattle.gc_station.proofs.Waiting.{WasAsked, Stayed, Waits, IsJustified, IsHonest}
 use Rattle.gc_station.proofs.Parting.{keeps_action}
 use Rattle.gc_station.proofs.Walk.{is_sent, moved_changed, is_prepared}
@@ -70,58 +70,15 @@ over_stops plan p w over = by_phase p.phase refl over where
   by_phase (Over why) is e = (why, refl)
   by_phase phase is e = cc
 
--- if all outstanding requests are lost at an act, the station resynchronizes there, or no act follows; or no record is written of
--- them (`Unwritten`)
-loses_why : (plan : Plan) (commands : List Task) (scope : Scope) (acts : List Act) (act : Act) → Invariant plan commands (state_after plan commands scope acts)
-    → Performs commands (state_after plan commands scope acts) (action_at plan (state_after plan commands scope acts)) act
-    → loses_all (moved plan commands (action_at plan (state_after plan commands scope acts)) (with_progress turned (state_after plan commands scope acts)) act).progress ≡ true
-    → Unwritten (moved plan commands (action_at plan (state_after plan commands scope acts)) (with_progress turned (state_after plan commands scope acts)) act).marks
-    ⊎ (Resynchronizes plan commands scope acts act ⊎ IsLast plan commands scope acts act [])
-loses_why plan commands scope acts act fine obeys loses = by_test (is_over t.progress) refl loses where
-  -- the model before the act
-  s : Model
-  s = state_after plan commands scope acts
-
-  -- the model after the act, before what is outstanding is lost
-  t : Model
-  t = moved plan commands (action_at plan s) (with_progress turned s) act
-
-  -- the model after the whole act
-  next : state_after plan commands scope (acts ++ act ∷ []) ≡ ended t
-  next = after_all-append plan commands (opening plan scope) acts (act ∷ [])
-
-  -- while the station synchronizes no request is outstanding, so none is recorded
-  none_waits : has_begun s.progress ≡ false → Unwritten t.marks
-  none_waits begins =
-      let new = fine.begins begins in
-      unwritten_none t.marks
-      ((keeps_action plan commands s (action_at plan s) act (action_for plan s.progress (waiting_of s)) obeys begins new).1
-      ∙ nil_from_length s.marks (fine.paired ∙ ap (λ (c : ById Asked). length c.waiting) new))
-
-  -- if the station hasn't synchronized after the act: it hadn't before it, or it resynchronizes at it
-  renews : (begun : Bool) → has_begun s.progress ≡ begun → has_begun t.progress ≡ false → Unwritten t.marks ⊎ (Resynchronizes plan commands scope acts act ⊎ IsLast plan commands scope acts act [])
-  renews false begun begins = inl (none_waits begun)
-  renews true begun begins =
-      let it = renews_only plan commands s (action_at plan s) act obeys begun begins in
-      let full = renews_needs plan commands s (action_at plan s) fine it.0 (action_for plan s.progress (waiting_of s)) in
-      inr (inl (record { renews = it.0; moment = it.1; told = it.2; seven = full.0; given_up = full.1 }))
-
-  -- the lemma above, by whether the run is over after the act (`true`)
-  by_test : (b : Bool) → is_over t.progress ≡ b → (not (has_begun t.progress) || b) ≡ true → Unwritten t.marks ⊎ (Resynchronizes plan commands scope acts act ⊎ IsLast plan commands scope acts act [])
-  by_test true over e =
-      let stops = over_stops plan (ended t).progress (waiting_of (ended t)) (ap is_over (ended_progress t) ∙ over) in
-      inr (inr (record { none = refl; why = stops.0; stops = ap (λ (x : Model). action_at plan x) next ∙ stops.1 }))
-  by_test false on e = renews (has_begun s.progress) refl (not-true (has_begun t.progress) (or_first (not (has_begun t.progress)) false e refl))
-
 -- in the phase `Ready` the run isn't over
 pub going_on : (p : Progress) → p.phase ≡ Ready → is_over p ≡ false
 going_on p is = ap (λ (phase : Phase). is_over_in phase || (not (is_up phase) && nat_eq p.turns 0)) is
 
--- where requests are sent, the run isn't over after a failure
+-- in the phase `Ready` a failure doesn't end the run: the connection is to be closed first
 failing_goes : (why : Cause) (p : Progress) → p.phase ≡ Ready → is_over (failing why p) ≡ false
 failing_goes why p is = ap (λ (phase : Phase). is_over_in (if is_up phase then Closing why else Over why) || (not (is_up (if is_up phase then Closing why else Over why)) && nat_eq p.turns 0)) is
 
--- where requests are sent, the run isn't over after a write
+-- the run isn't over after a write, whole or cut, if the model that `f` gives is in the phase `Ready`
 put_goes : (requests : ℕ) (f : Model → Model) (s : Model) (act : Act) → (f s).progress.phase ≡ Ready → is_over (after_put requests f s act).progress ≡ false
 put_goes requests f s (Cut bytes n) is = failing_goes (cause.Write requests n) (f s).progress is
 put_goes requests f s act is = going_on (f s).progress is
@@ -131,33 +88,25 @@ pub loses_nothing : (a b : Bool) → a ≡ true → b ≡ false → (not a || b)
 loses_nothing true b x y = y
 loses_nothing false b x y = cc
 
--- nothing is lost if a command of a cycle is sent
-send_loses_none : (plan : Plan) (commands : List Task) (s : Model) (act : Act) → HoldsBefore plan s.progress (waiting_of s) actions.Send
-    → loses_all (moved plan commands actions.Send (with_progress turned s) act).progress ≡ false
-send_loses_none plan commands s act needs =
-    let t = with_progress turned s in
-    let f = λ (x : Model). with_progress (sent (is_chained_after_next commands x.progress) (others_after_next commands x.progress)) (asks_next plan commands x) in
-    loses_nothing (has_begun (moved plan commands actions.Send t act).progress) _ (ap (λ (x : Model). has_begun x.progress) (moved_changed plan commands actions.Send t act) ∙ needs.1)
-    (put_goes _ f t act (sym (ap (λ (x : Model). x.progress.phase) (is_sent plan commands t)) ∙ needs.0))
-
--- nothing is lost if a command of the setup is sent
-prepare_loses_none : (plan : Plan) (commands : List Task) (s : Model) (act : Act) → HoldsBefore plan s.progress (waiting_of s) actions.Prepare
-    → loses_all (moved plan commands actions.Prepare (with_progress turned s) act).progress ≡ false
-prepare_loses_none plan commands s act needs =
-    let t = with_progress turned s in
-    let f = λ (x : Model). with_progress (setup_sent plan) (asks_setup plan commands x) in
-    loses_nothing (has_begun (moved plan commands actions.Prepare t act).progress) _ (ap (λ (x : Model). has_begun x.progress) (moved_changed plan commands actions.Prepare t act) ∙ needs.1)
-    (put_goes _ f t act (sym (ap (λ (x : Model). x.progress.phase) (is_prepared plan commands t)) ∙ needs.0))
-
 -- nothing is lost if a command is sent, of a cycle or of the setup
 sending_loses_none : (plan : Plan) (commands : List Task) (s : Model) (act : Act) → IsSending plan s
     → loses_all (moved plan commands (action_at plan s) (with_progress turned s) act).progress ≡ false
-sending_loses_none plan commands s act (inl sends) =
-    let needs = subst (λ (o : Action). HoldsBefore plan s.progress (waiting_of s) o) sends (action_for plan s.progress (waiting_of s)) in
-    ap (λ (o : Action). loses_all (moved plan commands o (with_progress turned s) act).progress) sends ∙ send_loses_none plan commands s act needs
-sending_loses_none plan commands s act (inr sends) =
-    let needs = subst (λ (o : Action). HoldsBefore plan s.progress (waiting_of s) o) sends (action_for plan s.progress (waiting_of s)) in
-    ap (λ (o : Action). loses_all (moved plan commands o (with_progress turned s) act).progress) sends ∙ prepare_loses_none plan commands s act needs
+sending_loses_none plan commands s act sends = by_action (action_at plan s) sends (action_for plan s.progress (waiting_of s)) where
+  -- the lemma above, by the action
+  by_action : (next : Action) → (next ≡ actions.Send) ⊎ (next ≡ actions.Prepare) → HoldsBefore plan s.progress (waiting_of s) next
+      → loses_all (moved plan commands next (with_progress turned s) act).progress ≡ false
+  by_action actions.Send is needs =
+      let t = with_progress turned s in
+      let f = λ (x : Model). with_progress (sent (is_chained_after_next commands x.progress) (others_after_next commands x.progress)) (asks_next plan commands x) in
+      loses_nothing (has_begun (moved plan commands actions.Send t act).progress) _ (ap (λ (x : Model). has_begun x.progress) (moved_changed plan commands actions.Send t act) ∙ needs.1)
+      (put_goes _ f t act (sym (ap (λ (x : Model). x.progress.phase) (is_sent plan commands t)) ∙ needs.0))
+  by_action actions.Prepare is needs =
+      let t = with_progress turned s in
+      let f = λ (x : Model). with_progress (setup_sent plan) (asks_setup plan commands x) in
+      loses_nothing (has_begun (moved plan commands actions.Prepare t act).progress) _ (ap (λ (x : Model). has_begun x.progress) (moved_changed plan commands actions.Prepare t act) ∙ needs.1)
+      (put_goes _ f t act (sym (ap (λ (x : Model). x.progress.phase) (is_prepared plan commands t)) ∙ needs.0))
+  by_action next (inl is) needs = cc
+  by_action next (inr is) needs = cc
 
 -- The records of those that are lost.
 
@@ -175,127 +124,158 @@ abbrev IsLostRecord : Plan → List Task → Scope → List Act → Record → T
 IsLostRecord plan commands scope acts r = (mark : Mark) × (y : Settlement Asked) × (r.cycle ≡ mark.cycle) × (r.place ≡ mark.place) × (r.sent ≡ Some mark.sent)
     × IsRecordOf r y × LostOf plan commands scope acts y (Some mark)
 
--- if all outstanding requests are lost because the station resynchronizes or no act follows, each record that the act writes of
--- them is true (`IsJustified`)
-lost_true : (plan : Plan) (commands : List Task) (scope : Scope) (acts : List Act) (act : Act) (r : Record) (news earlier later : List Record)
-    → (loses : loses_all (moved plan commands (action_at plan (state_after plan commands scope acts)) (with_progress turned (state_after plan commands scope acts)) act).progress ≡ true)
-    → (why : Resynchronizes plan commands scope acts act ⊎ IsLast plan commands scope acts act [])
-    → (ends : (state_after plan commands scope (acts ++ act ∷ [])).records ≡ ((state_after plan commands scope acts).records ++ news) ++ (earlier ++ r ∷ later))
-    → IsLostRecord plan commands scope (acts ++ act ∷ []) r → IsJustified plan commands scope (acts ++ act ∷ []) r
-lost_true plan commands scope acts act r news earlier later loses why ends it = record {
-  answered = λ line e. absurd (not_answered line (sym outcome ∙ was_answered r it.1 it.5 line e));
-  late = λ e. absurd (not_late (sym outcome ∙ was_late r it.1 it.5 e));
-  lost = λ e. on (cut_at acts a.before a.between act a.request a.order);
-} where
-  -- the settlement is of a request that is lost
-  x : LostOf plan commands scope (acts ++ act ∷ []) it.1 (Some it.0)
-  x = it.6
+-- An act, made after some acts of a run.
 
-  -- that request was put among the acts
-  a : WasAsked plan commands scope (acts ++ act ∷ []) Stayed x.number x.at x.id x.pending (Some it.0)
-  a = x.asked
-
-  -- the outcome is that it is lost
-  outcome : it.1.outcome ≡ Lost
-  outcome = ap (λ (y : Settlement Asked). y.outcome) x.is
-
-  -- a request that is lost isn't answered
-  not_answered : (line : List ℕ) → Lost ≡ Answered line → ⊥
-  not_answered line e = cc
-
-  -- a request that is lost isn't late
-  not_late : Lost ≡ Late → ⊥
-  not_late e = cc
-
-  -- the act writes the record
-  here : IsWrittenAt plan commands scope acts act r
-  here = record {
-    earlier = news ++ earlier;
-    later = later;
-    written = let rs = (state_after plan commands scope acts).records in ends ∙ append_assoc rs news (earlier ++ r ∷ later) ∙ ap (λ xs. rs ++ xs) (sym (append_assoc news earlier (r ∷ later)));
-  }
-
-  -- the request was put among the acts before this act, which sends none: so its record is lost for a cause, as `IsLostIn` says
-  on : CutOf acts act a.before a.between a.request → IsLostIn plan commands scope (acts ++ act ∷ []) r
-  on (AtEnd same) =
-      let s = state_after plan commands scope acts in
-      let sends : IsSending plan s = subst (λ (xs : List Act). IsSending plan (state_after plan commands scope xs)) (sym same) (a.its it.0 refl).sends in
-      absurd (both_ways (loses_all (moved plan commands (action_at plan s) (with_progress turned s) act).progress) (sending_loses_none plan commands s act sends) loses)
-  on (Before between at rest) =
-      let its = a.its it.0 refl in
-      record {
-        act = act;
-        its = record {
-          before = a.before;
-          request = a.request;
-          between = between;
-          behind = [];
-          order = a.order ∙ ap (λ xs. a.before ++ a.request ∷ xs) rest;
-          own = record {
-            sends = its.sends;
-            cycle = it.2 ∙ its.cycle;
-            place = it.3 ∙ its.place;
-            sent = it.4 ∙ ap Some its.sent;
-            put = subst (λ (y : Asked). Puts (request_text (state_after plan commands scope a.before).client y) a.request)
-                (sym (ap (λ (y : Wish). y.call) it.5.command ∙ ap (λ (y : Settlement Asked). y.call) x.is)) a.put;
-          };
-          written = subst (λ (xs : List Act). IsWrittenAt plan commands scope xs act r) at here;
-        };
-        shown = inr (subst (λ (xs : List Act). Resynchronizes plan commands scope xs act ⊎ IsLast plan commands scope xs act []) at why);
-      }
-
--- if `IsHonest` holds after an act before what is outstanding is lost, it holds after the whole act, whether all outstanding
--- requests are lost or not
-pub losing_honest : (plan : Plan) (commands : List Task) (scope : Scope) (acts : List Act) (act : Act) → Invariant plan commands (state_after plan commands scope acts)
-    → Performs commands (state_after plan commands scope acts) (action_at plan (state_after plan commands scope acts)) act
-    → IsHonest plan commands scope (acts ++ act ∷ []) (acts ++ act ∷ [])
-    (moved plan commands (action_at plan (state_after plan commands scope acts)) (with_progress turned (state_after plan commands scope acts)) act)
-    → IsHonest plan commands scope (acts ++ act ∷ []) (acts ++ act ∷ []) (after plan commands (state_after plan commands scope acts) act)
-losing_honest plan commands scope acts act fine obeys h = by_test (loses_all t.progress) refl where
-  -- the acts up to this one
-  all : List Act
-  all = acts ++ act ∷ []
-
+module _ (plan : Plan) (commands : List Task) (scope : Scope) (acts : List Act) (act : Act) where
   -- the model before the act
-  s : Model
+  abbrev s : Model
   s = state_after plan commands scope acts
 
   -- the model after the act, before what is outstanding is lost
-  t : Model
+  abbrev t : Model
   t = moved plan commands (action_at plan s) (with_progress turned s) act
 
-  -- the records of all that is outstanding, as lost
-  written : List Record
-  written = records_of t.reads t.progress.moment.utc t.marks (map lost t.client.waiting)
+  -- the acts with this one at their end
+  abbrev all : List Act
+  all = acts ++ act ∷ []
 
-  -- if all are lost, these records come last after the whole act
-  ends : loses_all t.progress ≡ true → (more : List Record) → t.records ≡ s.records ++ more → (state_after plan commands scope all).records ≡ (s.records ++ more) ++ written
-  ends loses more grew =
-      ap (λ (x : Model). x.records) (after_all-append plan commands (opening plan scope) acts (act ∷ [])) ∙ ap (λ (b : Bool). (losing b t).records) loses ∙ ap (λ xs. xs ++ written) grew
+  -- at the act the station resynchronizes, or no act follows it
+  abbrev EndsPart : Type 0
+  EndsPart = Resynchronizes plan s act ⊎ IsLast plan commands scope acts act []
 
-  -- each of these records is of a command that is lost
-  of_lost : AllByRecursion (IsLostRecord plan commands scope all) written
-  of_lost =
-      records_all (λ (k : ℕ). LostOf plan commands scope all) (IsLostRecord plan commands scope all) t.reads t.progress.moment.utc 0 (map lost t.client.waiting) t.marks
-      (λ i x mark is. (mark, x, refl, refl, refl, record { reads = t.reads; expected = mark.expected; command = refl; ended = refl }, is))
-      (rising_all (Waits plan commands scope all t.client.next (length t.client.waiting)) (λ (k : ℕ). LostOf plan commands scope all) lost 0 0 t.client.waiting t.marks
-      (λ n j p mark w. record { number = n; at = j; id = id_at t.client.next (length t.client.waiting) j; pending = p; is = refl; asked = w }) h.waiting)
+  -- if all outstanding requests are lost at the act, `EndsPart` holds; or no record is written of them (`Unwritten`)
+  loses_why : Invariant plan commands s → Performs commands s (action_at plan s) act → loses_all t.progress ≡ true → Unwritten t.marks ⊎ EndsPart
+  loses_why fine obeys loses = by_test (is_over t.progress) refl loses where
+    -- the model after the whole act
+    next : state_after plan commands scope (acts ++ act ∷ []) ≡ ended t
+    next = after_all-append plan commands (opening plan scope) acts (act ∷ [])
 
-  -- each of these records is true, if all are lost for a cause
-  all_lost : loses_all t.progress ≡ true → Unwritten t.marks ⊎ (Resynchronizes plan commands scope acts act ⊎ IsLast plan commands scope acts act [])
-      → AllByRecursion (IsJustified plan commands scope all) written
-  all_lost loses (inl none) = subst (λ (rs : List Record). AllByRecursion (IsJustified plan commands scope all) rs) (sym (none t.reads t.progress.moment.utc (map lost t.client.waiting))) tt
-  all_lost loses (inr why) =
-      let grew = moved_grew plan commands (action_at plan s) (with_progress turned s) act in
-      all_split (IsLostRecord plan commands scope all) (IsJustified plan commands scope all) [] written written refl
-      (λ (earlier : List Record) (r : Record) (later : List Record) at is.
-      lost_true plan commands scope acts act r grew.0 earlier later loses why (ends loses grew.0 grew.1 ∙ ap (λ xs. (s.records ++ grew.0) ++ xs) (sym at)) is) of_lost
+    -- while the station synchronizes no request is outstanding, so none is recorded
+    none_waits : has_begun s.progress ≡ false → Unwritten t.marks
+    none_waits begins =
+        let new = fine.begins begins in
+        unwritten_none t.marks
+        ((keeps_action plan commands s (action_at plan s) act (action_for plan s.progress (waiting_of s)) obeys begins new).1
+        ∙ nil_from_length s.marks (fine.paired ∙ ap (λ (c : ById Asked). length c.waiting) new))
 
-  -- the lemma above, by whether all outstanding requests are lost (`true`)
-  by_test : (b : Bool) → loses_all t.progress ≡ b → IsHonest plan commands scope all all (losing b t)
-  by_test true loses = record {
-    waiting = tt;
-    written = all_append (IsJustified plan commands scope all) t.records written h.written
-        (all_lost loses (loses_why plan commands scope acts act fine obeys loses));
-  }
-  by_test false loses = h
+    -- if the station hasn't synchronized after the act: it hadn't before it, or it resynchronizes at it
+    renews : (begun : Bool) → has_begun s.progress ≡ begun → has_begun t.progress ≡ false → Unwritten t.marks ⊎ EndsPart
+    renews false begun begins = inl (none_waits begun)
+    renews true begun begins =
+        let it = renews_only plan commands s (action_at plan s) act obeys begun begins in
+        let full = renews_needs plan commands s (action_at plan s) fine it.0 (action_for plan s.progress (waiting_of s)) in
+        inr (inl (record { renews = it.0; moment = it.1; told = it.2; seven = full.0; given_up = full.1 }))
+
+    -- the lemma above, by whether the run is over after the act (`true`)
+    by_test : (b : Bool) → is_over t.progress ≡ b → (not (has_begun t.progress) || b) ≡ true → Unwritten t.marks ⊎ EndsPart
+    by_test true over e =
+        let stops = over_stops plan (ended t).progress (waiting_of (ended t)) (ap is_over (ended_progress t) ∙ over) in
+        inr (inr (record { none = refl; why = stops.0; stops = ap (λ (x : Model). action_at plan x) next ∙ stops.1 }))
+    by_test false on e = renews (has_begun s.progress) refl (not-true (has_begun t.progress) (or_first (not (has_begun t.progress)) false e refl))
+
+  -- if all outstanding requests are lost at the act, and `EndsPart` holds, each record that the act writes of them is true
+  -- (`IsJustified`)
+  lost_true : (r : Record) (news earlier later : List Record) → (loses : loses_all t.progress ≡ true) → (why : EndsPart)
+      → (ends : (state_after plan commands scope all).records ≡ (s.records ++ news) ++ (earlier ++ r ∷ later)) → IsLostRecord plan commands scope all r
+      → IsJustified plan commands scope all r
+  lost_true r news earlier later loses why ends it = record {
+    answered = λ line e. absurd (not_answered line (sym outcome ∙ was_answered r it.1 it.5 line e));
+    late = λ e. absurd (not_late (sym outcome ∙ was_late r it.1 it.5 e));
+    lost = λ e. on (cut_at acts a.before a.between act a.request a.order);
+  } where
+    -- the settlement is of a request that is lost
+    x : LostOf plan commands scope all it.1 (Some it.0)
+    x = it.6
+
+    -- that request was put among the acts
+    a : WasAsked plan commands scope all Stayed x.number x.at x.id x.pending (Some it.0)
+    a = x.asked
+
+    -- the outcome is that it is lost
+    outcome : it.1.outcome ≡ Lost
+    outcome = ap (λ (y : Settlement Asked). y.outcome) x.is
+
+    -- a request that is lost isn't answered
+    not_answered : (line : List ℕ) → Lost ≡ Answered line → ⊥
+    not_answered line e = cc
+
+    -- a request that is lost isn't late
+    not_late : Lost ≡ Late → ⊥
+    not_late e = cc
+
+    -- the act writes the record
+    here : IsWrittenAt plan commands scope acts act r
+    here = record {
+      earlier = news ++ earlier;
+      later = later;
+      written = let rs = s.records in ends ∙ append_assoc rs news (earlier ++ r ∷ later) ∙ ap (λ xs. rs ++ xs) (sym (append_assoc news earlier (r ∷ later)));
+    }
+
+    -- the request was put among the acts before this act, which sends none: so its record is lost for a cause, as `IsLostIn` says
+    on : CutOf acts act a.before a.between a.request → IsLostIn plan commands scope all r
+    on (AtEnd same) =
+        let sends : IsSending plan s = subst (λ (xs : List Act). IsSending plan (state_after plan commands scope xs)) (sym same) (a.its it.0 refl).sends in
+        absurd (both_ways (loses_all t.progress) (sending_loses_none plan commands s act sends) loses)
+    on (Before between at rest) =
+        let its = a.its it.0 refl in
+        record {
+          act = act;
+          its = record {
+            before = a.before;
+            request = a.request;
+            between = between;
+            behind = [];
+            order = a.order ∙ ap (λ xs. a.before ++ a.request ∷ xs) rest;
+            own = record {
+              sends = its.sends;
+              cycle = it.2 ∙ its.cycle;
+              place = it.3 ∙ its.place;
+              sent = it.4 ∙ ap Some its.sent;
+              put = subst (λ (y : Asked). Puts (request_text (state_after plan commands scope a.before).client y) a.request)
+                  (sym (ap (λ (y : Wish). y.call) it.5.command ∙ ap (λ (y : Settlement Asked). y.call) x.is)) a.put;
+            };
+            written = subst (λ (xs : List Act). IsWrittenAt plan commands scope xs act r) at here;
+          };
+          shown = inr (subst (λ (xs : List Act). Resynchronizes plan (state_after plan commands scope xs) act ⊎ IsLast plan commands scope xs act []) at why);
+        }
+
+  -- if `IsHonest` holds after the act, before what is outstanding is lost, it holds after the whole act, whether all outstanding
+  -- requests are lost or not
+  pub losing_honest : Invariant plan commands s → Performs commands s (action_at plan s) act → IsHonest plan commands scope all all t
+      → IsHonest plan commands scope all all (after plan commands s act)
+  losing_honest fine obeys h = by_test (loses_all t.progress) refl where
+    -- the records of all that is outstanding, as lost
+    written : List Record
+    written = records_of t.reads t.progress.moment.utc t.marks (map lost t.client.waiting)
+
+    -- if all are lost, these records come last after the whole act
+    ends : loses_all t.progress ≡ true → (more : List Record) → t.records ≡ s.records ++ more → (state_after plan commands scope all).records ≡ (s.records ++ more) ++ written
+    ends loses more grew =
+        ap (λ (x : Model). x.records) (after_all-append plan commands (opening plan scope) acts (act ∷ [])) ∙ ap (λ (b : Bool). (losing b t).records) loses ∙ ap (λ xs. xs ++ written) grew
+
+    -- each of these records is of a command that is lost
+    of_lost : AllByRecursion (IsLostRecord plan commands scope all) written
+    of_lost =
+        all_records_at (λ (k : ℕ). LostOf plan commands scope all) (IsLostRecord plan commands scope all) t.reads t.progress.moment.utc 0 (map lost t.client.waiting) t.marks
+        (λ i x mark is. (mark, x, refl, refl, refl, record { reads = t.reads; expected = mark.expected; command = refl; ended = refl }, is))
+        (rising_all (Waits plan commands scope all t.client.next (length t.client.waiting)) (λ (k : ℕ). LostOf plan commands scope all) lost 0 0 t.client.waiting t.marks
+        (λ n j p mark w. record { number = n; at = j; id = id_of t.client j; pending = p; is = refl; asked = w }) h.waiting)
+
+    -- each of these records is true, if all are lost for a cause
+    all_lost : loses_all t.progress ≡ true → Unwritten t.marks ⊎ EndsPart
+        → AllByRecursion (IsJustified plan commands scope all) written
+    all_lost loses (inl none) = subst (λ (rs : List Record). AllByRecursion (IsJustified plan commands scope all) rs) (sym (none t.reads t.progress.moment.utc (map lost t.client.waiting))) tt
+    all_lost loses (inr why) =
+        let grew = moved_grew plan commands (action_at plan s) (with_progress turned s) act in
+        all_split (IsLostRecord plan commands scope all) (IsJustified plan commands scope all) [] written written refl
+        (λ (earlier : List Record) (r : Record) (later : List Record) at is.
+        lost_true r grew.0 earlier later loses why (ends loses grew.0 grew.1 ∙ ap (λ xs. (s.records ++ grew.0) ++ xs) (sym at)) is) of_lost
+
+    -- the lemma above, by whether all outstanding requests are lost (`true`)
+    by_test : (b : Bool) → loses_all t.progress ≡ b → IsHonest plan commands scope all all (losing b t)
+    by_test true loses = record {
+      waiting = tt;
+      written = all_append (IsJustified plan commands scope all) t.records written h.written
+          (all_lost loses (loses_why fine obeys loses));
+    }
+    by_test false loses = h

@@ -27,12 +27,13 @@ use Rattle.gc_station.specs.Marks.{is_well, last_well}
 use Rattle.gc_station.specs.Progressing.{failing, skipped_at}
 use Rattle.gc_station.specs.Records.{Record}
 use Rattle.gc_station.specs.ActKinds.{Puts, IsReading}
-use Rattle.gc_station.specs.Model.{Model, client_sent, sent_to, asks, asks_first, first_unsent_record, with_progress, with_listed, with_records, after_put, after_read, moved, asks_or_null, text_or_null, request_text}
-use Rattle.gc_station.specs.Stations.{Refines, Took, Makes, Made, ComesTo, cut_progress, seen, setup_asked, station_asking}
+use Rattle.gc_station.specs.Model.{Model, client_sent, sent_to, asks, asks_first, first_unsent_record, with_progress, with_listed, with_records, after_put, after_read, asks_or_null, text_or_null, request_text}
+use Rattle.gc_station.specs.Stations.{Refines, Took, ComesTo, cut_progress, seen, setup_asked, station_asking, Does, Moves}
 use Rattle.gc_station.specs.Scopes.{AreReadings}
 use Rattle.gc_station.specs.Tallies.{nothing_yet, tallied}
 use Rattle.gc_station.specs.declared.station.sending.Outgoing.{Outgoing}
 use Rattle.gc_station.proofs.Records.{tallied-append, last-append}
+use Rattle.gc_station.proofs.Walk.{first_along, setup_along}
 
 -- if a station is as the model `s`, then with the progress `p`, which is `f` of its own, it is as `s` with its progress changed
 -- by `f`
@@ -109,13 +110,13 @@ asks_refines old new s wait command other mark stands room e is =
       fresh = λ are. ap (λ (n : Station). n.recorded.fresh) is ∙ stands.fresh are;
     }
 
--- a list with more than i elements, whose element at place i is x, begins with x without its first i elements
+-- what is left of a list without its first i elements begins with x, if the list has more than i, and x at place i
 pub drop_here : {A : Type 0} (xs : List A) (i : ℕ) (x : A) → i < length xs → x ≡ get_or xs i x → (others : List A) × (drop i xs ≡ x ∷ others)
 drop_here [] i x below e = absurd (omega (arith, below))
 drop_here (y ∷ ys) zero x below e = (ys, ap (λ z. z ∷ ys) (sym e))
 drop_here (y ∷ ys) (suc i) x below e = drop_here ys i x (omega (arith, below)) e
 
--- a list with more than i elements still has some without its first i
+-- something is left of a list without its first i elements, if the list has more than i
 pub drop_some : {A : Type 0} (xs : List A) (i : ℕ) → i < length xs → (x : A) × (others : List A) × (drop i xs ≡ x ∷ others)
 drop_some [] i below = absurd (omega (arith, below))
 drop_some (y ∷ ys) zero below = (y, ys, refl)
@@ -131,8 +132,7 @@ first_refines new s mark mark' list task others is e stands =
 -- a book that has the records of the model `s` (`Took`) has those of `s` after it sent the first of the commands in `list`, if
 -- there is one: the send adds no record
 pub first_took : (text : Record → List ℕ) (start taken : Option (List ℕ)) (s : Model) (mark : Mark) (list : List Task) → Took text start taken s → Took text start taken (asks_first mark list s)
-first_took text start taken s mark [] so = so
-first_took text start taken s mark (task ∷ others) so = so
+first_took text start taken s mark list so = first_along (Took text start taken) mark list s (λ task. so) so
 
 -- a station that is as the model `s` after it sent what `setup_asked` says is as `s` after it sent the first of these commands of
 -- the setup, or a null procedure if there is none
@@ -157,8 +157,7 @@ setup_text plan client mark (task ∷ others) = refl
 -- or a null procedure if there is none: the send adds no record
 pub setup_took : (plan : Plan) (text : Record → List ℕ) (start taken : Option (List ℕ)) (s : Model) (mark : Mark) (list : List Task) → Took text start taken s
     → Took text start taken (asks_or_null plan mark list s)
-setup_took plan text start taken s mark [] so = so
-setup_took plan text start taken s mark (task ∷ others) so = so
+setup_took plan text start taken s mark list so = setup_along (Took text start taken) plan mark list s (λ task. so) so
 
 -- A command is skipped.
 
@@ -208,19 +207,20 @@ with_no_records s = ap (λ (rs : List Record). record s { records = rs }) (appen
 
 -- A read.
 
--- a read was made, as `Makes` says, if after it the station is as the model after the read, and the book has that model's records
+-- `Does` holds of a read, if the link recorded one act, which is a read, and after it the station is as the model after the read,
+-- and the book has that model's records
 pub makes_read : (plan : Plan) (commands : List Task) (until : Until) (text : Record → List ℕ) (told told' : Option (List Act))
     (taken taken' : Option (List ℕ)) (station new : Station) (act : Act) → Tells told told' (act ∷ []) → IsReading act
     → ((s : Model) (start : Option (List ℕ)) → Refines station s → Took text start taken s → Refines new (after_read plan until s act) × Took text start taken' (after_read plan until s act))
-    → Makes commands (Read until) (moved plan commands (Read until)) (seen told text taken station) (seen told' text taken' new)
+    → Does plan commands (Read until) (seen told text taken station) (seen told' text taken' new)
 makes_read plan commands until text told told' taken taken' station new act tells reads goes =
     record { act = act; tells = tells; goes = λ s start stands so. let g = goes s start stands so in (reads, g.0, g.1) }
 
--- a read was made, as `Made` says, if after it the station is as the model after the read, and its records are in the book; or
--- the book failed at one of them
+-- `Moves` holds of a read with this result, if the link recorded one act, which is a read, and after it the station is as the
+-- model after the read, and the book has that model's records; or the book failed at one of them (`ComesTo`)
 pub made_read : {X E : Type 0} (plan : Plan) (commands : List Task) (until : Until) (text : Record → List ℕ) (told told' : Option (List Act))
     (taken taken' : Option (List ℕ)) (station new : Station) (act : Act) (result : Result X E) → Tells told told' (act ∷ []) → IsReading act
     → ((s : Model) (start : Option (List ℕ)) → Refines station s → Took text start taken s → ComesTo text s.records new start taken' (after_read plan until s act) result)
-    → Made commands (Read until) (moved plan commands (Read until)) (seen told text taken station) (seen told' text taken' new) result
+    → Moves plan commands (Read until) (seen told text taken station) (seen told' text taken' new) result
 made_read plan commands until text told told' taken taken' station new act (Ok r) tells reads goes = makes_read plan commands until text told told' taken taken' station new act tells reads goes
 made_read plan commands until text told told' taken taken' station new act (Err r) tells reads goes = record { act = act; tells = tells; goes = λ s start stands so. (reads, goes s start stands so) }

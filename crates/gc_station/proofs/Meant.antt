@@ -13,7 +13,7 @@ use Rattle.gc_station.specs.declared.progress.Action.{Action}
 use Rattle.gc_station.specs.declared.progress.Action.TheVariants as action
 use Rattle.gc_links.specs.Acts.{Act, Put, Cut, Closed}
 use Rattle.gc_station.specs.Deciding.{later, has_begun}
-use Rattle.gc_station.specs.Parts.{Asks, Part, only_turns, nothing, request_part, first_request_part, put_part, sync_part, request_or_null_part}
+use Rattle.gc_station.specs.Parts.{Asks, Part, only_turns, nothing, request_part, first_request_part, put_part, sync_part, request_or_null_part, null_part}
 use Rattle.gc_station.specs.Reasons.{HoldsBefore}
 use Rattle.gc_station.specs.ActKinds.{Puts, ReadsClock, IsOpening, IsReading}
 use Rattle.gc_station.specs.Model.{Model, action_at, waiting_of, request_text, null_text, first_text, Performs, text_or_null}
@@ -65,16 +65,16 @@ asked_turn s (Cut out count) bytes e = refl
 asked_turn s act bytes e = cc
 
 module _ (plan : Plan) (commands : List Task) where
-  -- if fewer than seven requests wait, the bytes of the first of these commands of a cycle, of which there is one, are the line
-  -- of the request of its part (`IsSent`)
-  first_put : (s : Model) (left : List Task) (bytes : List ℕ) → 0 < length left → length s.client.waiting < 7 → bytes ≡ first_text s.progress.moment.utc s.client left
-      → IsSent s bytes (first_request_part s.progress.moment.elapsed (mark_next plan commands s.progress) left)
-  first_put s [] bytes some room e = absurd (omega (arith, some))
-  first_put s (task ∷ others) bytes some room e = record {
+  -- if fewer than seven requests wait, and there is a command, the bytes of the first of these commands with this mark are the
+  -- line of the request of its part (`IsSent`)
+  first_put : (s : Model) (mark : Mark) (left : List Task) (bytes : List ℕ) → 0 < length left → length s.client.waiting < 7 → bytes ≡ first_text mark.sent s.client left
+      → IsSent s bytes (first_request_part s.progress.moment.elapsed mark left)
+  first_put s mark [] bytes some room e = absurd (omega (arith, some))
+  first_put s mark (task ∷ others) bytes some room e = record {
     target = task.command.target;
-    call = call_at task s.progress.moment.utc;
+    call = call_at task mark.sent;
     deadline = later s.progress.moment.elapsed task.deadline;
-    mark = Some (mark_next plan commands s.progress);
+    mark = Some mark;
     part = refl;
     text = e;
     room = room;
@@ -83,7 +83,7 @@ module _ (plan : Plan) (commands : List Task) where
   -- if fewer than seven requests wait, the bytes of a null procedure of the station's own are the line of the request of its part
   -- (`IsSent`)
   null_put : (s : Model) (bytes : List ℕ) → length s.client.waiting < 7 → bytes ≡ request_text s.client (Table NullProc)
-      → IsSent s bytes (request_part 0 (Table NullProc) (later s.progress.moment.elapsed plan.deadline) None)
+      → IsSent s bytes (null_part plan s.progress.moment.elapsed)
   null_put s bytes room e = record { target = 0; call = Table NullProc; deadline = later s.progress.moment.elapsed plan.deadline; mark = None; part = refl; text = e; room = room }
 
   -- if fewer than seven requests wait, the bytes of the first of these commands of the setup, or of a null procedure if there is
@@ -91,62 +91,54 @@ module _ (plan : Plan) (commands : List Task) where
   setup_put : (s : Model) (left : List Task) (bytes : List ℕ) → length s.client.waiting < 7 → bytes ≡ text_or_null s.progress.moment.utc s.client left
       → IsSent s bytes (request_or_null_part plan s.progress.moment.elapsed (mark_setup commands s.progress) left)
   setup_put s [] bytes room e = null_put s bytes room e
-  setup_put s (task ∷ others) bytes room e = record {
-    target = task.command.target;
-    call = call_at task s.progress.moment.utc;
-    deadline = later s.progress.moment.elapsed task.deadline;
-    mark = Some (mark_setup commands s.progress);
-    part = refl;
-    text = e;
-    room = room;
-  }
+  setup_put s (task ∷ others) bytes room e = first_put s (mark_setup commands s.progress) (task ∷ others) bytes (omega arith) room e
 
   -- once the station has synchronized, the bytes that an act of this action puts are as `IsPut` says of the action's part
-  put_order : (s : Model) (o : Action) (act : Act) (bytes : List ℕ) → Invariant plan commands s → (needs : HoldsBefore plan s.progress (waiting_of s) o)
+  put_by_action : (s : Model) (o : Action) (act : Act) (bytes : List ℕ) → Invariant plan commands s → (needs : HoldsBefore plan s.progress (waiting_of s) o)
       → (performs : Performs commands s o act) → (puts : put_by act ≡ Some bytes) → (begun : has_begun s.progress ≡ true) → IsPut s bytes (put_part plan commands s o)
-  put_order s action.Clear act bytes fine is obeys e begun = inl (puts_same (10 ∷ []) bytes act e obeys, refl)
-  put_order s action.Ask act bytes fine is obeys e begun = absurd (both_ways (has_begun s.progress) is.1 begun)
-  put_order s action.Renew act bytes fine is obeys e begun = absurd (never_puts act bytes e (inl obeys))
-  put_order s action.Flush act bytes fine is obeys e begun = inr (null_put s bytes is.4.1 (puts_same (request_text s.client (Table NullProc)) bytes act e obeys))
-  put_order s action.Prepare act bytes fine is obeys e begun =
+  put_by_action s action.Clear act bytes fine is obeys e begun = inl (puts_same (10 ∷ []) bytes act e obeys, refl)
+  put_by_action s action.Ask act bytes fine is obeys e begun = absurd (both_ways (has_begun s.progress) is.1 begun)
+  put_by_action s action.Renew act bytes fine is obeys e begun = absurd (never_puts act bytes e (inl obeys))
+  put_by_action s action.Flush act bytes fine is obeys e begun = inr (null_put s bytes is.4.1 (puts_same (request_text s.client (Table NullProc)) bytes act e obeys))
+  put_by_action s action.Prepare act bytes fine is obeys e begun =
       let left = drop s.progress.prepared commands in inr (setup_put s left bytes is.3.1 (puts_same (text_or_null s.progress.moment.utc s.client left) bytes act e obeys))
-  put_order s action.Send act bytes fine is obeys e begun =
+  put_by_action s action.Send act bytes fine is obeys e begun =
       let left = drop (place_next commands s.progress) commands in
       let many : length left ≡ length commands - place_next commands s.progress = length-drop (place_next commands s.progress) commands in
-      inr (first_put s left bytes (omega (arith, many, is.2, fine.unsent)) is.3.1 (puts_same (first_text s.progress.moment.utc s.client left) bytes act e obeys))
-  put_order s action.ReadClock act bytes fine is obeys e begun = absurd (never_puts act bytes e (inl obeys))
-  put_order s action.Skip act bytes fine is obeys e begun = absurd (never_puts act bytes e (inl obeys))
-  put_order s action.Pass act bytes fine is obeys e begun = absurd (never_puts act bytes e (inl obeys))
-  put_order s action.Begin act bytes fine is obeys e begun = absurd (never_puts act bytes e (inl obeys))
-  put_order s action.Open act bytes fine is obeys e begun = absurd (never_puts act bytes e (inr (inl obeys)))
-  put_order s (action.Read until) act bytes fine is obeys e begun = absurd (never_puts act bytes e (inr (inr (inl obeys))))
-  put_order s (action.Close why) act bytes fine is obeys e begun = absurd (never_puts act bytes e (inr (inr (inr obeys))))
-  put_order s (action.Stop why) act bytes fine is obeys e begun = absurd obeys
+      inr (first_put s (mark_next plan commands s.progress) left bytes (omega (arith, many, is.2, fine.unsent)) is.3.1 (puts_same (first_text s.progress.moment.utc s.client left) bytes act e obeys))
+  put_by_action s action.ReadClock act bytes fine is obeys e begun = absurd (never_puts act bytes e (inl obeys))
+  put_by_action s action.Skip act bytes fine is obeys e begun = absurd (never_puts act bytes e (inl obeys))
+  put_by_action s action.Pass act bytes fine is obeys e begun = absurd (never_puts act bytes e (inl obeys))
+  put_by_action s action.Begin act bytes fine is obeys e begun = absurd (never_puts act bytes e (inl obeys))
+  put_by_action s action.Open act bytes fine is obeys e begun = absurd (never_puts act bytes e (inr (inl obeys)))
+  put_by_action s (action.Read until) act bytes fine is obeys e begun = absurd (never_puts act bytes e (inr (inr (inl obeys))))
+  put_by_action s (action.Close why) act bytes fine is obeys e begun = absurd (never_puts act bytes e (inr (inr (inr obeys))))
+  put_by_action s (action.Stop why) act bytes fine is obeys e begun = absurd obeys
 
   -- once the station has synchronized, the bytes that an act of a run puts are as `IsPut` says of its part
   pub put_is : (s : Model) (act : Act) (bytes : List ℕ) → Invariant plan commands s → Performs commands s (action_at plan s) act → put_by act ≡ Some bytes
       → has_begun s.progress ≡ true → IsPut s bytes (put_part plan commands s (action_at plan s))
-  put_is s act bytes fine obeys e begun = put_order s (action_at plan s) act bytes fine (action_for plan s.progress (waiting_of s)) obeys e begun
+  put_is s act bytes fine obeys e begun = put_by_action s (action_at plan s) act bytes fine (action_for plan s.progress (waiting_of s)) obeys e begun
 
   -- while the station synchronizes, the bytes that an act of this action puts are as `IsPutSynchronizing` says of its part
-  asked_order : (s : Model) (o : Action) (act : Act) (bytes : List ℕ) → HoldsBefore plan s.progress (waiting_of s) o → Performs commands s o act
+  asked_by_action : (s : Model) (o : Action) (act : Act) (bytes : List ℕ) → HoldsBefore plan s.progress (waiting_of s) o → Performs commands s o act
       → put_by act ≡ Some bytes → has_begun s.progress ≡ false → IsPutSynchronizing s bytes (sync_part s o act)
-  asked_order s action.Clear act bytes is obeys e begins = inl (puts_same (10 ∷ []) bytes act e obeys, refl)
-  asked_order s action.Ask act bytes is obeys e begins = inr (puts_same (null_text s.progress.word) bytes act e obeys, asked_turn s act bytes e)
-  asked_order s action.Flush act bytes is obeys e begins = absurd (both_ways (has_begun s.progress) begins is.1)
-  asked_order s action.Prepare act bytes is obeys e begins = absurd (both_ways (has_begun s.progress) begins is.1)
-  asked_order s action.Send act bytes is obeys e begins = absurd (both_ways (has_begun s.progress) begins is.1)
-  asked_order s action.Renew act bytes is obeys e begins = absurd (never_puts act bytes e (inl obeys))
-  asked_order s action.ReadClock act bytes is obeys e begins = absurd (never_puts act bytes e (inl obeys))
-  asked_order s action.Skip act bytes is obeys e begins = absurd (never_puts act bytes e (inl obeys))
-  asked_order s action.Pass act bytes is obeys e begins = absurd (never_puts act bytes e (inl obeys))
-  asked_order s action.Begin act bytes is obeys e begins = absurd (never_puts act bytes e (inl obeys))
-  asked_order s action.Open act bytes is obeys e begins = absurd (never_puts act bytes e (inr (inl obeys)))
-  asked_order s (action.Read until) act bytes is obeys e begins = absurd (never_puts act bytes e (inr (inr (inl obeys))))
-  asked_order s (action.Close why) act bytes is obeys e begins = absurd (never_puts act bytes e (inr (inr (inr obeys))))
-  asked_order s (action.Stop why) act bytes is obeys e begins = absurd obeys
+  asked_by_action s action.Clear act bytes is obeys e begins = inl (puts_same (10 ∷ []) bytes act e obeys, refl)
+  asked_by_action s action.Ask act bytes is obeys e begins = inr (puts_same (null_text s.progress.word) bytes act e obeys, asked_turn s act bytes e)
+  asked_by_action s action.Flush act bytes is obeys e begins = absurd (both_ways (has_begun s.progress) begins is.1)
+  asked_by_action s action.Prepare act bytes is obeys e begins = absurd (both_ways (has_begun s.progress) begins is.1)
+  asked_by_action s action.Send act bytes is obeys e begins = absurd (both_ways (has_begun s.progress) begins is.1)
+  asked_by_action s action.Renew act bytes is obeys e begins = absurd (never_puts act bytes e (inl obeys))
+  asked_by_action s action.ReadClock act bytes is obeys e begins = absurd (never_puts act bytes e (inl obeys))
+  asked_by_action s action.Skip act bytes is obeys e begins = absurd (never_puts act bytes e (inl obeys))
+  asked_by_action s action.Pass act bytes is obeys e begins = absurd (never_puts act bytes e (inl obeys))
+  asked_by_action s action.Begin act bytes is obeys e begins = absurd (never_puts act bytes e (inl obeys))
+  asked_by_action s action.Open act bytes is obeys e begins = absurd (never_puts act bytes e (inr (inl obeys)))
+  asked_by_action s (action.Read until) act bytes is obeys e begins = absurd (never_puts act bytes e (inr (inr (inl obeys))))
+  asked_by_action s (action.Close why) act bytes is obeys e begins = absurd (never_puts act bytes e (inr (inr (inr obeys))))
+  asked_by_action s (action.Stop why) act bytes is obeys e begins = absurd obeys
 
   -- while the station synchronizes, the bytes that an act of a run puts are as `IsPutSynchronizing` says of its part
   pub asked_is : (s : Model) (act : Act) (bytes : List ℕ) → Performs commands s (action_at plan s) act → put_by act ≡ Some bytes
       → has_begun s.progress ≡ false → IsPutSynchronizing s bytes (sync_part s (action_at plan s) act)
-  asked_is s act bytes obeys e begins = asked_order s (action_at plan s) act bytes (action_for plan s.progress (waiting_of s)) obeys e begins
+  asked_is s act bytes obeys e begins = asked_by_action s (action_at plan s) act bytes (action_for plan s.progress (waiting_of s)) obeys e begins

@@ -5,32 +5,26 @@ use Rattle.std.proofs.Common.{◌≡◌, ℕ, zero, suc, ◌+◌, ◌-◌, ◌<�
 use Rattle.std.specs.List.{AllByRecursion}
 use Rattle.std.proofs.lemmas.Bool.{ltb-true}
 use Rattle.std.proofs.lemmas.List.{length-drop}
-use Rattle.gc_catalogue.specs.declared.answer.Answer.{Answer}
 use Rattle.gc_catalogue.specs.declared.answer.Reading.{Reading}
-use Rattle.gc_catalogue.specs.declared.answer.Reading.TheVariants as reading
 use Rattle.gc_catalogue.specs.declared.asked.Asked.{Asked}
 use Rattle.gc_client.specs.declared.pending.Pending.{Pending}
 use Rattle.gc_client.specs.Ids
-use Rattle.gc_client.specs.Ids.{id_at, IsWithinLimits}
+use Rattle.gc_client.specs.Ids.{id_at, IsWithinLimits, id_of}
 use Rattle.gc_client.specs.Rule.{ById, Outcome, Settlement, Settled, Answered, Late, Lost, place_in, settled_by_line, settle, hears, id_settled}
 use Rattle.gc_client.proofs.Digits.{settling}
 use Rattle.gc_client.proofs.OneForOne.{length-settle}
 use Rattle.gc_texts.specs.declared.tasks.Task.{Task}
 use Rattle.gc_texts.specs.Endings.{End, line_of}
 use Rattle.gc_texts.specs.Endings as ends
-use Rattle.gc_texts.specs.Codes.{lists_code}
-use Rattle.gc_texts.specs.Nears.{is_elsewhere}
 use Rattle.gc_texts.specs.Zeroed.{as_zero}
 use Rattle.gc_texts.specs.declared.near.Expected.{Expected}
-use Rattle.gc_texts.specs.declared.near.Near.{Near}
-use Rattle.gc_texts.specs.declared.quality.Quality.{Quality}
-use Rattle.gc_texts.specs.declared.quality.Quality.TheVariants as quality
 use Rattle.gc_station.specs.declared.mark.Mark.{Mark}
 use Rattle.gc_station.specs.declared.plan.Plan.{Plan}
 use Rattle.gc_links.specs.Acts.{Act}
-use Rattle.gc_station.specs.Marks.{value_as, warned_as, refused_as, answer_as, end_of, command_of, record_of, records_of}
+use Rattle.gc_station.specs.Marks.{answer_as, end_of, command_of, record_of, records_of}
 use Rattle.gc_station.specs.Records.{Record}
 use Rattle.gc_station.proofs.Lists.{AllAt, AllRisingAt, RisingAt, rising_on, rising_drop, rising_at}
+use Rattle.gc_station.proofs.Records.{answer_along}
 use Rattle.gc_station.proofs.Waiting.{StayedAt, WaitsAt, asked_as}
 use Rattle.gc_station.specs.Scopes.{Scope}
 
@@ -171,7 +165,7 @@ left_waits plan commands scope acts first now c x marks l w all =
     let many = left_count c x l in
     let enough = l.enough in
     let below : n + j < length c.waiting = omega (arith, low, many) in
-    let ids : id_at d.next (length d.waiting) j ≡ id_at c.next (length c.waiting) (n + j) =
+    let ids : id_of d j ≡ id_of c (n + j) =
     ap (λ (y : ℕ). id_at y (length d.waiting) j) l.next ∙ ap (λ (y : ℕ). id_at c.next y j) many ∙ settling c.next (length c.waiting) w.few n j below in
     (asked_as plan commands scope acts (StayedAt now) number (n + j) j _ _ p mark (λ above. omega (arith, above)) ids wait.0, subst (λ (i : ℕ). Ids.Waits first i) (sym ids) wait.1)) marked
 
@@ -183,29 +177,9 @@ pub record IsRecordOf (r : Record) (x : Settlement Asked) : Type 0 where
   pub command : r.command ≡ command_of x
   pub ended : r.end ≡ end_of reads expected x.call x.outcome
 
--- the ending by an answer has the reply's line, whether the answer is elsewhere or not
-value_line : (q : Quality) (away : Bool) (answer : Answer) (line : List ℕ) → line_of (value_as q away answer line) ≡ Some line
-value_line q true answer line = refl
-value_line q false answer line = refl
-
--- the ending by a reply with an accepted return code has the reply's line, whatever it says with return code 0
-warned_line : (near : Option Near) (x : Reading) (line : List ℕ) → line_of (warned_as near x line) ≡ Some line
-warned_line near (reading.Value answer) line = value_line quality.Warning (is_elsewhere near answer) answer line
-warned_line near (reading.Refused code) line = refl
-warned_line near (reading.ComFault code) line = refl
-warned_line near (reading.Unreadable fault) line = refl
-
--- the ending by a reply with another return code than 0 has the reply's line, whether that code is accepted or not
-refused_line : (accepted : Bool) (near : Option Near) (x : Reading) (line : List ℕ) → line_of (refused_as accepted near x line) ≡ Some line
-refused_line true near x line = warned_line near x line
-refused_line false near x line = refl
-
 -- the ending by a reply in time has the reply's line, whatever it says
 pub answer_line : (expected : Expected) (x y : Reading) (line : List ℕ) → line_of (answer_as expected x y line) ≡ Some line
-answer_line expected (reading.Value answer) y line = value_line quality.Fine (is_elsewhere expected.near answer) answer line
-answer_line expected (reading.Refused code) y line = refused_line (lists_code expected.accepted code) expected.near y line
-answer_line expected (reading.ComFault code) y line = refl
-answer_line expected (reading.Unreadable fault) y line = refl
+answer_line expected x y line = answer_along (λ (end : End). line_of end ≡ Some line) expected x y line (λ quality answer. refl) refl (λ fault. refl)
 
 -- an ending without a line isn't that by a reply in time
 unanswered : (expected : Expected) (x y : Reading) (line : List ℕ) (end : End) → line_of end ≡ None → answer_as expected x y line ≡ end → ⊥
@@ -243,9 +217,9 @@ was_lost r x is e = lost_so is.reads is.expected x.call x.outcome (sym is.ended 
 
 -- where Q of a settlement, at whatever place, and of its mark, if it has one, gives R of its record, and Q holds of these
 -- settlements and marks, one for one, with places from j on, R holds of all their records
-pub records_all : (Q : ℕ → Settlement Asked → Option Mark → Type 0) (R : Record → Type 0) (reads : Asked → List ℕ → Reading) (utc j : ℕ) (xs : List (Settlement Asked)) (marks : List (Option Mark))
+pub all_records_at : (Q : ℕ → Settlement Asked → Option Mark → Type 0) (R : Record → Type 0) (reads : Asked → List ℕ → Reading) (utc j : ℕ) (xs : List (Settlement Asked)) (marks : List (Option Mark))
     → ((i : ℕ) (x : Settlement Asked) (m : Mark) → Q i x (Some m) → R (record_of reads utc m x)) → AllAt Q j xs marks → AllByRecursion R (records_of reads utc marks xs)
-records_all Q R reads utc j xs [] step all = tt
-records_all Q R reads utc j [] (mark ∷ marks) step all = tt
-records_all Q R reads utc j (x ∷ xs) (None ∷ marks) step all = records_all Q R reads utc (suc j) xs marks step all.1
-records_all Q R reads utc j (x ∷ xs) (Some m ∷ marks) step all = (step j x m all.0, records_all Q R reads utc (suc j) xs marks step all.1)
+all_records_at Q R reads utc j xs [] step all = tt
+all_records_at Q R reads utc j [] (mark ∷ marks) step all = tt
+all_records_at Q R reads utc j (x ∷ xs) (None ∷ marks) step all = all_records_at Q R reads utc (suc j) xs marks step all.1
+all_records_at Q R reads utc j (x ∷ xs) (Some m ∷ marks) step all = (step j x m all.0, all_records_at Q R reads utc (suc j) xs marks step all.1)

@@ -25,35 +25,48 @@ use Rattle.gc_station.specs.declared.plan.Plan.{Plan}
 use Rattle.gc_station.specs.declared.progress.Phase.{Phase}
 use Rattle.gc_station.specs.declared.progress.Progress.{Progress}
 use Rattle.gc_station.specs.Deciding.{has_begun, is_up}
-use Rattle.gc_station.specs.EachOnce.{of_text, Interleave, Request, requests, of_task, of_record, still_waiting, commands_reached}
-use Rattle.gc_station.proofs.Interleaving.{interleave_more, interleave_past, sent_past}
+use Rattle.gc_station.specs.EachOnce.{of_text, Interleave, Request, requests, of_task, commands_reached}
+use Rattle.gc_station.proofs.Interleaving.{interleave_more, interleave_past}
 use Rattle.gc_station.specs.Marks.{commands_in, records_of}
 use Rattle.gc_station.specs.Progressing.{is_over_in, is_over, loses_all}
 use Rattle.gc_station.specs.Parts.{MarksAsk, MarkAsks, went_out}
 use Rattle.gc_station.specs.Records.{Record}
 use Rattle.gc_station.specs.Reasons.{IsFinished}
 use Rattle.gc_station.specs.Tasked.{IsOfItsTask}
-use Rattle.gc_station.specs.Model.{Model, client_sent, losing, ended}
-use Rattle.gc_station.proofs.Each.{each_moment, each_settles, each_null, each_sent, each_skipped, sent_next, sent_whole, sent_none, each_prepared}
+use Rattle.gc_station.specs.Model.{Model, client_sent, losing, ended, cycle_length}
+use Rattle.gc_station.proofs.Each.{each_moment, each_settles, each_null, each_sent, each_skipped, sent_past, sent_next, sent_whole, sent_none, each_prepared, row}
 use Rattle.gc_station.proofs.Invariant.{Invariant, is_bare, says_done}
 use Rattle.gc_station.proofs.Lists.{all_append}
 use Rattle.gc_station.proofs.Tasked.{own_more, own_settled, settled_tasked, unsent_tasked}
 
--- where `left` cycles haven't begun, and `unsent` commands of the present one haven't had their turn: these counts lie within the
--- plan and the commands, and none is unsent before the first cycle. The records that are of cycles, and after them the
--- outstanding commands of cycles, with the attempts that were left out (`passes`) between them, are the commands that had their
--- turn, in order. Each request that waits has its mark, at most 7 wait, and the next id is below 8. Each asks what its mark says,
--- and each record is of its task
-pub record Sound (plan : Plan) (commands : List Task) (left unsent : ℕ) (client : ById Asked) (marks : List (Option Mark)) (records : List Record) (passes : List Request) : Type 0 where
-  pub unsents : unsent ≤ length commands - plan.setup
-  pub lefts : left ≤ plan.cycles
-  pub begun : 0 < unsent → left < plan.cycles
-  pub paired : length marks ≡ length client.waiting
-  pub window : length client.waiting ≤ 7
-  pub digit : client.next < 8
-  pub each : Interleave (of_text commands (map of_record records ++ still_waiting marks client.waiting)) passes (commands_reached plan.setup commands (plan.cycles - left) (length commands - unsent))
-  pub own : MarksAsk commands marks (map of_pending client.waiting)
-  pub tasked : AllByRecursion (IsOfItsTask commands) records
+-- what a station has of its commands: `left` cycles haven't begun, and `unsent` commands of the present one haven't had their
+-- turn; requests are outstanding at the client, with their marks; records were written, and commands left out (`passes`)
+pub record Ledger : Type 0 where
+  pub left : ℕ
+  pub unsent : ℕ
+  pub client : ById Asked
+  pub marks : List (Option Mark)
+  pub records : List Record
+  pub passes : List Request
+
+-- the ledger of the model s, with the counts of the progress p
+abbrev pub ledger_at : Model → Progress → Ledger
+ledger_at s p = record { left = p.left; unsent = p.unsent; client = s.client; marks = s.marks; records = s.records; passes = s.passes }
+
+-- the counts of the ledger b lie within the plan and the commands, and none is unsent before the first cycle. The records that
+-- are of cycles, and after them the outstanding commands of cycles, with those that were left out between them, are the commands
+-- that had their turn, in order. Each outstanding request has its mark, at most 7 are outstanding, and the next id is below 8.
+-- Each asks what its mark says, and each record is of its task
+pub record Sound (plan : Plan) (commands : List Task) (b : Ledger) : Type 0 where
+  pub unsents : b.unsent ≤ cycle_length plan commands
+  pub lefts : b.left ≤ plan.cycles
+  pub begun : 0 < b.unsent → b.left < plan.cycles
+  pub paired : length b.marks ≡ length b.client.waiting
+  pub window : length b.client.waiting ≤ 7
+  pub digit : b.client.next < 8
+  pub each : Interleave (of_text commands (row b.marks b.client.waiting b.records)) b.passes (commands_reached plan.setup commands (plan.cycles - b.left) (length commands - b.unsent))
+  pub own : MarksAsk commands b.marks (map of_pending b.client.waiting)
+  pub tasked : AllByRecursion (IsOfItsTask commands) b.records
 
 -- in a phase that `is_bare` no bytes are kept; in one that says that the run is done (`says_done`) no cycle and no command is
 -- left to be sent, and no command is outstanding unless the run is over
@@ -61,17 +74,18 @@ pub record Placed (phase : Phase) (left unsent : ℕ) (rest : List ℕ) (marks :
   pub empty : is_bare phase ≡ true → rest ≡ []
   pub finished : says_done phase ≡ true → (left ≡ 0) × (unsent ≡ 0) × ((is_over_in phase ≡ true) ⊎ (commands_in marks ≡ 0))
 
--- `Sound` by the counts of this progress
-abbrev pub SoundAt : Plan → List Task → Progress → ById Asked → List (Option Mark) → List Record → List Request → Type 0
-SoundAt plan commands p client marks records passes = Sound plan commands p.left p.unsent client marks records passes
-
 -- `Placed` by the phase and the counts of this progress
 abbrev pub PlacedAt : Progress → List ℕ → List (Option Mark) → Type 0
 PlacedAt p rest marks = Placed p.phase p.left p.unsent rest marks
 
--- what holds of a model in the midst of an act: `Sound` of its counts, and `Placed` of its phase
+-- what holds of a model in the midst of an act, with this progress in place of its own: `Sound` of its ledger, and `Placed` of
+-- its phase
+abbrev pub MidAt : Plan → List Task → Model → Progress → Type 0
+MidAt plan commands s p = Sound plan commands (ledger_at s p) × PlacedAt p s.rest s.marks
+
+-- `MidAt` with the model's own progress
 abbrev pub Mid : Plan → List Task → Model → Type 0
-Mid plan commands s = SoundAt plan commands s.progress s.client s.marks s.records s.passes × PlacedAt s.progress s.rest s.marks
+Mid plan commands s = MidAt plan commands s s.progress
 
 -- the invariant of every run gives `Mid`
 pub mid_of : (plan : Plan) (commands : List Task) (s : Model) → Invariant plan commands s → Mid plan commands s
@@ -100,11 +114,9 @@ interleave_by_equal : (xs xs' ys zs : List Request) → xs' ≡ xs → Interleav
 interleave_by_equal xs xs' ys zs e h = subst (λ (l : List Request). Interleave l ys zs) (sym e) h
 
 -- to time out requests at the moment m preserves `Sound`
-pub sound_moment : (plan : Plan) (commands : List Task) (left unsent : ℕ) (client : ById Asked) (marks : List (Option Mark)) (records : List Record) (passes : List Request) (m : ℕ)
-    → Sound plan commands left unsent client marks records passes
-    → Sound plan commands left unsent (expires client m) marks records passes
-sound_moment plan commands left unsent client marks records passes m sound =
-    let same : length (map (expired m) client.waiting) ≡ length client.waiting = length-map client.waiting (expired m) in
+pub sound_moment : (plan : Plan) (commands : List Task) (b : Ledger) (m : ℕ) → Sound plan commands b → Sound plan commands (record b { client = expires b.client m })
+sound_moment plan commands b m sound =
+    let same : length (map (expired m) b.client.waiting) ≡ length b.client.waiting = length-map b.client.waiting (expired m) in
     record {
       unsents = sound.unsents;
       lefts = sound.lefts;
@@ -112,25 +124,24 @@ sound_moment plan commands left unsent client marks records passes m sound =
       paired = sound.paired ∙ sym same;
       window = omega (arith, same, sound.window);
       digit = sound.digit;
-      each = interleave_by_equal _ _ _ _ (each_moment commands marks client.waiting records (of_text commands (map of_record records ++ still_waiting marks client.waiting)) m refl) sound.each;
-      own = subst (MarksAsk commands marks) (sym (expired_parts m client.waiting)) sound.own;
+      each = interleave_by_equal _ _ _ _ (each_moment commands b.marks b.client.waiting b.records (of_text commands (row b.marks b.client.waiting b.records)) m refl) sound.each;
+      own = subst (MarksAsk commands b.marks) (sym (expired_parts m b.client.waiting)) sound.own;
       tasked = sound.tasked;
     }
 
 -- `Sound` is preserved by settlements `ss` of the oldest requests, with their records, if the other requests wait at the client
 -- `next`, whose next id is below 8
-pub sound_settles : (reads : Asked → List ℕ → Reading) (plan : Plan) (commands : List Task) (left unsent : ℕ) (client next : ById Asked) (marks : List (Option Mark))
-    (records : List Record) (passes : List Request) (utc : ℕ) (ss : List (Settlement Asked))
-    → map of_settled ss ++ map of_pending next.waiting ≡ map of_pending client.waiting → next.next < 8 → Sound plan commands left unsent client marks records passes
-    → Sound plan commands left unsent next (drop (length ss) marks) (records ++ records_of reads utc marks ss) passes
-sound_settles reads plan commands left unsent client next marks records passes utc ss parts low sound =
+pub sound_settles : (reads : Asked → List ℕ → Reading) (plan : Plan) (commands : List Task) (b : Ledger) (next : ById Asked) (utc : ℕ) (ss : List (Settlement Asked))
+    → map of_settled ss ++ map of_pending next.waiting ≡ map of_pending b.client.waiting → next.next < 8 → Sound plan commands b
+    → Sound plan commands (record b { client = next; marks = drop (length ss) b.marks; records = b.records ++ records_of reads utc b.marks ss })
+sound_settles reads plan commands b next utc ss parts low sound =
     let ended = map of_settled ss in
     let waits = map of_pending next.waiting in
     let ends : length ended ≡ length ss = length-map ss of_settled in
     let behind : length waits ≡ length next.waiting = length-map next.waiting of_pending in
-    let count : length ended + length waits ≡ length client.waiting = sym (length-append ended waits) ∙ ap length parts ∙ length-map client.waiting of_pending in
-    let fewer : length (drop (length ss) marks) ≡ length marks - length ss = length-drop (length ss) marks in
-    let all : MarksAsk commands marks (ended ++ waits) = subst (MarksAsk commands marks) (sym parts) sound.own in
+    let count : length ended + length waits ≡ length b.client.waiting = sym (length-append ended waits) ∙ ap length parts ∙ length-map b.client.waiting of_pending in
+    let fewer : length (drop (length ss) b.marks) ≡ length b.marks - length ss = length-drop (length ss) b.marks in
+    let all : MarksAsk commands b.marks (ended ++ waits) = subst (MarksAsk commands b.marks) (sym parts) sound.own in
     record {
       unsents = sound.unsents;
       lefts = sound.lefts;
@@ -138,10 +149,10 @@ sound_settles reads plan commands left unsent client next marks records passes u
       paired = omega (arith, ends, behind, count, fewer, sound.paired);
       window = omega (arith, ends, behind, count, sound.window);
       digit = low;
-      each = interleave_by_equal _ _ _ _ (each_settles reads commands utc marks client.waiting next.waiting ss records
-          (of_text commands (map of_record records ++ still_waiting marks client.waiting)) parts refl) sound.each;
-      own = own_settled commands marks ss waits all;
-      tasked = all_append (IsOfItsTask commands) records _ sound.tasked (settled_tasked reads commands utc marks ss waits all);
+      each = interleave_by_equal _ _ _ _ (each_settles reads commands utc b.marks b.client.waiting next.waiting ss b.records
+          (of_text commands (row b.marks b.client.waiting b.records)) parts refl) sound.each;
+      own = own_settled commands b.marks ss waits all;
+      tasked = all_append (IsOfItsTask commands) b.records _ sound.tasked (settled_tasked reads commands utc b.marks ss waits all);
     }
 
 -- if there is room, a send makes the client's next id the one after it (7 is followed by 0), and adds the request to those that
@@ -155,105 +166,107 @@ client_behind client target call deadline room =
       room_left n room = grind (arith, nat_tests, room)
 
 -- if there are as many marks as requests, there still are with one more mark and one more request at the end
-one_more : (marks : List (Option Mark)) (ws : List (Pending Asked)) (m : Option Mark) (p : Pending Asked) → length marks ≡ length ws → length (marks ++ m ∷ []) ≡ length (ws ++ p ∷ [])
-one_more marks ws m p paired = length-append marks (m ∷ []) ∙ ap (λ n. n + 1) paired ∙ sym (length-append ws (p ∷ []))
+paired_more : (marks : List (Option Mark)) (ws : List (Pending Asked)) (m : Option Mark) (p : Pending Asked) → length marks ≡ length ws → length (marks ++ m ∷ []) ≡ length (ws ++ p ∷ [])
+paired_more marks ws m p paired = length-append marks (m ∷ []) ∙ ap (λ n. n + 1) paired ∙ sym (length-append ws (p ∷ []))
 
 -- to send a null procedure for no target (`MarkAsks` without a mark), for which there is room, preserves `Sound`
-pub sound_null : (plan : Plan) (commands : List Task) (left unsent : ℕ) (client : ById Asked) (marks : List (Option Mark)) (records : List Record) (passes : List Request)
-    (target : ℕ) (call : Asked) (deadline : ℕ)
-    → length client.waiting < 7 → MarkAsks commands None (record { target = target; call = call }) → Sound plan commands left unsent client marks records passes
-    → Sound plan commands left unsent (client_sent client (sends WINDOW client target call deadline)) (marks ++ None ∷ []) records passes
-sound_null plan commands left unsent client marks records passes target call deadline room is sound =
+pub sound_null : (plan : Plan) (commands : List Task) (b : Ledger) (target : ℕ) (call : Asked) (deadline : ℕ)
+    → length b.client.waiting < 7 → MarkAsks commands None (record { target = target; call = call }) → Sound plan commands b
+    → Sound plan commands (record b { client = client_sent b.client (sends WINDOW b.client target call deadline); marks = b.marks ++ None ∷ [] })
+sound_null plan commands b target call deadline room is sound =
     let p = pending_of target call deadline in
-    let more : length (client.waiting ++ p ∷ []) ≡ length client.waiting + 1 = length-append client.waiting (p ∷ []) in
-    subst (λ (c : ById Asked). Sound plan commands left unsent c (marks ++ None ∷ []) records passes) (sym (client_behind client target call deadline room)) (record {
+    let more : length (b.client.waiting ++ p ∷ []) ≡ length b.client.waiting + 1 = length-append b.client.waiting (p ∷ []) in
+    subst (λ (c : ById Asked). Sound plan commands (record b { client = c; marks = b.marks ++ None ∷ [] })) (sym (client_behind b.client target call deadline room)) (record {
       unsents = sound.unsents;
       lefts = sound.lefts;
       begun = sound.begun;
-      paired = one_more marks client.waiting None p sound.paired;
+      paired = paired_more b.marks b.client.waiting None p sound.paired;
       window = omega (arith, more, room);
-      digit = mod-lt (client.next + 1) (omega arith);
+      digit = mod-lt (b.client.next + 1) (omega arith);
       each = interleave_by_equal _ _ _ _
-          (each_null commands marks client.waiting p records (of_text commands (map of_record records ++ still_waiting marks client.waiting)) sound.paired refl) sound.each;
-      own = own_more commands marks client.waiting None p sound.own is;
+          (each_null commands b.marks b.client.waiting p b.records (of_text commands (row b.marks b.client.waiting b.records)) sound.paired refl) sound.each;
+      own = own_more commands b.marks b.client.waiting None p sound.own is;
       tasked = sound.tasked;
     })
 
 -- to send the cycle's next command, `task`, for which there is room, preserves `Sound`, with one command fewer unsent
-pub sound_sent : (plan : Plan) (commands : List Task) (left unsent : ℕ) (client : ById Asked) (marks : List (Option Mark)) (records : List Record) (passes : List Request)
-    (utc deadline : ℕ) (expected : Expected) (task : Task) (others : List Task)
-    → length client.waiting < 7 → 0 < unsent → drop (length commands - unsent) commands ≡ task ∷ others → Sound plan commands left unsent client marks records passes
-    → Sound plan commands left (unsent - 1) (client_sent client (sends WINDOW client task.command.target (call_at task utc) deadline))
-    (marks ++ Some (record { cycle = plan.cycles - left; place = length commands - unsent; sent = utc; expected = expected }) ∷ []) records passes
-sound_sent plan commands left unsent client marks records passes utc deadline expected task others room some at sound =
+pub sound_sent : (plan : Plan) (commands : List Task) (b : Ledger) (utc deadline : ℕ) (expected : Expected) (task : Task) (others : List Task)
+    → length b.client.waiting < 7 → 0 < b.unsent → drop (length commands - b.unsent) commands ≡ task ∷ others → Sound plan commands b
+    → Sound plan commands (record b {
+      unsent = b.unsent - 1;
+      client = client_sent b.client (sends WINDOW b.client task.command.target (call_at task utc) deadline);
+      marks = b.marks ++ Some (record { cycle = plan.cycles - b.left; place = length commands - b.unsent; sent = utc; expected = expected }) ∷ [];
+    })
+sound_sent plan commands b utc deadline expected task others room some at sound =
     let p = pending_of task.command.target (call_at task utc) deadline in
-    let begun = plan.cycles - left in
-    let place = length commands - unsent in
+    let begun = plan.cycles - b.left in
+    let place = length commands - b.unsent in
     let mark : Mark = record { cycle = begun; place = place; sent = utc; expected = expected } in
-    let more : length (client.waiting ++ p ∷ []) ≡ length client.waiting + 1 = length-append client.waiting (p ∷ []) in
+    let more : length (b.client.waiting ++ p ∷ []) ≡ length b.client.waiting + 1 = length-append b.client.waiting (p ∷ []) in
     let below = sound.begun some in
     let many : 0 < begun = omega (arith, below) in
-    let place_is : length commands - (unsent - 1) ≡ place + 1 = omega (arith, some, sound.unsents) in
-    let kept = of_text commands (map of_record records ++ still_waiting marks client.waiting) in
+    let place_is : length commands - (b.unsent - 1) ≡ place + 1 = omega (arith, some, sound.unsents) in
+    let kept = of_text commands (row b.marks b.client.waiting b.records) in
     let within : plan.setup ≤ place = omega (arith, some, sound.unsents) in
     let one = requests begun place (of_task task ∷ []) in
-    let each : Interleave (of_text commands (map of_record records ++ still_waiting (marks ++ Some mark ∷ []) (client.waiting ++ p ∷ []))) passes
+    let each : Interleave (of_text commands (row (b.marks ++ Some mark ∷ []) (b.client.waiting ++ p ∷ []) b.records)) b.passes
     (commands_reached plan.setup commands begun (place + 1)) =
-    subst (λ (xs : List Request). Interleave (of_text commands (map of_record records ++ still_waiting (marks ++ Some mark ∷ []) (client.waiting ++ p ∷ []))) passes xs)
+    subst (λ (xs : List Request). Interleave (of_text commands (row (b.marks ++ Some mark ∷ []) (b.client.waiting ++ p ∷ []) b.records)) b.passes xs)
     (sent_next plan.setup commands begun place task others at within many)
-    (interleave_by_equal _ _ _ _ (each_sent commands begun place utc expected marks client.waiting p records task others sound.paired at refl many kept refl)
-    (interleave_more kept passes (commands_reached plan.setup commands begun place) one sound.each)) in
-    subst (λ (c : ById Asked). Sound plan commands left (unsent - 1) c (marks ++ Some mark ∷ []) records passes)
-    (sym (client_behind client task.command.target (call_at task utc) deadline room)) (record {
+    (interleave_by_equal _ _ _ _ (each_sent commands begun place utc expected b.marks b.client.waiting p b.records task others sound.paired at refl many kept refl)
+    (interleave_more kept b.passes (commands_reached plan.setup commands begun place) one sound.each)) in
+    subst (λ (c : ById Asked). Sound plan commands (record b { unsent = b.unsent - 1; client = c; marks = b.marks ++ Some mark ∷ [] }))
+    (sym (client_behind b.client task.command.target (call_at task utc) deadline room)) (record {
       unsents = omega (arith, sound.unsents);
       lefts = sound.lefts;
       begun = λ e. below;
-      paired = one_more marks client.waiting (Some mark) p sound.paired;
+      paired = paired_more b.marks b.client.waiting (Some mark) p sound.paired;
       window = omega (arith, more, room);
-      digit = mod-lt (client.next + 1) (omega arith);
-      each = subst (λ (n : ℕ). Interleave (of_text commands (map of_record records ++ still_waiting (marks ++ Some mark ∷ []) (client.waiting ++ p ∷ []))) passes
+      digit = mod-lt (b.client.next + 1) (omega arith);
+      each = subst (λ (n : ℕ). Interleave (of_text commands (row (b.marks ++ Some mark ∷ []) (b.client.waiting ++ p ∷ []) b.records)) b.passes
           (commands_reached plan.setup commands begun n)) (sym place_is) each;
-      own = own_more commands marks client.waiting (Some mark) p sound.own (task, head_of_drop commands place task others at, refl);
+      own = own_more commands b.marks b.client.waiting (Some mark) p sound.own (task, head_of_drop commands place task others at, refl);
       tasked = sound.tasked;
     })
 
 -- to send `task`, a command of the setup for which there is room, with a mark of cycle 0 and of its place, preserves `Sound`
-pub sound_prepared : (plan : Plan) (commands : List Task) (left unsent : ℕ) (client : ById Asked) (marks : List (Option Mark)) (records : List Record) (passes : List Request)
-    (deadline : ℕ) (mark : Mark) (task : Task)
-    → length client.waiting < 7 → mark.cycle ≡ 0 → slice_get commands mark.place ≡ Some task → Sound plan commands left unsent client marks records passes
-    → Sound plan commands left unsent (client_sent client (sends WINDOW client task.command.target (call_at task mark.sent) deadline)) (marks ++ Some mark ∷ []) records passes
-sound_prepared plan commands left unsent client marks records passes deadline mark task room none at sound =
+pub sound_prepared : (plan : Plan) (commands : List Task) (b : Ledger) (deadline : ℕ) (mark : Mark) (task : Task)
+    → length b.client.waiting < 7 → mark.cycle ≡ 0 → slice_get commands mark.place ≡ Some task → Sound plan commands b
+    → Sound plan commands (record b { client = client_sent b.client (sends WINDOW b.client task.command.target (call_at task mark.sent) deadline); marks = b.marks ++ Some mark ∷ [] })
+sound_prepared plan commands b deadline mark task room none at sound =
     let p = pending_of task.command.target (call_at task mark.sent) deadline in
-    let more : length (client.waiting ++ p ∷ []) ≡ length client.waiting + 1 = length-append client.waiting (p ∷ []) in
-    subst (λ (c : ById Asked). Sound plan commands left unsent c (marks ++ Some mark ∷ []) records passes)
-    (sym (client_behind client task.command.target (call_at task mark.sent) deadline room)) (record {
+    let more : length (b.client.waiting ++ p ∷ []) ≡ length b.client.waiting + 1 = length-append b.client.waiting (p ∷ []) in
+    subst (λ (c : ById Asked). Sound plan commands (record b { client = c; marks = b.marks ++ Some mark ∷ [] }))
+    (sym (client_behind b.client task.command.target (call_at task mark.sent) deadline room)) (record {
       unsents = sound.unsents;
       lefts = sound.lefts;
       begun = sound.begun;
-      paired = one_more marks client.waiting (Some mark) p sound.paired;
+      paired = paired_more b.marks b.client.waiting (Some mark) p sound.paired;
       window = omega (arith, more, room);
-      digit = mod-lt (client.next + 1) (omega arith);
-      each = interleave_by_equal _ _ _ _ (each_prepared commands mark marks client.waiting p records
-          (of_text commands (map of_record records ++ still_waiting marks client.waiting)) none sound.paired refl) sound.each;
-      own = own_more commands marks client.waiting (Some mark) p sound.own (task, at, refl);
+      digit = mod-lt (b.client.next + 1) (omega arith);
+      each = interleave_by_equal _ _ _ _ (each_prepared commands mark b.marks b.client.waiting p b.records
+          (of_text commands (row b.marks b.client.waiting b.records)) none sound.paired refl) sound.each;
+      own = own_more commands b.marks b.client.waiting (Some mark) p sound.own (task, at, refl);
       tasked = sound.tasked;
     })
 
 -- to record the cycle's next command, `task`, with an ending of one that isn't sent, while no command is outstanding, preserves
 -- `Sound`, with one command fewer unsent
-pub sound_skipped : (plan : Plan) (commands : List Task) (left unsent : ℕ) (client : ById Asked) (marks : List (Option Mark)) (records : List Record) (passes : List Request)
-    (utc : ℕ) (end : End) (turn : Turn) (task : Task) (others : List Task)
-    → (none : commands_in marks ≡ 0) → (some : 0 < unsent) → (there : drop (length commands - unsent) commands ≡ task ∷ others) → (out : went_out end ≡ false)
-    → Sound plan commands left unsent client marks records passes
-    → Sound plan commands left (unsent - 1) client marks (records ++ record
-    { sent = None; utc = utc; cycle = plan.cycles - left; place = length commands - unsent; turn = turn; command = task.command; end = end } ∷ []) passes
-sound_skipped plan commands left unsent client marks records passes utc end turn task others none some at out sound =
-    let begun = plan.cycles - left in
-    let place = length commands - unsent in
+pub sound_skipped : (plan : Plan) (commands : List Task) (b : Ledger) (utc : ℕ) (end : End) (turn : Turn) (task : Task) (others : List Task)
+    → (none : commands_in b.marks ≡ 0) → (some : 0 < b.unsent) → (there : drop (length commands - b.unsent) commands ≡ task ∷ others) → (out : went_out end ≡ false)
+    → Sound plan commands b
+    → Sound plan commands (record b {
+      unsent = b.unsent - 1;
+      records = b.records ++ record
+          { sent = None; utc = utc; cycle = plan.cycles - b.left; place = length commands - b.unsent; turn = turn; command = task.command; end = end } ∷ [];
+    })
+sound_skipped plan commands b utc end turn task others none some at out sound =
+    let begun = plan.cycles - b.left in
+    let place = length commands - b.unsent in
     let r : Record = record { sent = None; utc = utc; cycle = begun; place = place; turn = turn; command = task.command; end = end } in
     let below = sound.begun some in
     let many : 0 < begun = omega (arith, below) in
-    let place_is : length commands - (unsent - 1) ≡ place + 1 = omega (arith, some, sound.unsents) in
+    let place_is : length commands - (b.unsent - 1) ≡ place + 1 = omega (arith, some, sound.unsents) in
     record {
       unsents = omega (arith, sound.unsents);
       lefts = sound.lefts;
@@ -262,28 +275,30 @@ sound_skipped plan commands left unsent client marks records passes utc end turn
       window = sound.window;
       digit = sound.digit;
       each =
-          let kept = of_text commands (map of_record records ++ still_waiting marks client.waiting) in
+          let kept = of_text commands (row b.marks b.client.waiting b.records) in
           let one = requests begun place (of_task task ∷ []) in
-          subst (λ (xs : List Request). Interleave (of_text commands (map of_record (records ++ r ∷ []) ++ still_waiting marks client.waiting)) passes xs)
+          subst (λ (xs : List Request). Interleave (of_text commands (row b.marks b.client.waiting (b.records ++ r ∷ []))) b.passes xs)
           (sent_next plan.setup commands begun place task others at (omega (arith, some, sound.unsents)) many ∙ ap (λ (n : ℕ). commands_reached plan.setup commands begun n) (sym place_is))
-          (interleave_by_equal _ _ _ _ (each_skipped commands begun place marks client.waiting records r task others none at refl many kept refl)
-          (interleave_more kept passes (commands_reached plan.setup commands begun place) one sound.each));
+          (interleave_by_equal _ _ _ _ (each_skipped commands begun place b.marks b.client.waiting b.records r task others none at refl many kept refl)
+          (interleave_more kept b.passes (commands_reached plan.setup commands begun place) one sound.each));
       own = sound.own;
-      tasked = all_append (IsOfItsTask commands) records _ sound.tasked (unsent_tasked commands utc begun place turn end task (head_of_drop commands place task others at) out, tt);
+      tasked = all_append (IsOfItsTask commands) b.records _ sound.tasked (unsent_tasked commands utc begun place turn end task (head_of_drop commands place task others at) out, tt);
     }
 
 -- to leave out the next `count` commands of the cycle, or all that are unsent if they are fewer, preserves `Sound`, with as many
 -- fewer unsent; at least one has to be unsent
-pub sound_passed : (plan : Plan) (commands : List Task) (left unsent count : ℕ) (client : ById Asked) (marks : List (Option Mark)) (records : List Record) (passes : List Request)
-    → 0 < unsent → Sound plan commands left unsent client marks records passes
-    → Sound plan commands left (unsent - count) client marks records
-    (passes ++ requests (plan.cycles - left) (length commands - unsent) (map of_task (take count (drop (length commands - unsent) commands))))
-sound_passed plan commands left unsent count client marks records passes some sound =
-    let begun = plan.cycles - left in
-    let place = length commands - unsent in
+pub sound_passed : (plan : Plan) (commands : List Task) (b : Ledger) (count : ℕ)
+    → 0 < b.unsent → Sound plan commands b
+    → Sound plan commands (record b {
+      unsent = b.unsent - count;
+      passes = b.passes ++ requests (plan.cycles - b.left) (length commands - b.unsent) (map of_task (take count (drop (length commands - b.unsent) commands)));
+    })
+sound_passed plan commands b count some sound =
+    let begun = plan.cycles - b.left in
+    let place = length commands - b.unsent in
     let below = sound.begun some in
     let many : 0 < begun = omega (arith, below) in
-    let kept = of_text commands (map of_record records ++ still_waiting marks client.waiting) in
+    let kept = of_text commands (row b.marks b.client.waiting b.records) in
     let past = requests begun place (map of_task (take count (drop place commands))) in
     record {
       unsents = omega (arith, sound.unsents);
@@ -292,23 +307,23 @@ sound_passed plan commands left unsent count client marks records passes some so
       paired = sound.paired;
       window = sound.window;
       digit = sound.digit;
-      each = subst (λ (xs : List Request). Interleave kept (passes ++ past) xs)
-          (sent_past plan.setup commands begun place count (length commands - (unsent - count)) (omega (arith, some, sound.unsents)) (omega (arith, sound.unsents)) many
-          (by_count (nat_lt unsent count) refl)) (interleave_past kept passes (commands_reached plan.setup commands begun place) past sound.each);
+      each = subst (λ (xs : List Request). Interleave kept (b.passes ++ past) xs)
+          (sent_past plan.setup commands begun place count (length commands - (b.unsent - count)) (omega (arith, some, sound.unsents)) (omega (arith, sound.unsents)) many
+          (by_count (nat_lt b.unsent count) refl)) (interleave_past kept b.passes (commands_reached plan.setup commands begun place) past sound.each);
       own = sound.own;
       tasked = sound.tasked;
     } where
       -- the new place is `count` places further on, or at the end if fewer commands are unsent
-      by_count : (b : Bool) → nat_lt unsent count ≡ b → (length commands - (unsent - count) ≡ (length commands - unsent) + count)
-          ⊎ ((length commands - (unsent - count) ≡ length commands) × (length commands ≤ (length commands - unsent) + count))
-      by_count true e = let more = ltb-true unsent count e in inr (omega (arith, more), omega (arith, more, sound.unsents))
-      by_count false e = let few = ltb-false unsent count e in inl (omega (arith, few, sound.unsents))
+      by_count : (fewer : Bool) → nat_lt b.unsent count ≡ fewer → (length commands - (b.unsent - count) ≡ (length commands - b.unsent) + count)
+          ⊎ ((length commands - (b.unsent - count) ≡ length commands) × (length commands ≤ (length commands - b.unsent) + count))
+      by_count true e = let more = ltb-true b.unsent count e in inr (omega (arith, more), omega (arith, more, sound.unsents))
+      by_count false e = let few = ltb-false b.unsent count e in inl (omega (arith, few, sound.unsents))
 
 -- the beginning of a cycle preserves `Sound`, with one cycle fewer left and all commands of the new one unsent, if a cycle is
 -- left and no command of the one before is unsent
-pub sound_begun : (plan : Plan) (commands : List Task) (left unsent : ℕ) (client : ById Asked) (marks : List (Option Mark)) (records : List Record) (passes : List Request)
-    → unsent ≡ 0 → 0 < left → Sound plan commands left unsent client marks records passes → Sound plan commands (left - 1) (length commands - plan.setup) client marks records passes
-sound_begun plan commands left unsent client marks records passes none some sound =
+pub sound_begun : (plan : Plan) (commands : List Task) (b : Ledger)
+    → b.unsent ≡ 0 → 0 < b.left → Sound plan commands b → Sound plan commands (record b { left = b.left - 1; unsent = cycle_length plan commands })
+sound_begun plan commands b none some sound =
     let lefts = sound.lefts in
     record {
       unsents = omega arith;
@@ -317,9 +332,9 @@ sound_begun plan commands left unsent client marks records passes none some soun
       paired = sound.paired;
       window = sound.window;
       digit = sound.digit;
-      each = subst (λ (xs : List Request). Interleave (of_text commands (map of_record records ++ still_waiting marks client.waiting)) passes xs)
-          (sent_whole plan.setup commands (plan.cycles - left) (length commands - unsent) (omega (arith, none))
-          ∙ sym (sent_none plan.setup commands (plan.cycles - left) (plan.cycles - (left - 1)) (length commands - (length commands - plan.setup))
+      each = subst (λ (xs : List Request). Interleave (of_text commands (row b.marks b.client.waiting b.records)) b.passes xs)
+          (sent_whole plan.setup commands (plan.cycles - b.left) (length commands - b.unsent) (omega (arith, none))
+          ∙ sym (sent_none plan.setup commands (plan.cycles - b.left) (plan.cycles - (b.left - 1)) (length commands - (cycle_length plan commands))
           (omega (arith, some, lefts)) (omega arith))) sound.each;
       own = sound.own;
       tasked = sound.tasked;
@@ -343,7 +358,7 @@ invariant_losing : (plan : Plan) (commands : List Task) (s : Model) (all : Bool)
 invariant_losing plan commands s true is (sound, placed) =
     let p = s.progress in
     let ss = map lost s.client.waiting in
-    let x = sound_settles s.reads plan commands p.left p.unsent s.client fresh s.marks s.records s.passes p.moment.utc ss
+    let x = sound_settles s.reads plan commands (ledger_at s p) fresh p.moment.utc ss
     (append-nil (map of_settled ss) ∙ lost_parts s.client.waiting) (omega arith) sound in
     let nothing : drop (length ss) s.marks ≡ [] = nil_from_length (drop (length ss) s.marks) x.paired in
     record {

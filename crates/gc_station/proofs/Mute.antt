@@ -34,10 +34,10 @@ use Rattle.gc_station.proofs.Closings.{came_phase}
 use Rattle.gc_station.proofs.Connected.{is_in_use, OnLine, on_line_always}
 use Rattle.gc_station.proofs.Since.{Since, since_now, since_on, cut_on}
 use Rattle.gc_station.proofs.EachRun.{invariant_holds}
-use Rattle.gc_station.proofs.Facts.{or_first, action_for, order_wakes, Awake, Wakes}
+use Rattle.gc_station.proofs.Facts.{or_first, action_for, action_wakes, Awake, Wakes}
 use Rattle.gc_station.proofs.Going.{after_all-append}
 use Rattle.gc_station.proofs.Lists.{all_append}
-use Rattle.gc_station.proofs.Silences.{LastTells, awake_last, not_closing, end_here, awake_here}
+use Rattle.gc_station.proofs.Silences.{LastTells, awake_last, not_closing, end_here, second_holds}
 use Rattle.gc_station.proofs.Invariant.{Invariant}
 use Rattle.gc_station.proofs.Walk.{asked_along, came_along}
 use Rattle.gc_station.specs.Scopes.{Scope}
@@ -182,9 +182,24 @@ module _ (plan : Plan) (commands : List Task) (scope : Scope) where
   Mute sought asked alive now phase.Ready acts = sought ≡ true → IsMuted asked alive now acts
   Mute sought asked alive now _ acts = Unit {0}
 
-  -- `Mute`, by the fields of a progress
+  -- `Mute` in this phase, by the fields of a progress
+  abbrev MuteIn : Progress → Phase → List Act → Type 0
+  MuteIn p at acts = Mute (is_sought p.word p.again p.asked) p.asked p.alive p.moment.elapsed at acts
+
+  -- `MuteIn` in the phase of the progress
   abbrev MuteAt : Progress → List Act → Type 0
-  MuteAt p acts = Mute (is_sought p.word p.again p.asked) p.asked p.alive p.moment.elapsed p.phase acts
+  MuteAt p acts = MuteIn p p.phase acts
+
+  -- there has been a silence, by the fields of a progress
+  abbrev IsMutedAt : Progress → List Act → Type 0
+  IsMutedAt p acts = IsMuted p.asked p.alive p.moment.elapsed acts
+
+  -- after the acts, at which the progress is p, these lines came at the moment m, after which it is q: none of them is a reply,
+  -- and q goes on with the silence before them; or one is, and q begins a silence at m, in which no request was sent yet
+  abbrev SilentOver : List (List ℕ) → Moment → List Act → (p q : Progress) → Type 0
+  SilentOver lines m acts p q =
+      (AllByRecursion IsNoReply lines × (q.alive ≡ min p.alive m.elapsed) × (q.asked ≡ p.asked) × IsMutedAt p acts)
+      ⊎ ((q.alive ≡ m.elapsed) × (q.asked ≡ false))
 
   -- What each act leaves.
 
@@ -193,8 +208,8 @@ module _ (plan : Plan) (commands : List Task) (scope : Scope) where
   mute_none sought asked alive now phase.Ready acts none = cc
   mute_none sought asked alive now at acts none = tt
 
-  -- `Mute` is preserved by an act that reads the moment m, only listens, stays on the connection and brings no reply line; in
-  -- place of `sought` with any `sought'` that gives `sought` in the phase `Ready`
+  -- `Mute` is preserved by an act that reads the moment m, only listens, stays on the connection and brings no reply line. After
+  -- it `sought'` may stand for `sought`, if in the phase `Ready` it is true only where `sought` is
   mute_told : (sought sought' asked : Bool) (alive now : ℕ) (m : Moment) (at : Phase) (acts : List Act) (act : Act)
       → (back : at ≡ phase.Ready → sought' ≡ true → sought ≡ true) → (tells : TellsMoment m.elapsed act) → (reads_it : latest now (act ∷ []) ≡ m.elapsed) → (stays : StaysConnected act)
       → (listens : IsListening act)
@@ -203,24 +218,18 @@ module _ (plan : Plan) (commands : List Task) (scope : Scope) where
       λ so. muted_clock asked alive now m acts act (nat_le alive m.elapsed) refl tells is stays listens none (q (back refl so))
   mute_told sought sought' asked alive now m at acts act back tells is stays listens none q = tt
 
-  -- after a piece that is heard there is a silence, as q says: the one before it goes on, if there was one and no reply line is
-  -- in the piece; or one begins at the piece's moment, without a request after it
+  -- after a piece, of whose lines `SilentOver` holds up to q, there is a silence, as q says
   heard_mute : (s : Model) (bytes : List ℕ) (m : Moment) (acts : List Act) (q : Progress) → (state_after plan commands scope acts).rest ≡ s.rest → q.moment.elapsed ≡ m.elapsed
-      → (AllByRecursion IsNoReply (lines_completed s.rest bytes) × (q.alive ≡ min s.progress.alive m.elapsed) × (q.asked ≡ s.progress.asked)
-      × IsMuted s.progress.asked s.progress.alive s.progress.moment.elapsed acts)
-      ⊎ ((q.alive ≡ m.elapsed) × (q.asked ≡ false))
-      → IsMuted q.asked q.alive q.moment.elapsed (acts ++ Gave bytes m ∷ [])
+      → SilentOver (lines_completed s.rest bytes) m acts s.progress q → IsMutedAt q (acts ++ Gave bytes m ∷ [])
   heard_mute s bytes m acts q rest now h = by_alive h where
     -- the same silence, with `asked` and `alive` as q has them
-    carried : (b : Bool) (a : ℕ) → q.asked ≡ b → q.alive ≡ a → IsMuted b a m.elapsed (acts ++ Gave bytes m ∷ []) → IsMuted q.asked q.alive q.moment.elapsed (acts ++ Gave bytes m ∷ [])
+    carried : (b : Bool) (a : ℕ) → q.asked ≡ b → q.alive ≡ a → IsMuted b a m.elapsed (acts ++ Gave bytes m ∷ []) → IsMutedAt q (acts ++ Gave bytes m ∷ [])
     carried b a eb ea x =
         subst (λ c. IsMuted c q.alive q.moment.elapsed (acts ++ Gave bytes m ∷ [])) (sym eb)
         (subst (λ c. IsMuted b c q.moment.elapsed (acts ++ Gave bytes m ∷ [])) (sym ea) (subst (λ c. IsMuted b a c (acts ++ Gave bytes m ∷ [])) (sym now) x))
 
     -- the lemma above, by whether a reply line is in the piece
-    by_alive : (AllByRecursion IsNoReply (lines_completed s.rest bytes) × (q.alive ≡ min s.progress.alive m.elapsed) × (q.asked ≡ s.progress.asked)
-        × IsMuted s.progress.asked s.progress.alive s.progress.moment.elapsed acts)
-        ⊎ ((q.alive ≡ m.elapsed) × (q.asked ≡ false)) → IsMuted q.asked q.alive q.moment.elapsed (acts ++ Gave bytes m ∷ [])
+    by_alive : SilentOver (lines_completed s.rest bytes) m acts s.progress q → IsMutedAt q (acts ++ Gave bytes m ∷ [])
     by_alive (inl none) =
         let quiet = subst (λ r. AllByRecursion IsNoReply (lines_completed r bytes)) (sym rest) none.0 in
         carried s.progress.asked (min s.progress.alive m.elapsed) none.2 none.1
@@ -235,9 +244,8 @@ module _ (plan : Plan) (commands : List Task) (scope : Scope) where
 
   -- `Mute` is preserved by a piece in the phase `Ready`
   ready_mute : (s : Model) (bytes : List ℕ) (m : Moment) (acts : List Act) (word : List ℕ) → s.progress.word ≡ word → (state_after plan commands scope acts).rest ≡ s.rest
-      → (is_sought s.progress.word s.progress.again s.progress.asked ≡ true → IsMuted s.progress.asked s.progress.alive s.progress.moment.elapsed acts)
-      → (let q = (after_piece true word bytes (with_moment m (with_progress (moment_noted m) s))).progress in is_sought q.word q.again q.asked ≡ true
-      → IsMuted q.asked q.alive q.moment.elapsed (acts ++ Gave bytes m ∷ []))
+      → MuteIn s.progress phase.Ready acts
+      → MuteIn (after_piece true word bytes (with_moment m (with_progress (moment_noted m) s))).progress phase.Ready (acts ++ Gave bytes m ∷ [])
   ready_mute s bytes m acts [] e rest h so = heard_mute s bytes m acts (lines_came mid lines).progress rest
       (ap (λ (x : Moment). x.elapsed) (lines_moment mid lines)) (by_lines (lines_alive mid lines)) where
         -- the model before the lines: the moment was read, and the bytes after the last line feed are kept
@@ -248,11 +256,8 @@ module _ (plan : Plan) (commands : List Task) (scope : Scope) where
         lines : List (List ℕ)
         lines = lines_completed s.rest bytes
 
-        -- none of these lines is a reply, and there was a silence before them; or one is, and `alive` is their moment
-        by_lines : Alive mid lines (lines_came mid lines).progress
-            → (AllByRecursion IsNoReply lines × ((lines_came mid lines).progress.alive ≡ min s.progress.alive m.elapsed)
-            × ((lines_came mid lines).progress.asked ≡ s.progress.asked) × IsMuted s.progress.asked s.progress.alive s.progress.moment.elapsed acts)
-            ⊎ (((lines_came mid lines).progress.alive ≡ m.elapsed) × ((lines_came mid lines).progress.asked ≡ false))
+        -- `SilentOver` holds of these lines
+        by_lines : Alive mid lines (lines_came mid lines).progress → SilentOver lines m acts s.progress (lines_came mid lines).progress
         by_lines (inl none) = inl (none.0, none.1, none.2, h (sought_begun s.progress.word s.progress.again s.progress.asked (ap is_none_left e)))
         by_lines (inr now) = inr now
   ready_mute s bytes m acts (first ∷ others) e rest h so = heard_mute s bytes m acts q rest
@@ -269,10 +274,8 @@ module _ (plan : Plan) (commands : List Task) (scope : Scope) where
         q : Progress
         q = lines_synchronizing mid.progress lines
 
-        -- none of these lines is a reply, and there was a silence before them; or one is, and `alive` is their moment
-        by_lines : AliveAsked mid.progress lines q
-            → (AllByRecursion IsNoReply lines × (q.alive ≡ min s.progress.alive m.elapsed) × (q.asked ≡ s.progress.asked)
-            × IsMuted s.progress.asked s.progress.alive s.progress.moment.elapsed acts) ⊎ ((q.alive ≡ m.elapsed) × (q.asked ≡ false))
+        -- `SilentOver` holds of these lines
+        by_lines : AliveAsked mid.progress lines q → SilentOver lines m acts s.progress q
         by_lines (inl none) =
             let same : is_sought s.progress.word s.progress.again s.progress.asked ≡ is_sought q.word q.again q.asked =
             ap (λ w. is_sought w s.progress.again s.progress.asked) (sym none.3) ∙ ap (λ n. is_sought q.word n s.progress.asked) (sym none.4) ∙ ap (λ b. is_sought q.word q.again b) (sym none.2) in
@@ -281,16 +284,16 @@ module _ (plan : Plan) (commands : List Task) (scope : Scope) where
 
   -- `Mute` is preserved by a piece in any phase
   gave_mute : (s : Model) (bytes : List ℕ) (m : Moment) (at : Phase) (acts : List Act) → s.progress.phase ≡ at → (state_after plan commands scope acts).rest ≡ s.rest
-      → Mute (is_sought s.progress.word s.progress.again s.progress.asked) s.progress.asked s.progress.alive s.progress.moment.elapsed at acts
+      → MuteIn s.progress at acts
       → MuteAt (after_piece (is_heard at) s.progress.word bytes (with_moment m (with_progress (moment_noted m) s))).progress (acts ++ Gave bytes m ∷ [])
   gave_mute s bytes m phase.Ready acts is rest h =
       let q = (after_piece true s.progress.word bytes (with_moment m (with_progress (moment_noted m) s))).progress in
-      subst (λ (x : Phase). Mute (is_sought q.word q.again q.asked) q.asked q.alive q.moment.elapsed x (acts ++ Gave bytes m ∷ []))
+      subst (λ (x : Phase). MuteIn q x (acts ++ Gave bytes m ∷ []))
       (sym (came_phase true s.progress.word bytes (with_moment m (with_progress (moment_noted m) s)) ∙ is))
       (ready_mute s bytes m acts s.progress.word refl rest h)
   gave_mute s bytes m at acts is rest h =
       let q = (after_piece (is_heard at) s.progress.word bytes (with_moment m (with_progress (moment_noted m) s))).progress in
-      subst (λ (x : Phase). Mute (is_sought q.word q.again q.asked) q.asked q.alive q.moment.elapsed x (acts ++ Gave bytes m ∷ []))
+      subst (λ (x : Phase). MuteIn q x (acts ++ Gave bytes m ∷ []))
       (sym (came_phase (is_heard at) s.progress.word bytes (with_moment m (with_progress (moment_noted m) s)) ∙ is)) tt
 
   -- after a request the silence goes on, if another one was sent after the last reply line (`asked`); otherwise a silence
@@ -301,19 +304,19 @@ module _ (plan : Plan) (commands : List Task) (scope : Scope) where
   muted_asks false alive now acts out tells q = muted_asking now acts out tells
 
   -- if this action sends a request, the last of the acts read the progress's moment
-  abbrev Tells : Progress → List Act → Action → Type 0
-  Tells p acts actions.Ask = LastTells p.moment.elapsed acts
-  Tells p acts actions.Prepare = LastTells p.moment.elapsed acts
-  Tells p acts actions.Send = LastTells p.moment.elapsed acts
-  Tells p acts actions.Flush = LastTells p.moment.elapsed acts
-  Tells p acts _ = Unit {0}
+  abbrev ReadsBeforeAsking : Progress → List Act → Action → Type 0
+  ReadsBeforeAsking p acts actions.Ask = LastTells p.moment.elapsed acts
+  ReadsBeforeAsking p acts actions.Prepare = LastTells p.moment.elapsed acts
+  ReadsBeforeAsking p acts actions.Send = LastTells p.moment.elapsed acts
+  ReadsBeforeAsking p acts actions.Flush = LastTells p.moment.elapsed acts
+  ReadsBeforeAsking p acts _ = Unit {0}
 
   -- what `MuteAt` says in this phase
-  in_phase : (p : Progress) (at : Phase) (acts : List Act) → p.phase ≡ at → MuteAt p acts → Mute (is_sought p.word p.again p.asked) p.asked p.alive p.moment.elapsed at acts
-  in_phase p at acts is q = subst (λ (x : Phase). Mute (is_sought p.word p.again p.asked) p.asked p.alive p.moment.elapsed x acts) is q
+  in_phase : (p : Progress) (at : Phase) (acts : List Act) → p.phase ≡ at → MuteAt p acts → MuteIn p at acts
+  in_phase p at acts is q = subst (λ (x : Phase). MuteIn p x acts) is q
 
-  -- `MuteAt` is preserved by an act that reads the clock, with any `sought` for which a reply line was waited for before the act,
-  -- if the phase is `Ready`
+  -- where `MuteAt` holds, `Mute` holds after an act that reads the clock, with any `sought` that in the phase `Ready` is true
+  -- only where a reply line was waited for before the act
   told_mute : (sought : Bool) (p : Progress) (m : Moment) (acts : List Act)
       → (p.phase ≡ phase.Ready → sought ≡ true → is_sought p.word p.again p.asked ≡ true) → MuteAt p acts
       → Mute sought p.asked (min p.alive m.elapsed) m.elapsed p.phase (acts ++ Told m ∷ [])
@@ -343,10 +346,10 @@ module _ (plan : Plan) (commands : List Task) (scope : Scope) where
   mute_where true false alive now at acts q = tt
   mute_where false on alive now at acts q = q
 
-  -- `MuteAt` is preserved by an act of any action that leaves a connection in use, if `HoldsBefore` and `Tells` hold of the
-  -- action
-  mute_line : (next : Action) (s : Model) (acts : List Act) → HoldsBefore plan s.progress (waiting_of s) next → Tells s.progress acts next → (state_after plan commands scope acts).rest ≡ s.rest
-      → MuteAt s.progress acts → OnLine plan commands MuteAt next (with_progress turned s) acts
+  -- `MuteAt` is preserved by an act of any action that leaves a connection in use, if `HoldsBefore` and `ReadsBeforeAsking` hold
+  -- of the action
+  mute_line : (next : Action) (s : Model) (acts : List Act) → HoldsBefore plan s.progress (waiting_of s) next → ReadsBeforeAsking s.progress acts next
+      → (state_after plan commands scope acts).rest ≡ s.rest → MuteAt s.progress acts → OnLine plan commands MuteAt next (with_progress turned s) acts
   mute_line actions.Open s acts needs tells rest q = λ m. tt
   mute_line actions.Clear s acts needs tells rest q = λ m. cleared_mute (has_begun s.progress) s.progress (acts ++ Put (10 ∷ []) ∷ []) refl
   mute_line actions.Renew s acts needs tells rest q =
@@ -372,14 +375,14 @@ module _ (plan : Plan) (commands : List Task) (scope : Scope) where
 
   -- Whole runs.
 
-  -- `Tells` holds of an action of which `Wakes` holds, if the last of the acts read the progress's moment where the station is
-  -- `Awake`
-  tells_in : (p : Progress) (acts : List Act) (next : Action) → Wakes p next → (Awake p → LastTells p.moment.elapsed acts) → Tells p acts next
-  tells_in p acts actions.Ask awake last = last awake
-  tells_in p acts actions.Prepare awake last = last awake
-  tells_in p acts actions.Send awake last = last awake
-  tells_in p acts actions.Flush awake last = last awake
-  tells_in p acts next awake last = tt
+  -- `ReadsBeforeAsking` holds of an action of which `Wakes` holds, if the last of the acts read the progress's moment where the
+  -- station is `Awake`
+  reads_before_asking : (p : Progress) (acts : List Act) (next : Action) → Wakes p next → (Awake p → LastTells p.moment.elapsed acts) → ReadsBeforeAsking p acts next
+  reads_before_asking p acts actions.Ask awake last = last awake
+  reads_before_asking p acts actions.Prepare awake last = last awake
+  reads_before_asking p acts actions.Send awake last = last awake
+  reads_before_asking p acts actions.Flush awake last = last awake
+  reads_before_asking p acts next awake last = tt
 
   -- `MuteAt` holds after every run
   mute_holds : (acts : List Act) → Runs plan commands (opening plan scope) acts → MuteAt (state_after plan commands scope acts).progress acts
@@ -387,7 +390,7 @@ module _ (plan : Plan) (commands : List Task) (scope : Scope) where
       on_line_always plan commands MuteAt (λ x acts none. mute_none (is_sought x.word x.again x.asked) x.asked x.alive x.moment.elapsed x.phase acts none) scope (λ done runs q.
       let s = state_after plan commands scope done in
       let p = s.progress in
-      let tells = tells_in p done (action_at plan s) (order_wakes plan p (waiting_of s)) (λ awake. awake_last plan commands scope done runs awake) in
+      let tells = reads_before_asking p done (action_at plan s) (action_wakes plan p (waiting_of s)) (λ awake. awake_last plan commands scope done runs awake) in
       mute_line (action_at plan s) s done (action_for plan p (waiting_of s)) tells refl q) tt acts runs
 
   -- if a request is outstanding, or a null procedure was sent on this connection, a reply line is waited for
@@ -435,7 +438,7 @@ module _ (plan : Plan) (commands : List Task) (scope : Scope) where
 
     -- the phase is `Ready`, and the moment was read
     awake : Awake s.progress
-    awake = awake_here s.progress cause.Dead (subst (λ (next : Action). Wakes s.progress next) is (order_wakes plan s.progress (waiting_of s))) never
+    awake = second_holds (subst (λ (next : Action). Wakes s.progress next) is (action_wakes plan s.progress (waiting_of s))) never
 
     -- a reply line is waited for, and for long enough none came
     dead : ((nat_lt 0 (length s.client.waiting) || nat_lt 0 s.progress.again) ≡ true) × (nat_le (dead_after plan) (s.progress.moment.elapsed - s.progress.alive) ≡ true)
@@ -443,5 +446,5 @@ module _ (plan : Plan) (commands : List Task) (scope : Scope) where
         (nat_le (dead_after plan) (s.progress.moment.elapsed - s.progress.alive)) (end_here plan s cause.Dead is never).1
 
     -- a silence has lasted since `alive`
-    q : IsMuted s.progress.asked s.progress.alive s.progress.moment.elapsed acts
+    q : IsMutedAt s.progress acts
     q = in_phase s.progress phase.Ready acts awake.1 (mute_holds acts runs) (sought_dead s (invariant_holds plan commands scope acts) dead.0)

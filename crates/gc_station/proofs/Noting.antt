@@ -85,9 +85,13 @@ module _ (plan : Plan) (commands : List Task) (scope : Scope) (text : Record →
         kept = kept_more [] n.went.acts n.turns makes.act (now told' taken' lasts) n.kept (record { tells = n.went.tells; took = n.went.took; lasts = true_ });
       }
 
-  -- where `Noted` holds, the run has kept up so far (`KeepsUp`), with no act after its own
+  -- `KeepsUp` of this run, with the acts `others` after it
+  abbrev KeepsUpHere : Option (List Act) → (saw saw' : List Snapshot) → List Act → Type 0
+  KeepsUpHere told' saw saw' others = KeepsUp plan commands scope text told told' taken saw saw' others
+
+  -- where `Noted` holds, the run has kept up so far (`KeepsUpHere`), with no act after its own
   pub noted_end : (told' : Option (List Act)) (taken' : Option (List ℕ)) (station : Station) (saw saw' : List Snapshot)
-      → Noted told' taken' station saw saw' → KeepsUp plan commands scope text told told' taken saw saw' []
+      → Noted told' taken' station saw saw' → KeepsUpHere told' saw saw' []
   noted_end told' taken' station saw saw' n = record {
     acts = n.went.acts;
     tells = subst (λ (xs : List Act). Tells told told' xs) (sym (append-nil n.went.acts)) n.went.tells;
@@ -100,7 +104,7 @@ module _ (plan : Plan) (commands : List Task) (scope : Scope) (text : Record →
   -- where `Noted` holds, and the link then recorded a close, as where records couldn't be made to last, the run has kept up
   -- (`KeepsUp`), with that close after its own acts
   pub noted_left : (told' told'' : Option (List Act)) (taken' : Option (List ℕ)) (station : Station) (saw saw' : List Snapshot)
-      → Noted told' taken' station saw saw' → Tells told' told'' (Closed ∷ []) → KeepsUp plan commands scope text told told'' taken saw saw' (Closed ∷ [])
+      → Noted told' taken' station saw saw' → Tells told' told'' (Closed ∷ []) → KeepsUpHere told'' saw saw' (Closed ∷ [])
   noted_left told' told'' taken' station saw saw' n closed = record {
     acts = n.went.acts;
     tells = tells_more told told' told'' n.went.acts (Closed ∷ []) n.went.tells closed;
@@ -118,7 +122,7 @@ module _ (plan : Plan) (commands : List Task) (scope : Scope) (text : Record →
       → (is_next : action ≡ action_at plan (state_after plan commands scope n.went.acts))
       → Breaks commands action (stepped plan commands action) (seen told' text taken' station) told'' taken''
       → Tells told'' told''' (Closed ∷ []) → (one_more : saw'' ≡ saw' ++ now told' taken' lasts ∷ []) → (lasting : lasts ≡ true)
-      → KeepsUp plan commands scope text told told''' taken saw saw'' (Closed ∷ [])
+      → KeepsUpHere told''' saw saw'' (Closed ∷ [])
   noted_wrong told' told'' told''' taken' taken'' lasts station action saw saw' saw'' n is breaks closed one true_ =
       let w = n.went in
       let s = state_after plan commands scope w.acts in
@@ -132,10 +136,6 @@ module _ (plan : Plan) (commands : List Task) (scope : Scope) (text : Record →
         saw = saw_more saw saw' saw'' n.turns (now told' taken' lasts) n.all one;
         kept = kept_more [] w.acts n.turns breaks.act (now told' taken' lasts) n.kept (record { tells = w.tells; took = w.took; lasts = true_ });
       }
-
-  -- `KeepsUp` of this run, with the acts `others` after it
-  abbrev KeepsUpHere : Option (List Act) → (saw saw' : List Snapshot) → List Act → Type 0
-  KeepsUpHere told' saw saw' others = KeepsUp plan commands scope text told told' taken saw saw' others
 
   -- a run that has kept up with no act after it has kept up with the close that `close_at_output` gives for the fault of a cause:
   -- that is none, as only the fault `Output`, which no cause has, gives a close

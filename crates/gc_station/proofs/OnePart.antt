@@ -1,5 +1,5 @@
--- Acts during which a station doesn't resynchronize are of one part; as are a request, and the acts after it before the command
--- that is next then. An act is one call on the link, with its result. A part reaches from one synchronization to the next.
+-- Acts during which a station stays synchronized are of one part of the run: they add no part to those before them. An act is
+-- one call on the link, with its result. A part reaches from one synchronization to the next.
 use Rattle.std.proofs.Common.{◌≡◌, suc, ◌+◌, ◌-◌, ◌&&◌, ◌||◌, Bool, true, false, not, List, [], ◌∷◌, ◌++◌, length, drop, refl, sym, ap, subst, arith}
 use Rattle.gc_texts.specs.declared.tasks.Task.{Task}
 use Rattle.gc_station.specs.declared.plan.Plan.{Plan}
@@ -27,12 +27,12 @@ pub runs_front : (plan : Plan) (commands : List Task) (s : Model) (xs ys : List 
 runs_front plan commands s [] ys h = tt
 runs_front plan commands s (act ∷ xs) ys h = (h.0, runs_front plan commands (after plan commands s act) xs ys h.1)
 
--- if a run isn't over after acts, it isn't before them, as no act follows a run that is over
-goes_on : (plan : Plan) (commands : List Task) (u : Model) (acts : List Act) (over : Bool) → is_over u.progress ≡ over → Runs plan commands u acts
+-- if the run isn't over after acts, it wasn't before them, as no act follows once it is over
+not_over_before : (plan : Plan) (commands : List Task) (u : Model) (acts : List Act) (over : Bool) → is_over u.progress ≡ over → Runs plan commands u acts
     → is_over (after_all plan commands u acts).progress ≡ false → is_over u.progress ≡ false
-goes_on plan commands u acts false e runs end = e
-goes_on plan commands u [] true e runs end = end
-goes_on plan commands u (act ∷ acts) true e runs end = absurd (over_stays plan commands u act e runs.0)
+not_over_before plan commands u acts false e runs end = e
+not_over_before plan commands u [] true e runs end = end
+not_over_before plan commands u (act ∷ acts) true e runs end = absurd (over_stays plan commands u act e runs.0)
 
 -- if the station has synchronized after an act (`later`), and the run isn't over, the act ends no part, whether the station had
 -- synchronized before (`begun`) or not
@@ -42,15 +42,15 @@ ends_no_part true false over a o = cc
 ends_no_part false later over a o = refl
 
 -- acts of a run, after each of which the station has synchronized, are one part, if the run isn't over after them
-single : (plan : Plan) (commands : List Task) (s : Model) (acts : List Act) → Runs plan commands s acts → StaysBegun plan commands s acts
+are_one_part : (plan : Plan) (commands : List Task) (s : Model) (acts : List Act) → Runs plan commands s acts → StaysBegun plan commands s acts
     → is_over (after_all plan commands s acts).progress ≡ false → length (parts_of plan commands s acts) ≡ 1
-single plan commands s [] runs keeps end = refl
-single plan commands s (act ∷ acts) runs keeps end =
+are_one_part plan commands s [] runs keeps end = refl
+are_one_part plan commands s (act ∷ acts) runs keeps end =
     let u = after plan commands s act in
     let p = part_of_act plan commands s (action_at plan s) act in
-    let over = goes_on plan commands u acts (is_over u.progress) refl runs.1 end in
+    let over = not_over_before plan commands u acts (is_over u.progress) refl runs.1 end in
     let ends : ends_part plan commands s act ≡ false = ends_no_part (has_begun s.progress) (has_begun u.progress) (is_over u.progress) keeps.0 over in
-    subst (λ b. length (in_front p b (parts_of plan commands u acts)) ≡ 1) (sym ends) (joined_length p (parts_of plan commands u acts) 0 (single plan commands u acts runs.1 keeps.1 end))
+    subst (λ b. length (in_front p b (parts_of plan commands u acts)) ≡ 1) (sym ends) (joined_length p (parts_of plan commands u acts) 0 (are_one_part plan commands u acts runs.1 keeps.1 end))
 
 -- if two lists have as many parts as each other, they still do once the same part is put before both (`in_front`)
 front_length : (p : Part) (ends : Bool) (ps qs : List Part) → length ps ≡ length qs → length (in_front p ends ps) ≡ length (in_front p ends qs)
@@ -74,16 +74,21 @@ pub puts_text : (commands : List Task) (plan : Plan) (s : Model) (act : Act) →
     → Puts (first_text s.progress.moment.utc s.client (drop (place_next commands s.progress) commands)) act
 puts_text commands plan s act is obeys = subst (λ (o : Action). Performs commands s o act) is obeys
 
--- acts (`request`, and after it `between`) after which a command of a cycle is next are of one part, if the station doesn't
--- resynchronize in them: they add no part to those of the acts before
-pub same_part : (plan : Plan) (commands : List Task) (scope : Scope) (before between : List Act) (request : Act)
-    → Runs plan commands (opening plan scope) (before ++ request ∷ between)
-    → StaysBegun plan commands (state_after plan commands scope before) (request ∷ between)
-    → action_at plan (state_after plan commands scope (before ++ request ∷ between)) ≡ Send
-    → length (parts plan commands scope (before ++ request ∷ between)) ≡ length (parts plan commands scope before)
-same_part plan commands scope before between request runs keeps next =
-    let s = state_after plan commands scope before in
-    let on = runs_behind plan commands (opening plan scope) before (request ∷ between) runs in
-    let last = going_on (state_after plan commands scope (before ++ request ∷ between)).progress (needs_of plan (state_after plan commands scope (before ++ request ∷ between)) Send next).0 in
-    let end = subst (λ (t : Model). is_over t.progress ≡ false) (after_all-append plan commands (opening plan scope) before (request ∷ between)) last in
-    parts_more plan commands (opening plan scope) before (request ∷ between) (single plan commands s (request ∷ between) on keeps end)
+module _ (plan : Plan) (commands : List Task) (scope : Scope) where
+  -- the model after these acts
+  abbrev state : List Act → Model
+  state acts = state_after plan commands scope acts
+
+  -- if the station stays synchronized in the acts `request` and then `between`, and a command of a cycle is next after them, they
+  -- add no part to those of the acts before
+  pub same_part : (before between : List Act) (request : Act)
+      → Runs plan commands (opening plan scope) (before ++ request ∷ between)
+      → StaysBegun plan commands (state before) (request ∷ between)
+      → action_at plan (state (before ++ request ∷ between)) ≡ Send
+      → length (parts plan commands scope (before ++ request ∷ between)) ≡ length (parts plan commands scope before)
+  same_part before between request runs keeps next =
+      let s = state before in
+      let on = runs_behind plan commands (opening plan scope) before (request ∷ between) runs in
+      let last = going_on (state (before ++ request ∷ between)).progress (needs_of plan (state (before ++ request ∷ between)) Send next).0 in
+      let end = subst (λ (t : Model). is_over t.progress ≡ false) (after_all-append plan commands (opening plan scope) before (request ∷ between)) last in
+      parts_more plan commands (opening plan scope) before (request ∷ between) (are_one_part plan commands s (request ∷ between) on keeps end)

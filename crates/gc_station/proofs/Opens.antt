@@ -1,26 +1,25 @@
 -- Each connection that ends was asked for, and so was each that couldn't be made. `Counted` says of one act: connections before
 -- it and asked for by it are as many as those that end at it, can't be made, or are there after it. An act is one call on the
 -- link, with its result.
-use Rattle.std.proofs.Common.{◌≡◌, ◌+◌, Bool, true, false, List, [], ◌∷◌, if◌then◌else◌, refl, sym, ap, ◌∙◌, arith}
+use Rattle.std.proofs.Common.{◌≡◌, ◌+◌, Bool, true, false, List, [], ◌∷◌, refl, sym, ap, ◌∙◌, arith}
 use Rattle.gc_texts.specs.declared.tasks.Task.{Task}
 use Rattle.gc_station.specs.declared.plan.Plan.{Plan}
 use Rattle.gc_station.specs.declared.cause.Cause.{Cause}
 use Rattle.gc_station.specs.declared.cause.Cause.TheVariants as cause
-use Rattle.gc_station.specs.declared.progress.Phase.TheVariants as phase
 use Rattle.gc_station.specs.declared.progress.Progress.{Progress}
 use Rattle.gc_station.specs.declared.progress.Action.{Action}
 use Rattle.gc_station.specs.declared.progress.Action.TheVariants as actions
 use Rattle.gc_links.specs.Acts.{Act, Closed, Unopened}
 use Rattle.gc_station.specs.Deciding.{has_begun, is_up}
 use Rattle.gc_station.specs.Marks.{commands_in}
-use Rattle.gc_station.specs.Progressing.{failing, turned, moment_noted, cleared, time_passed, closed}
+use Rattle.gc_station.specs.Progressing.{failing, turned, cleared, time_passed, closed}
 use Rattle.gc_station.specs.Reasons.{HoldsBefore, HasConnectionFor}
-use Rattle.gc_station.specs.Model.{Model, waiting_of, with_progress, with_moment, is_heard, after_open, Performs, moved}
+use Rattle.gc_station.specs.Model.{Model, waiting_of, with_progress, is_heard, after_open, Performs, moved}
 use Rattle.gc_station.specs.NextCommand.{commands_before}
 use Rattle.gc_station.specs.Tries.{endings_in, openings_in}
 use Rattle.gc_station.proofs.Closings.{came_phase, cleared_up}
 use Rattle.gc_station.proofs.Silences.{quieted_up}
-use Rattle.gc_station.proofs.Walk.{walk}
+use Rattle.gc_station.proofs.Walk.{walk, piece_before}
 use Rattle.gc_station.proofs.Turns.{up_count, again_down, closed_down}
 use Rattle.gc_station.proofs.Unbroken.{failure_keeps_line}
 
@@ -30,16 +29,17 @@ abbrev pub Counted : Bool → Act → Bool → Type 0
 Counted before act behind = openings_in (act ∷ []) + up_count before ≡ endings_in (act ∷ []) + up_count behind
 
 -- `Counted`, by the phases of models
-abbrev CountedAt : Model → Act → Model → Type 0
+abbrev pub CountedAt : Model → Act → Model → Type 0
 CountedAt s act t = Counted (is_up s.progress.phase) act (is_up t.progress.phase)
 
--- an act that asks for no connection and ends none is `Counted`, if there is one after it exactly if there was before
-calm : (before behind : Bool) → behind ≡ before → 0 + up_count before ≡ 0 + up_count behind
-calm before behind same = ap (λ b. 0 + up_count b) (sym same)
+-- an act that asks for no connection and ends none is `Counted`, if there is a connection after it just when there was one
+-- before
+counted_unchanged : (before behind : Bool) → behind ≡ before → 0 + up_count before ≡ 0 + up_count behind
+counted_unchanged before behind same = ap (λ b. 0 + up_count b) (sym same)
 
--- after a failure there is a connection, which is to be closed, if there was one before it, and else none
+-- what `Counted` says of a failed call: it ends no connection, and there is one after it just when there was one before
 failed : (s : Model) (why : Cause) → 0 + up_count (is_up s.progress.phase) ≡ 0 + up_count (is_up (with_progress (failing why) s).progress.phase)
-failed s why = let up = is_up s.progress.phase in calm up (is_up (if up then phase.Closing why else phase.Over why)) (failure_keeps_line up why)
+failed s why = counted_unchanged (is_up s.progress.phase) (is_up (failing why s.progress).phase) (failure_keeps_line s.progress why)
 
 -- a close is `Counted`, if there was a connection before it, and there is none after it
 close_counted : (before behind : Bool) → before ≡ true → behind ≡ false → Counted before Closed behind
@@ -59,7 +59,7 @@ up_for why p has never = has
 
 -- an act of each action but those of `Quits` is `Counted`, if `HoldsBefore` holds of the action
 pub counted_moved : (plan : Plan) (commands : List Task) (next : Action) (s : Model) (act : Act) → Performs commands s next act → HoldsBefore plan s.progress (waiting_of s) next → (Quits next → ⊥)
-    → Counted (is_up s.progress.phase) act (is_up (moved plan commands next (with_progress turned s) act).progress.phase)
+    → CountedAt s act (moved plan commands next (with_progress turned s) act)
 counted_moved plan commands actions.Open s act o needs never =
     let down : up_count (is_up s.progress.phase) ≡ 0 = ap (λ at. up_count (is_up at)) needs in
     let again : up_count (is_up (after_open plan (with_progress turned s) Unopened).progress.phase) ≡ 0 = ap up_count (again_down plan (commands_in s.marks) cause.Open (turned s.progress)) in
@@ -67,8 +67,10 @@ counted_moved plan commands actions.Open s act o needs never =
 counted_moved plan commands actions.Clear s act o needs never =
     let at = (cleared (turned s.progress)).phase in
     let up : is_up at ≡ is_up s.progress.phase = cleared_up (has_begun s.progress) ∙ sym (ap is_up needs) in
-    walk plan commands (CountedAt s) actions.Clear (with_progress turned s) act o
-    (λ m. calm (is_up s.progress.phase) (is_up at) up, λ n. calm (is_up s.progress.phase) _ (failure_keeps_line (is_up at) (cause.Write (commands_before plan commands (turned s.progress)) n) ∙ up))
+    walk plan commands (CountedAt s) actions.Clear (with_progress turned s) act o (
+      λ m. counted_unchanged (is_up s.progress.phase) (is_up at) up,
+      λ n. counted_unchanged (is_up s.progress.phase) _ (failure_keeps_line (cleared (turned s.progress)) (cause.Write (commands_before plan commands (turned s.progress)) n) ∙ up),
+    )
 counted_moved plan commands actions.Ask s act o needs never =
     walk plan commands (CountedAt s) actions.Ask (with_progress turned s) act o (λ m. refl, λ n. failed s (cause.Write (commands_before plan commands (turned s.progress)) n))
 counted_moved plan commands actions.Prepare s act o needs never =
@@ -79,8 +81,8 @@ counted_moved plan commands actions.Flush s act o needs never =
     walk plan commands (CountedAt s) actions.Flush (with_progress turned s) act o (λ m. refl, λ n. failed s (cause.Write (commands_before plan commands (turned s.progress)) n))
 counted_moved plan commands (actions.Read until) s act o needs never =
     walk plan commands (CountedAt s) (actions.Read until) (with_progress turned s) act o (
-      λ bytes m. calm (is_up s.progress.phase) _ (ap is_up (came_phase (is_heard s.progress.phase) s.progress.word bytes (with_moment m (with_progress (moment_noted m) (with_progress turned s))))),
-      λ m. calm (is_up s.progress.phase) _ (quieted_up plan s.progress.phase (time_passed until m (turned s.progress)) refl),
+      λ bytes m. counted_unchanged (is_up s.progress.phase) _ (ap is_up (came_phase (is_heard s.progress.phase) s.progress.word bytes (piece_before m s))),
+      λ m. counted_unchanged (is_up s.progress.phase) _ (quieted_up plan s.progress.phase (time_passed until m (turned s.progress)) refl),
       failed s cause.End,
       failed s cause.Read,
       failed s cause.Clock,

@@ -8,6 +8,7 @@ use Rattle.std.proofs.lemmas.Bool.{both_ways, cond_both}
 use Rattle.gc_lines.specs.Frames.{rest_behind}
 use Rattle.gc_catalogue.specs.declared.asked.Asked.TheVariants.{Table}
 use Rattle.gc_catalogue.specs.declared.call.Call.TheVariants.{NullProc}
+use Rattle.gc_catalogue.specs.declared.answer.Reading.{Reading}
 use Rattle.gc_catalogue.specs.declared.asked.Asked.{Asked}
 use Rattle.gc_client.specs.OneForOne.{Hear, Expire}
 use Rattle.gc_client.specs.Rule.{ById, fresh, heard, hears, expired, expires}
@@ -21,29 +22,35 @@ use Rattle.gc_station.specs.declared.progress.Action.{Action}
 use Rattle.gc_station.specs.declared.progress.Action.TheVariants as action
 use Rattle.gc_station.specs.declared.progress.Progress.{Progress}
 use Rattle.gc_station.specs.declared.progress.Until.{Until}
-use Rattle.gc_links.specs.Acts.{Act, Told, Put, Cut, Gave}
+use Rattle.gc_links.specs.Acts.{Act, Told, Gave}
 use Rattle.gc_station.specs.Deciding.{later, has_begun, is_none_left}
-use Rattle.gc_station.specs.Parts.{Turn, Part, only_turns, only_steps, nothing, put_part, request_part, first_request_part, heard_steps, client_part, sync_part, part_of_act, sent_of, request_or_null_part}
-use Rattle.gc_station.specs.Progressing.{moment_noted, turned, skipped_at}
+use Rattle.gc_station.specs.Parts.{Turn, Part, only_turns, only_steps, nothing, put_part, first_request_part, heard_steps, client_part, sync_part, part_of_act, sent_of, request_or_null_part, null_part}
+use Rattle.gc_station.specs.Progressing.{turned, skipped_at}
 use Rattle.gc_station.specs.Reasons.{HoldsBefore}
 use Rattle.gc_station.specs.Records.{Record}
 use Rattle.gc_station.specs.declared.mark.Mark.{Mark}
 use Rattle.gc_station.specs.Model.{Model, waiting_of, Performs, with_progress, with_moment, with_rest, asks_null, asks_first, unsent_record, first_unsent_record, line_came, lines_came, lines_completed, is_heard, after_piece, after_read, moved, asks_or_null}
 use Rattle.gc_station.specs.NextCommand.{place_next, mark_next, mark_setup}
-use Rattle.gc_station.proofs.Booking.{Books, books_turns, sent_both, sent_records, books_both, books_nothing, books_moment, books_line, books_send}
-use Rattle.gc_station.proofs.Invariant.{Invariant}
+use Rattle.gc_station.proofs.Asked.{only_of}
+use Rattle.gc_station.proofs.Booking.{Books, books_turns, sent_records, books_both, books_nothing, books_moment, books_line, books_send}
+use Rattle.gc_station.proofs.Invariant.{Paired, Invariant}
 use Rattle.gc_station.proofs.Hearing.{hears_paired}
-use Rattle.gc_station.proofs.Walk.{is_sent, walk, is_prepared}
+use Rattle.gc_station.proofs.Walk.{is_sent, walk, is_prepared, piece_before}
+use Rattle.std.proofs.lemmas.List.Elements.{filter-append}
 
--- the part p takes the client of one model, with its marks and records, to those of another
+-- the part p takes the client of one model, with its marks and records, to those of another, with these readings of replies
+abbrev pub LeadsBy : (Asked → List ℕ → Reading) → List Task → Model → Part → Model → Type 0
+LeadsBy reads commands s p t = Books reads commands s.client s.marks (sent_of s.records) p t.client t.marks (sent_of t.records)
+
+-- `LeadsBy` with the readings of the model s
 abbrev pub Leads : List Task → Model → Part → Model → Type 0
-Leads commands s p t = Books s.reads commands s.client s.marks (sent_of s.records) p t.client t.marks (sent_of t.records)
-
--- each request of a model that waits has a mark
-abbrev pub Paired : Model → Type 0
-Paired s = length s.marks ≡ length s.client.waiting
+Leads commands s p t = LeadsBy s.reads commands s p t
 
 module _ (plan : Plan) (commands : List Task) where
+  -- an act of this action leads from one model to another by the part that `client_part` gives it
+  abbrev LeadsSo : Action → Model → Act → Model → Type 0
+  LeadsSo o s act t = Leads commands s (client_part plan commands s o act) t
+
   -- if each request that waits has a mark, a line that is heard leads on by the step that hears it
   heard_books : (s : Model) (line : List ℕ) → Paired s → Leads commands s (only_steps (Hear line ∷ [])) (line_came s line)
   heard_books s line paired =
@@ -76,36 +83,34 @@ module _ (plan : Plan) (commands : List Task) where
 
   -- once the station has synchronized, and if each request that waits has a mark, a read that gave bytes leads on by its part
   leads_gave : (s : Model) (until : Until) (bytes : List ℕ) (m : Moment) → has_begun s.progress ≡ true → Paired s
-      → Leads commands s (client_part plan commands s (action.Read until) (Gave bytes m)) (after_read plan until (with_progress turned s) (Gave bytes m))
+      → LeadsSo (action.Read until) s (Gave bytes m) (after_read plan until (with_progress turned s) (Gave bytes m))
   leads_gave s until bytes m begun paired =
-      let x = with_moment m (with_progress (moment_noted m) (with_progress turned s)) in
+      let x = piece_before m s in
       let t = after_piece (is_heard s.progress.phase) s.progress.word bytes x in
       books_both s.reads commands s.client x.client t.client s.marks s.marks t.marks (sent_of s.records) (sent_of s.records) (sent_of t.records)
       (only_steps (Expire m.elapsed ∷ [])) (only_steps (heard_steps (is_heard s.progress.phase) s.rest bytes))
       (books_moment s.reads commands s.client s.marks (sent_of s.records) m.elapsed)
       (leads_came (is_heard s.progress.phase) s.progress.word bytes x begun (paired_told s m.elapsed paired))
 
-  -- the next command of a cycle, if there is one and room for it, leads on by the part of its request once it is sent
-  leads_first : (s : Model) (left : List Task) → drop (place_next commands s.progress) commands ≡ left → 0 < length left → length s.client.waiting < 7
-      → Leads commands s (first_request_part s.progress.moment.elapsed (mark_next plan commands s.progress) left) (asks_first (mark_next plan commands s.progress) left (with_progress turned s))
-  leads_first s [] at some room = absurd (omega (arith, some))
-  leads_first s (task ∷ others) at some room =
-      books_send s.reads commands s.client s.marks (sent_of s.records) task.command.target (call_at task s.progress.moment.utc) (later s.progress.moment.elapsed task.deadline)
-      (Some (mark_next plan commands s.progress)) room
-      (task, head_of_drop commands (place_next commands s.progress) task others at, refl)
+  -- `left` are the commands from the place of this mark on. The first of them, if there is one and room for it, leads on by the
+  -- part of its request once it is sent with the mark
+  leads_first : (s : Model) (mark : Mark) (left : List Task) → drop mark.place commands ≡ left → 0 < length left → length s.client.waiting < 7
+      → Leads commands s (first_request_part s.progress.moment.elapsed mark left) (asks_first mark left (with_progress turned s))
+  leads_first s mark [] at some room = absurd (omega (arith, some))
+  leads_first s mark (task ∷ others) at some room =
+      books_send s.reads commands s.client s.marks (sent_of s.records) task.command.target (call_at task mark.sent) (later s.progress.moment.elapsed task.deadline)
+      (Some mark) room (task, head_of_drop commands mark.place task others at, refl)
 
   -- a null procedure of the station's own, if there is room for it, leads on by the part of its request once it is sent
-  leads_null : (s : Model) → length s.client.waiting < 7 → Leads commands s (request_part 0 (Table NullProc) (later s.progress.moment.elapsed plan.deadline) None) (asks_null plan s)
+  leads_null : (s : Model) → length s.client.waiting < 7 → Leads commands s (null_part plan s.progress.moment.elapsed) (asks_null plan s)
   leads_null s room = books_send s.reads commands s.client s.marks (sent_of s.records) 0 (Table NullProc) (later s.progress.moment.elapsed plan.deadline) None room refl
 
-  -- the first of `left`, the commands from the next place of the setup on, or a null procedure if `left` is empty, leads on by
-  -- the part of its request once it is sent, if there is room for it
+  -- `left` are the commands from the next place of the setup on. The first of them, or a null procedure if there is none, leads
+  -- on by the part of its request once it is sent, if there is room for it
   leads_setup : (s : Model) (left : List Task) → drop s.progress.prepared commands ≡ left → length s.client.waiting < 7
       → Leads commands s (request_or_null_part plan s.progress.moment.elapsed (mark_setup commands s.progress) left) (asks_or_null plan (mark_setup commands s.progress) left (with_progress turned s))
   leads_setup s [] at room = leads_null s room
-  leads_setup s (task ∷ others) at room =
-      books_send s.reads commands s.client s.marks (sent_of s.records) task.command.target (call_at task s.progress.moment.utc) (later s.progress.moment.elapsed task.deadline)
-      (Some (mark_setup commands s.progress)) room (task, head_of_drop commands s.progress.prepared task others at, refl)
+  leads_setup s (task ∷ others) at room = leads_first s (mark_setup commands s.progress) (task ∷ others) at (omega arith) room
 
   -- the record of a command that isn't sent isn't among those of commands that were sent
   skips_first_unsent : (p : Progress) (m : Moment) (mark : Mark) (left : List Task) → sent_of (first_unsent_record p m mark left) ≡ []
@@ -124,11 +129,7 @@ module _ (plan : Plan) (commands : List Task) where
 
   -- records of commands that weren't sent add none to those of commands that were
   none_sent : (rs more : List Record) → sent_of more ≡ [] → sent_of (rs ++ more) ≡ sent_of rs
-  none_sent rs more none = sent_both rs more ∙ ap (λ xs. sent_of rs ++ xs) none ∙ append-nil (sent_of rs)
-
-  -- an act of this action leads from one model to another by the part that `client_part` gives it
-  abbrev LeadsSo : Action → Model → Act → Model → Type 0
-  LeadsSo o s act t = Leads commands s (client_part plan commands s o act) t
+  none_sent rs more none = filter-append _ rs more ∙ ap (λ xs. sent_of rs ++ xs) none ∙ append-nil (sent_of rs)
 
   -- a model leads to itself by the part in which nothing happens
   none_booked : (s : Model) → Leads commands s nothing s
@@ -141,7 +142,7 @@ module _ (plan : Plan) (commands : List Task) where
   -- once the station has synchronized, an act of each action leads on by its part, if `Invariant` holds before it, and
   -- `HoldsBefore` of the action
   leads_order : (s : Model) (o : Action) (act : Act) → Invariant plan commands s → HoldsBefore plan s.progress (waiting_of s) o → Performs commands s o act → has_begun s.progress ≡ true
-      → Leads commands s (client_part plan commands s o act) (moved plan commands o (with_progress turned s) act)
+      → LeadsSo o s act (moved plan commands o (with_progress turned s) act)
   leads_order s action.Open act fine is obeys begun = walk plan commands (LeadsSo action.Open s) action.Open (with_progress turned s) act obeys (λ m. none_booked s, λ n. none_booked s)
   leads_order s action.Clear act fine is obeys begun = walk plan commands (LeadsSo action.Clear s) action.Clear (with_progress turned s) act obeys (λ m. none_booked s, λ n. none_booked s)
   leads_order s action.Ask act fine is obeys begun = absurd (both_ways (has_begun s.progress) is.1 begun)
@@ -154,7 +155,7 @@ module _ (plan : Plan) (commands : List Task) where
       let left = drop (place_next commands s.progress) commands in
       let many : length left ≡ length commands - place_next commands s.progress = length-drop (place_next commands s.progress) commands in
       let sends = subst (λ (t : Model). Leads commands s (put_part plan commands s action.Send) t) (sym (is_sent plan commands (with_progress turned s)))
-      (leads_first s left refl (omega (arith, many, is.2, fine.unsent)) is.3.1) in
+      (leads_first s (mark_next plan commands s.progress) left refl (omega (arith, many, is.2, fine.unsent)) is.3.1) in
       walk plan commands (LeadsSo action.Send s) action.Send (with_progress turned s) act obeys (λ m. sends, λ n. sends)
   leads_order s action.Skip act fine is obeys begun =
       let books = Books s.reads commands s.client s.marks (sent_of s.records) in
@@ -173,12 +174,12 @@ module _ (plan : Plan) (commands : List Task) where
   -- While the station synchronizes no step is taken.
 
   -- the client of the model t is new, and t has the marks and the records of the model s, from before the act
-  abbrev KeepsNewClient : Model → Act → Model → Type 0
-  KeepsNewClient s act t = (t.client ≡ fresh) × (t.marks ≡ s.marks) × (t.records ≡ s.records)
+  abbrev KeepsNewClient : (s t : Model) → Type 0
+  KeepsNewClient s t = (t.client ≡ fresh) × (t.marks ≡ s.marks) × (t.records ≡ s.records)
 
   -- while the station synchronizes, a piece leaves the client new, and the marks and the records as they are
   keeps_came : (heard : Bool) (word piece : List ℕ) (s : Model) → is_none_left word ≡ false → s.client ≡ fresh
-      → ((after_piece heard word piece s).client ≡ fresh) × ((after_piece heard word piece s).marks ≡ s.marks) × ((after_piece heard word piece s).records ≡ s.records)
+      → KeepsNewClient s (after_piece heard word piece s)
   keeps_came true [] piece s begins new = cc
   keeps_came true (asked ∷ others) piece s begins new = (new, refl, refl)
   keeps_came false word piece s begins new = (new, refl, refl)
@@ -190,7 +191,7 @@ module _ (plan : Plan) (commands : List Task) where
   -- while the station synchronizes, an act of each action of which `HoldsBefore` holds leaves a new client new, and the marks and
   -- the records as they are
   pub keeps_action : (s : Model) (o : Action) (act : Act) → HoldsBefore plan s.progress (waiting_of s) o → Performs commands s o act → has_begun s.progress ≡ false
-      → s.client ≡ fresh → KeepsNewClient s act (moved plan commands o (with_progress turned s) act)
+      → s.client ≡ fresh → KeepsNewClient s (moved plan commands o (with_progress turned s) act)
   keeps_action s action.Renew act is obeys begins new = absurd (both_ways (has_begun s.progress) begins is.1)
   keeps_action s action.Begin act is obeys begins new = absurd (both_ways (has_begun s.progress) begins is.1)
   keeps_action s action.Prepare act is obeys begins new = absurd (both_ways (has_begun s.progress) begins is.1)
@@ -198,28 +199,19 @@ module _ (plan : Plan) (commands : List Task) where
   keeps_action s action.Skip act is obeys begins new = absurd (both_ways (has_begun s.progress) begins is.1)
   keeps_action s action.Pass act is obeys begins new = absurd (both_ways (has_begun s.progress) begins is.1)
   keeps_action s action.Flush act is obeys begins new = absurd (both_ways (has_begun s.progress) begins is.1)
-  keeps_action s action.ReadClock act is obeys begins new = walk plan commands (KeepsNewClient s) action.ReadClock (with_progress turned s) act obeys
+  keeps_action s action.ReadClock act is obeys begins new = walk plan commands (λ a. KeepsNewClient s) action.ReadClock (with_progress turned s) act obeys
       (λ m. (new_told s m new, refl, refl), λ n. (new, refl, refl))
   keeps_action s (action.Read until) act is obeys begins new =
-      walk plan commands (KeepsNewClient s) (action.Read until) (with_progress turned s) act obeys (
-        λ bytes m. keeps_came (is_heard s.progress.phase) s.progress.word bytes (with_moment m (with_progress (moment_noted m) (with_progress turned s))) begins (new_told s m new),
+      walk plan commands (λ a. KeepsNewClient s) (action.Read until) (with_progress turned s) act obeys (
+        λ bytes m. keeps_came (is_heard s.progress.phase) s.progress.word bytes (piece_before m s) begins (new_told s m new),
         λ m. (new_told s m new, refl, refl),
         (new, refl, refl),
         (new, refl, refl),
         (new, refl, refl),
       )
-  keeps_action s (action.Close why) act is obeys begins new = walk plan commands (KeepsNewClient s) (action.Close why) (with_progress turned s) act obeys (new, refl, refl)
+  keeps_action s (action.Close why) act is obeys begins new = walk plan commands (λ a. KeepsNewClient s) (action.Close why) (with_progress turned s) act obeys (new, refl, refl)
   keeps_action s (action.Stop why) act is obeys begins new = absurd obeys
-  keeps_action s o act is obeys begins new = walk plan commands (KeepsNewClient s) o (with_progress turned s) act obeys (λ m. (new, refl, refl), λ n. (new, refl, refl))
-
-  -- the part of an act while the station synchronizes has only turns
-  only_of : (s : Model) (o : Action) (act : Act) → sync_part s o act ≡ only_turns (sync_part s o act).turns
-  only_of s action.Ask (Put bytes) = refl
-  only_of s action.Ask (Cut bytes count) = refl
-  only_of s action.Ask act = refl
-  only_of s (action.Read until) (Gave piece m) = refl
-  only_of s (action.Read until) act = refl
-  only_of s o act = refl
+  keeps_action s o act is obeys begins new = walk plan commands (λ a. KeepsNewClient s) o (with_progress turned s) act obeys (λ m. (new, refl, refl), λ n. (new, refl, refl))
 
   -- turns lead on to a model with the same client, marks and records
   same_led : (s : Model) (turns : List Turn) (t : Model) → s.client ≡ t.client → s.marks ≡ t.marks → s.records ≡ t.records → Leads commands s (only_turns turns) t

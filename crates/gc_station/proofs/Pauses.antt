@@ -1,6 +1,7 @@
--- How failures in a row take tries and lengthen the pause. A failure is spared if no connection is wanted: it takes no try. An
--- act is one call on the link, with its result. `after_failure` is the progress after a connection ended or couldn't be made, and
--- `pause_after plan n` the pause after n such failures in a row. Times are in milliseconds.
+-- How failures in a row take tries and lengthen the pause. A failure is the close of a connection, or an attempt to connect that
+-- failed. A close is spared if no connection is wanted then: it takes no try. `after_failure` is the progress after a failure,
+-- and `pause_after plan n` the pause after n failures in a row. An act is one call on the link, with its result. Times are in
+-- milliseconds.
 use Rattle.std.proofs.Common.{◌≡◌, ◌⊎◌, inl, inr, ℕ, zero, suc, ◌+◌, ◌-◌, ◌*◌, ◌<◌, ◌≤◌, ◌||◌, Bool, true, false, List, if◌then◌else◌, nat_lt, min, max, refl, ap, ◌∙◌, arith, ◌&&◌, not}
 use Rattle.std.proofs.lemmas.Bool.{lt-ltb, le-ltb, cond-true, cond-false, and_from, not_from_false}
 use Rattle.gc_texts.specs.declared.tasks.Task.{Task}
@@ -14,17 +15,18 @@ use Rattle.gc_station.specs.declared.cause.Cause.TheVariants as cause
 use Rattle.gc_station.specs.declared.plan.Plan.{Plan}
 use Rattle.gc_station.specs.declared.progress.Action.{Action}
 use Rattle.gc_station.specs.declared.progress.Action.TheVariants as actions
+use Rattle.gc_station.specs.declared.progress.Phase.{Phase}
 use Rattle.gc_station.specs.declared.progress.Phase.TheVariants as phase
 use Rattle.gc_station.specs.declared.progress.Progress.{Progress}
 use Rattle.gc_station.specs.declared.progress.Until.{Until}
 use Rattle.gc_station.specs.declared.progress.Waiting.{Waiting}
 use Rattle.gc_station.proofs.Walk.{moved_changed}
 
--- twice a pause of 0, bounded to a minute and to at least the quiet time, is the pause after a first failure
+-- twice a pause of 0, cut to a minute and then raised to the quiet time, is the pause after a first failure
 twice_none : (quiet : ℕ) → max (min (min (0 + 0) 18446744073709551615) 60000) quiet ≡ max (min quiet 60000) quiet
 twice_none quiet = omega arith
 
--- a time that is doubled is no shorter
+-- a time that is doubled n times is no shorter
 doubled_least : (n time : ℕ) → time ≤ doubled n time
 doubled_least zero time = omega arith
 doubled_least (suc n) time = let least = doubled_least n time in omega (arith, least)
@@ -50,11 +52,14 @@ failed plan commands n why p e is =
 takes : (plan : Plan) (commands : ℕ) (why : Cause) (p : Progress) → is_spared plan why p ≡ false → 0 < p.tries → (after_failure plan commands why p).tries + 1 ≡ p.tries
 takes plan commands why p e some = let less = cond-false (is_spared plan why p) p.tries (p.tries - 1) e in omega (arith, less, some)
 
--- a failure that isn't spared, without a try left (`some` is false), ends the run: as done, if all is done (`done`), else for its
--- cause
+-- the phase after a failure for the cause `why`, by whether all is done, whether the failure is spared, and whether some try is
+-- left
+abbrev phase_by : (done spared some : Bool) → Cause → Phase
+phase_by done spared some why = if done then phase.Over cause.Done else if spared || some then phase.Pausing else phase.Over why
+
+-- a failure that isn't spared, without a try left, ends the run: as done, if all is done, else for its cause
 over_by : (done spared some : Bool) (why : Cause) → spared ≡ false → some ≡ false
-    → ((if done then phase.Over cause.Done else if spared || some then phase.Pausing else phase.Over why) ≡ phase.Over cause.Done)
-    ⊎ ((if done then phase.Over cause.Done else if spared || some then phase.Pausing else phase.Over why) ≡ phase.Over why)
+    → (phase_by done spared some why ≡ phase.Over cause.Done) ⊎ (phase_by done spared some why ≡ phase.Over why)
 over_by true spared some why e f = inl refl
 over_by false true some why e f = cc
 over_by false false true why e f = cc
@@ -92,20 +97,20 @@ spared_first plan commands why p e is = (
   cond-true (is_spared plan why p) p.tries (p.tries - 1) e,
 )
 
--- a read that settled a command gives all tries back, and makes the pause 0, once the setup is done
+-- a read that settled a command, and after which `preparing` is false, gives all tries back, and makes the pause 0
 settled : (plan : Plan) (until : Until) (before : ℕ) (after : Waiting) (p : Progress) → after.commands < before → p.preparing ≡ false
     → ((bytes_noted plan until before after p).tries ≡ plan.retries) × ((bytes_noted plan until before after p).pause ≡ pause_after plan 0)
 settled plan until before after p fewer done =
     let e = and_from (nat_lt after.commands before) (not p.preparing) (lt-ltb after.commands before fewer) (not_from_false p.preparing done) in
     (cond-true (gives_back before after p) plan.retries p.tries e, cond-true (gives_back before after p) 0 p.pause e)
 
--- a read that settled no command, or while the setup isn't done, changes neither the tries nor the pause
+-- a read that settled no command, or after which `preparing` is true, changes neither the tries nor the pause
 unsettled : (plan : Plan) (until : Until) (before : ℕ) (after : Waiting) (p : Progress) → (before ≤ after.commands) ⊎ (p.preparing ≡ true)
     → ((bytes_noted plan until before after p).tries ≡ p.tries) × ((bytes_noted plan until before after p).pause ≡ p.pause)
 unsettled plan until before after p why =
     let e = by_cause (nat_lt after.commands before) (p.preparing) refl refl why in
     (cond-false (gives_back before after p) plan.retries p.tries e, cond-false (gives_back before after p) 0 p.pause e) where
-      -- the first test doesn't hold, or the second does
+      -- the first of the tests a and b is false, or the second is true: so `a && not b` is false
       by_cause : (a b : Bool) → nat_lt after.commands before ≡ a → p.preparing ≡ b → (before ≤ after.commands) ⊎ (p.preparing ≡ true) → (a && not b) ≡ false
       by_cause false b x y w = refl
       by_cause true true x y w = refl
@@ -121,8 +126,7 @@ other plan commands (actions.Close why) s act leaves = absurd leaves
 other plan commands action s act leaves =
     let is = moved_changed plan commands action s act in (ap (λ (x : Model). x.progress.tries) is, ap (λ (x : Model). x.progress.pause) is)
 
--- the law: a failure takes one try, and lengthens the pause; a spared close takes no try, and doesn't change the pause, or makes
--- a pause of 0 that of one failure; and a read that settles a command gives all tries back, and makes the pause 0
+-- the law on tries and pauses: what a failure, a spared close, a read and any other act make of them
 pub counted : TriesAndPausesAreCounted
 counted = record {
   start = λ plan turns. (refl, refl);

@@ -3,6 +3,7 @@
 use Rattle.std.proofs.Common.{◌≡◌, ◌⊎◌, inl, inr, ℕ, zero, suc, ◌+◌, ◌<◌, ◌≤◌, ◌&&◌, ◌||◌, Bool, true, false, not, nat_eq, nat_le, nat_lt, min, List, [], ◌∷◌, ◌++◌, length, drop, map, refl, sym, ap, ◌∙◌, subst, arith, append_assoc, append-nil, leb-true, eqb-true, lt-ltb}
 use Rattle.std.proofs.lemmas.List.{map-append, append_cancel_left}
 use Rattle.std.proofs.lemmas.Bool.{and_parts, both_ways}
+use Rattle.std.proofs.lemmas.Bool.Decides.{leb_tells}
 use Rattle.gc_texts.specs.declared.tasks.Task.{Task}
 use Rattle.gc_links.specs.Acts.{Act, Told, Opened}
 use Rattle.gc_station.specs.declared.plan.Plan.{Plan}
@@ -19,7 +20,7 @@ use Rattle.gc_station.specs.Runs.{state_after}
 use Rattle.gc_station.specs.Scopes.{Scope}
 use Rattle.gc_station.specs.Model.{Model, opening, action_at, waiting_of, with_progress, Performs, moved, after, after_all, Runs}
 use Rattle.gc_station.specs.NextCommand.{mark_setup}
-use Rattle.gc_station.specs.Setups.{Dispatch, dispatch_of_record, dispatch_of_mark, dispatches_of, sent_as, StaysUp, ArePrepared, NoneBeforeTheSetUp, SetUpInOrder}
+use Rattle.gc_station.specs.Setups.{Dispatch, dispatch_row, dispatch_of_record, dispatch_of_mark, dispatches_of, sent_as, StaysUp, ArePrepared, NoneBeforeTheSetUp, SetUpInOrder}
 use Rattle.gc_station.proofs.Always.{always, progress_after_act}
 use Rattle.gc_station.proofs.ChainSteps.{stays_open}
 use Rattle.gc_station.proofs.EachRun.{invariant_holds}
@@ -27,11 +28,11 @@ use Rattle.gc_station.proofs.Facts.{action_for}
 use Rattle.gc_station.proofs.Going.{after_all-append}
 use Rattle.gc_station.proofs.Records.{last-append}
 use Rattle.gc_station.proofs.SentAt.{records_stay}
-use Rattle.gc_station.proofs.Setups.{dispatch_row, dispatch_row_losing, row_prepared, row_kept, none_marked, prepares, sends_it}
+use Rattle.gc_station.proofs.Setups.{dispatch_row_losing, row_prepared, row_kept, none_marked, prepares, sends_it}
 use Rattle.gc_station.proofs.Turns.{over_stays}
 use Rattle.gc_station.proofs.Walk.{closed_along, moved_changed}
 use Rattle.gc_station.proofs.Words.{begun_other}
-use Rattle.gc_station.proofs.Unbroken.{sent_preparing}
+use Rattle.gc_station.proofs.Unbroken.{not_preparing_after_send}
 
 -- Records.
 
@@ -46,18 +47,7 @@ split_last (r ∷ rs) (y ∷ xs) x e =
     let it = split_last rs xs x tail in
     (r ∷ it.0, it.1, ap (λ ys. r ∷ ys) it.2, it.3)
 
--- Numbers and tests.
-
--- a number below j + 1 is below j, or is j
-below_or_last : (n j : ℕ) → n < suc j → (n < j) ⊎ (n ≡ j)
-below_or_last zero zero h = inr refl
-below_or_last zero (suc j) h = inl (omega arith)
-below_or_last (suc n) zero h = absurd (omega (arith, h))
-below_or_last (suc n) (suc j) h =
-    elim (below_or_last n j (omega (arith, h))) [
-      | inl l ↦ inl (omega (arith, l))
-      | inr e ↦ inr (ap suc e)
-    ]
+-- Tests.
 
 -- if "not all three" is false, all three tests are true
 all_three : (a b c : Bool) → (true && not (a && b && c)) ≡ false → (a ≡ true) × (b ≡ true) × (c ≡ true)
@@ -70,6 +60,10 @@ module _ (plan : Plan) (commands : List Task) (scope : Scope) where
   -- the model after these acts
   abbrev at : List Act → Model
   at acts = state_after plan commands scope acts
+
+  -- the station is synchronized after these acts
+  abbrev IsBegun : List Act → Type 0
+  IsBegun acts = has_begun (at acts).progress ≡ true
 
   -- after these acts, the first j commands of the setup were answered well, and the one at place j was sent (by `request`).
   -- Since then no connection was closed, the station stayed synchronized, and the records before it are still the first ones.
@@ -102,15 +96,14 @@ module _ (plan : Plan) (commands : List Task) (scope : Scope) where
       let r : Record = it.1 in
       let written : s.records ≡ old ++ (it.0 ++ r ∷ []) = p.written ∙ ap (λ ys. old ++ ys) it.2 in
       let flat : s.records ≡ (old ++ it.0) ++ r ∷ [] = written ∙ sym (append_assoc old it.0 (r ∷ [])) in
-      elim (below_or_last place j below) [
-        | inl l ↦ p.done place l
-        | inr e ↦ record {
+      elim (leb_tells j place) [
+        | inl least ↦ record {
           before = p.before;
           request = p.request;
           behind = p.behind;
           order = p.order;
           sends = p.sends;
-          its_place = p.its_place ∙ sym e;
+          its_place = p.its_place ∙ omega (arith, least.1, below);
           stays = p.stays;
           earlier = it.0;
           answer = r;
@@ -119,6 +112,7 @@ module _ (plan : Plan) (commands : List Task) (scope : Scope) where
           own = it.3;
           well = sym (last-append false (old ++ it.0) (r ∷ [])) ∙ ap (last_well false) (sym flat) ∙ good;
         }
+        | inr less ↦ p.done place less.1
       ]
 
   -- `StaysUp` holds after one more act that closes no connection, if the station has synchronized after it
@@ -130,7 +124,7 @@ module _ (plan : Plan) (commands : List Task) (scope : Scope) where
   -- `StaysUp` holds of the acts after `before` with one more, if that closes no connection and the station is synchronized after
   -- it
   since_more : (acts before since : List Act) (act : Act) → acts ≡ before ++ since → StaysUp plan commands (at before) since → KeepsOpen act
-      → has_begun (at (acts ++ act ∷ [])).progress ≡ true → (acts ++ act ∷ [] ≡ before ++ (since ++ act ∷ [])) × StaysUp plan commands (at before) (since ++ act ∷ [])
+      → IsBegun (acts ++ act ∷ []) → (acts ++ act ∷ [] ≡ before ++ (since ++ act ∷ [])) × StaysUp plan commands (at before) (since ++ act ∷ [])
   since_more acts before since act order stays keeps begun =
       let longer : acts ++ act ∷ [] ≡ before ++ (since ++ act ∷ []) = ap (λ xs. xs ++ act ∷ []) order ∙ append_assoc before since (act ∷ []) in
       let there = ap (λ (x : Model). has_begun x.progress)
@@ -138,7 +132,7 @@ module _ (plan : Plan) (commands : List Task) (scope : Scope) where
       (longer, stays_more (at before) since act stays keeps there)
 
   -- an act that closes no connection, after which the station is synchronized, preserves `ArePrepared`
-  prepared_more : (n : ℕ) (acts : List Act) (act : Act) → KeepsOpen act → has_begun (at (acts ++ act ∷ [])).progress ≡ true → ArePrepared plan commands scope acts n
+  prepared_more : (n : ℕ) (acts : List Act) (act : Act) → KeepsOpen act → IsBegun (acts ++ act ∷ []) → ArePrepared plan commands scope acts n
       → ArePrepared plan commands scope (acts ++ act ∷ []) n
   prepared_more n acts act keeps begun h place below =
       let d = h place below in
@@ -165,7 +159,7 @@ module _ (plan : Plan) (commands : List Task) (scope : Scope) where
 
   -- `SentAfterPrepared` is preserved by an act that closes no connection, leaves the row as it is, and after which the station is
   -- synchronized
-  sent_kept : (j : ℕ) (acts : List Act) (act : Act) → KeepsOpen act → has_begun (at (acts ++ act ∷ [])).progress ≡ true
+  sent_kept : (j : ℕ) (acts : List Act) (act : Act) → KeepsOpen act → IsBegun (acts ++ act ∷ [])
       → dispatch_row (at (acts ++ act ∷ [])) ≡ dispatch_row (at acts) → SentAfterPrepared j acts → SentAfterPrepared j (acts ++ act ∷ [])
   sent_kept j acts act keeps begun same d =
       let its = since_more acts d.before (d.request ∷ d.behind) act d.order d.stays keeps begun in
@@ -187,7 +181,7 @@ module _ (plan : Plan) (commands : List Task) (scope : Scope) where
 
   -- `SentAfterPrepared` holds once an act sends the command of the setup at place j, and adds it to the row, if that act closes
   -- no connection, the station is synchronized after it, and the first j commands of the setup were answered well
-  sent_next : (j : ℕ) (acts : List Act) (act : Act) → (keeps : KeepsOpen act) → (begun : has_begun (at (acts ++ act ∷ [])).progress ≡ true) → (sends : action_at plan (at acts) ≡ action.Prepare)
+  sent_next : (j : ℕ) (acts : List Act) (act : Act) → (keeps : KeepsOpen act) → (begun : IsBegun (acts ++ act ∷ [])) → (sends : action_at plan (at acts) ≡ action.Prepare)
       → (place : (at acts).progress.prepared ≡ j) → (longer : dispatch_row (at (acts ++ act ∷ [])) ≡ dispatch_row (at acts) ++ dispatch_of_mark (mark_setup commands (at acts).progress) ∷ [])
       → ArePrepared plan commands scope acts j
       → SentAfterPrepared j (acts ++ act ∷ [])
@@ -213,9 +207,9 @@ module _ (plan : Plan) (commands : List Task) (scope : Scope) where
   -- what holds of the setup, by `preparing` (the setup isn't over) and `prepared` (how many of its commands were sent on this
   -- connection)
   abbrev SetupFits : Bool → ℕ → List Act → Type 0
-  SetupFits false k acts = (has_begun (at acts).progress ≡ true) × ArePrepared plan commands scope acts plan.setup
+  SetupFits false k acts = IsBegun acts × ArePrepared plan commands scope acts plan.setup
   SetupFits true zero acts = Unit {0}
-  SetupFits true (suc j) acts = (has_begun (at acts).progress ≡ true) × SentAfterPrepared j acts
+  SetupFits true (suc j) acts = IsBegun acts × SentAfterPrepared j acts
 
   -- `SetupFits` holds for the fields of the station after these acts, or the run is over
   abbrev SetupFitsNow : List Act → Type 0
@@ -225,7 +219,7 @@ module _ (plan : Plan) (commands : List Task) (scope : Scope) where
   -- command of the setup was answered well
   prepared_if_done : (some : 0 < plan.setup) (preparing : Bool) (k : ℕ) (acts : List Act) → SetupFits preparing k acts
       → (preparing && not (nat_le plan.setup k && nat_eq (commands_in (at acts).marks) 0 && last_well false (at acts).records)) ≡ false
-      → (has_begun (at acts).progress ≡ true) × ArePrepared plan commands scope acts plan.setup
+      → IsBegun acts × ArePrepared plan commands scope acts plan.setup
   prepared_if_done some false k acts h e = h
   prepared_if_done some true zero acts h e =
       let it = all_three (nat_le plan.setup 0) (nat_eq (commands_in (at acts).marks) 0) (last_well false (at acts).records) e in
@@ -249,7 +243,7 @@ module _ (plan : Plan) (commands : List Task) (scope : Scope) where
   -- `SetupFits` is preserved by an act that closes no connection, changes neither field (`preparing` and `prepared`) nor the row,
   -- and after which a station is synchronized that was before
   fits_kept : (b c : Bool) (k n : ℕ) (acts : List Act) (act : Act) → (same_flag : c ≡ b) → (same_place : n ≡ k) → (keeps : KeepsOpen act)
-      → (stays_begun : has_begun (at acts).progress ≡ true → has_begun (at (acts ++ act ∷ [])).progress ≡ true)
+      → (stays_begun : IsBegun acts → IsBegun (acts ++ act ∷ []))
       → (same_row : dispatch_row (at (acts ++ act ∷ [])) ≡ dispatch_row (at acts)) → SetupFits b k acts → SetupFits c n (acts ++ act ∷ [])
   fits_kept b c k n acts act e f keeps begins same h =
       subst (λ (x : Bool). SetupFits x n (acts ++ act ∷ [])) (sym e) (subst (λ (m : ℕ). SetupFits b m (acts ++ act ∷ [])) (sym f) (by_case b k h)) where
@@ -279,12 +273,12 @@ module _ (plan : Plan) (commands : List Task) (scope : Scope) where
         (λ (x : Action). dispatch_row (t x)) is
 
     -- a synchronized station stays so, if the act doesn't resynchronize
-    begins : (o : Action) → action_at plan s ≡ o → Performs commands s o act → (o ≡ action.Renew → ⊥) → has_begun s.progress ≡ true → has_begun (at (acts ++ act ∷ [])).progress ≡ true
+    begins : (o : Action) → action_at plan s ≡ o → Performs commands s o act → (o ≡ action.Renew → ⊥) → has_begun s.progress ≡ true → IsBegun (acts ++ act ∷ [])
     begins o is obeys other begun = ap has_begun (progress_after o is) ∙ begun_other plan commands s o act obeys other begun
 
     -- after an act that closes no connection, changes neither field nor the row, and after which a station is synchronized that
     -- was before, `SetupFitsNow` holds if `SetupFits` held before the act
-    fits_unchanged : (o : Action) → (is_next : action_at plan s ≡ o) → (stays_begun : has_begun s.progress ≡ true → has_begun (at (acts ++ act ∷ [])).progress ≡ true) → (keeps : KeepsOpen act)
+    fits_unchanged : (o : Action) → (is_next : action_at plan s ≡ o) → (stays_begun : has_begun s.progress ≡ true → IsBegun (acts ++ act ∷ [])) → (keeps : KeepsOpen act)
         → (same_flag : (t o).progress.preparing ≡ s.progress.preparing) → (same_place : (t o).progress.prepared ≡ s.progress.prepared) → (same_row : dispatch_row (t o) ≡ dispatch_row s)
         → SetupFits s.progress.preparing s.progress.prepared acts → SetupFitsNow (acts ++ act ∷ [])
     fits_unchanged o is begin keeps b k same h =
@@ -339,7 +333,7 @@ module _ (plan : Plan) (commands : List Task) (scope : Scope) where
     fits_after action.Prepare act is obeys needs h = fits_sent some within acts act is obeys needs h
     fits_after action.Send act is obeys needs h =
         fits_once_done some within acts act action.Send is obeys (λ e. cc) (stays_open plan commands action.Send (at acts) act obeys (λ why e. cc))
-        (sent_preparing plan commands (with_progress turned (at acts)) act) needs.8 h
+        (not_preparing_after_send plan commands (with_progress turned (at acts)) act) needs.8 h
     fits_after action.Begin (Told m) is obeys needs h = fits_once_done some within acts (Told m) action.Begin is obeys (λ e. cc) tt refl needs.6 h
     fits_after action.Skip (Told m) is obeys needs h = fits_once_done some within acts (Told m) action.Skip is obeys (λ e. cc) tt refl needs.6 h
     fits_after action.Pass (Told m) is obeys needs h = fits_once_done some within acts (Told m) action.Pass is obeys (λ e. cc) tt refl needs.6 h
@@ -372,7 +366,7 @@ module _ (plan : Plan) (commands : List Task) (scope : Scope) where
         fits_unchanged some within acts act o is (begins some within acts act o is obeys (λ e. cc)) (stays_open plan commands o (at acts) act obeys (λ why e. cc))
         (ap (λ (x : Model). x.progress.preparing) same) (ap (λ (x : Model). x.progress.prepared) same) (row_kept plan commands o u act tt) h
 
-  -- `SetupFitsNow` holds after every run
+  -- `SetupFitsNow` holds after every run, if there is a setup, and the list has at least as many commands
   setup_fits : (some : 0 < plan.setup) (within : plan.setup ≤ length commands) (acts : List Act) → Runs plan commands (opening plan scope) acts → SetupFitsNow acts
   setup_fits some within acts runs = always plan commands (opening plan scope) (λ (xs : List Act) (u : Model). SetupFitsNow xs) step start acts runs where
     -- at the start the setup is sent from its first command on

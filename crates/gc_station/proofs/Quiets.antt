@@ -1,7 +1,7 @@
--- Before a request is sent its connection was cleared and, if the station had synchronized by then, quiet: what was done on a
--- connection, by the phase (`Stage`). A connection is drained while what comes on it is discarded until it is quiet. An act is
--- one call on the link, with its result. In facts of the form P before start behind, `start` is one of the acts, `before` the
--- acts before it, and `behind` those after it.
+-- Before a request is sent its connection was cleared; and it was quiet, if the station had synchronized before it was made.
+-- `Stage` says what was done on a connection, by the phase. A connection is drained while what comes on it is discarded until it
+-- is quiet. An act is one call on the link, with its result. In facts of the form P before start behind, `start` is one of the
+-- acts, `before` the acts before it, and `behind` those after it.
 use Rattle.std.proofs.Common.{◌≡◌, ℕ, ◌-◌, ◌≤◌, ◌⊎◌, inl, inr, Bool, true, false, List, [], ◌∷◌, ◌++◌, drop, if◌then◌else◌, nat_le, min, refl, sym, ap, ◌∙◌, subst, arith}
 use Rattle.std.specs.List.{AllByRecursion}
 use Rattle.std.proofs.Math.Nat.{min-eq_left, min-eq_right}
@@ -20,18 +20,18 @@ use Rattle.gc_station.specs.declared.progress.Until.{Until}
 use Rattle.gc_links.specs.Acts.{Act, Told, Put, Gave, Silent, Closed, Opened}
 use Rattle.gc_station.specs.Beginnings.{IsClearedAndQuiet}
 use Rattle.gc_station.specs.Deciding.{has_begun, is_quiet}
-use Rattle.gc_station.specs.Progressing.{turned, moment_noted, time_passed, drained}
+use Rattle.gc_station.specs.Progressing.{turned, time_passed, drained}
 use Rattle.gc_station.specs.Quiet.{IsRequest, TellsMoment, IsListening, IsSilent, StaysConnected}
 use Rattle.gc_station.specs.Reasons.{HoldsBefore}
 use Rattle.gc_station.specs.Runs.{state_after}
-use Rattle.gc_station.specs.Model.{Model, null_text, request_text, first_text, opening, action_at, waiting_of, with_progress, with_moment, lines_completed, is_heard, Performs, Runs, text_or_null}
+use Rattle.gc_station.specs.Model.{Model, null_text, request_text, first_text, opening, action_at, waiting_of, with_progress, lines_completed, is_heard, Performs, Runs, text_or_null}
 use Rattle.gc_station.specs.NextCommand.{place_next}
 use Rattle.gc_station.proofs.Closings.{runs_split}
 use Rattle.gc_station.proofs.Connected.{is_in_use, OnLine, on_line_always}
-use Rattle.gc_station.proofs.Facts.{action_for, order_timely, Timely}
+use Rattle.gc_station.proofs.Facts.{action_for, action_timely, Timely}
 use Rattle.gc_station.proofs.Lists.{all_append, all_on}
 use Rattle.gc_station.proofs.Since.{Since, since_now, since_on, cut_on}
-use Rattle.gc_station.proofs.Walk.{asked_along, came_along, walk}
+use Rattle.gc_station.proofs.Walk.{asked_along, came_along, walk, piece_before}
 use Rattle.gc_station.specs.Scopes.{Scope}
 
 -- What was done on a connection.
@@ -230,10 +230,10 @@ module _ (plan : Plan) (commands : List Task) (scope : Scope) where
   stage_none begun due since at acts none = tt
 
   -- a connection on which requests may be sent (`WasCleared`) stays so, if the act keeps it
-  more : (acts : List Act) (act : Act) → StaysConnected act → WasCleared plan commands scope acts → WasCleared plan commands scope (acts ++ act ∷ [])
-  more acts act on (inl q) =
+  still_cleared : (acts : List Act) (act : Act) → StaysConnected act → WasCleared plan commands scope acts → WasCleared plan commands scope (acts ++ act ∷ [])
+  still_cleared acts act on (inl q) =
       inl (since_on (Quiets plan.quiet) (Quiets plan.quiet) acts (act ∷ []) (λ before start behind order h. (h.0, h.1, h.2, h.3, h.4, all_append StaysConnected behind (act ∷ []) h.5 (on, tt))) q)
-  more acts act on (inr b) =
+  still_cleared acts act on (inr b) =
       inr (since_on (Begins plan commands scope) (Begins plan commands scope) acts (act ∷ []) (λ before start behind order h. (h.0, h.1, all_append StaysConnected behind (act ∷ []) h.2 (on, tt))) b)
 
   -- `Stage` is preserved, with the moment `now` for `since`, by an act that stays on the connection, if a drain goes on with it
@@ -243,14 +243,14 @@ module _ (plan : Plan) (commands : List Task) (scope : Scope) where
       → StageHere begun due since at acts → StageHere begun' false now at (acts ++ act ∷ [])
   stage_on begun begun' due since now phase.Clearing acts act calm never drains st = absurd (never refl st.0)
   stage_on begun begun' due since now phase.Draining acts act calm never drains st = drains st
-  stage_on begun begun' due since now phase.Ready acts act calm never drains st = more acts act calm st
+  stage_on begun begun' due since now phase.Ready acts act calm never drains st = still_cleared acts act calm st
   stage_on begun begun' due since now at acts act calm never drains st = tt
 
   -- `Stage` lasts in the phase `Ready`, if the act keeps the connection
   stage_ready : (begun begun' due due' : Bool) (since since' : ℕ) (at : Phase) (acts : List Act) (act : Act) → StaysConnected act → at ≡ phase.Ready
       → StageHere begun due since at acts → StageHere begun' due' since' at (acts ++ act ∷ [])
   stage_ready begun begun' due due' since since' at acts act stays is st =
-      subst (λ (x : Phase). StageHere begun' due' since' x (acts ++ act ∷ [])) (sym is) (more acts act stays (subst (λ (x : Phase). StageHere begun due since x acts) is st))
+      subst (λ (x : Phase). StageHere begun' due' since' x (acts ++ act ∷ [])) (sym is) (still_cleared acts act stays (subst (λ (x : Phase). StageHere begun due since x acts) is st))
 
   -- `Stage` holds after a read that gave nothing, by whose moment the drained connection was quiet for long enough
   stage_drained : (until : Until) (m : Moment) (p : Progress) (acts : List Act) → is_quiet plan (time_passed until m p) ≡ true → IsDrained p.since acts
@@ -275,7 +275,7 @@ module _ (plan : Plan) (commands : List Task) (scope : Scope) where
   -- `Stage` is preserved by an act of any action that leaves a connection in use, if `HoldsBefore` and `Timely` hold of the
   -- action
   stage_line : (next : Action) (s : Model) (acts : List Act) → has_begun (state_after plan commands scope acts).progress ≡ has_begun s.progress
-      → HoldsBefore plan s.progress (waiting_of s) next → Timely s.progress next → StageHereAt s.progress acts → OnLine plan commands StageHereAt next (with_progress turned s) acts
+      → HoldsBefore plan s.progress (waiting_of s) next → Timely plan s.progress next → StageHereAt s.progress acts → OnLine plan commands StageHereAt next (with_progress turned s) acts
   stage_line actions.ReadClock s acts there needs time st =
       let p = s.progress in
       λ m. stage_on (has_begun p) (has_begun p) p.clock_due p.since m.elapsed p.phase acts (Told m) tt (λ is now. both_ways p.clock_due now time) (draining_told p.clock_due p.since m acts time) st
@@ -287,7 +287,7 @@ module _ (plan : Plan) (commands : List Task) (scope : Scope) where
       let heard = λ (later : Bool) (bytes : List ℕ) (m : Moment). stage_on begun later p.clock_due p.since m.elapsed p.phase acts (Gave bytes m) tt (λ is now. time.1 is)
       (λ d. drained_anew p.since m.elapsed acts (Gave bytes m) refl (draining_read p.clock_due p.since acts time.0 d)) st in (
         λ bytes m.
-            let mid = with_moment m (with_progress (moment_noted m) (with_progress turned s)) in
+            let mid = piece_before m s in
             let always = λ (later : Bool). heard later bytes m in
             came_along (λ (t : Model). StageHereAt t.progress (acts ++ Gave bytes m ∷ [])) (λ t line on. on) (is_heard p.phase) p.word bytes mid (always begun)
             ((asked_along (λ (q : Progress). (later : Bool) → StageHere later q.clock_due q.since q.phase (acts ++ Gave bytes m ∷ [])) (λ q line on. on) mid.progress
@@ -321,7 +321,7 @@ module _ (plan : Plan) (commands : List Task) (scope : Scope) where
       on_line_always plan commands StageHereAt (λ q acts none. stage_none (has_begun q) q.clock_due q.since q.phase acts none) scope (λ done runs st.
       let s = state_after plan commands scope done in
       let p = s.progress in
-      stage_line (action_at plan s) s done refl (action_for plan p (waiting_of s)) (order_timely plan p (waiting_of s)) st) tt acts runs
+      stage_line (action_at plan s) s done refl (action_for plan p (waiting_of s)) (action_timely plan p (waiting_of s)) st) tt acts runs
 
 -- Requests are sent only in the phase for requests.
 

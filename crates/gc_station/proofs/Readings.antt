@@ -1,5 +1,6 @@
--- No act changes what replies say. An act is one call on the link, with its result.
-use Rattle.std.proofs.Common.{◌≡◌, Bool, true, false, ℕ, List, [], ◌∷◌, Result, Ok, Err, refl, sym, ap, ◌∙◌, subst}
+-- What replies say: no act changes it, and some function gives the reading of each line for each call. An act is one call on the
+-- link, with its result.
+use Rattle.std.proofs.Common.{◌≡◌, Bool, ℕ, List, [], Result, Ok, Err, refl, sym, ap, ◌∙◌, subst}
 use Rattle.gc_lines.specs.Replies.{ReplyFields}
 use Rattle.gc_lines.specs.Readers.{reply_at}
 use Rattle.gc_lines.specs.declared.fault.LineFault.{LineFault}
@@ -15,9 +16,9 @@ use Rattle.gc_station.specs.declared.progress.Action.{Action}
 use Rattle.gc_links.specs.Acts.{Act}
 use Rattle.gc_station.specs.Progressing.{turned, loses_all}
 use Rattle.gc_station.specs.Runs.{state_after}
-use Rattle.gc_station.specs.Scopes.{Scope, AreReadings, OneReadingForALine, SomeReadings, ForReadings}
-use Rattle.gc_station.proofs.Walk.{lines_along, moved_changed}
-use Rattle.gc_station.specs.Model.{Model, opening, action_at, with_progress, lines_came, moved, losing, stepped, after, after_all}
+use Rattle.gc_station.specs.Scopes.{Scope, AreReadings, OneReadingForALine, SomeReadings, ForEachReadings, ForReadings}
+use Rattle.gc_station.proofs.Walk.{lines_along, losing_along, acts_along, moved_changed}
+use Rattle.gc_station.specs.Model.{Model, opening, action_at, with_progress, lines_came, moved, losing, stepped, after_all}
 
 -- lines don't change what replies say
 pub lines_reads : (s : Model) (lines : List (List ℕ)) → (lines_came s lines).reads ≡ s.reads
@@ -29,8 +30,7 @@ moved_reads plan commands action s act = ap (λ (x : Model). x.reads) (moved_cha
 
 -- the loss of what is outstanding doesn't change what replies say
 pub losing_reads : (all : Bool) (s : Model) → (losing all s).reads ≡ s.reads
-losing_reads true s = refl
-losing_reads false s = refl
+losing_reads all s = losing_along (λ (t : Model). t.reads ≡ s.reads) all s refl refl
 
 -- an act doesn't change what replies say
 pub stepped_reads : (plan : Plan) (commands : List Task) (action : Action) (s : Model) (act : Act) → (stepped plan commands action s act).reads ≡ s.reads
@@ -40,16 +40,16 @@ stepped_reads plan commands action s act =
 
 -- acts don't change what replies say
 all_reads : (plan : Plan) (commands : List Task) (s : Model) (acts : List Act) → (after_all plan commands s acts).reads ≡ s.reads
-all_reads plan commands s [] = refl
-all_reads plan commands s (act ∷ acts) = all_reads plan commands (after plan commands s act) acts ∙ stepped_reads plan commands (action_at plan s) s act
+all_reads plan commands s acts =
+    acts_along plan commands (λ (t : Model). t.reads ≡ s.reads) (λ t act e. stepped_reads plan commands (action_at plan t) t act ∙ e) s acts refl
 
 -- after any acts replies say what they say in the scope
 pub reads_as_in_scope : (plan : Plan) (commands : List Task) (scope : Scope) (acts : List Act) → (state_after plan commands scope acts).reads ≡ scope.reads
 reads_as_in_scope plan commands scope acts = all_reads plan commands (opening plan scope) acts
 
 -- a function that equals one that gives readings gives them, too
-pub are_same : (a b : Asked → List ℕ → Reading) → a ≡ b → AreReadings b → AreReadings a
-are_same a b e are = subst (λ (r : Asked → List ℕ → Reading). AreReadings r) (sym e) are
+pub same_readings : (a b : Asked → List ℕ → Reading) → a ≡ b → AreReadings b → AreReadings a
+same_readings a b e are = subst (λ (r : Asked → List ℕ → Reading). AreReadings r) (sym e) are
 
 -- a line has at most one reading for a call
 pub one_for_a_line : OneReadingForALine
@@ -57,7 +57,7 @@ one_for_a_line call line x y p q =
     let same = one_reply line p.reply q.reply p.is_reply q.is_reply in
     one_asked_reading call q.reply x y (subst (λ (r : ReplyFields). IsAskedReading call r x) same p.is_reading) q.is_reading
 
--- the reading of a line for a call: that of its reply, and any if it is no reply
+-- the reading of a line for a call, by how the line reads: that of the reply; and `Refused 0`, or any other, if it is no reply
 said : Asked → Result ReplyFields LineFault → Reading
 said call (Ok reply) = (each_asked_reply call reply).0
 said call (Err fault) = Refused 0
@@ -73,5 +73,5 @@ some_readings = (
 )
 
 -- what holds for every function that gives the readings is `ForReadings`, because there is such a function
-pub for_readings : (Holds : (Asked → List ℕ → Reading) → Type 0) → ((reads : Asked → List ℕ → Reading) → AreReadings reads → Holds reads) → ForReadings Holds
+pub for_readings : (Holds : (Asked → List ℕ → Reading) → Type 0) → ForEachReadings Holds → ForReadings Holds
 for_readings Holds each = (each, (some_readings.0, some_readings.1, each some_readings.0 some_readings.1))

@@ -7,15 +7,24 @@ use Rattle.std.specs.Prelude.{slice_get}
 use Rattle.std.proofs.lemmas.List.{get_or_default, length-map, length-take, map-append, map_more, take_more, take-append-drop}
 use Rattle.std.specs.Io.KnownBytes.{Appends}
 use Rattle.std.proofs.KnownBytes.{Appends-trans}
+use Rattle.gc_catalogue.specs.declared.answer.Answer.{Answer}
 use Rattle.gc_catalogue.specs.declared.answer.Reading.{Reading}
+use Rattle.gc_catalogue.specs.declared.answer.Reading.TheVariants as reading
+use Rattle.gc_values.specs.declared.fault.ValueFault.{ValueFault}
 use Rattle.gc_catalogue.specs.declared.asked.Asked.{Asked}
 use Rattle.gc_client.specs.declared.settlement.Settlement.{Settlement}
 use Rattle.gc_client.specs.Rule
 use Rattle.gc_client.specs.Settlements.{settlement_seen}
 use Rattle.gc_station.specs.declared.mark.Mark.{Mark}
-use Rattle.gc_texts.specs.Endings.{End}
+use Rattle.gc_texts.specs.Codes.{lists_code}
+use Rattle.gc_texts.specs.Endings.{End, Answered, Unreadable, Elsewhere}
+use Rattle.gc_texts.specs.Nears.{is_elsewhere}
+use Rattle.gc_texts.specs.declared.near.Expected.{Expected}
+use Rattle.gc_texts.specs.declared.near.Near.{Near}
+use Rattle.gc_texts.specs.declared.quality.Quality.{Quality}
+use Rattle.gc_texts.specs.declared.quality.Quality.TheVariants.{Fine, Warning, Refused}
 use Rattle.gc_station.specs.Attempts.{code_of, listed_after, listed_by}
-use Rattle.gc_station.specs.Marks.{commands_in, command_of, end_of, record_of, records_of, is_well, last_well, fresh_after}
+use Rattle.gc_station.specs.Marks.{commands_in, value_as, warned_as, refused_as, answer_as, command_of, end_of, record_of, records_of, is_well, last_well, fresh_after}
 use Rattle.gc_station.specs.Records.{Record, texts_of, WritesPart}
 use Rattle.gc_station.specs.Tallies.{counted_in, tallied}
 use Rattle.gc_station.specs.declared.tally.Counts.{Counts}
@@ -35,7 +44,7 @@ commands_one None false e = refl
 commands_one (Some m) true e = refl
 commands_one (Some m) false e = cc
 
--- `mark` is the one at place i of `marks`: it is a command's exactly if `get_or` finds a command's there
+-- if `mark` is the one at place i of `marks`, it is a command's just when the one that `get_or` gives there is
 pub item_there : (marks : List (Option Mark)) (i : ℕ) (mark : Option Mark) → i < length marks → mark ≡ get_or marks i mark → is_some mark ≡ is_some (get_or marks i None)
 item_there marks i mark below is = ap is_some (is ∙ get_or_default marks i mark None below)
 
@@ -46,6 +55,39 @@ pub commands_more : (marks : List (Option Mark)) (i : ℕ) (counts : Bool) → i
 commands_more marks i b below e =
     ap commands_in (take_more marks i None below) ∙ commands-append (take i marks) (get_or marks i None ∷ [])
     ∙ ap (λ n. commands_in (take i marks) + n) (commands_one (get_or marks i None) b (sym e))
+
+-- Endings.
+
+-- a fact of endings holds of the ending by an answer, whether that is elsewhere or not, if it holds of each answer by this line,
+-- and of the ending as elsewhere by it
+value_along : (P : End → Type 0) (q : Quality) (away : Bool) (said : Answer) (line : List ℕ)
+    → ((quality : Quality) (answer : Option Answer) → P (Answered quality answer line)) → P (Elsewhere line) → P (value_as q away said line)
+value_along P q true said line answered elsewhere = elsewhere
+value_along P q false said line answered elsewhere = answered q (Some said)
+
+-- as `value_along`, of the ending by a reply with an accepted return code, whatever its line says with return code 0
+warned_along : (P : End → Type 0) (near : Option Near) (zeroed : Reading) (line : List ℕ)
+    → ((quality : Quality) (answer : Option Answer) → P (Answered quality answer line)) → P (Elsewhere line) → P (warned_as near zeroed line)
+warned_along P near (reading.Value said) line answered elsewhere = value_along P Warning (is_elsewhere near said) said line answered elsewhere
+warned_along P near (reading.Refused code) line answered elsewhere = answered Warning None
+warned_along P near (reading.ComFault code) line answered elsewhere = answered Warning None
+warned_along P near (reading.Unreadable fault) line answered elsewhere = answered Warning None
+
+-- as `value_along`, of the ending by a reply with a return code other than 0, whether that is accepted or not
+refused_along : (P : End → Type 0) (accepted : Bool) (near : Option Near) (zeroed : Reading) (line : List ℕ)
+    → ((quality : Quality) (answer : Option Answer) → P (Answered quality answer line)) → P (Elsewhere line) → P (refused_as accepted near zeroed line)
+refused_along P true near zeroed line answered elsewhere = warned_along P near zeroed line answered elsewhere
+refused_along P false near zeroed line answered elsewhere = answered Refused None
+
+-- as `value_along`, of the ending by a reply in time, whatever its line says, if the fact holds also of each unreadable one
+pub answer_along : (P : End → Type 0) (expected : Expected) (said zeroed : Reading) (line : List ℕ)
+    → ((quality : Quality) (answer : Option Answer) → P (Answered quality answer line)) → P (Elsewhere line) → ((fault : ValueFault) → P (Unreadable line fault))
+    → P (answer_as expected said zeroed line)
+answer_along P expected (reading.Value said) zeroed line answered elsewhere unreadable = value_along P Fine (is_elsewhere expected.near said) said line answered elsewhere
+answer_along P expected (reading.Refused code) zeroed line answered elsewhere unreadable =
+    refused_along P (lists_code expected.accepted code) expected.near zeroed line answered elsewhere
+answer_along P expected (reading.ComFault code) zeroed line answered elsewhere unreadable = answered Refused None
+answer_along P expected (reading.Unreadable fault) zeroed line answered elsewhere unreadable = unreadable fault
 
 -- Records.
 
@@ -75,12 +117,15 @@ records-append reads utc (mark ∷ marks) [] ys = refl
 records-append reads utc (None ∷ marks) (x ∷ xs) ys = records-append reads utc marks xs ys
 records-append reads utc (Some mark ∷ marks) (x ∷ xs) ys = ap (λ rs. record_of reads utc mark x ∷ rs) (records-append reads utc marks xs ys)
 
--- the records of the first i + 1 settlements are those of the first i, and that of s, the one at place i, by `mark`, if the marks
--- from place i on give the same record of s
+-- the records of settlements as the code has them
+abbrev records_seen : (reads : Asked → List ℕ → Reading) (utc : ℕ) (marks : List (Option Mark)) → List (Settlement Asked) → List Record
+records_seen reads utc marks ss = records_of reads utc marks (map settlement_seen ss)
+
+-- the records of the first i + 1 settlements are those of the first i, and that of s, the one at place i, by `mark`, if the
+-- marks from place i on give the same record of s
 pub front_more : (reads : Asked → List ℕ → Reading) (utc : ℕ) (marks : List (Option Mark)) (ss : List (Settlement Asked)) (i : ℕ) (s : Settlement Asked) (mark : Option Mark)
-    → i < length ss → s ≡ get_or ss i s
-    → records_of reads utc (drop i marks) (settlement_seen s ∷ []) ≡ records_of reads utc (mark ∷ []) (settlement_seen s ∷ [])
-    → records_of reads utc marks (map settlement_seen (take (i + 1) ss)) ≡ records_of reads utc marks (map settlement_seen (take i ss)) ++ records_of reads utc (mark ∷ []) (settlement_seen s ∷ [])
+    → i < length ss → s ≡ get_or ss i s → records_seen reads utc (drop i marks) (s ∷ []) ≡ records_seen reads utc (mark ∷ []) (s ∷ [])
+    → records_seen reads utc marks (take (i + 1) ss) ≡ records_seen reads utc marks (take i ss) ++ records_seen reads utc (mark ∷ []) (s ∷ [])
 front_more reads utc marks ss i s mark below is here =
     let front = map settlement_seen (take i ss) in
     let len : length front ≡ i = length-map (take i ss) settlement_seen ∙ omega (arith, length-take i ss, below) in
@@ -91,8 +136,7 @@ front_more reads utc marks ss i s mark below is here =
 
 -- the records of all settlements are those of the first i, and after them those of the others by the marks that are left
 pub front_left : (reads : Asked → List ℕ → Reading) (utc : ℕ) (marks : List (Option Mark)) (ss : List (Settlement Asked)) (i : ℕ)
-    → records_of reads utc marks (map settlement_seen ss) ≡ records_of reads utc marks (map settlement_seen (take i ss)) ++ records_of reads utc
-    (drop (length (map settlement_seen (take i ss))) marks) (map settlement_seen (drop i ss))
+    → records_seen reads utc marks ss ≡ records_seen reads utc marks (take i ss) ++ records_seen reads utc (drop (length (map settlement_seen (take i ss))) marks) (drop i ss)
 front_left reads utc marks ss i =
     ap (λ xs. records_of reads utc marks (map settlement_seen xs)) (sym (take-append-drop i ss))
     ∙ ap (records_of reads utc marks) (map-append settlement_seen (take i ss) (drop i ss))
@@ -126,13 +170,15 @@ listed-append reads (None ∷ marks) (x ∷ xs) ys b = listed-append reads marks
 listed-append reads (Some mark ∷ marks) (x ∷ xs) ys b =
     listed-append reads marks xs ys (listed_after b mark.expected (code_of reads x.call x.outcome) (end_of reads mark.expected x.call x.outcome))
 
+-- `listed_by` of settlements as the code has them
+abbrev listed_seen : (reads : Asked → List ℕ → Reading) (listed : Bool) (marks : List (Option Mark)) → List (Settlement Asked) → Bool
+listed_seen reads listed marks ss = listed_by reads listed marks (map settlement_seen ss)
+
 -- c is `listed_by` of the first i + 1 settlements, from a on, if b is that of the first i, and c is that of s, the one at place
 -- i, with `mark`, from b on; `mark` has to give the same for s as the marks from place i on
 pub listed_more : (reads : Asked → List ℕ → Reading) (a b c : Bool) (marks : List (Option Mark)) (ss : List (Settlement Asked)) (i : ℕ) (s : Settlement Asked) (mark : Option Mark)
-    → (below : i < length ss) → (here : s ≡ get_or ss i s) → (before : b ≡ listed_by reads a marks (map settlement_seen (take i ss)))
-    → (now : c ≡ listed_by reads b (mark ∷ []) (settlement_seen s ∷ []))
-    → (one_mark : (x : Bool) → listed_by reads x (drop i marks) (settlement_seen s ∷ []) ≡ listed_by reads x (mark ∷ []) (settlement_seen s ∷ []))
-    → c ≡ listed_by reads a marks (map settlement_seen (take (i + 1) ss))
+    → i < length ss → s ≡ get_or ss i s → b ≡ listed_seen reads a marks (take i ss) → c ≡ listed_seen reads b (mark ∷ []) (s ∷ [])
+    → ((x : Bool) → listed_seen reads x (drop i marks) (s ∷ []) ≡ listed_seen reads x (mark ∷ []) (s ∷ [])) → c ≡ listed_seen reads a marks (take (i + 1) ss)
 listed_more reads a b c marks ss i s mark below is so more here =
     let front = map settlement_seen (take i ss) in
     let len : length front ≡ i = length-map (take i ss) settlement_seen ∙ omega (arith, length-take i ss, below) in
@@ -219,15 +265,21 @@ part_behind text before front next more all later start new is whole w =
     ∙ sym (append_assoc before front (more ++ later)) ∙ sym (append_assoc (before ++ front) more later) in
     part_since text before front (before ++ all) start new (part_grows text (before ++ front) ((before ++ front) ++ more) (before ++ all) start new (later, order) w)
 
+-- f carries a value over records. If it takes two joined lists one after the other (`append`), b is what it makes of a and
+-- `front`, c of b and `one`, and `next` is `front` and then `one`, c is what it makes of a and `next`
+fold_more : {A : Type 0} (f : A → List Record → A) → ((a : A) (xs ys : List Record) → f a (xs ++ ys) ≡ f (f a xs) ys) → (a b c : A) (front one next : List Record) → b ≡ f a front → c ≡ f b one
+    → next ≡ front ++ one → c ≡ f a next
+fold_more f append a b c front one next so more is = more ∙ ap (λ x. f x one) so ∙ sym (append a front one) ∙ sym (ap (f a) is)
+
 -- to count the records of two lists is to count those of the first, and then those of the second
 pub tallied-append : (t : Counts) (xs ys : List Record) → tallied t (xs ++ ys) ≡ tallied (tallied t xs) ys
 tallied-append t [] ys = refl
 tallied-append t (x ∷ xs) ys = tallied-append (counted_in x.cycle x.turn x.end t) xs ys
 
--- counts to which the records `front` were added, and then those of `one`, are those to which `next` was added, which is
--- `front` and then `one`
+-- if u is the counts t with the records `front` added, and v is u with those of `one` added, v is t with those of `next` added,
+-- which is `front` and then `one`
 pub tallied_more : (t u v : Counts) (front one next : List Record) → u ≡ tallied t front → v ≡ tallied u one → next ≡ front ++ one → v ≡ tallied t next
-tallied_more t u v front one next so more is = more ∙ ap (λ (x : Counts). tallied x one) so ∙ sym (tallied-append t front one) ∙ sym (ap (tallied t) is)
+tallied_more t u v front one next so more is = fold_more tallied tallied-append t u v front one next so more is
 
 -- whether the last record of two lists, one after the other, was answered well is known from the second list; if that is empty,
 -- from the first; and if both are, it is b
@@ -235,24 +287,22 @@ pub last-append : (b : Bool) (xs ys : List Record) → last_well b (xs ++ ys) �
 last-append b [] ys = refl
 last-append b (x ∷ xs) ys = last-append (is_well x.end) xs ys
 
--- whether the last of the records `next`, which are `front` and then `one`, was answered well is known from `front`, and then
--- from `one`
+-- if b is `last_well` of `front` from a on, and c that of `one` from b on, c is that of `next`, which is `front` and then `one`,
+-- from a on
 pub last_more : (a b c : Bool) (front one next : List Record) → b ≡ last_well a front → c ≡ last_well b one
     → next ≡ front ++ one → c ≡ last_well a next
-last_more a b c front one next so more is = more ∙ ap (λ x. last_well x one) so ∙ sym (last-append a front one) ∙ sym (ap (last_well a) is)
+last_more a b c front one next so more is = fold_more last_well last-append a b c front one next so more is
 
--- when a command was answered well last, among the records `xs` and then `ys`, recorded at the moment `now`, is known from `xs`,
--- and then from `ys`
+-- `fresh_after` of the records `xs` and then `ys`, which were recorded at the moment `now`, is that of `ys` from that of `xs` on
 pub fresh-append : (now fresh : ℕ) (xs ys : List Record) → fresh_after now fresh (xs ++ ys) ≡ fresh_after now (fresh_after now fresh xs) ys
 fresh-append now fresh [] ys = refl
 fresh-append now fresh (x ∷ xs) ys = fresh-append now (if is_well x.end then now else fresh) xs ys
 
--- when a command was answered well last, among the records `next`, which are `front` and then `one`, is known from `front`, and
--- then from `one`
+-- if b is `fresh_after` of `front` from a on, and c that of `one` from b on, c is that of `next`, which is `front` and then
+-- `one`, from a on
 pub fresh_more : (now a b c : ℕ) (front one next : List Record) → b ≡ fresh_after now a front → c ≡ fresh_after now b one
     → next ≡ front ++ one → c ≡ fresh_after now a next
-fresh_more now a b c front one next so more is =
-    more ∙ ap (λ x. fresh_after now x one) so ∙ sym (fresh-append now a front one) ∙ sym (ap (fresh_after now a) is)
+fresh_more now a b c front one next so more is = fold_more (fresh_after now) (fresh-append now) a b c front one next so more is
 
 -- the record of a settlement, with this ending in place of its own
 abbrev pub record_as : ℕ → Mark → Rule.Settlement Asked → End → Record

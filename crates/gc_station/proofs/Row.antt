@@ -1,7 +1,7 @@
 -- The row of a station: the requests of its records, and after them those of the outstanding commands. An act leaves it as it is,
 -- or adds the request of the command that is sent, or recorded without being sent. If a chain is unbroken, the last request is of
 -- a cycle, not of the setup.
-use Rattle.std.proofs.Common.{◌≡◌, ℕ, ◌-◌, ◌<◌, Bool, true, false, List, [], ◌∷◌, ◌++◌, length, drop, map, Some, None, refl, sym, ap, ◌∙◌, subst, arith, append_assoc, append-nil}
+use Rattle.std.proofs.Common.{◌≡◌, ℕ, ◌-◌, ◌<◌, Bool, true, false, List, [], ◌∷◌, ◌++◌, length, drop, map, Some, None, refl, sym, ap, ◌∙◌, subst, arith, append_assoc, append-nil, not, if◌then◌else◌}
 use Rattle.std.proofs.lemmas.List.{length-drop, map-append}
 use Rattle.std.proofs.lemmas.Bool.{both_ways}
 use Rattle.gc_catalogue.specs.declared.asked.Asked.TheVariants.{Table}
@@ -20,23 +20,22 @@ use Rattle.gc_station.specs.declared.progress.Action.TheVariants as action
 use Rattle.gc_station.specs.declared.progress.Progress.{Progress}
 use Rattle.gc_station.specs.declared.progress.Until.{Until}
 use Rattle.gc_station.specs.Deciding.{later}
-use Rattle.gc_station.specs.Lists.{with_unless}
-use Rattle.gc_station.specs.EachOnce.{Request, of_record, of_cycles, of_text, in_text}
+use Rattle.gc_station.specs.EachOnce.{Request, of_record, of_cycles, of_text, in_text, of_waiting}
 use Rattle.gc_station.specs.Marks.{commands_in}
 use Rattle.gc_station.specs.Progressing.{moment_noted, turned, loses_all}
 use Rattle.gc_station.specs.Reasons.{HoldsBefore}
 use Rattle.gc_station.specs.Runs.{state_after}
 use Rattle.gc_station.specs.Scopes.{Scope}
-use Rattle.gc_station.specs.ActKinds.{Puts, ReadsClock, IsOpening}
-use Rattle.gc_station.specs.Model.{Model, opening, action_at, waiting_of, Performs, Runs, is_heard, asks_first, asks_null, after_piece, line_came, losing, moved, piece_at, with_progress, with_moment, null_text, text_or_null, first_text, request_text}
+use Rattle.gc_station.specs.Model.{Model, opening, action_at, waiting_of, Performs, Runs, is_heard, asks_first, asks_null, after_piece, line_came, losing, moved, piece_at, with_progress, with_moment}
 use Rattle.gc_station.specs.NextCommand.{cycles_begun, place_next, mark_next}
 use Rattle.gc_station.proofs.Always.{always}
-use Rattle.gc_station.proofs.Each.{row, row_moment, row_settles, more_waiting, marked_none, waiting_marked, cycles_append}
+use Rattle.gc_station.proofs.Each.{row, row_moment, row_settles, more_waiting, marked_none, waiting_marked}
 use Rattle.gc_station.proofs.EachRun.{invariant_holds}
 use Rattle.gc_station.proofs.Facts.{action_for, not_none}
-use Rattle.gc_station.proofs.Invariant.{Invariant}
+use Rattle.gc_station.proofs.Invariant.{Paired, Invariant}
 use Rattle.gc_station.proofs.Midway.{client_behind}
-use Rattle.gc_station.proofs.Walk.{came_along, closed_along, moved_changed, walk}
+use Rattle.gc_station.proofs.Walk.{came_along, losing_along, closed_along, moved_changed, walk}
+use Rattle.std.proofs.lemmas.List.Elements.{filter-append}
 
 -- the row of a model
 abbrev pub row_of : Model → List Request
@@ -52,34 +51,28 @@ row_line s line =
 row_came : (heard : Bool) (word piece : List ℕ) (s : Model) → row_of (after_piece heard word piece s) ≡ row_of s
 row_came h word piece s = came_along (λ (t : Model). row_of t ≡ row_of s) (λ t line e. row_line t line ∙ e) h word piece s refl refl refl
 
--- a read that gave bytes leaves the row as it is
+-- a piece that came by the moment m leaves the row as it is
 pub row_gave : (plan : Plan) (until : Until) (s : Model) (bytes : List ℕ) (m : Moment) → row_of (piece_at plan until bytes m s) ≡ row_of s
 row_gave plan until s bytes m =
     row_came (is_heard s.progress.phase) s.progress.word bytes (with_moment m (with_progress (moment_noted m) s)) ∙ row_moment s.marks s.client.waiting s.records m.elapsed
 
 -- the loss of what is outstanding leaves the row as it is
 pub row_losing : (all : Bool) (s : Model) → row_of (losing all s) ≡ row_of s
-row_losing true s =
-    row_settles s.reads s.progress.moment.utc s.marks s.client.waiting [] (map lost s.client.waiting) s.records (append-nil (map of_settled (map lost s.client.waiting)) ∙ lost_parts s.client.waiting)
-row_losing false s = refl
+row_losing all s =
+    losing_along (λ (t : Model). row_of t ≡ row_of s) all s
+    (row_settles s.reads s.progress.moment.utc s.marks s.client.waiting [] (map lost s.client.waiting) s.records
+    (append-nil (map of_settled (map lost s.client.waiting)) ∙ lost_parts s.client.waiting)) refl
 
--- an act of a read that gave bytes leaves the row as it is
+-- an act that is a read which gave bytes leaves the row as it is
 pub row_read : (plan : Plan) (commands : List Task) (o : Action) (s : Model) (act : Act) (bytes : List ℕ) (m : Moment) → Performs commands s o act → act ≡ Gave bytes m
     → row_of (moved plan commands o s act) ≡ row_of s
-row_read plan commands (action.Read until) s act bytes m o is = subst (λ (a : Act). row_of (moved plan commands (action.Read until) s a) ≡ row_of s) (sym is) (row_gave plan until s bytes m)
-row_read plan commands action.ReadClock s act bytes m o is = absurd (subst ReadsClock is o)
-row_read plan commands action.Renew s act bytes m o is = absurd (subst ReadsClock is o)
-row_read plan commands action.Begin s act bytes m o is = absurd (subst ReadsClock is o)
-row_read plan commands action.Skip s act bytes m o is = absurd (subst ReadsClock is o)
-row_read plan commands action.Pass s act bytes m o is = absurd (subst ReadsClock is o)
-row_read plan commands action.Open s act bytes m o is = absurd (subst IsOpening is o)
-row_read plan commands action.Clear s act bytes m o is = absurd (subst (λ (a : Act). Puts (10 ∷ []) a) is o)
-row_read plan commands action.Ask s act bytes m o is = absurd (subst (λ (a : Act). Puts (null_text s.progress.word) a) is o)
-row_read plan commands action.Prepare s act bytes m o is = absurd (subst (λ (a : Act). Puts (text_or_null s.progress.moment.utc s.client (drop s.progress.prepared commands)) a) is o)
-row_read plan commands action.Send s act bytes m o is = absurd (subst (λ (a : Act). Puts (first_text s.progress.moment.utc s.client (drop (place_next commands s.progress) commands)) a) is o)
-row_read plan commands action.Flush s act bytes m o is = absurd (subst (λ (a : Act). Puts (request_text s.client (Table NullProc)) a) is o)
-row_read plan commands (action.Close why) s act bytes m o is = cc
-row_read plan commands (action.Stop why) s act bytes m o is = absurd o
+row_read plan commands o s act bytes m obeys is =
+    subst (λ (a : Act). row_of (moved plan commands o s a) ≡ row_of s) (sym is) (by_action o (subst (λ (a : Act). Performs commands s o a) is obeys)) where
+      -- the lemma above, by the action: only a read can give bytes
+      by_action : (o : Action) → Performs commands s o (Gave bytes m) → row_of (moved plan commands o s (Gave bytes m)) ≡ row_of s
+      by_action (action.Read until) obeys = row_gave plan until s bytes m
+      by_action (action.Close why) obeys = cc
+      by_action o obeys = absurd obeys
 
 -- If a chain is unbroken, the last request of the row is of a cycle.
 
@@ -99,18 +92,18 @@ LastIsOfCycle s = s.progress.chain_unbroken ≡ true → 0 < last_cycle 0 (row_o
 
 -- what `LastIsOfCycle` says of the row `xs`, where b is whether the chain is unbroken, holds of the row `ys` that is equal to
 -- `xs`
-kept : {xs ys : List Request} {b : Bool} → ys ≡ xs → (b ≡ true → 0 < last_cycle 0 xs) → b ≡ true → 0 < last_cycle 0 ys
-kept same h e = subst (λ (zs : List Request). 0 < last_cycle 0 zs) (sym same) (h e)
+of_same_row : {xs ys : List Request} {b : Bool} → ys ≡ xs → (b ≡ true → 0 < last_cycle 0 xs) → b ≡ true → 0 < last_cycle 0 ys
+of_same_row same h e = subst (λ (zs : List Request). 0 < last_cycle 0 zs) (sym same) (h e)
 
 -- if each request that waits has a mark, there is room, and the first of these commands, of which there are some, is sent with a
 -- mark of a cycle, the last request of the row is of a cycle
-sent_last : (mark : Mark) (left : List Task) (s : Model) → length s.marks ≡ length s.client.waiting → length s.client.waiting < 7 → 0 < length left → 0 < mark.cycle
+sent_last : (mark : Mark) (left : List Task) (s : Model) → Paired s → length s.client.waiting < 7 → 0 < length left → 0 < mark.cycle
     → 0 < last_cycle 0 (row (asks_first mark left s).marks (asks_first mark left s).client.waiting s.records)
 sent_last mark [] s paired room some many = absurd (omega (arith, some))
 sent_last mark (task ∷ others) s paired room some many =
     let d = later s.progress.moment.elapsed task.deadline in
     let p = pending_of task.command.target (call_at task mark.sent) d in
-    let one : Request = record { cycle = mark.cycle; place = mark.place; asked = of_pending p } in
+    let one = of_waiting mark p in
     let is : row (s.marks ++ Some mark ∷ []) (s.client.waiting ++ p ∷ []) s.records ≡ row_of s ++ one ∷ [] =
     ap (λ xs. map of_record s.records ++ xs) (more_waiting s.marks s.client.waiting (Some mark) p paired) ∙ sym (append_assoc (map of_record s.records) _ (one ∷ [])) in
     let last : 0 < last_cycle 0 (row_of s ++ one ∷ []) = subst (λ (n : ℕ). 0 < n) (sym (last_behind 0 (row_of s) one)) many in
@@ -134,13 +127,13 @@ module _ (plan : Plan) (commands : List Task) where
   last_moved action.Prepare s act fine is o h = walk plan commands (λ a (u : Model). LastIsOfCycle u) action.Prepare (with_progress turned s) act o (λ m e. cc, λ n e. cc)
   last_moved action.Skip s act fine is o h =
       walk plan commands (λ a (u : Model). LastIsOfCycle u) action.Skip (with_progress turned s) act o
-      (λ m e. cc, λ n. kept (ap (λ rs. row s.marks s.client.waiting rs) (append-nil s.records)) h)
+      (λ m e. cc, λ n. of_same_row (ap (λ rs. row s.marks s.client.waiting rs) (append-nil s.records)) h)
   last_moved action.Pass s act fine is o h = walk plan commands (λ a (u : Model). LastIsOfCycle u) action.Pass (with_progress turned s) act o (λ m e. cc, λ n. h)
   last_moved action.Begin s act fine is o h = walk plan commands (λ a (u : Model). LastIsOfCycle u) action.Begin (with_progress turned s) act o (λ m e. cc, λ n. h)
   last_moved action.Renew s act fine is o h = walk plan commands (λ a (u : Model). LastIsOfCycle u) action.Renew (with_progress turned s) act o (λ m e. cc, λ n. h)
   last_moved action.ReadClock s act fine is o h =
       walk plan commands (λ a (u : Model). LastIsOfCycle u) action.ReadClock (with_progress turned s) act o
-      (λ m. kept (row_moment s.marks s.client.waiting s.records m.elapsed) h, λ n. h)
+      (λ m. of_same_row (row_moment s.marks s.client.waiting s.records m.elapsed) h, λ n. h)
   last_moved action.Open s act fine is o h = walk plan commands (λ a (u : Model). LastIsOfCycle u) action.Open (with_progress turned s) act o (λ m. h, λ n e. cc)
   last_moved action.Clear s act fine is o h = walk plan commands (λ a (u : Model). LastIsOfCycle u) action.Clear (with_progress turned s) act o (λ m. h, λ n. h)
   last_moved action.Ask s act fine is o h = walk plan commands (λ a (u : Model). LastIsOfCycle u) action.Ask (with_progress turned s) act o (λ m. h, λ n. h)
@@ -150,13 +143,13 @@ module _ (plan : Plan) (commands : List Task) where
       let same : row_of (asks_null plan (with_progress turned s)) ≡ row_of s =
       ap (λ (c : _). row (s.marks ++ None ∷ []) c.waiting s.records) (client_behind s.client 0 (Table NullProc) d is.4.1)
       ∙ ap (λ xs. map of_record s.records ++ xs) (more_waiting s.marks s.client.waiting None p fine.paired ∙ append-nil _) in
-      walk plan commands (λ a (u : Model). LastIsOfCycle u) action.Flush (with_progress turned s) act o (λ m. kept same h, λ n. kept same h)
+      walk plan commands (λ a (u : Model). LastIsOfCycle u) action.Flush (with_progress turned s) act o (λ m. of_same_row same h, λ n. of_same_row same h)
   last_moved (action.Read until) s act fine is o h =
       let t = with_progress turned s in
       let back = λ (a : Act). ap (λ (x : Model). x.progress.chain_unbroken) (moved_changed plan commands (action.Read until) t a) in
       walk plan commands (λ a (u : Model). LastIsOfCycle u) (action.Read until) t act o (
-        λ bytes m. kept (row_gave plan until t bytes m) (λ e. h (sym (back (Gave bytes m)) ∙ e)),
-        λ m. kept (row_moment s.marks s.client.waiting s.records m.elapsed) (λ e. h (sym (back (Silent m)) ∙ e)),
+        λ bytes m. of_same_row (row_gave plan until t bytes m) (λ e. h (sym (back (Gave bytes m)) ∙ e)),
+        λ m. of_same_row (row_moment s.marks s.client.waiting s.records m.elapsed) (λ e. h (sym (back (Silent m)) ∙ e)),
         h,
         h,
         h,
@@ -174,26 +167,31 @@ module _ (plan : Plan) (commands : List Task) where
       let s = state_after plan commands scope done in
       let t = moved plan commands (action_at plan s) (with_progress turned s) act in
       let one = last_moved (action_at plan s) s act (invariant_holds plan commands scope done) (action_for plan s.progress (waiting_of s)) obeys h in
-      kept (row_losing (loses_all t.progress) t) (λ e. one (by_loss (loses_all t.progress) t e))) (λ e. cc) acts runs where
+      of_same_row (row_losing (loses_all t.progress) t) (λ e. one (by_loss (loses_all t.progress) t e))) (λ e. cc) acts runs where
         -- the loss of what is outstanding mends no chain
         by_loss : (all : Bool) (t : Model) → (losing all t).progress.chain_unbroken ≡ true → t.progress.chain_unbroken ≡ true
         by_loss true t e = e
         by_loss false t e = e
 
--- after a run, if no command is outstanding and the chain is unbroken, the last record is of a cycle
-pub last_of_cycle : (plan : Plan) (commands : List Task) (scope : Scope) (acts : List Act) → Runs plan commands (opening plan scope) acts
-    → commands_in (state_after plan commands scope acts).marks ≡ 0 → (state_after plan commands scope acts).progress.chain_unbroken ≡ true → (xs : List Request) (x : Request)
-    → map of_record (state_after plan commands scope acts).records ≡ xs ++ x ∷ [] → 0 < x.cycle
-last_of_cycle plan commands scope acts runs none whole xs x is =
-    let s = state_after plan commands scope acts in
-    let all : row_of s ≡ xs ++ x ∷ [] =
-    ap (λ ys. map of_record s.records ++ ys) (waiting_marked s.marks s.client.waiting ∙ marked_none s.marks (map of_pending s.client.waiting) none) ∙ append-nil (map of_record s.records) ∙ is in
-    subst (λ (n : ℕ). 0 < n) (ap (last_cycle 0) all ∙ last_behind 0 xs x) (last_holds plan commands scope acts runs whole)
+module _ (plan : Plan) (commands : List Task) (scope : Scope) where
+  -- the model after these acts
+  abbrev state : List Act → Model
+  state acts = state_after plan commands scope acts
 
--- of requests, the last of which is of a cycle, those that are of a cycle have it last
-cycles_last : (xs : List Request) (x : Request) → 0 < x.cycle → of_cycles (xs ++ x ∷ []) ≡ of_cycles xs ++ x ∷ []
-cycles_last xs x many = cycles_append xs (x ∷ []) ∙ ap (λ b. of_cycles xs ++ with_unless b x []) (not_none x.cycle many)
+  -- after a run, if no command is outstanding and the chain is unbroken, the last record is of a cycle
+  pub last_of_cycle : (acts : List Act) → Runs plan commands (opening plan scope) acts
+      → commands_in (state acts).marks ≡ 0 → (state acts).progress.chain_unbroken ≡ true → (xs : List Request) (x : Request)
+      → map of_record (state acts).records ≡ xs ++ x ∷ [] → 0 < x.cycle
+  last_of_cycle acts runs none whole xs x is =
+      let s = state acts in
+      let all : row_of s ≡ xs ++ x ∷ [] =
+      ap (λ ys. map of_record s.records ++ ys) (waiting_marked s.marks s.client.waiting ∙ marked_none s.marks (map of_pending s.client.waiting) none) ∙ append-nil (map of_record s.records) ∙ is in
+      subst (λ (n : ℕ). 0 < n) (ap (last_cycle 0) all ∙ last_behind 0 xs x) (last_holds plan commands scope acts runs whole)
 
--- of requests, the last of which is of a cycle, those that are of a cycle have it last, as the text has them
-pub listed_last : (commands : List Task) (xs : List Request) (x : Request) → 0 < x.cycle → of_text commands (xs ++ x ∷ []) ≡ of_text commands xs ++ in_text commands x ∷ []
-listed_last commands xs x many = ap (map (in_text commands)) (cycles_last xs x many) ∙ map-append (in_text commands) (of_cycles xs) (x ∷ [])
+-- if the last of some requests is of a cycle, it is also the last of those among them that are (`of_cycles`)
+of_cycles_last : (xs : List Request) (x : Request) → 0 < x.cycle → of_cycles (xs ++ x ∷ []) ≡ of_cycles xs ++ x ∷ []
+of_cycles_last xs x many = filter-append _ xs (x ∷ []) ∙ ap (λ b. of_cycles xs ++ (if not b then x ∷ [] else [])) (not_none x.cycle many)
+
+-- if the last of some requests is of a cycle, it is, as the text has it, also the last of those that `of_text` gives
+pub of_text_last : (commands : List Task) (xs : List Request) (x : Request) → 0 < x.cycle → of_text commands (xs ++ x ∷ []) ≡ of_text commands xs ++ in_text commands x ∷ []
+of_text_last commands xs x many = ap (map (in_text commands)) (of_cycles_last xs x many) ∙ map-append (in_text commands) (of_cycles xs) (x ∷ [])

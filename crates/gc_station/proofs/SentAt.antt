@@ -10,8 +10,8 @@ use Rattle.gc_texts.specs.declared.tasks.Task.{Task}
 use Rattle.gc_station.specs.declared.mark.Mark.{Mark}
 use Rattle.gc_station.specs.declared.plan.Plan.{Plan}
 use Rattle.gc_station.specs.declared.progress.Action.{Action}
-use Rattle.gc_station.specs.declared.progress.Action.TheVariants.{Ask, Send, Flush, Read, Prepare}
-use Rattle.gc_links.specs.Acts.{Act, Put, Cut, Gave}
+use Rattle.gc_station.specs.declared.progress.Action.TheVariants.{Send, Flush, Prepare}
+use Rattle.gc_links.specs.Acts.{Act, Put, Cut}
 use Rattle.gc_station.specs.Deciding.{has_begun}
 use Rattle.gc_station.specs.Links.{RecordsStay}
 use Rattle.gc_station.specs.Parts.{Part, nothing, joined, first_request_part, put_part, client_part, sync_part, part_of_act, ends_part, in_front, parts_of, request_or_null_part}
@@ -20,9 +20,11 @@ use Rattle.gc_station.specs.Runs.{state_after}
 use Rattle.gc_station.proofs.Outs.{SendsMarked}
 use Rattle.gc_station.specs.Model.{Model, opening, action_at, with_progress, moved, after, after_all}
 use Rattle.gc_station.specs.NextCommand.{place_next, mark_next, mark_setup}
+use Rattle.gc_station.proofs.Asked.{marks_none}
 use Rattle.gc_station.proofs.Going.{after_all-append}
 use Rattle.gc_station.proofs.Growing.{losing_records, moved_grew}
 use Rattle.gc_station.proofs.Records.{Grew, grew_none, grew_then}
+use Rattle.gc_station.proofs.Walk.{acts_along}
 
 -- Lists.
 
@@ -46,9 +48,9 @@ after_grew plan commands s act =
 
 -- the records before acts are the first of those after them
 pub all_grew : (plan : Plan) (commands : List Task) (s : Model) (acts : List Act) → Grew s.records (after_all plan commands s acts).records
-all_grew plan commands s [] = grew_none s.records
-all_grew plan commands s (act ∷ acts) =
-    grew_then s.records (after plan commands s act).records (after_all plan commands s (act ∷ acts)).records (after_grew plan commands s act) (all_grew plan commands (after plan commands s act) acts)
+all_grew plan commands s acts =
+    acts_along plan commands (λ (t : Model). Grew s.records t.records)
+    (λ t act g. grew_then s.records t.records (after plan commands t act).records g (after_grew plan commands t act)) s acts (grew_none s.records)
 
 -- the law: the records after some acts stay, before those of the acts that follow
 pub records_stay : RecordsStay
@@ -58,7 +60,8 @@ records_stay plan commands scope before rest =
 
 -- Which act sends the request of a command.
 
--- a mark in the part of the first of some commands is that command's, at place 0
+-- the part of the request for the first of some commands, which is sent with the mark `its`, has no other mark, and that at
+-- place 0
 pub put_mark : (now : ℕ) (its : Mark) (left : List Task) (n : ℕ) (mark : Mark) → slice_get (first_request_part now its left).marks n ≡ Some (Some mark) → (n ≡ 0) × (mark ≡ its)
 put_mark now its [] n mark e = absurd (none-some (Some mark) e)
 put_mark now its (task ∷ others) zero mark e = (refl, sym (same_Some its mark (same_Some (Some its) (Some mark) e)))
@@ -69,11 +72,11 @@ pub null_mark : (n : ℕ) (mark : Mark) → slice_get (None ∷ []) n ≡ Some (
 null_mark zero mark e = cc
 null_mark (suc n) mark e = none-some (Some mark) e
 
--- a mark in the part of the first of some commands of the setup is that command's, at place 0
+-- the part of the request for the first of some commands of the setup, sent with the mark `its`, or for a null procedure if
+-- there is no command, has no other mark, and that at place 0
 pub setup_mark : (plan : Plan) (now : ℕ) (its : Mark) (left : List Task) (n : ℕ) (mark : Mark) → slice_get (request_or_null_part plan now its left).marks n ≡ Some (Some mark) → (n ≡ 0) × (mark ≡ its)
 setup_mark plan now its [] n mark e = absurd (null_mark n mark e)
-setup_mark plan now its (task ∷ others) zero mark e = (refl, sym (same_Some its mark (same_Some (Some its) (Some mark) e)))
-setup_mark plan now its (task ∷ others) (suc n) mark e = absurd (none-some (Some mark) e)
+setup_mark plan now its (task ∷ others) n mark e = put_mark now its (task ∷ others) n mark e
 
 -- this action sends the command with this mark, as request n of its part, which has no other: n is 0
 abbrev pub IsSend : Plan → List Task → Model → Action → ℕ → Mark → Type 0
@@ -98,12 +101,7 @@ doing_mark plan commands s o act n mark e = absurd (none-some (Some mark) e)
 
 -- while the station synchronizes no request is a command's
 pub beginning_mark : (s : Model) (o : Action) (act : Act) (n : ℕ) (mark : Mark) → slice_get (sync_part s o act).marks n ≡ Some (Some mark) → ⊥
-beginning_mark s Ask (Put bytes) n mark e = none-some (Some mark) e
-beginning_mark s Ask (Cut bytes count) n mark e = none-some (Some mark) e
-beginning_mark s Ask act n mark e = none-some (Some mark) e
-beginning_mark s (Read until) (Gave piece m) n mark e = none-some (Some mark) e
-beginning_mark s (Read until) act n mark e = none-some (Some mark) e
-beginning_mark s o act n mark e = none-some (Some mark) e
+beginning_mark s o act n mark e = none-some (Some mark) (ap (λ marks. slice_get marks n) (sym (marks_none s o act)) ∙ e)
 
 -- a mark in the part of an act is of a command that is sent
 pub acting_mark : (plan : Plan) (commands : List Task) (s : Model) (o : Action) (act : Act) (n : ℕ) (mark : Mark)
@@ -120,10 +118,10 @@ pub record SentAt (plan : Plan) (commands : List Task) (s : Model) (acts : List 
   pub rest : List Act
   pub order : acts ≡ before ++ act ∷ rest
   pub its : SendsMarked plan commands (after_all plan commands s before) (action_at plan (after_all plan commands s before)) mark
-  pub first : Part
-  pub of_parts : slice_get (parts_of plan commands s before) i ≡ Some first
+  pub so_far : Part
+  pub of_parts : slice_get (parts_of plan commands s before) i ≡ Some so_far
   pub last : length (parts_of plan commands s before) ≡ suc i
-  pub count : length first.marks ≡ n
+  pub count : length so_far.marks ≡ n
 
 -- where a part p is joined to the first of these parts, q, the first is then p and q in one (`joined`)
 pub joined_at : (p : Part) (ps : List Part) (q : Part) → slice_get ps 0 ≡ Some q → slice_get (in_front p false ps) 0 ≡ Some (joined p q)
@@ -141,85 +139,88 @@ joined_length p [] i e = absurd (omega (arith, e))
 joined_length p (x ∷ ps) i e = e
 
 module _ (plan : Plan) (commands : List Task) where
+  -- `SentAt` of this plan and these commands
+  abbrev Sent : Model → List Act → (i n : ℕ) → Mark → Type 0
+  Sent s acts i n mark = SentAt plan commands s acts i n mark
+
+  -- the model after an act
+  abbrev next : Model → Act → Model
+  next s act = after plan commands s act
+
+  -- the part of an act that performs the action that is next
+  abbrev part_at : Model → Act → Part
+  part_at s act = part_of_act plan commands s (action_at plan s) act
+
   -- if the part of the first act has the mark of a command, the first act sends the command
   pub sent_here : (s : Model) (act : Act) (acts : List Act) (n : ℕ) (mark : Mark)
-      → slice_get (part_of_act plan commands s (action_at plan s) act).marks n ≡ Some (Some mark) → SentAt plan commands s (act ∷ acts) 0 n mark
+      → slice_get (part_at s act).marks n ≡ Some (Some mark) → Sent s (act ∷ acts) 0 n mark
   sent_here s act acts n mark e =
       let h = acting_mark plan commands s (action_at plan s) act n mark e in
-      record { before = []; act = act; rest = acts; order = refl; its = h.1; first = nothing; of_parts = refl; last = refl; count = sym h.0 }
+      record { before = []; act = act; rest = acts; order = refl; its = h.1; so_far = nothing; of_parts = refl; last = refl; count = sym h.0 }
+
+  -- if the acts after the first one send the command with this mark (`h`), all acts send it as request n of part i, where that is
+  -- the last part of the first act and of those before `h.act`, and has n requests so far
+  one_before : (s : Model) (act : Act) (acts : List Act) (i n j k : ℕ) (mark : Mark) (so_far : Part) → (h : Sent (next s act) acts j k mark)
+      → slice_get (parts_of plan commands s (act ∷ h.before)) i ≡ Some so_far → length (parts_of plan commands s (act ∷ h.before)) ≡ suc i → length so_far.marks ≡ n
+      → Sent s (act ∷ acts) i n mark
+  one_before s act acts i n j k mark so_far h there last count = record {
+    before = act ∷ h.before;
+    act = h.act;
+    rest = h.rest;
+    order = ap (λ l. act ∷ l) h.order;
+    its = h.its;
+    so_far = so_far;
+    of_parts = there;
+    last = last;
+    count = count;
+  }
 
   -- if a part ends with the first act, a command that the acts after it send as request n of part i is, with the first act
   -- counted, request n of part i + 1
   pub sent_cut : (s : Model) (act : Act) (acts : List Act) (i n : ℕ) (mark : Mark) → ends_part plan commands s act ≡ true
-      → SentAt plan commands (after plan commands s act) acts i n mark → SentAt plan commands s (act ∷ acts) (suc i) n mark
+      → Sent (next s act) acts i n mark → Sent s (act ∷ acts) (suc i) n mark
   sent_cut s act acts i n mark is h =
-      let p = part_of_act plan commands s (action_at plan s) act in
-      let ps = parts_of plan commands (after plan commands s act) h.before in
-      record {
-        before = act ∷ h.before;
-        act = h.act;
-        rest = h.rest;
-        order = ap (λ l. act ∷ l) h.order;
-        its = h.its;
-        first = h.first;
-        of_parts = subst (λ b. slice_get (in_front p b ps) (suc i) ≡ Some h.first) (sym is) h.of_parts;
-        last = subst (λ b. length (in_front p b ps) ≡ suc (suc i)) (sym is) (ap suc h.last);
-        count = h.count;
-      }
+      let p = part_at s act in
+      let ps = parts_of plan commands (next s act) h.before in
+      one_before s act acts (suc i) n i n mark h.so_far h (subst (λ b. slice_get (in_front p b ps) (suc i) ≡ Some h.so_far) (sym is) h.of_parts)
+      (subst (λ b. length (in_front p b ps) ≡ suc (suc i)) (sym is) (ap suc h.last)) h.count
 
   -- if no part ends with the first act, a command that the acts after it send as request k of the first part is, with the first
   -- act counted, in the first part still, after the requests of the first act
-  pub sent_on : (s : Model) (act : Act) (acts : List Act) (n k : ℕ) (mark : Mark) → ends_part plan commands s act ≡ false → n ≡ length (part_of_act plan commands s (action_at plan s) act).marks + k
-      → SentAt plan commands (after plan commands s act) acts 0 k mark → SentAt plan commands s (act ∷ acts) 0 n mark
+  pub sent_on : (s : Model) (act : Act) (acts : List Act) (n k : ℕ) (mark : Mark) → ends_part plan commands s act ≡ false → n ≡ length (part_at s act).marks + k
+      → Sent (next s act) acts 0 k mark → Sent s (act ∷ acts) 0 n mark
   sent_on s act acts n k mark is at h =
-      let p = part_of_act plan commands s (action_at plan s) act in
-      let ps = parts_of plan commands (after plan commands s act) h.before in
-      let size : length (p.marks ++ h.first.marks) ≡ length p.marks + length h.first.marks = length-append p.marks h.first.marks in
-      let count : length h.first.marks ≡ k = h.count in
-      record {
-        before = act ∷ h.before;
-        act = h.act;
-        rest = h.rest;
-        order = ap (λ l. act ∷ l) h.order;
-        its = h.its;
-        first = joined p h.first;
-        of_parts = subst (λ b. slice_get (in_front p b ps) 0 ≡ Some (joined p h.first)) (sym is) (joined_at p ps h.first h.of_parts);
-        last = subst (λ b. length (in_front p b ps) ≡ 1) (sym is) (joined_length p ps 0 h.last);
-        count = omega (arith, size, count, at);
-      }
+      let p = part_at s act in
+      let ps = parts_of plan commands (next s act) h.before in
+      let size : length (p.marks ++ h.so_far.marks) ≡ length p.marks + length h.so_far.marks = length-append p.marks h.so_far.marks in
+      let count : length h.so_far.marks ≡ k = h.count in
+      one_before s act acts 0 n 0 k mark (joined p h.so_far) h
+      (subst (λ b. slice_get (in_front p b ps) 0 ≡ Some (joined p h.so_far)) (sym is) (joined_at p ps h.so_far h.of_parts))
+      (subst (λ b. length (in_front p b ps) ≡ 1) (sym is) (joined_length p ps 0 h.last)) (omega (arith, size, count, at))
 
   -- if no part ends with the first act, a command that the acts after it send in a later part than the first is at the same place
   -- with the first act counted
   pub sent_later : (s : Model) (act : Act) (acts : List Act) (i n : ℕ) (mark : Mark) → ends_part plan commands s act ≡ false
-      → SentAt plan commands (after plan commands s act) acts (suc i) n mark → SentAt plan commands s (act ∷ acts) (suc i) n mark
+      → Sent (next s act) acts (suc i) n mark → Sent s (act ∷ acts) (suc i) n mark
   sent_later s act acts i n mark is h =
-      let p = part_of_act plan commands s (action_at plan s) act in
-      let ps = parts_of plan commands (after plan commands s act) h.before in
-      record {
-        before = act ∷ h.before;
-        act = h.act;
-        rest = h.rest;
-        order = ap (λ l. act ∷ l) h.order;
-        its = h.its;
-        first = h.first;
-        of_parts = subst (λ b. slice_get (in_front p b ps) (suc i) ≡ Some h.first) (sym is) (joined_on p ps i h.first h.of_parts);
-        last = subst (λ b. length (in_front p b ps) ≡ suc (suc i)) (sym is) (joined_length p ps (suc i) h.last);
-        count = h.count;
-      }
+      let p = part_at s act in
+      let ps = parts_of plan commands (next s act) h.before in
+      one_before s act acts (suc i) n (suc i) n mark h.so_far h (subst (λ b. slice_get (in_front p b ps) (suc i) ≡ Some h.so_far) (sym is) (joined_on p ps i h.so_far h.of_parts))
+      (subst (λ b. length (in_front p b ps) ≡ suc (suc i)) (sym is) (joined_length p ps (suc i) h.last)) h.count
 
   -- if the acts after the first one send each request with this mark that the parts `ps` have, all acts send each that these
   -- parts have with the first act's part before them, whether the first act ends a part (b) or not
   pub sent_by : (s : Model) (act : Act) (acts : List Act) (b : Bool) (ps : List Part) (i n : ℕ) (part : Part) (mark : Mark) → ends_part plan commands s act ≡ b
-      → ((j k : ℕ) (p : Part) → slice_get ps j ≡ Some p → slice_get p.marks k ≡ Some (Some mark) → SentAt plan commands (after plan commands s act) acts j k mark)
-      → slice_get (in_front (part_of_act plan commands s (action_at plan s) act) b ps) i ≡ Some part → slice_get part.marks n ≡ Some (Some mark) → SentAt plan commands s (act ∷ acts) i n mark
+      → ((j k : ℕ) (p : Part) → slice_get ps j ≡ Some p → slice_get p.marks k ≡ Some (Some mark) → Sent (next s act) acts j k mark)
+      → slice_get (in_front (part_at s act) b ps) i ≡ Some part → slice_get part.marks n ≡ Some (Some mark) → Sent s (act ∷ acts) i n mark
   sent_by s act acts true ps zero n part mark is again e f =
-      sent_here s act acts n mark (subst (λ (p : Part). slice_get p.marks n ≡ Some (Some mark)) (sym (same_Some (part_of_act plan commands s (action_at plan s) act) part e)) f)
+      sent_here s act acts n mark (subst (λ (p : Part). slice_get p.marks n ≡ Some (Some mark)) (sym (same_Some (part_at s act) part e)) f)
   sent_by s act acts true ps (suc i) n part mark is again e f = sent_cut s act acts i n mark is (again i n part e f)
   sent_by s act acts false [] zero n part mark is again e f =
-      sent_here s act acts n mark (subst (λ (p : Part). slice_get p.marks n ≡ Some (Some mark)) (sym (same_Some (part_of_act plan commands s (action_at plan s) act) part e)) f)
+      sent_here s act acts n mark (subst (λ (p : Part). slice_get p.marks n ≡ Some (Some mark)) (sym (same_Some (part_at s act) part e)) f)
   sent_by s act acts false [] (suc i) n part mark is again e f = absurd (none-some part e)
   sent_by s act acts false (q ∷ ps) zero n part mark is again e f =
-      let p = part_of_act plan commands s (action_at plan s) act in
+      let p = part_at s act in
       elim (get_split p.marks q.marks n (Some mark) (subst (λ (x : Part). slice_get x.marks n ≡ Some (Some mark)) (sym (same_Some (joined p q) part e)) f)) [
         | inl l ↦ sent_here s act acts n mark l
         | inr r ↦ sent_on s act acts n r.0 mark is r.1 (again 0 r.0 q refl r.2)
@@ -228,9 +229,9 @@ module _ (plan : Plan) (commands : List Task) where
 
   -- a request of a command in a run's parts was sent among the run's acts
   pub sent_at : (s : Model) (acts : List Act) (i n : ℕ) (part : Part) (mark : Mark) → slice_get (parts_of plan commands s acts) i ≡ Some part
-      → slice_get part.marks n ≡ Some (Some mark) → SentAt plan commands s acts i n mark
+      → slice_get part.marks n ≡ Some (Some mark) → Sent s acts i n mark
   sent_at s [] zero n part mark e f = absurd (none-some (Some mark) (subst (λ (p : Part). slice_get p.marks n ≡ Some (Some mark)) (sym (same_Some nothing part e)) f))
   sent_at s [] (suc i) n part mark e f = absurd (none-some part e)
   sent_at s (act ∷ acts) i n part mark e f =
-      sent_by s act acts (ends_part plan commands s act) (parts_of plan commands (after plan commands s act) acts) i n part mark refl
-      (λ j k p g h. sent_at (after plan commands s act) acts j k p mark g h) e f
+      sent_by s act acts (ends_part plan commands s act) (parts_of plan commands (next s act) acts) i n part mark refl
+      (λ j k p g h. sent_at (next s act) acts j k p mark g h) e f

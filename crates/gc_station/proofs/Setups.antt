@@ -1,7 +1,7 @@
 -- Each command of the setup that was sent has one record, or is outstanding; and its attempts count over the run. The row of a
 -- station has its records and, after them, the outstanding commands. An act leaves the row as it is, or adds the command that is
 -- sent, or recorded without being sent.
-use Rattle.std.proofs.Common.{◌≡◌, ◌⊎◌, inl, inr, ℕ, ◌+◌, ◌-◌, ◌<◌, ◌≤◌, Bool, true, false, if◌then◌else◌, nat_eq, min, List, [], ◌∷◌, ◌++◌, length, drop, map, Option, Some, None, refl, sym, ap, ◌∙◌, subst, arith, append_assoc, append-nil}
+use Rattle.std.proofs.Common.{◌≡◌, ◌⊎◌, inl, inr, ℕ, ◌+◌, ◌-◌, ◌<◌, ◌≤◌, Bool, if◌then◌else◌, nat_eq, min, List, [], ◌∷◌, ◌++◌, length, drop, map, Option, Some, None, refl, sym, ap, ◌∙◌, subst, arith, append_assoc, append-nil}
 use Rattle.std.proofs.lemmas.List.{length-drop, map-append}
 use Rattle.gc_catalogue.specs.declared.answer.Reading.{Reading}
 use Rattle.gc_catalogue.specs.declared.asked.Asked.{Asked}
@@ -24,19 +24,15 @@ use Rattle.gc_station.specs.Runs.{state_after}
 use Rattle.gc_station.specs.Scopes.{Scope}
 use Rattle.gc_station.specs.Model.{Model, opening, action_at, waiting_of, is_heard, asks_first, asks_or_null, after_piece, line_came, losing, moved, piece_at, first_unsent_record, with_progress, with_moment, with_rest, after, after_all}
 use Rattle.gc_station.specs.NextCommand.{cycles_begun, place_next, mark_next, mark_setup}
-use Rattle.gc_station.specs.Lists.{with_if}
-use Rattle.gc_station.specs.Setups.{Dispatch, dispatch_of_record, dispatch_of_mark, dispatches_of, of_setup, sent_first, sent_as, setup_sent_by, EachSetUpOnce, GoOn, AreInOrder, SetUpsGoOn}
+use Rattle.gc_station.specs.Setups.{Dispatch, dispatch_of_record, dispatch_of_mark, dispatches_of, of_setup, sent_first, sent_as, setup_sent_by, EachSetUpOnce, GoOn, AreInOrder, SetUpsGoOn, dispatch_row}
 use Rattle.gc_station.proofs.Counts.{ended_progress}
 use Rattle.gc_station.proofs.EachRun.{invariant_all, invariant_opening, invariant_holds, stopped}
 use Rattle.gc_station.proofs.Facts.{action_for, not_none}
 use Rattle.gc_station.proofs.Invariant.{Invariant}
-use Rattle.gc_station.proofs.Walk.{came_along, closed_along, is_prepared, moved_changed}
+use Rattle.gc_station.proofs.Walk.{came_along, losing_along, closed_along, is_prepared, moved_changed}
+use Rattle.std.proofs.lemmas.List.Elements.{filter-append}
 
 -- The row.
-
--- the row of a model: its records and, after them, the outstanding commands
-abbrev pub dispatch_row : Model → List Dispatch
-dispatch_row s = map dispatch_of_record s.records ++ dispatches_of s.marks
 
 -- the commands of the records of settlements, and after them those of the marks that are left, are those of all marks
 settled_row : (reads : Asked → List ℕ → Reading) (utc : ℕ) (ms : List (Option Mark)) (ss : List (Settlement Asked))
@@ -71,8 +67,8 @@ dispatch_row_gave plan until s bytes m = dispatch_row_came (is_heard s.progress.
 
 -- the loss of what is outstanding leaves the row as it is
 pub dispatch_row_losing : (all : Bool) (s : Model) → dispatch_row (losing all s) ≡ dispatch_row s
-dispatch_row_losing true s = row_settles s.reads s.progress.moment.utc s.marks (map lost s.client.waiting) s.records
-dispatch_row_losing false s = refl
+dispatch_row_losing all s =
+    losing_along (λ (t : Model). dispatch_row t ≡ dispatch_row s) all s (row_settles s.reads s.progress.moment.utc s.marks (map lost s.client.waiting) s.records) refl
 
 -- the commands of two lists of marks, one after the other, are those of the first list, and after them those of the second
 marks_append : (xs ys : List (Option Mark)) → dispatches_of (xs ++ ys) ≡ dispatches_of xs ++ dispatches_of ys
@@ -93,7 +89,7 @@ first_row mark (task ∷ others) s = row_more s.records s.marks (Some mark)
 -- the first of these commands of the setup adds itself to the row if it is sent; a null procedure adds nothing
 setup_row : (plan : Plan) (mark : Mark) (left : List Task) (s : Model) → dispatch_row (asks_or_null plan mark left s) ≡ dispatch_row s ++ sent_first mark left
 setup_row plan mark [] s = row_more s.records s.marks None
-setup_row plan mark (task ∷ others) s = row_more s.records s.marks (Some mark)
+setup_row plan mark (task ∷ others) s = first_row mark (task ∷ others) s
 
 module _ (plan : Plan) (commands : List Task) where
   -- an act that sends the next command of the setup adds it to the row
@@ -127,42 +123,33 @@ module _ (plan : Plan) (commands : List Task) where
 
 -- Those of the setup.
 
--- the commands of the setup in two joined lists are those of the first list, and after them those of the second
-setup_append : (xs ys : List Dispatch) → of_setup (xs ++ ys) ≡ of_setup xs ++ of_setup ys
-setup_append [] ys = refl
-setup_append (x ∷ xs) ys = by_cycle (nat_eq x.cycle 0) (setup_append xs ys) where
-  -- the lemma above, whether the first one is of the setup (`true`) or of a cycle
-  by_cycle : (b : Bool) → of_setup (xs ++ ys) ≡ of_setup xs ++ of_setup ys → with_if b x (of_setup (xs ++ ys)) ≡ with_if b x (of_setup xs) ++ of_setup ys
-  by_cycle true others = ap (λ zs. x ∷ zs) others
-  by_cycle false others = others
-
--- a command of a cycle isn't one of the setup
-none_one : (x : Dispatch) → 0 < x.cycle → of_setup (x ∷ []) ≡ []
-none_one x many = ap (λ b. with_if b x []) (not_none x.cycle many)
+-- one command, which is of a cycle, has none of the setup in it
+no_setup_in_one : (x : Dispatch) → 0 < x.cycle → of_setup (x ∷ []) ≡ []
+no_setup_in_one x many = ap (λ b. if b then x ∷ [] else []) (not_none x.cycle many)
 
 -- a command of a cycle that is sent isn't one of the setup
-none_sent : (mark : Mark) (left : List Task) → 0 < mark.cycle → of_setup (sent_first mark left) ≡ []
-none_sent mark [] many = refl
-none_sent mark (task ∷ others) many = none_one (dispatch_of_mark mark) many
+no_setup_sent : (mark : Mark) (left : List Task) → 0 < mark.cycle → of_setup (sent_first mark left) ≡ []
+no_setup_sent mark [] many = refl
+no_setup_sent mark (task ∷ others) many = no_setup_in_one (dispatch_of_mark mark) many
 
 -- the record of a command of a cycle that isn't sent isn't one of the setup
-none_skipped : (p : Progress) (m : Moment) (mark : Mark) (left : List Task) → 0 < mark.cycle → of_setup (map dispatch_of_record (first_unsent_record p m mark left)) ≡ []
-none_skipped p m mark [] many = refl
-none_skipped p m mark (task ∷ others) many = none_one (record { cycle = mark.cycle; place = mark.place; attempt = mark.expected.turn.attempt; sent = None }) many
+no_setup_skipped : (p : Progress) (m : Moment) (mark : Mark) (left : List Task) → 0 < mark.cycle → of_setup (map dispatch_of_record (first_unsent_record p m mark left)) ≡ []
+no_setup_skipped p m mark [] many = refl
+no_setup_skipped p m mark (task ∷ others) many = no_setup_in_one (record { cycle = mark.cycle; place = mark.place; attempt = mark.expected.turn.attempt; sent = None }) many
 
 -- a command of the setup that is sent is of the setup
-all_sent : (commands : List Task) (p : Progress) (left : List Task) → of_setup (sent_first (mark_setup commands p) left) ≡ sent_first (mark_setup commands p) left
-all_sent commands p [] = refl
-all_sent commands p (task ∷ others) = refl
+setup_sent_is_of_setup : (commands : List Task) (p : Progress) (left : List Task) → of_setup (sent_first (mark_setup commands p) left) ≡ sent_first (mark_setup commands p) left
+setup_sent_is_of_setup commands p [] = refl
+setup_sent_is_of_setup commands p (task ∷ others) = refl
 
 -- records that aren't of the setup, between others and the outstanding commands, add no command of it
 between_none : (rs news : List Record) (ms : List (Option Mark)) → of_setup (map dispatch_of_record news) ≡ []
     → of_setup (map dispatch_of_record (rs ++ news) ++ dispatches_of ms) ≡ of_setup (map dispatch_of_record rs ++ dispatches_of ms)
 between_none rs news ms none =
-    ap (λ xs. of_setup (xs ++ dispatches_of ms)) (map-append dispatch_of_record rs news) ∙ setup_append (map dispatch_of_record rs ++ map dispatch_of_record news) (dispatches_of ms)
+    ap (λ xs. of_setup (xs ++ dispatches_of ms)) (map-append dispatch_of_record rs news) ∙ filter-append _ (map dispatch_of_record rs ++ map dispatch_of_record news) (dispatches_of ms)
     ∙ ap (λ xs. xs ++ of_setup (dispatches_of ms))
-    (setup_append (map dispatch_of_record rs) (map dispatch_of_record news) ∙ ap (λ xs. of_setup (map dispatch_of_record rs) ++ xs) none ∙ append-nil (of_setup (map dispatch_of_record rs)))
-    ∙ sym (setup_append (map dispatch_of_record rs) (dispatches_of ms))
+    (filter-append _ (map dispatch_of_record rs) (map dispatch_of_record news) ∙ ap (λ xs. of_setup (map dispatch_of_record rs) ++ xs) none ∙ append-nil (of_setup (map dispatch_of_record rs)))
+    ∙ sym (filter-append _ (map dispatch_of_record rs) (dispatches_of ms))
 
 -- if no mark is of a command, none is outstanding
 pub none_marked : (ms : List (Option Mark)) → commands_in ms ≡ 0 → dispatches_of ms ≡ []
@@ -181,30 +168,20 @@ module _ (plan : Plan) (commands : List Task) where
       → of_setup (dispatch_row (moved plan commands o (with_progress turned s) act)) ≡ of_setup (dispatch_row s) ++ sent_as o commands s
   setup_moved action.Prepare s act fine is =
       let t = with_progress turned s in
-      ap of_setup (row_prepared plan commands t act) ∙ setup_append (dispatch_row s) (sent_as action.Prepare commands t)
-      ∙ ap (λ xs. of_setup (dispatch_row s) ++ xs) (all_sent commands t.progress (drop t.progress.prepared commands))
+      ap of_setup (row_prepared plan commands t act) ∙ filter-append _ (dispatch_row s) (sent_as action.Prepare commands t)
+      ∙ ap (λ xs. of_setup (dispatch_row s) ++ xs) (setup_sent_is_of_setup commands t.progress (drop t.progress.prepared commands))
   setup_moved action.Send s act fine is =
       let t = with_progress turned s in
       let one = sent_first (mark_next plan commands t.progress) (drop (place_next commands t.progress) commands) in
-      ap of_setup (row_sent plan commands t act) ∙ setup_append (dispatch_row s) one
-      ∙ ap (λ xs. of_setup (dispatch_row s) ++ xs) (none_sent (mark_next plan commands t.progress) (drop (place_next commands t.progress) commands) (some_cycle s fine is.2))
+      ap of_setup (row_sent plan commands t act) ∙ filter-append _ (dispatch_row s) one
+      ∙ ap (λ xs. of_setup (dispatch_row s) ++ xs) (no_setup_sent (mark_next plan commands t.progress) (drop (place_next commands t.progress) commands) (some_cycle s fine is.2))
   setup_moved action.Skip s (Told m) fine is =
       let p = turned s.progress in
       let left = drop (place_next commands p) commands in
-      between_none s.records (first_unsent_record p m (mark_next plan commands p) left) s.marks (none_skipped p m (mark_next plan commands p) left (some_cycle s fine is.2)) ∙ sym
+      between_none s.records (first_unsent_record p m (mark_next plan commands p) left) s.marks (no_setup_skipped p m (mark_next plan commands p) left (some_cycle s fine is.2)) ∙ sym
       (append-nil (of_setup (dispatch_row s)))
   setup_moved action.Skip s act fine is = between_none s.records [] s.marks refl ∙ sym (append-nil (of_setup (dispatch_row s)))
-  setup_moved action.ReadClock s act fine is = ap of_setup (row_kept plan commands action.ReadClock (with_progress turned s) act tt) ∙ sym (append-nil (of_setup (dispatch_row s)))
-  setup_moved action.Renew s act fine is = ap of_setup (row_kept plan commands action.Renew (with_progress turned s) act tt) ∙ sym (append-nil (of_setup (dispatch_row s)))
-  setup_moved action.Begin s act fine is = ap of_setup (row_kept plan commands action.Begin (with_progress turned s) act tt) ∙ sym (append-nil (of_setup (dispatch_row s)))
-  setup_moved action.Open s act fine is = ap of_setup (row_kept plan commands action.Open (with_progress turned s) act tt) ∙ sym (append-nil (of_setup (dispatch_row s)))
-  setup_moved action.Clear s act fine is = ap of_setup (row_kept plan commands action.Clear (with_progress turned s) act tt) ∙ sym (append-nil (of_setup (dispatch_row s)))
-  setup_moved action.Ask s act fine is = ap of_setup (row_kept plan commands action.Ask (with_progress turned s) act tt) ∙ sym (append-nil (of_setup (dispatch_row s)))
-  setup_moved action.Pass s act fine is = ap of_setup (row_kept plan commands action.Pass (with_progress turned s) act tt) ∙ sym (append-nil (of_setup (dispatch_row s)))
-  setup_moved action.Flush s act fine is = ap of_setup (row_kept plan commands action.Flush (with_progress turned s) act tt) ∙ sym (append-nil (of_setup (dispatch_row s)))
-  setup_moved (action.Read until) s act fine is = ap of_setup (row_kept plan commands (action.Read until) (with_progress turned s) act tt) ∙ sym (append-nil (of_setup (dispatch_row s)))
-  setup_moved (action.Close why) s act fine is = ap of_setup (row_kept plan commands (action.Close why) (with_progress turned s) act tt) ∙ sym (append-nil (of_setup (dispatch_row s)))
-  setup_moved (action.Stop why) s act fine is = ap of_setup (row_kept plan commands (action.Stop why) (with_progress turned s) act tt) ∙ sym (append-nil (of_setup (dispatch_row s)))
+  setup_moved o s act fine is = ap of_setup (row_kept plan commands o (with_progress turned s) act tt) ∙ sym (append-nil (of_setup (dispatch_row s)))
 
   -- acts add to the setup's part of the row the commands of the setup that they send, where `Invariant` holds before them
   setup_from : (s : Model) (acts : List Act) → Invariant plan commands s → of_setup (dispatch_row (after_all plan commands s acts)) ≡ of_setup (dispatch_row s) ++ setup_sent_by plan commands s acts
@@ -285,19 +262,7 @@ next_kept x p q (inr anew) is = restarted_next x p q anew.0 anew.1 is
 -- an action is `Prepare`, by which a command of the setup is sent, or it isn't
 is_prepare_or_not : (o : Action) → (o ≡ action.Prepare) ⊎ (o ≡ action.Prepare → ⊥)
 is_prepare_or_not action.Prepare = inl refl
-is_prepare_or_not action.ReadClock = inr (λ e. cc)
-is_prepare_or_not action.Renew = inr (λ e. cc)
-is_prepare_or_not action.Begin = inr (λ e. cc)
-is_prepare_or_not action.Open = inr (λ e. cc)
-is_prepare_or_not action.Clear = inr (λ e. cc)
-is_prepare_or_not action.Ask = inr (λ e. cc)
-is_prepare_or_not action.Send = inr (λ e. cc)
-is_prepare_or_not action.Skip = inr (λ e. cc)
-is_prepare_or_not action.Pass = inr (λ e. cc)
-is_prepare_or_not action.Flush = inr (λ e. cc)
-is_prepare_or_not (action.Read until) = inr (λ e. cc)
-is_prepare_or_not (action.Close why) = inr (λ e. cc)
-is_prepare_or_not (action.Stop why) = inr (λ e. cc)
+is_prepare_or_not o = inr (λ e. cc)
 
 -- an action other than `Prepare` sends no command of the setup
 others_send_none : (o : Action) (commands : List Task) (s : Model) → (o ≡ action.Prepare → ⊥) → sent_as o commands s ≡ []

@@ -1,41 +1,37 @@
 -- Which act read the last moment; and that a close is decided only when it is made, unless an act shows its cause. An act is
 -- one call on the link, with its result. `ReadLast` says that the last act read the moment, unless the moment is out of date.
-use Rattle.std.proofs.Common.{◌≡◌, ℕ, ◌⊎◌, inl, inr, ◌&&◌, Bool, true, false, not, List, [], ◌∷◌, ◌++◌, if◌then◌else◌, refl, ap, subst}
+use Rattle.std.proofs.Common.{◌≡◌, ℕ, ◌⊎◌, inl, inr, ◌&&◌, Bool, true, false, not, List, [], ◌∷◌, ◌++◌, if◌then◌else◌, refl, sym, ap, subst}
 use Rattle.gc_texts.specs.declared.tasks.Task.{Task}
 use Rattle.gc_station.specs.declared.plan.Plan.{Plan}
 use Rattle.gc_station.specs.declared.cause.Cause.{Cause}
+use Rattle.gc_station.specs.declared.cause.Cause.TheVariants as cause
 use Rattle.gc_station.specs.declared.progress.Phase.{Phase}
 use Rattle.gc_station.specs.declared.progress.Phase.TheVariants as phase
 use Rattle.gc_station.specs.declared.progress.Action.{Action}
 use Rattle.gc_station.specs.declared.progress.Action.TheVariants as actions
 use Rattle.gc_station.specs.declared.progress.Progress.{Progress}
 use Rattle.gc_links.specs.Acts.{Act, Told, Gave, Silent}
-use Rattle.gc_station.specs.Closing.{Shows}
+use Rattle.gc_station.specs.Closing.{Shows, EndsAfter}
 use Rattle.gc_station.specs.Deciding.{is_up, is_past, is_quiet}
-use Rattle.gc_station.specs.Progressing.{turned, moment_noted, cleared, quieted, is_idle, drained}
+use Rattle.gc_station.specs.Progressing.{turned, cleared, quieted, is_idle, drained}
 use Rattle.gc_station.specs.Quiet.{TellsMoment}
 use Rattle.gc_station.specs.Reasons.{IsAtItsEnd}
 use Rattle.gc_station.specs.Runs.{state_after}
 use Rattle.gc_station.specs.Scopes.{Scope}
-use Rattle.gc_station.specs.Model.{Model, opening, action_at, waiting_of, with_progress, with_moment, lines_completed, is_heard, Runs}
+use Rattle.gc_station.specs.Model.{Model, opening, action_at, waiting_of, with_progress, lines_completed, is_heard, Runs}
 use Rattle.gc_station.proofs.Closings.{closing_shown, needs_of}
-use Rattle.gc_station.proofs.Connected.{is_in_use, OnLine, on_line_always}
+use Rattle.gc_station.proofs.Connected.{is_in_use, paused_alike, OnLine, on_line_always}
 use Rattle.gc_station.proofs.Facts.{Awake}
-use Rattle.gc_station.proofs.Walk.{asked_along, came_along}
+use Rattle.gc_station.proofs.Walk.{asked_along, came_along, piece_before}
 
 -- whether a drain ends (`ends`) or goes on, there is a connection
 drained_up : (ends : Bool) (p : Progress) → p.phase ≡ phase.Draining → is_up (if ends then drained p else p).phase ≡ true
 drained_up true p is = refl
 drained_up false p is = ap is_up is
 
--- whether a pause ends (`ends`) or goes on, there is no connection
-paused_up : (ends : Bool) (at : Phase) → at ≡ phase.Pausing → is_up (if ends then phase.Down else at) ≡ false
-paused_up true at is = refl
-paused_up false at is = ap is_up is
-
 -- the end of a pause or a drain makes no connection, and closes none
 pub quieted_up : (plan : Plan) (at : Phase) (p : Progress) → p.phase ≡ at → is_up (quieted plan at p).phase ≡ is_up at
-quieted_up plan phase.Pausing p is = paused_up (is_past p.pause p && not (is_idle plan p)) p.phase is
+quieted_up plan phase.Pausing p is = paused_alike is_up (is_past p.pause p && not (is_idle plan p)) p.phase is refl
 quieted_up plan phase.Draining p is = drained_up (is_quiet plan p) p is
 quieted_up plan at p is = ap is_up is
 
@@ -86,7 +82,7 @@ module _ (plan : Plan) (commands : List Task) where
   read_last_line (actions.Read until) s acts =
       let at = s.progress.phase in (
         λ bytes m.
-            let mid = with_moment m (with_progress (moment_noted m) (with_progress turned s)) in
+            let mid = piece_before m s in
             let here = read_last_told false m.elapsed at acts (Gave bytes m) refl in
             came_along (λ (t : Model). ReadLastAt t.progress (acts ++ Gave bytes m ∷ [])) (λ t line on. on) (is_heard at) s.progress.word bytes mid here
             (asked_along (λ (q : Progress). ReadLastAt q (acts ++ Gave bytes m ∷ [])) (λ q line on. on) mid.progress (lines_completed s.rest bytes) here) here,
@@ -116,15 +112,22 @@ pub not_closing : (plan : Plan) (commands : List Task) (scope : Scope) (acts : L
     → ((act : Act) → Shows why act → ⊥) → (state_after plan commands scope acts).progress.phase ≡ phase.Closing why → ⊥
 not_closing plan commands scope acts why runs none is = let shown = closing_shown plan commands scope acts why runs is in none shown.1 shown.3
 
+-- if one of two things holds, and it isn't the first, the second holds
+pub second_holds : {A B : Type 0} → A ⊎ B → (A → ⊥) → B
+second_holds (inl first) never = absurd (never first)
+second_holds (inr second) never = second
+
 -- a close that the phase hasn't decided is made because the run is at its end (`IsAtItsEnd`)
 pub end_here : (plan : Plan) (s : Model) (why : Cause) → action_at plan s ≡ actions.Close why → (s.progress.phase ≡ phase.Closing why → ⊥) → IsAtItsEnd plan s.progress (waiting_of s) why
-end_here plan s why is never = by_needs (needs_of plan s (actions.Close why) is).1 where
-  -- the lemma above, by the two conditions of a close
-  by_needs : (s.progress.phase ≡ phase.Closing why) ⊎ IsAtItsEnd plan s.progress (waiting_of s) why → IsAtItsEnd plan s.progress (waiting_of s) why
-  by_needs (inl closing) = absurd (never closing)
-  by_needs (inr end) = end
+end_here plan s why is never = second_holds (needs_of plan s (actions.Close why) is).1 never
 
--- if the phase says that the connection is to be closed for `why`, or `Awake` holds, and the phase doesn't say so, `Awake` holds
-pub awake_here : (p : Progress) (why : Cause) → (p.phase ≡ phase.Closing why) ⊎ Awake p → (p.phase ≡ phase.Closing why → ⊥) → Awake p
-awake_here p why (inl closing) never = absurd (never closing)
-awake_here p why (inr a) never = a
+-- if a connection that was closed, or couldn't be made, for the cause `other` ends the run for `why` (`EndsAfter`), and that
+-- isn't `Done`, both causes are the same
+pub ends_for_same : (plan : Plan) (p : Progress) (n : ℕ) (other why : Cause) → (why ≡ cause.Done → ⊥) → EndsAfter plan p n other why → other ≡ why
+ends_for_same plan p n cause.Done why never ends = absurd (never ends.0)
+ends_for_same plan p n cause.Clock why never ends = sym ends
+ends_for_same plan p n cause.Turns why never ends = sym ends
+ends_for_same plan p n cause.Stale why never ends = sym ends
+ends_for_same plan p n cause.Stopped why never ends = sym ends
+ends_for_same plan p n other why never (inl done) = absurd (never done.0)
+ends_for_same plan p n other why never (inr used) = sym used.0

@@ -13,8 +13,8 @@ pub record Since {A : Type 0} (P : List A → A → List A → Type 0) (all : Li
 pub since_now : {A : Type 0} (P : List A → A → List A → Type 0) (all : List A) (last : A) → P all last [] → Since P (all ++ last ∷ [])
 since_now P all last p = record { before = all; start = last; behind = []; order = refl; holds = p }
 
--- if P has held since an element of `all`, Q has held since it in `all` with `more` at the end; where, if P holds with some
--- elements after an element of `all`, Q holds with these and then `more` after it
+-- if P has held since an element of `all`, Q has held since it in `all ++ more`. It is given that wherever P holds with `behind`
+-- after an element, Q holds with `behind ++ more` after it
 pub since_on : {A : Type 0} (P Q : List A → A → List A → Type 0) (all more : List A)
     → ((before : List A) (start : A) (behind : List A) → all ≡ before ++ start ∷ behind → P before start behind → Q before start (behind ++ more))
     → Since P all → Since Q (all ++ more)

@@ -1,9 +1,10 @@
--- A progress that stays in its cycle, at the same command, and whose cycle is due as before.
+-- A progress that stays in its cycle, at the same command.
 use Rattle.std.proofs.Common.{◌≡◌, ◌⊎◌, inl, inr, false}
 use Rattle.gc_station.specs.declared.progress.Progress.{Progress}
 use Rattle.gc_station.proofs.ChainSteps.{Still, still, broken}
 
--- q is in the same cycle as p, at the same command, with its chain as it was or broken (`Still`), and its cycle is due as before
+-- q is in the same cycle as p, at the same command, with its chain as it was or broken (`Still`), and the moment at which that
+-- cycle was due is the same
 pub record Stays (p q : Progress) : Type 0 where
   pub still : Still p q
   pub due : q.due ≡ p.due

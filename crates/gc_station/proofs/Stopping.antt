@@ -22,10 +22,10 @@ use Rattle.gc_station.specs.declared.progress.Phase.TheVariants as phase
 use Rattle.gc_station.specs.declared.progress.Progress.{Progress}
 use Rattle.gc_station.specs.declared.progress.Until.{Until}
 use Rattle.gc_station.specs.declared.progress.Waiting.{Waiting}
-use Rattle.gc_station.specs.Closing.{Shows, EndsAfter, Ends}
+use Rattle.gc_station.specs.Closing.{Shows, Ends}
 use Rattle.gc_station.specs.Deciding.{is_stale, action_of, action_in, action_on}
 use Rattle.gc_station.specs.Marks.{records_of, is_well, fresh_after}
-use Rattle.gc_station.specs.Model.{Model, opening, action_at, waiting_of, unsent_record, first_unsent_record, with_progress, with_moment, with_rest, is_heard, line_came, lines_completed, after_piece, piece_at, Performs, moved, losing, after, after_all, Runs}
+use Rattle.gc_station.specs.Model.{Model, opening, action_at, waiting_of, unsent_record, first_unsent_record, with_progress, with_moment, with_rest, is_heard, line_came, lines_completed, after_piece, piece_at, Performs, moved, losing, after, Runs}
 use Rattle.gc_station.specs.NextCommand.{place_next, mark_next}
 use Rattle.gc_station.specs.Progressing.{turned, moment_noted, quieted, time_passed, loses_all}
 use Rattle.gc_station.specs.Records.{Record}
@@ -34,15 +34,16 @@ use Rattle.gc_station.specs.Scopes.{Scope}
 use Rattle.gc_station.specs.Stopping.{least_moment, asked_after, IsNotWell, NoneWellSince, ClosesStale, StopsAtItsClose, EndsOnceStale, GoesOnInItsChain, ClosesBetweenChains}
 use Rattle.gc_station.specs.Quiet.{IsListening}
 use Rattle.gc_station.proofs.Always.{always, always_of_progress}
-use Rattle.gc_station.proofs.Closings.{end_of, Decided, after_decided, runs_split, stopped_for, needs_of, done_sent}
+use Rattle.gc_station.proofs.Closings.{end_of, no_cause_shown, Decided, after_decided, runs_split, stopped_for, needs_of, done_sent}
 use Rattle.gc_station.proofs.Counts.{ended_progress}
 use Rattle.gc_station.proofs.Going.{after_all-append, runs_behind}
 use Rattle.gc_station.proofs.Lists.{all_append}
+use Rattle.gc_station.proofs.Opens.{Quits}
 use Rattle.gc_station.proofs.Records.{fresh-append}
-use Rattle.gc_station.proofs.Silences.{end_here, not_closing}
+use Rattle.gc_station.proofs.Silences.{end_here, ends_for_same, not_closing}
 use Rattle.gc_station.proofs.Turns.{over_stops}
 use Rattle.gc_station.proofs.Unbroken.{unbroken_holds, resting_none}
-use Rattle.gc_station.proofs.Walk.{asked_along, came_along, quieted_along, closed_along, walk}
+use Rattle.gc_station.proofs.Walk.{asked_along, came_along, quieted_along, closed_along, walk, piece_before}
 
 -- Records.
 
@@ -59,23 +60,23 @@ unwell_same now fresh (r ∷ rs) all =
 
 -- of records that are recorded at the moment `now`, none is of a command that was answered well, and `fresh` stays; or one is,
 -- and `fresh` becomes `now`
-fresh_cases : (now fresh : ℕ) (rs : List Record) → (AllByRecursion IsNotWell rs × (fresh_after now fresh rs ≡ fresh)) ⊎ (HasWell rs × (fresh_after now fresh rs ≡ now))
+abbrev StaysOrIsFresh : (now fresh : ℕ) → List Record → Type 0
+StaysOrIsFresh now fresh rs = (AllByRecursion IsNotWell rs × (fresh_after now fresh rs ≡ fresh)) ⊎ (HasWell rs × (fresh_after now fresh rs ≡ now))
+
+-- `StaysOrIsFresh` holds of any records
+fresh_cases : (now fresh : ℕ) (rs : List Record) → StaysOrIsFresh now fresh rs
 fresh_cases now fresh [] = inl (tt, refl)
 fresh_cases now fresh (r ∷ rs) = by_first (fresh_cases now now rs) (fresh_cases now fresh rs) (is_well r.end) refl where
   -- the lemma above, by whether the first record is of such a command
-  by_first : (AllByRecursion IsNotWell rs × (fresh_after now now rs ≡ now)) ⊎ (HasWell rs × (fresh_after now now rs ≡ now))
-      → (AllByRecursion IsNotWell rs × (fresh_after now fresh rs ≡ fresh)) ⊎ (HasWell rs × (fresh_after now fresh rs ≡ now)) → (b : Bool) → is_well r.end ≡ b
-      → (AllByRecursion IsNotWell (r ∷ rs) × (fresh_after now fresh (r ∷ rs) ≡ fresh)) ⊎ (HasWell (r ∷ rs) × (fresh_after now fresh (r ∷ rs) ≡ now))
+  by_first : StaysOrIsFresh now now rs → StaysOrIsFresh now fresh rs → (b : Bool) → is_well r.end ≡ b → StaysOrIsFresh now fresh (r ∷ rs)
   by_first here there true well = on_well here where
     -- the lemma above, if the first record is of such a command, by the other records
-    on_well : ((AllByRecursion IsNotWell rs × (fresh_after now now rs ≡ now)) ⊎ (HasWell rs × (fresh_after now now rs ≡ now)))
-        → (AllByRecursion IsNotWell (r ∷ rs) × (fresh_after now fresh (r ∷ rs) ≡ fresh)) ⊎ (HasWell (r ∷ rs) × (fresh_after now fresh (r ∷ rs) ≡ now))
+    on_well : StaysOrIsFresh now now rs → StaysOrIsFresh now fresh (r ∷ rs)
     on_well (inl none) = inr (([], r, rs, refl, well), ap (λ x. fresh_after now x rs) (cond-true (is_well r.end) now fresh well) ∙ none.1)
     on_well (inr some) = inr (([], r, rs, refl, well), ap (λ x. fresh_after now x rs) (cond-true (is_well r.end) now fresh well) ∙ some.1)
   by_first here there false unwell = on_unwell there where
     -- the lemma above, if the first record isn't of such a command, by the other records
-    on_unwell : ((AllByRecursion IsNotWell rs × (fresh_after now fresh rs ≡ fresh)) ⊎ (HasWell rs × (fresh_after now fresh rs ≡ now)))
-        → (AllByRecursion IsNotWell (r ∷ rs) × (fresh_after now fresh (r ∷ rs) ≡ fresh)) ⊎ (HasWell (r ∷ rs) × (fresh_after now fresh (r ∷ rs) ≡ now))
+    on_unwell : StaysOrIsFresh now fresh rs → StaysOrIsFresh now fresh (r ∷ rs)
     on_unwell (inl none) = inl ((unwell, none.0), ap (λ x. fresh_after now x rs) (cond-false (is_well r.end) now fresh unwell) ∙ none.1)
     on_unwell (inr ((front, x, later, order, well), e)) =
         inr ((r ∷ front, x, later, ap (λ xs. r ∷ xs) order, well), ap (λ x. fresh_after now x rs) (cond-false (is_well r.end) now fresh unwell) ∙ e)
@@ -146,8 +147,7 @@ gave_fresh plan until s bytes m =
           → TracksFresh s (Gave bytes m) (piece_at plan until bytes m s)
       by_case (rs, order, fresh, at) = by_records (fresh_cases m.elapsed (min s.fresh m.elapsed) rs) where
         -- the lemma above, by whether one of them is of a command that was answered well
-        by_records : ((AllByRecursion IsNotWell rs × (fresh_after m.elapsed (min s.fresh m.elapsed) rs ≡ min s.fresh m.elapsed))
-            ⊎ (HasWell rs × (fresh_after m.elapsed (min s.fresh m.elapsed) rs ≡ m.elapsed))) → TracksFresh s (Gave bytes m) (piece_at plan until bytes m s)
+        by_records : StaysOrIsFresh m.elapsed (min s.fresh m.elapsed) rs → TracksFresh s (Gave bytes m) (piece_at plan until bytes m s)
         by_records (inl none) = inl (rs, order, none.0, fresh ∙ none.1)
         by_records (inr some) = inr (rs, order, some.0, bytes, m, refl, fresh ∙ some.1)
 
@@ -284,72 +284,53 @@ closes_stale plan commands scope acts runs is =
 
 -- If a run stops.
 
--- a run ends for `Stale` or `Stopped` only if the connection was closed for that
-quits_only : (plan : Plan) (p : Progress) (n : ℕ) (other why : Cause) → (why ≡ cause.Stale) ⊎ (why ≡ cause.Stopped) → EndsAfter plan p n other why → other ≡ why
-quits_only plan p n cause.Done why (inl is) ends = let done = ends.0 in cc
-quits_only plan p n cause.Done why (inr is) ends = let done = ends.0 in cc
-quits_only plan p n cause.Clock why is ends = sym ends
-quits_only plan p n cause.Turns why is ends = sym ends
-quits_only plan p n cause.Stale why is ends = sym ends
-quits_only plan p n cause.Stopped why is ends = sym ends
-quits_only plan p n other why (inl is) (inl done) = let e = done.0 in cc
-quits_only plan p n other why (inr is) (inl done) = let e = done.0 in cc
-quits_only plan p n other why is (inr used) = sym used.0
+-- no act shows `Stale` or `Stopped` (`Quits`)
+shows_none : (why : Cause) (act : Act) → Quits (actions.Close why) → Shows why act → ⊥
+shows_none cause.Stale act quits shows = shows
+shows_none cause.Stopped act quits shows = shows
+shows_none why act quits shows = absurd quits
 
--- no act shows `Stale` or `Stopped`
-shows_none : (why : Cause) (act : Act) → (why ≡ cause.Stale) ⊎ (why ≡ cause.Stopped) → Shows why act → ⊥
-shows_none why act (inl is) shows = subst (λ c. Shows c act) is shows
-shows_none why act (inr is) shows = subst (λ c. Shows c act) is shows
-
--- neither `Stale` nor `Stopped` is the cause that all turns are used up
-no_turns : (why : Cause) → (why ≡ cause.Stale) ⊎ (why ≡ cause.Stopped) → why ≡ cause.Turns → ⊥
-no_turns why (inl is) e = let other : cause.Stale ≡ cause.Turns = sym is ∙ e in cc
-no_turns why (inr is) e = let other : cause.Stopped ≡ cause.Turns = sym is ∙ e in cc
-
--- if a run stops for one of the two, its last act is the close that was next for that
-stops_at : (why : Cause) → (why ≡ cause.Stale) ⊎ (why ≡ cause.Stopped) → StopsAtItsClose why
-stops_at why is plan commands scope acts runs stop = by_shown (stopped_for plan commands scope acts why runs stop).shown where
+-- if a run stops for `Stale` or `Stopped` (`Quits`), its last act is a close, which was next for that cause
+stops_at : (why : Cause) → Quits (actions.Close why) → StopsAtItsClose why
+stops_at why quits plan commands scope acts runs stop = by_shown (stopped_for plan commands scope acts why runs stop).shown where
   -- what is claimed
   Claim : Type 0
   Claim = (earlier : List Act) × (acts ≡ earlier ++ Closed ∷ []) × (action_at plan (state_after plan commands scope earlier) ≡ actions.Close why)
 
+  -- a cause that equals `why` is `Stale` or `Stopped`, too; so `why` is neither `Done`, `Turns` nor `Open`
+  alike : (other : Cause) → why ≡ other → Quits (actions.Close other)
+  alike other e = subst (λ (c : Cause). Quits (actions.Close c)) e quits
+
   -- the last act ended the run: it closed a connection for that, as no failed call and no failed attempt ends a run for it
   by_end : (earlier : List Act) (last : Act) → acts ≡ earlier ++ last ∷ [] → Ends plan (state_after plan commands scope earlier) why last → Claim
-  by_end earlier last order (inl failed) = absurd (shows_none why last is failed.1)
+  by_end earlier last order (inl failed) = absurd (shows_none why last quits failed.1)
   by_end earlier last order (inr (inl (other, is_close, next, ends))) =
       let s = state_after plan commands scope earlier in
-      (earlier, order ∙ ap (λ a. earlier ++ a ∷ []) is_close, next ∙ ap actions.Close (quits_only plan s.progress (waiting_of s).commands other why is ends))
+      let same = ends_for_same plan s.progress (waiting_of s).commands other why (alike cause.Done) ends in
+      (earlier, order ∙ ap (λ a. earlier ++ a ∷ []) is_close, next ∙ ap actions.Close same)
   by_end earlier last order (inr (inr (unopened, ends))) =
       let s = state_after plan commands scope earlier in
-      absurd (never_open why is (quits_only plan s.progress (waiting_of s).commands cause.Open why is ends)) where
-        -- neither `Stale` nor `Stopped` is the cause that no connection could be made
-        never_open : (why : Cause) → (why ≡ cause.Stale) ⊎ (why ≡ cause.Stopped) → cause.Open ≡ why → ⊥
-        never_open why (inl is) e = let other : cause.Open ≡ cause.Stale = e ∙ is in cc
-        never_open why (inr is) e = let other : cause.Open ≡ cause.Stopped = e ∙ is in cc
+      absurd (alike cause.Open (sym (ends_for_same plan s.progress (waiting_of s).commands cause.Open why (alike cause.Done) ends)))
 
   -- the lemma above, by why the run stopped
   by_shown : ((why ≡ cause.Turns) × ((state_after plan commands scope acts).progress.turns ≡ 0))
       ⊎ ((earlier : List Act) × (last : Act) × (acts ≡ earlier ++ last ∷ []) × Ends plan (state_after plan commands scope earlier) why last) → Claim
-  by_shown (inl turns) = absurd (no_turns why is turns.0)
+  by_shown (inl turns) = absurd (alike cause.Turns turns.0)
   by_shown (inr (earlier, last, order, ends)) = by_end earlier last order ends
 
 -- if a run stops because it is stale, its last act is the close for that
 pub stops_stale : StopsAtItsClose cause.Stale
-stops_stale = stops_at cause.Stale (inl refl)
+stops_stale = stops_at cause.Stale tt
 
 -- if a run stops because that was asked for, its last act is the close for that
 pub stops_stopped : StopsAtItsClose cause.Stopped
-stops_stopped = stops_at cause.Stopped (inr refl)
+stops_stopped = stops_at cause.Stopped tt
 
 -- What follows a moment at which the run is stale.
 
 -- an act that only listens (`IsListening`) shows no cause
 telling_shows : (act : Act) (why : Cause) → IsListening act → Shows why act → ⊥
-telling_shows act cause.End o shows = subst IsListening shows o
-telling_shows act cause.Read o shows = subst IsListening shows o
-telling_shows act cause.Clock o shows = subst IsListening shows o
-telling_shows act (cause.Write requests bytes) o shows = subst IsListening shows.1 o
-telling_shows act why o shows = shows
+telling_shows act why o shows = no_cause_shown IsListening (λ x. x) (λ x. x) (λ x. x) (λ text n x. x) why act o shows
 
 -- an act that only listens (`IsListening`) decides no end
 telling_not : (plan : Plan) (s : Model) (act : Act) (at : Phase) (why : Cause) → IsListening act → Decided plan s at why act → ⊥
@@ -428,7 +409,7 @@ moved_asked : (plan : Plan) (commands : List Task) (next : Action) (s : Model) (
 moved_asked plan commands (actions.Read until) s act o =
     let P : Act → Model → Type 0 = λ (a : Act) (t : Model). t.progress.stops ≡ asked_after s.progress.stops (a ∷ []) in
     walk plan commands P (actions.Read until) (with_progress turned s) act o (
-      λ bytes m. let mid = with_moment m (with_progress (moment_noted m) (with_progress turned s)) in
+      λ bytes m. let mid = piece_before m s in
           came_along (λ (t : Model). t.progress.stops ≡ (s.progress.stops || m.stops)) (λ t line e. e) (is_heard s.progress.phase) s.progress.word bytes mid refl
           (asked_along (λ (q : Progress). q.stops ≡ (s.progress.stops || m.stops)) (λ q line e. e) mid.progress (lines_completed mid.rest bytes) refl) refl,
       λ m. quieted_asked plan s.progress.phase (time_passed until m (turned s.progress)),
@@ -451,7 +432,7 @@ stops_as_asked : (plan : Plan) (commands : List Task) (scope : Scope) (acts : Li
     → (state_after plan commands scope acts).progress.stops ≡ asked_after false acts
 stops_as_asked plan commands scope acts runs =
     always_of_progress plan commands (opening plan scope) (λ (p : Progress) (done : List Act). p.stops ≡ asked_after false done) (λ done act runs' o e.
-    let s = after_all plan commands (opening plan scope) done in
+    let s = state_after plan commands scope done in
     moved_asked plan commands (action_at plan s) s act o ∙ ap (λ b. asked_after b (act ∷ [])) e ∙ sym (asked-append false done (act ∷ []))) refl acts runs
 
 -- once the end was asked for, no cycle begins, no command of the setup is sent, and each command that is sent goes on with a

@@ -19,15 +19,14 @@ use Rattle.gc_station.specs.Tasked.{IsOfItsTask}
 use Rattle.gc_station.specs.declared.mark.Mark.{Mark}
 use Rattle.gc_station.proofs.Booking.{ended_sent, of_append}
 
--- if the requests `xs` and then `ys` ask what these marks say, one for one, `ys` ask what the marks say that are left after as
--- many as there are in `xs`
+-- if the requests `xs` and then `ys` ask what these marks say, one for one, `ys` ask what the marks after those of `xs` say
 own_left : (commands : List Task) (ms : List (Option Mark)) (xs ys : List (Wanted Asked)) → MarksAsk commands ms (xs ++ ys) → MarksAsk commands (drop (length xs) ms) ys
 own_left commands ms [] ys h = h
 own_left commands [] (x ∷ xs) ys h = absurd h
 own_left commands (m ∷ ms) (x ∷ xs) ys h = own_left commands ms xs ys h.1
 
--- if the settled requests of `ss` and then `ys` ask what these marks say, one for one, `ys` ask what the marks say that are left
--- after as many as `ss` has
+-- if the settled requests of `ss` and then `ys` ask what these marks say, one for one, `ys` ask what the marks after those of
+-- `ss` say
 pub own_settled : (commands : List Task) (ms : List (Option Mark)) (ss : List (Settlement Asked)) (ys : List (Wanted Asked)) → MarksAsk commands ms (map of_settled ss ++ ys)
     → MarksAsk commands (drop (length ss) ms) ys
 own_settled commands ms ss ys h = subst (λ (n : ℕ). MarksAsk commands (drop n ms) ys) (length-map ss of_settled) (own_left commands ms (map of_settled ss) ys h)

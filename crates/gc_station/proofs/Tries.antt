@@ -1,4 +1,6 @@
--- A run stops for want of tries only where enough connections ended, or couldn't be made, since a read settled a command.
+-- A run stops for want of tries only where enough connections ended, or couldn't be made, since a read settled a command, or
+-- since the start. `preparing` of a progress is true if there is a setup, and since the connection was made and the station
+-- synchronized no cycle began or went on.
 -- `up_count` is 1 if there is a connection, and 0 if there is none. An act is one call on the link, with its result. A piece is
 -- the bytes that one read gave. `Trying` says how many tries are left, by the connections that ended since the last read that
 -- settled a command. `TriesAfterPiece` says what a piece does to the tries: they are all given back if it settles a command, and
@@ -29,19 +31,19 @@ use Rattle.gc_station.specs.Records.{Record}
 use Rattle.gc_station.specs.Runs.{state_after}
 use Rattle.gc_station.specs.Model.{Model, opening, action_at, waiting_of, with_progress, Performs, moved, losing, after, after_all, Runs}
 use Rattle.gc_station.specs.Tries.{IsTried, IsEnding, endings_in, openings_in, SettlesNone, NoneSettled, EndsSettled, AllTried}
-use Rattle.gc_station.proofs.Closings.{runs_split, needs_of, end_of, Decided, after_decided, done_sent}
+use Rattle.gc_station.proofs.Closings.{no_cause_shown, runs_split, needs_of, end_of, Decided, after_decided, done_sent}
 use Rattle.gc_station.proofs.Counts.{ended_progress}
 use Rattle.gc_station.proofs.Always.{always}
 use Rattle.gc_station.proofs.EachRun.{invariant_after, invariant_holds}
 use Rattle.gc_station.proofs.Facts.{or_first, action_for}
 use Rattle.gc_station.proofs.Invariant.{Invariant}
 use Rattle.gc_station.proofs.Going.{after_all-append}
-use Rattle.gc_station.proofs.Opens.{Counted, Quits, counted_moved}
+use Rattle.gc_station.proofs.Opens.{Counted, Quits, counted_moved, CountedAt}
 use Rattle.gc_station.proofs.Records.{Grew}
 use Rattle.gc_station.proofs.Row.{row_of, row_losing, row_read}
 use Rattle.gc_station.proofs.Turns.{over_stays, up_count, up_least}
 use Rattle.gc_station.specs.Scopes.{Scope}
-use Rattle.gc_station.proofs.TriesTaken.{GivesTriesBack, TriesAfterPiece, TakesTries, took_moved, untook}
+use Rattle.gc_station.proofs.TriesTaken.{GivesTriesBack, TriesAfterPiece, TakesTries, took_moved, took_with_turn}
 use Rattle.gc_station.proofs.SentAt.{after_grew}
 
 -- A read gives tries back where, and only where, it settled a command.
@@ -140,154 +142,15 @@ none_more : (plan : Plan) (commands : List Task) (s : Model) (xs : List Act) (ac
 none_more plan commands s [] act none here = (here, tt)
 none_more plan commands s (x ∷ xs) act none here = (none.0, none_more plan commands (after plan commands s x) xs act none.1 here)
 
--- how many tries are left after these acts: since the last read that settled a command (after `before`), or from the start,
--- each connection that ended or couldn't be made has taken at most one. `held` is 1 if there was a connection at that read,
--- else 0; `held` and the connections asked for since are as many as those that ended or couldn't be made since, and 1 more if
--- there is a connection now (`up`)
-record Trying (plan : Plan) (commands : List Task) (scope : Scope) (tries : ℕ) (up : Bool) (acts : List Act) : Type 0 where
-  before : List Act
-  behind : List Act
-  held : ℕ
-  order : acts ≡ before ++ behind
-  since : (before ≡ []) ⊎ EndsSettled plan commands scope before
-  none : NoneSettled plan commands (state_after plan commands scope before) behind
-  left : plan.retries ≤ tries + endings_in behind
-  most : held ≤ 1
-  first : before ≡ [] → held ≡ 0
-  opens : openings_in behind + held ≡ endings_in behind + up_count up
-
--- `Trying` is preserved by an act that settles no command, takes at most one try for each connection that ends by it or couldn't
--- be made, and is `Counted`
-abbrev trying_on : (plan : Plan) (commands : List Task) (scope : Scope) (tries tries' : ℕ) (up up' : Bool) (acts : List Act) (act : Act) → tries ≤ tries' + endings_in (act ∷ []) → Counted up act up'
-    → SettlesNone (state_after plan commands scope acts) act (after plan commands (state_after plan commands scope acts) act)
-    → Trying plan commands scope tries up acts → Trying plan commands scope tries' up' (acts ++ act ∷ [])
-trying_on plan commands scope tries tries' up up' acts act took counted settles t =
-    let ends = ends_more t.behind act in
-    let opens = opens_more t.behind act in
-    let there : state_after plan commands scope acts ≡ after_all plan commands (state_after plan commands scope t.before) t.behind =
-    ap (state_after plan commands scope) t.order ∙ after_all-append plan commands (opening plan scope) t.before t.behind in
-    let enough = t.left in
-    let even = t.opens in
-    let least : plan.retries ≤ tries' + endings_in (t.behind ++ act ∷ []) = omega (arith, ends, took, enough) in
-    let level : openings_in (t.behind ++ act ∷ []) + t.held ≡ endings_in (t.behind ++ act ∷ []) + up_count up' = omega (arith, ends, opens, counted, even) in
-    record {
-      before = t.before;
-      behind = t.behind ++ act ∷ [];
-      held = t.held;
-      order = ap (λ xs. xs ++ act ∷ []) t.order ∙ append_assoc t.before t.behind (act ∷ []);
-      since = t.since;
-      none = none_more plan commands (state_after plan commands scope t.before) t.behind act t.none (subst (λ (x : Model). SettlesNone x act (after plan commands x act)) there settles);
-      left = least;
-      most = t.most;
-      first = t.first;
-      opens = level;
-    }
-
--- `Trying` starts again with a read that settled a command once the setup is over, which gives all tries back
-trying_anew : (plan : Plan) (commands : List Task) (scope : Scope) (tries : ℕ) (up : Bool) (acts : List Act) (bytes : List ℕ) (m : Moment) → tries ≡ plan.retries
-    → (state_after plan commands scope (acts ++ Gave bytes m ∷ [])).progress.preparing ≡ false
-    → (state_after plan commands scope (acts ++ Gave bytes m ∷ [])).records ≢ (state_after plan commands scope acts).records → Trying plan commands scope tries up (acts ++ Gave bytes m ∷ [])
-trying_anew plan commands scope tries up acts bytes m all done settled = record {
-  before = acts ++ Gave bytes m ∷ [];
-  behind = [];
-  held = up_count up;
-  order = sym (append-nil (acts ++ Gave bytes m ∷ []));
-  since = inr (record { earlier = acts; piece = bytes; moment = m; order = refl; settled = settled; prepared = done });
-  none = tt;
-  left = omega (arith, all);
-  most = up_least up;
-  first = λ e. absurd (some acts e);
-  opens = refl;
-} where
-  -- acts that end with a read aren't none
-  some : (xs : List Act) → xs ++ Gave bytes m ∷ [] ≡ [] → ⊥
-  some [] e = cc
-  some (x ∷ xs) e = cc
-
--- if the run isn't over, `Trying` holds of the model's tries and its connection
-abbrev TryingUnlessOver : Plan → List Task → Scope → List Act → Model → Type 0
-TryingUnlessOver plan commands scope acts s = is_over s.progress ≡ false → Trying plan commands scope s.progress.tries (is_up s.progress.phase) acts
-
--- `Trying` is preserved by one act, from the model s to u; t is the model before what is outstanding is lost
-try_step : (plan : Plan) (commands : List Task) (scope : Scope) (acts : List Act) (act : Act) (s u : Model) (t : Model) → (before : state_after plan commands scope acts ≡ s)
-    → (behind : state_after plan commands scope (acts ++ act ∷ []) ≡ u) → (does : u ≡ after plan commands s act)
-    → (same : u.progress ≡ t.progress) → (took : TakesTries plan s act t) → Counted (is_up s.progress.phase) act (is_up t.progress.phase)
-    → (settling : ((bytes : List ℕ) × (m : Moment) × (act ≡ Gave bytes m)) → TriesAfterPiece plan s t → Settling plan s u)
-    → Trying plan commands scope s.progress.tries (is_up s.progress.phase) acts → Trying plan commands scope u.progress.tries (is_up u.progress.phase) (acts ++ act ∷ [])
-try_step plan commands scope acts (Gave bytes m) s u t before behind does same took counted settling trying = by_settling (settling (bytes, m, refl) took) where
-  -- the loss of what is outstanding changes nothing of the connection
-  up_same : Counted (is_up s.progress.phase) (Gave bytes m) (is_up u.progress.phase)
-  up_same = subst (λ (p : Progress). Counted (is_up s.progress.phase) (Gave bytes m) (is_up p.phase)) (sym same) counted
-
-  -- the lemma above, by whether the read settled a command
-  by_settling : Settling plan s u → Trying plan commands scope u.progress.tries (is_up u.progress.phase) (acts ++ Gave bytes m ∷ [])
-  by_settling (inl some) = trying_anew plan commands scope u.progress.tries (is_up u.progress.phase) acts bytes m some.2 (ap (λ (x : Model). x.progress.preparing) behind ∙ some.1)
-      (λ e. some.0 (sym (ap (λ (x : Model). x.records) behind) ∙ e ∙ ap (λ (x : Model). x.records) before))
-  by_settling (inr none) =
-      let kept = none.1 in
-      let tries : s.progress.tries ≤ u.progress.tries + 0 = omega (arith, kept) in
-      trying_on plan commands scope s.progress.tries u.progress.tries (is_up s.progress.phase) (is_up u.progress.phase) acts (Gave bytes m) tries up_same
-      (subst (λ (x : Model). SettlesNone x (Gave bytes m) (after plan commands x (Gave bytes m))) (sym before) (subst (λ (x : Model). SettlesNone s (Gave bytes m) x) does none.0)) trying
-try_step plan commands scope acts act s u t before behind does same took counted settling trying =
-    trying_on plan commands scope s.progress.tries u.progress.tries (is_up s.progress.phase) (is_up u.progress.phase) acts act
-    (subst (λ (p : Progress). s.progress.tries ≤ p.tries + endings_in (act ∷ [])) (sym same) took)
-    (subst (λ (p : Progress). Counted (is_up s.progress.phase) act (is_up p.phase)) (sym same) counted) tt trying
-
 -- after an act that ends a run whether there is a connection or not, the run is over
 quits_over : (plan : Plan) (commands : List Task) (next : Action) (s : Model) (act : Act) → Quits next → is_over (moved plan commands next (with_progress turned s) act).progress ≡ true
 quits_over plan commands (actions.Close cause.Stale) s act quits = refl
 quits_over plan commands (actions.Close cause.Stopped) s act quits = refl
 quits_over plan commands next s act quits = absurd quits
 
--- `TryingUnlessOver` is preserved by one act of a run more
-try_after : (plan : Plan) (commands : List Task) (scope : Scope) (done : List Act) (act : Act)
-    → Performs commands (state_after plan commands scope done) (action_at plan (state_after plan commands scope done)) act
-    → TryingUnlessOver plan commands scope done (state_after plan commands scope done)
-    → TryingUnlessOver plan commands scope (done ++ act ∷ []) (after plan commands (state_after plan commands scope done) act)
-try_after plan commands scope done act o trying not_over =
-    let s = state_after plan commands scope done in
-    let u = after plan commands s act in
-    let t = moved plan commands (action_at plan s) (with_progress turned s) act in
-    let same = ended_progress t in
-    let goes = false_from_ne_true (is_over s.progress) (λ over. over_stays plan commands s act over o) in
-    let fine = invariant_holds plan commands scope done in
-    let not_over_mid : is_over t.progress ≡ false = sym (ap is_over same) ∙ not_over in
-    try_step plan commands scope done act s u t refl (after_all-append plan commands (opening plan scope) done (act ∷ [])) refl same
-    (untook plan s t act (took_moved plan commands (action_at plan s) s act o))
-    (counted_moved plan commands (action_at plan s) s act o (action_for plan s.progress (waiting_of s))
-    (λ quits. absurd (both_ways (is_over t.progress) not_over_mid (quits_over plan commands (action_at plan s) s act quits))))
-    (λ gave h. gave_settles plan commands s t u fine (invariant_after plan commands s act fine) h (after_grew plan commands s act) same
-    (row_losing (loses_all t.progress) t ∙ row_read plan commands (action_at plan s) (with_progress turned s) act gave.0 gave.1 o gave.2)
-    (kept_marks plan commands s t (loses_all t.progress) refl not_over_mid h.begins fine))
-    (trying goes)
-
--- `TryingUnlessOver` holds after every run
-try_holds : (plan : Plan) (commands : List Task) (scope : Scope) (acts : List Act) → Runs plan commands (opening plan scope) acts
-    → TryingUnlessOver plan commands scope acts (state_after plan commands scope acts)
-try_holds plan commands scope acts runs =
-    always plan commands (opening plan scope) (TryingUnlessOver plan commands scope) (λ done act runs' o. try_after plan commands scope done act o)
-    (λ not_over. record {
-      before = [];
-      behind = [];
-      held = 0;
-      order = refl;
-      since = inl refl;
-      none = tt;
-      left = omega arith;
-      most = omega arith;
-      first = λ e. refl;
-      opens = refl;
-    }) acts runs
-
--- A run that stops.
-
 -- an act that closes a connection, or fails to make one (`IsEnding`), shows no cause
 ending_shows : (why : Cause) (act : Act) → IsEnding act → Shows why act → ⊥
-ending_shows cause.End act o shows = subst IsEnding shows o
-ending_shows cause.Read act o shows = subst IsEnding shows o
-ending_shows cause.Clock act o shows = subst IsEnding shows o
-ending_shows (cause.Write requests bytes) act o shows = subst IsEnding shows.1 o
-ending_shows why act o shows = shows
+ending_shows why act o shows = no_cause_shown IsEnding (λ x. x) (λ x. x) (λ x. x) (λ text n x. x) why act o shows
 
 -- a cause for which a run stops only without a try left (`IsTried`) isn't `Done`
 not_done : (p : Progress) (n : ℕ) (why : Cause) → IsTried why → EndsDone p n why → ⊥
@@ -328,90 +191,245 @@ one_end Closed o = refl
 one_end Unopened o = refl
 one_end act o = absurd o
 
--- if no try is left (`Trying`), and the last act closes a connection or fails to make one, so that there is none, all tries are
--- used up as the law says (`AllTried`)
-all_tried : (plan : Plan) (commands : List Task) (scope : Scope) (acts : List Act) (last : Act) → IsEnding last → Counted (is_up (state_after plan commands scope acts).progress.phase) last false
-    → Trying plan commands scope 0 (is_up (state_after plan commands scope acts).progress.phase) acts → AllTried plan commands scope (acts ++ last ∷ [])
-all_tried plan commands scope acts last ending counted t =
-    let s = state_after plan commands scope acts in
-    let one = one_end last ending in
-    let more : 0 ≤ 0 + endings_in (last ∷ []) = omega arith in
-    let u = trying_on plan commands scope 0 0 (is_up s.progress.phase) false acts last more counted (settles_none s (after plan commands s last) last ending) t in
-    let ends = ends_more t.behind last in
-    let left : plan.retries ≤ 0 + endings_in t.behind = t.left in
-    let over : plan.retries < endings_in (t.behind ++ last ∷ []) = omega (arith, ends, one, left) in
-    let even : openings_in (t.behind ++ last ∷ []) + t.held ≡ endings_in (t.behind ++ last ∷ []) + 0 = u.opens in
-    let most : t.held ≤ 1 = t.most in
-    let enough : plan.retries ≤ openings_in (t.behind ++ last ∷ []) = omega (arith, over, even, most) in
-    record {
-      before = u.before;
-      behind = u.behind;
-      order = u.order;
-      since = u.since;
-      none = u.none;
-      ended = over;
-      opened = enough;
-      first = λ e. let start : t.held ≡ 0 = t.first e in let all : plan.retries < openings_in (t.behind ++ last ∷ []) = omega (arith, over, even, start) in all;
-    }
+module _ (plan : Plan) (commands : List Task) (scope : Scope) where
+  -- the model after these acts
+  abbrev state : List Act → Model
+  state acts = state_after plan commands scope acts
 
--- if a run stops for a cause that is one of `IsTried`, at an act that closes a connection or fails to make one, all tries are
--- used up (`AllTried`)
-pub stop_tried : (plan : Plan) (commands : List Task) (scope : Scope) (acts : List Act) (last : Act) (why : Cause) → Runs plan commands (opening plan scope) (acts ++ last ∷ [])
-    → action_at plan (state_after plan commands scope (acts ++ last ∷ [])) ≡ actions.Stop why → IsTried why → IsEnding last → AllTried plan commands scope (acts ++ last ∷ [])
-stop_tried plan commands scope acts last why runs stop tried ending = by_decided decided where
-  -- the model before the last act
-  s : Model
-  s = state_after plan commands scope acts
+  -- how many tries are left after these acts: since the last read that settled a command (after `before`), or from the start,
+  -- each connection that ended or couldn't be made has taken at most one. `held` is 1 if there was a connection at that read,
+  -- else 0; `held` and the connections asked for since are as many as those that ended or couldn't be made since, and 1 more if
+  -- there is a connection now (`up`)
+  record Trying (tries : ℕ) (up : Bool) (acts : List Act) : Type 0 where
+    before : List Act
+    behind : List Act
+    held : ℕ
+    order : acts ≡ before ++ behind
+    since : (before ≡ []) ⊎ EndsSettled plan commands scope before
+    none : NoneSettled plan commands (state before) behind
+    left : plan.retries ≤ tries + endings_in behind
+    most : held ≤ 1
+    first : before ≡ [] → held ≡ 0
+    opens : openings_in behind + held ≡ endings_in behind + up_count up
 
-  -- the model after the last act, before what is outstanding is lost
-  t : Model
-  t = moved plan commands (action_at plan s) (with_progress turned s) last
+  -- `Trying` is preserved by an act that settles no command, takes at most one try for each connection that ends by it or
+  -- couldn't be made, and is `Counted`
+  abbrev trying_on : (tries tries' : ℕ) (up up' : Bool) (acts : List Act) (act : Act) → tries ≤ tries' + endings_in (act ∷ []) → Counted up act up'
+      → SettlesNone (state acts) act (after plan commands (state acts) act)
+      → Trying tries up acts → Trying tries' up' (acts ++ act ∷ [])
+  trying_on tries tries' up up' acts act took counted settles t =
+      let ends = ends_more t.behind act in
+      let opens = opens_more t.behind act in
+      let there : state acts ≡ after_all plan commands (state t.before) t.behind =
+      ap state t.order ∙ after_all-append plan commands (opening plan scope) t.before t.behind in
+      let enough = t.left in
+      let even = t.opens in
+      let least : plan.retries ≤ tries' + endings_in (t.behind ++ act ∷ []) = omega (arith, ends, took, enough) in
+      let level : openings_in (t.behind ++ act ∷ []) + t.held ≡ endings_in (t.behind ++ act ∷ []) + up_count up' = omega (arith, ends, opens, counted, even) in
+      record {
+        before = t.before;
+        behind = t.behind ++ act ∷ [];
+        held = t.held;
+        order = ap (λ xs. xs ++ act ∷ []) t.order ∙ append_assoc t.before t.behind (act ∷ []);
+        since = t.since;
+        none = none_more plan commands (state t.before) t.behind act t.none (subst (λ (x : Model). SettlesNone x act (after plan commands x act)) there settles);
+        left = least;
+        most = t.most;
+        first = t.first;
+        opens = level;
+      }
 
-  -- the acts before the last one are a run, and the last one performs the action that was next
-  split : Runs plan commands (opening plan scope) acts × Performs commands s (action_at plan s) last
-  split = runs_split plan commands (opening plan scope) acts [] last runs
+  -- `Trying` starts again with a read that settled a command, and after which `preparing` is false: it gives all tries back
+  trying_anew : (tries : ℕ) (up : Bool) (acts : List Act) (bytes : List ℕ) (m : Moment) → tries ≡ plan.retries
+      → (state (acts ++ Gave bytes m ∷ [])).progress.preparing ≡ false
+      → (state (acts ++ Gave bytes m ∷ [])).records ≢ (state acts).records → Trying tries up (acts ++ Gave bytes m ∷ [])
+  trying_anew tries up acts bytes m all done settled = record {
+    before = acts ++ Gave bytes m ∷ [];
+    behind = [];
+    held = up_count up;
+    order = sym (append-nil (acts ++ Gave bytes m ∷ []));
+    since = inr (record { earlier = acts; piece = bytes; moment = m; order = refl; settled = settled; prepared = done });
+    none = tt;
+    left = omega (arith, all);
+    most = up_least up;
+    first = λ e. absurd (some acts e);
+    opens = refl;
+  } where
+    -- acts that end with a read aren't none
+    some : (xs : List Act) → xs ++ Gave bytes m ∷ [] ≡ [] → ⊥
+    some [] e = cc
+    some (x ∷ xs) e = cc
 
-  -- the run is over, and not for its turns
-  over : (state_after plan commands scope (acts ++ last ∷ [])).progress.phase ≡ phase.Over why
-  over = by_needs (needs_of plan (state_after plan commands scope (acts ++ last ∷ [])) (actions.Stop why) stop).1 where
-    -- the phase says that the run is over: the other condition of a stop, that all turns are used up, is no cause of `IsTried`
-    by_needs : ((state_after plan commands scope (acts ++ last ∷ [])).progress.phase ≡ phase.Over why)
-        ⊎ ((why ≡ cause.Turns) × ((state_after plan commands scope (acts ++ last ∷ [])).progress.turns ≡ 0))
-        → (state_after plan commands scope (acts ++ last ∷ [])).progress.phase ≡ phase.Over why
-    by_needs (inl is) = is
-    by_needs (inr turns) = absurd (subst IsTried turns.0 tried)
+  -- `Trying`, of the tries of a model and its connection
+  abbrev TryingAt : List Act → Model → Type 0
+  TryingAt acts s = Trying s.progress.tries (is_up s.progress.phase) acts
 
-  -- the phase after the last act says that the run is over
-  there : (after plan commands s last).progress.phase ≡ phase.Over why
-  there = sym (ap (λ (x : Model). x.progress.phase) (after_all-append plan commands (opening plan scope) acts (last ∷ []))) ∙ over
+  -- `TryingAt` holds if the run isn't over
+  abbrev TryingUnlessOver : List Act → Model → Type 0
+  TryingUnlessOver acts s = is_over s.progress ≡ false → TryingAt acts s
 
-  -- the last act decided the end
-  decided : Decided plan s (after plan commands s last).progress.phase why last
-  decided = after_decided plan commands s last why split.1 (done_sent plan commands scope acts) (ap end_of there)
+  -- the model after these acts and one more
+  abbrev next_state : List Act → Act → Model
+  next_state acts act = after plan commands (state acts) act
 
-  -- after the last act there is no connection
-  down : is_up t.progress.phase ≡ false
-  down = sym (ap (λ (p : Progress). is_up p.phase) (ended_progress t)) ∙ ap is_up there
+  -- `TryingAt` is preserved by one act; t is the model after it, before what is outstanding is lost
+  try_step : (acts : List Act) (act : Act) (t : Model) → (next_state acts act).progress ≡ t.progress → TakesTries plan (state acts) act t → CountedAt (state acts) act t
+      → (((bytes : List ℕ) × (m : Moment) × (act ≡ Gave bytes m)) → TriesAfterPiece plan (state acts) t → Settling plan (state acts) (next_state acts act))
+      → TryingAt acts (state acts) → TryingAt (acts ++ act ∷ []) (next_state acts act)
+  try_step acts (Gave bytes m) t same took counted settling trying = by_settling (settling (bytes, m, refl) took) where
+    -- the model after the acts with this one is the next one
+    appended : state (acts ++ Gave bytes m ∷ []) ≡ next_state acts (Gave bytes m)
+    appended = after_all-append plan commands (opening plan scope) acts (Gave bytes m ∷ [])
 
-  -- before the last act the run wasn't over
-  goes : is_over s.progress ≡ false
-  goes = false_from_ne_true (is_over s.progress) (λ gone. over_stays plan commands s last gone split.1)
+    -- the loss of what is outstanding changes nothing of the connection
+    up_same : CountedAt (state acts) (Gave bytes m) (next_state acts (Gave bytes m))
+    up_same = subst (λ (p : Progress). Counted (is_up (state acts).progress.phase) (Gave bytes m) (is_up p.phase)) (sym same) counted
 
-  -- the connection that the last act ends, or couldn't make, is counted
-  counted : (Quits (action_at plan s) → ⊥) → Counted (is_up s.progress.phase) last false
-  counted never = subst (λ (b : Bool). Counted (is_up s.progress.phase) last b) down
-      (counted_moved plan commands (action_at plan s) s last split.1 (action_for plan s.progress (waiting_of s)) never)
+    -- the lemma above, by whether the read settled a command
+    by_settling : Settling plan (state acts) (next_state acts (Gave bytes m)) → TryingAt (acts ++ Gave bytes m ∷ []) (next_state acts (Gave bytes m))
+    by_settling (inl some) =
+        let u = next_state acts (Gave bytes m) in
+        trying_anew u.progress.tries (is_up u.progress.phase) acts bytes m some.2 (ap (λ (x : Model). x.progress.preparing) appended ∙ some.1)
+        (λ e. some.0 (sym (ap (λ (x : Model). x.records) appended) ∙ e))
+    by_settling (inr none) =
+        let s = state acts in
+        let u = next_state acts (Gave bytes m) in
+        let kept = none.1 in
+        let tries : s.progress.tries ≤ u.progress.tries + 0 = omega (arith, kept) in
+        trying_on s.progress.tries u.progress.tries (is_up s.progress.phase) (is_up u.progress.phase) acts (Gave bytes m) tries up_same none.0 trying
+  try_step acts act t same took counted settling trying =
+      let s = state acts in
+      let u = next_state acts act in
+      trying_on s.progress.tries u.progress.tries (is_up s.progress.phase) (is_up u.progress.phase) acts act
+      (subst (λ (p : Progress). s.progress.tries ≤ p.tries + endings_in (act ∷ [])) (sym same) took)
+      (subst (λ (p : Progress). Counted (is_up s.progress.phase) act (is_up p.phase)) (sym same) counted) tt trying
 
-  -- if no try was left before the last act, all tries are used up
-  used : (Quits (action_at plan s) → ⊥) → s.progress.tries ≡ 0 → AllTried plan commands scope (acts ++ last ∷ [])
-  used never none = all_tried plan commands scope acts last ending (counted never)
-      (subst (λ n. Trying plan commands scope n (is_up s.progress.phase) acts) none (try_holds plan commands scope acts split.0 goes))
+  -- `TryingUnlessOver` is preserved by one act of a run more
+  try_after : (done : List Act) (act : Act)
+      → Performs commands (state done) (action_at plan (state done)) act
+      → TryingUnlessOver done (state done)
+      → TryingUnlessOver (done ++ act ∷ []) (next_state done act)
+  try_after done act o trying not_over =
+      let s = state done in
+      let u = after plan commands s act in
+      let t = moved plan commands (action_at plan s) (with_progress turned s) act in
+      let same = ended_progress t in
+      let goes = false_from_ne_true (is_over s.progress) (λ over. over_stays plan commands s act over o) in
+      let fine = invariant_holds plan commands scope done in
+      let not_over_mid : is_over t.progress ≡ false = sym (ap is_over same) ∙ not_over in
+      try_step done act t same
+      (took_with_turn plan s t act (took_moved plan commands (action_at plan s) s act o))
+      (counted_moved plan commands (action_at plan s) s act o (action_for plan s.progress (waiting_of s))
+      (λ quits. absurd (both_ways (is_over t.progress) not_over_mid (quits_over plan commands (action_at plan s) s act quits))))
+      (λ gave h. gave_settles plan commands s t u fine (invariant_after plan commands s act fine) h (after_grew plan commands s act) same
+      (row_losing (loses_all t.progress) t ∙ row_read plan commands (action_at plan s) (with_progress turned s) act gave.0 gave.1 o gave.2)
+      (kept_marks plan commands s t (loses_all t.progress) refl not_over_mid h.begins fine))
+      (trying goes)
 
-  -- the last act ended a connection or could make none, so no try was left
-  by_decided : Decided plan s (after plan commands s last).progress.phase why last → AllTried plan commands scope (acts ++ last ∷ [])
-  by_decided (inl failed) = absurd (ending_shows why last ending failed.1)
-  by_decided (inr (down, inl (other, closes, next, ends))) =
-      used (λ quits. quits_not plan s.progress (commands_in s.marks) other why tried ends (subst Quits next quits)) (no_try plan s.progress (commands_in s.marks) other why tried ends)
-  by_decided (inr (down, inr (unopened, ends))) =
-      used (λ quits. unopened_not commands s (action_at plan s) (subst (λ (a : Act). Performs commands s (action_at plan s) a) unopened split.1) quits)
-      (no_try plan s.progress (commands_in s.marks) cause.Open why tried ends)
+  -- `TryingUnlessOver` holds after every run
+  try_holds : (acts : List Act) → Runs plan commands (opening plan scope) acts
+      → TryingUnlessOver acts (state acts)
+  try_holds acts runs =
+      always plan commands (opening plan scope) TryingUnlessOver (λ done act runs' o. try_after done act o)
+      (λ not_over. record {
+        before = [];
+        behind = [];
+        held = 0;
+        order = refl;
+        since = inl refl;
+        none = tt;
+        left = omega arith;
+        most = omega arith;
+        first = λ e. refl;
+        opens = refl;
+      }) acts runs
+
+  -- A run that stops.
+
+  -- if no try is left (`Trying`), and the last act closes a connection or fails to make one, so that there is none, all tries are
+  -- used up as the law says (`AllTried`)
+  all_tried : (acts : List Act) (last : Act) → IsEnding last → Counted (is_up (state acts).progress.phase) last false
+      → Trying 0 (is_up (state acts).progress.phase) acts → AllTried plan commands scope (acts ++ last ∷ [])
+  all_tried acts last ending counted t =
+      let s = state acts in
+      let one = one_end last ending in
+      let more : 0 ≤ 0 + endings_in (last ∷ []) = omega arith in
+      let u = trying_on 0 0 (is_up s.progress.phase) false acts last more counted (settles_none s (after plan commands s last) last ending) t in
+      let ends = ends_more t.behind last in
+      let left : plan.retries ≤ 0 + endings_in t.behind = t.left in
+      let over : plan.retries < endings_in (t.behind ++ last ∷ []) = omega (arith, ends, one, left) in
+      let even : openings_in (t.behind ++ last ∷ []) + t.held ≡ endings_in (t.behind ++ last ∷ []) + 0 = u.opens in
+      let most : t.held ≤ 1 = t.most in
+      let enough : plan.retries ≤ openings_in (t.behind ++ last ∷ []) = omega (arith, over, even, most) in
+      record {
+        before = u.before;
+        behind = u.behind;
+        order = u.order;
+        since = u.since;
+        none = u.none;
+        ended = over;
+        opened = enough;
+        first = λ e. let start : t.held ≡ 0 = t.first e in let all : plan.retries < openings_in (t.behind ++ last ∷ []) = omega (arith, over, even, start) in all;
+      }
+
+  -- if a run stops for a cause that is one of `IsTried`, at an act that closes a connection or fails to make one, all tries are
+  -- used up (`AllTried`)
+  pub stop_tried : (acts : List Act) (last : Act) (why : Cause) → Runs plan commands (opening plan scope) (acts ++ last ∷ [])
+      → action_at plan (state (acts ++ last ∷ [])) ≡ actions.Stop why → IsTried why → IsEnding last → AllTried plan commands scope (acts ++ last ∷ [])
+  stop_tried acts last why runs stop tried ending = by_decided decided where
+    -- the model before the last act
+    s : Model
+    s = state acts
+
+    -- the model after the last act, before what is outstanding is lost
+    t : Model
+    t = moved plan commands (action_at plan s) (with_progress turned s) last
+
+    -- the acts before the last one are a run, and the last one performs the action that was next
+    split : Runs plan commands (opening plan scope) acts × Performs commands s (action_at plan s) last
+    split = runs_split plan commands (opening plan scope) acts [] last runs
+
+    -- the run is over, and not for its turns
+    over : (state (acts ++ last ∷ [])).progress.phase ≡ phase.Over why
+    over = by_needs (needs_of plan (state (acts ++ last ∷ [])) (actions.Stop why) stop).1 where
+      -- the phase says that the run is over: the other condition of a stop, that all turns are used up, is no cause of `IsTried`
+      by_needs : ((state (acts ++ last ∷ [])).progress.phase ≡ phase.Over why)
+          ⊎ ((why ≡ cause.Turns) × ((state (acts ++ last ∷ [])).progress.turns ≡ 0))
+          → (state (acts ++ last ∷ [])).progress.phase ≡ phase.Over why
+      by_needs (inl is) = is
+      by_needs (inr turns) = absurd (subst IsTried turns.0 tried)
+
+    -- the phase after the last act says that the run is over
+    there : (after plan commands s last).progress.phase ≡ phase.Over why
+    there = sym (ap (λ (x : Model). x.progress.phase) (after_all-append plan commands (opening plan scope) acts (last ∷ []))) ∙ over
+
+    -- the last act decided the end
+    decided : Decided plan s (after plan commands s last).progress.phase why last
+    decided = after_decided plan commands s last why split.1 (done_sent plan commands scope acts) (ap end_of there)
+
+    -- after the last act there is no connection
+    down : is_up t.progress.phase ≡ false
+    down = sym (ap (λ (p : Progress). is_up p.phase) (ended_progress t)) ∙ ap is_up there
+
+    -- before the last act the run wasn't over
+    goes : is_over s.progress ≡ false
+    goes = false_from_ne_true (is_over s.progress) (λ gone. over_stays plan commands s last gone split.1)
+
+    -- the connection that the last act ends, or couldn't make, is counted
+    counted : (Quits (action_at plan s) → ⊥) → Counted (is_up s.progress.phase) last false
+    counted never = subst (λ (b : Bool). Counted (is_up s.progress.phase) last b) down
+        (counted_moved plan commands (action_at plan s) s last split.1 (action_for plan s.progress (waiting_of s)) never)
+
+    -- if no try was left before the last act, all tries are used up
+    used : (Quits (action_at plan s) → ⊥) → s.progress.tries ≡ 0 → AllTried plan commands scope (acts ++ last ∷ [])
+    used never none = all_tried acts last ending (counted never)
+        (subst (λ n. Trying n (is_up s.progress.phase) acts) none (try_holds acts split.0 goes))
+
+    -- the last act ended a connection or could make none, so no try was left
+    by_decided : Decided plan s (after plan commands s last).progress.phase why last → AllTried plan commands scope (acts ++ last ∷ [])
+    by_decided (inl failed) = absurd (ending_shows why last ending failed.1)
+    by_decided (inr (down, inl (other, closes, next, ends))) =
+        used (λ quits. quits_not plan s.progress (commands_in s.marks) other why tried ends (subst Quits next quits)) (no_try plan s.progress (commands_in s.marks) other why tried ends)
+    by_decided (inr (down, inr (unopened, ends))) =
+        used (λ quits. unopened_not commands s (action_at plan s) (subst (λ (a : Act). Performs commands s (action_at plan s) a) unopened split.1) quits)
+        (no_try plan s.progress (commands_in s.marks) cause.Open why tried ends)

@@ -1,5 +1,6 @@
--- Each end of a connection takes a try at most, and only a read that settles a command gives tries back. An act is one call on
--- the link, with its result.
+-- Each end of a connection takes a try at most, and only a read that settles a command gives tries back. `preparing` of a
+-- progress is true if there is a setup, and since the connection was made and the station synchronized no cycle began or went
+-- on. An act is one call on the link, with its result.
 use Rattle.std.proofs.Common.{◌≡◌, ◌⊎◌, inl, inr, ℕ, ◌+◌, ◌-◌, ◌<◌, ◌≤◌, Bool, true, false, not, List, [], ◌∷◌, if◌then◌else◌, nat_lt, refl, ap, arith, ◌&&◌}
 use Rattle.std.proofs.lemmas.Bool.{ltb-true, ltb-false}
 use Rattle.gc_texts.specs.declared.tasks.Task.{Task}
@@ -21,14 +22,14 @@ use Rattle.gc_station.specs.Tries.{endings_in}
 use Rattle.gc_station.proofs.Words.{begins_before}
 use Rattle.gc_station.proofs.Walk.{asked_along, came_along, closed_along, moved_changed, quieted_along, walk}
 
--- from the progress p to q, a read settled a command (`settled`), the setup is done, and all tries are left; or it settled none
--- (`none`), or the setup isn't done, and the tries stay
+-- from the progress p to q, a read settled a command (`settled`), `preparing` is false, and all tries are left; or it settled
+-- none (`none`), or `preparing` is true, and the tries stay
 abbrev pub GivesTriesBack : (settled none : Type 0) → Plan → (p q : Progress) → Type 0
 GivesTriesBack settled none plan p q =
     (settled × (q.preparing ≡ false) × (q.tries ≡ plan.retries)) ⊎ ((none ⊎ (q.preparing ≡ true)) × (q.tries ≡ p.tries))
 
--- what a piece does, from s to t: as many commands had their turn; the station doesn't resynchronize by it; and the tries are
--- given back if it settled a command, so that fewer are outstanding
+-- what a piece does, from s to t: it gives no cycle and no command its turn; a station that synchronizes after it did so before
+-- it; and the tries are given back if it settled a command, so that fewer are outstanding (`GivesTriesBack`)
 pub record TriesAfterPiece (plan : Plan) (s t : Model) : Type 0 where
   pub left : t.progress.left ≡ s.progress.left
   pub unsent : t.progress.unsent ≡ s.progress.unsent
@@ -41,8 +42,8 @@ abbrev pub TakesTries : Plan → Model → Act → Model → Type 0
 TakesTries plan s (Gave bytes m) t = TriesAfterPiece plan s t
 TakesTries plan s act t = s.progress.tries ≤ t.progress.tries + endings_in (act ∷ [])
 
--- after a read either fewer commands are outstanding, the setup is done, and all tries are left; or as many or more are
--- outstanding (`b`: fewer are), or the setup isn't done (`on`), and the tries stay
+-- after a read either fewer commands are outstanding (b), `preparing` is false (`on`), and all tries are left; or as many or
+-- more are outstanding, or `preparing` is true, and the tries stay
 given_back : (b on : Bool) (after before retries new old : ℕ) → nat_lt after before ≡ b → new ≡ old
     → ((after < before) × (on ≡ false) × ((if b && not on then retries else new) ≡ retries)) ⊎ (((before ≤ after) ⊎ (on ≡ true)) × ((if b && not on then retries else new) ≡ old))
 given_back true false after before retries new old e same = inl (ltb-true after before e, refl, refl)
@@ -96,7 +97,7 @@ took_moved plan commands (actions.Close why) s act o = walk plan commands (Takes
 took_moved plan commands (actions.Stop why) s act o = absurd o
 took_moved plan commands next s act o = walk plan commands (TakesTries plan (with_progress turned s)) next (with_progress turned s) act o (λ m. omega arith, λ n. omega arith)
 
--- the turn that an act takes takes no try
-pub untook : (plan : Plan) (s t : Model) (act : Act) → TakesTries plan (with_progress turned s) act t → TakesTries plan s act t
-untook plan s t (Gave bytes m) h = record { left = h.left; unsent = h.unsent; begins = h.begins; tries = h.tries }
-untook plan s t act h = h
+-- what `TakesTries` says from the model with the act's turn taken, it says from the model before: a turn takes no try
+pub took_with_turn : (plan : Plan) (s t : Model) (act : Act) → TakesTries plan (with_progress turned s) act t → TakesTries plan s act t
+took_with_turn plan s t (Gave bytes m) h = record { left = h.left; unsent = h.unsent; begins = h.begins; tries = h.tries }
+took_with_turn plan s t act h = h

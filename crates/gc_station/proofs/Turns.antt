@@ -69,13 +69,13 @@ phase_closes plan commands s t p phase w act none is obeys = let c = on_closes p
 
 -- less is left to be done with one turn fewer (t', of t) or, if no turn was left, without the connection that there was (u
 -- before, u' after)
-less : (t t' : ℕ) (u u' : Bool) → t' ≡ t - 1 → (nat_eq t 0 ≡ true → (u ≡ true) × (u' ≡ false)) → 2 * t' + up_count u' < 2 * t + up_count u
-less zero t' u u' e closes =
+less_left : (t t' : ℕ) (u u' : Bool) → t' ≡ t - 1 → (nat_eq t 0 ≡ true → (u ≡ true) × (u' ≡ false)) → 2 * t' + up_count u' < 2 * t + up_count u
+less_left zero t' u u' e closes =
     let c = closes refl in
     let a : up_count u ≡ 1 = ap up_count c.0 in
     let b : up_count u' ≡ 0 = ap up_count c.1 in
     omega (arith, a, b, e)
-less (suc t) t' u u' e closes = omega (arith, e, up_least u', up_least u)
+less_left (suc t) t' u u' e closes = omega (arith, e, up_least u', up_least u)
 
 -- each act leaves less to be done, whatever waits
 pub less_stepped : (plan : Plan) (commands : List Task) (s : Model) (w : Waiting) (act : Act) → Performs commands s (action_of plan s.progress w) act
@@ -85,7 +85,7 @@ less_stepped plan commands s w act obeys =
     let mid = moved plan commands action (with_progress turned s) act in
     let same = ended_progress mid in
     let fewer : left_to_do mid.progress < left_to_do s.progress =
-    less s.progress.turns mid.progress.turns (is_up s.progress.phase) (is_up mid.progress.phase)
+    less_left s.progress.turns mid.progress.turns (is_up s.progress.phase) (is_up mid.progress.phase)
     (turns_kept plan commands action (with_progress turned s) act)
     (λ none. phase_closes plan commands (with_progress turned s) s s.progress s.progress.phase w act none refl obeys) in
     let e : left_to_do (stepped plan commands action s act).progress ≡ left_to_do mid.progress = ap left_to_do same in
@@ -113,7 +113,7 @@ module _ (plan : Plan) (commands : List Task) where
     stops e both = subst (λ (o : Action). Performs commands s o act) (e ∙ none_left (is_up s.progress.phase) (nat_eq s.progress.turns 0) refl refl both) obeys
 
     -- no act is made if the run is over, in each phase
-    by_phase : (at : Phase) → s.progress.phase ≡ at → (is_over_in s.progress.phase || (not (is_up s.progress.phase) && nat_eq s.progress.turns 0)) ≡ true → ⊥
+    by_phase : (at : Phase) → s.progress.phase ≡ at → is_over s.progress ≡ true → ⊥
     by_phase (phase.Closing why) is o = let never : false ≡ true = sym (ap (λ at. is_over_in at || (not (is_up at) && nat_eq s.progress.turns 0)) is) ∙ o in cc
     by_phase (phase.Over why) is o = over_stops s act obeys why is
     by_phase other is o = stops (ap (λ at. action_in at plan s.progress (waiting_of s)) is) (sym (ap (λ at. is_over_in at || (not (is_up s.progress.phase) && nat_eq s.progress.turns 0)) is) ∙ o)

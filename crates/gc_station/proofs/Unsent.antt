@@ -1,10 +1,9 @@
 -- Each record of a missed or a skipped command is of one that was missed or skipped for its cause, where cycles have due
 -- moments and the clock doesn't go back. An act is one call on the link, with its result. A piece is the bytes that one read
 -- gave.
-use Rattle.std.proofs.Common.{◌≡◌, inl, inr, ℕ, ◌<◌, Bool, true, false, List, [], ◌∷◌, ◌++◌, drop, Option, Some, None, if◌then◌else◌, refl, sym, ap, ◌∙◌, subst, arith, append_assoc}
+use Rattle.std.proofs.Common.{◌≡◌, inl, inr, ℕ, ◌<◌, Bool, true, false, List, [], ◌∷◌, ◌++◌, drop, Option, None, if◌then◌else◌, refl, sym, ap, ◌∙◌, subst, arith, append_assoc}
 use Rattle.std.specs.List.{AllByRecursion}
 use Rattle.std.proofs.lemmas.Bool.{leb-true, cond-true, cond-false, both_ways}
-use Rattle.gc_lines.specs.Frames.{rest_behind}
 use Rattle.gc_catalogue.specs.declared.answer.Reading.{Reading}
 use Rattle.gc_catalogue.specs.declared.asked.Asked.{Asked}
 use Rattle.gc_client.specs.Rule
@@ -14,32 +13,44 @@ use Rattle.gc_texts.specs.declared.tasks.Task.{Task}
 use Rattle.gc_links.specs.Acts.{Act, Told, Gave}
 use Rattle.gc_links.specs.declared.link.Moment.{Moment}
 use Rattle.gc_station.specs.Cycles.{ClockRises, IsMissedIn, IsSkippedIn, UnsentIsJustified, UnsentForACause}
-use Rattle.gc_station.specs.Marks.{records_of}
+use Rattle.gc_station.specs.Marks.{record_of, records_of}
 use Rattle.gc_station.specs.Parts.{went_out}
 use Rattle.gc_station.specs.Progressing.{turned, moment_noted, cycle_begun, skipped_at, loses_all}
 use Rattle.gc_station.specs.Records.{Record}
 use Rattle.gc_station.specs.Runs.{state_after}
 use Rattle.gc_station.specs.Scopes.{Scope}
-use Rattle.gc_station.specs.Model.{Model, opening, action_at, is_heard, with_progress, with_moment, with_rest, first_unsent_record, lines_came, lines_completed, after_piece, moved, losing, Performs, Runs}
+use Rattle.gc_station.specs.Model.{Model, opening, action_at, is_heard, with_progress, with_moment, first_unsent_record, after_piece, moved, losing, Performs, Runs}
 use Rattle.gc_station.specs.NextCommand.{cycles_begun, place_next, mark_next, is_chained}
 use Rattle.gc_station.specs.declared.mark.Mark.{Mark}
 use Rattle.gc_station.specs.declared.plan.Plan.{Plan}
 use Rattle.gc_station.specs.declared.progress.Action.{Action}
 use Rattle.gc_station.specs.declared.progress.Action.TheVariants as actions
 use Rattle.gc_station.specs.declared.progress.Progress.{Progress}
-use Rattle.gc_station.proofs.Booking.{ended_sent}
+use Rattle.gc_station.proofs.Booking.{ended_sent, all_records}
 use Rattle.gc_station.proofs.Closings.{needs_of}
 use Rattle.gc_station.proofs.Always.{always}
 use Rattle.gc_station.proofs.Going.{after_all-append}
 use Rattle.gc_station.proofs.Lists.{all_append, all_on}
-use Rattle.gc_station.proofs.Walk.{lines_along, moved_changed}
+use Rattle.gc_station.proofs.Walk.{came_along, losing_along, moved_changed}
 use Rattle.gc_station.proofs.Ticking.{rises_front}
 use Rattle.gc_station.proofs.Cycles.{Begun, late_more, begun_if_clock_rises, last_began, WaitsForAnswer}
 
 module _ (plan : Plan) (commands : List Task) (scope : Scope) (some : 0 < plan.every) where
+  -- the model after these acts
+  abbrev state : List Act → Model
+  state acts = state_after plan commands scope acts
+
+  -- `Begun` of this run
+  abbrev HasBegun : List Act → Progress → Type 0
+  HasBegun acts p = Begun plan commands scope some acts p
+
+  -- the record is justified by these acts, as `UnsentIsJustified` says
+  abbrev Justified : List Act → Record → Type 0
+  Justified = UnsentIsJustified plan commands scope
+
   -- a record that is justified by these acts is justified by these and more
-  truly_more : (acts more : List Act) (r : Record) → UnsentIsJustified plan commands scope acts r → UnsentIsJustified plan commands scope (acts ++ more) r
-  truly_more acts more r h = (missed_more, skipped_more) where
+  justified_more : (acts more : List Act) (r : Record) → Justified acts r → Justified (acts ++ more) r
+  justified_more acts more r h = (missed_more, skipped_more) where
     -- the record of a missed command is justified by these acts and more
     missed_more : r.end ≡ Missed → IsMissedIn plan commands scope (acts ++ more) r
     missed_more e =
@@ -48,9 +59,8 @@ module _ (plan : Plan) (commands : List Task) (scope : Scope) (some : 0 < plan.e
           n = x.n;
           moment = x.moment;
           late = x.late;
-          begins = (late_more plan commands scope some) acts more x.n x.moment x.late x.begins;
-          cycle =
-              x.cycle;
+          begins = late_more plan commands scope some acts more x.n x.moment x.late x.begins;
+          cycle = x.cycle;
           too_late = x.too_late;
           sent = x.sent;
           due = x.due;
@@ -68,7 +78,6 @@ module _ (plan : Plan) (commands : List Task) (scope : Scope) (some : 0 < plan.e
           skips = x.skips;
           cycle = x.cycle;
           place = x.place;
-          not_first = x.not_first;
           chained = x.chained;
           broken = x.broken;
           last = x.last;
@@ -78,46 +87,39 @@ module _ (plan : Plan) (commands : List Task) (scope : Scope) (some : 0 < plan.e
         }
 
   -- the record of a command that was sent says nothing of being missed or skipped, so it is justified (`UnsentIsJustified`)
-  sent_truly : (acts : List Act) (r : Record) → went_out r.end ≡ true → UnsentIsJustified plan commands scope acts r
-  sent_truly acts r out = (λ e. absurd (both_ways (went_out r.end) (ap went_out e) out), λ e. absurd (both_ways (went_out r.end) (ap went_out e) out))
+  sent_justified : (acts : List Act) (r : Record) → went_out r.end ≡ true → Justified acts r
+  sent_justified acts r out = (λ e. absurd (both_ways (went_out r.end) (ap went_out e) out), λ e. absurd (both_ways (went_out r.end) (ap went_out e) out))
 
   -- the records of settlements are justified, as they say nothing of being missed or skipped
-  settled_truly : (acts : List Act) (reads : Asked → List ℕ → Reading) (utc : ℕ) (marks : List (Option Mark)) (settlements : List (Rule.Settlement Asked))
-      → AllByRecursion (UnsentIsJustified plan commands scope acts) (records_of reads utc marks settlements)
-  settled_truly acts reads utc [] settlements = tt
-  settled_truly acts reads utc (mark ∷ marks) [] = tt
-  settled_truly acts reads utc (None ∷ marks) (x ∷ others) = settled_truly acts reads utc marks others
-  settled_truly acts reads utc (Some mark ∷ marks) (x ∷ others) = (sent_truly acts _ (ended_sent reads mark.expected x.call x.outcome), settled_truly acts reads utc marks others)
-
-  -- if the records before lines are justified, so are those after them: the added ones say nothing of being missed or skipped
-  lines_truly : (acts : List Act) (s : Model) (lines : List (List ℕ)) → AllByRecursion (UnsentIsJustified plan commands scope acts) s.records
-      → AllByRecursion (UnsentIsJustified plan commands scope acts) (lines_came s lines).records
-  lines_truly acts s lines h =
-      lines_along (λ (x : Model). AllByRecursion (UnsentIsJustified plan commands scope acts) x.records)
-      (λ x line all. all_append (UnsentIsJustified plan commands scope acts) x.records _ all
-      (settled_truly acts x.reads x.progress.moment.utc x.marks (hears x.client line (heard line)).settlements)) s lines h
+  settled_justified : (acts : List Act) (reads : Asked → List ℕ → Reading) (utc : ℕ) (marks : List (Option Mark)) (settlements : List (Rule.Settlement Asked))
+      → AllByRecursion (Justified acts) (records_of reads utc marks settlements)
+  settled_justified acts reads utc marks settlements =
+      all_records reads utc (Justified acts) marks settlements
+      (λ n mark x at got. sent_justified acts (record_of reads utc mark x) (ended_sent reads mark.expected x.call x.outcome))
 
   -- if the records before a piece are justified, so are those after it: the added ones say nothing of being missed or skipped
-  came_truly : (acts : List Act) (heard : Bool) (word piece : List ℕ) (s : Model) → AllByRecursion (UnsentIsJustified plan commands scope acts) s.records
-      → AllByRecursion (UnsentIsJustified plan commands scope acts) (after_piece heard word piece s).records
-  came_truly acts true (asked ∷ others) piece s h = h
-  came_truly acts true [] piece s h = lines_truly acts (with_rest (rest_behind s.rest piece) s) (lines_completed s.rest piece) h
-  came_truly acts false word piece s h = h
+  came_justified : (acts : List Act) (heard : Bool) (word piece : List ℕ) (s : Model) → AllByRecursion (Justified acts) s.records
+      → AllByRecursion (Justified acts) (after_piece heard word piece s).records
+  came_justified acts ready word piece s h =
+      came_along (λ (x : Model). AllByRecursion (Justified acts) x.records)
+      (λ x line all. all_append (Justified acts) x.records _ all
+      (settled_justified acts x.reads x.progress.moment.utc x.marks (hears x.client line (heard line)).settlements)) ready word piece s h h h
 
   -- if the records are justified, they still are after the loss of what is outstanding: the added ones say nothing of being
   -- missed or skipped
-  losing_truly : (acts : List Act) (all : Bool) (s : Model) → AllByRecursion (UnsentIsJustified plan commands scope acts) s.records
-      → AllByRecursion (UnsentIsJustified plan commands scope acts) (losing all s).records
-  losing_truly acts true s h = all_append (UnsentIsJustified plan commands scope acts) s.records _ h (settled_truly acts s.reads s.progress.moment.utc s.marks (restarts s.client).settlements)
-  losing_truly acts false s h = h
+  losing_justified : (acts : List Act) (all : Bool) (s : Model) → AllByRecursion (Justified acts) s.records
+      → AllByRecursion (Justified acts) (losing all s).records
+  losing_justified acts all s h =
+      losing_along (λ (x : Model). AllByRecursion (Justified acts) x.records) all s
+      (all_append (Justified acts) s.records _ h (settled_justified acts s.reads s.progress.moment.utc s.marks (restarts s.client).settlements)) h
 
   -- a command that isn't sent ends as missed only if its cycle is missed, and as skipped only if it isn't
-  unsent_end : (missed : Bool) → ((if missed then Missed else Skipped) ≡ Missed → missed ≡ true) × ((if missed then Missed else Skipped) ≡ Skipped → missed ≡ false)
-  unsent_end true = (λ e. refl, λ e. cc)
-  unsent_end false = (λ e. cc, λ e. refl)
+  unsent_ends_as : (missed : Bool) → ((if missed then Missed else Skipped) ≡ Missed → missed ≡ true) × ((if missed then Missed else Skipped) ≡ Skipped → missed ≡ false)
+  unsent_ends_as true = (λ e. refl, λ e. cc)
+  unsent_ends_as false = (λ e. cc, λ e. refl)
 
   -- where `Begun` holds, the record of a command of a missed cycle, which isn't sent, came about as `IsMissedIn` says
-  skip_missed : (acts : List Act) (m : Moment) (p : Progress) (r : Record) → (Begun plan commands scope some) acts p → (here : 0 < p.unsent) → (cycle : r.cycle ≡ cycles_begun plan p)
+  skip_missed : (acts : List Act) (m : Moment) (p : Progress) (r : Record) → HasBegun acts p → (here : 0 < p.unsent) → (cycle : r.cycle ≡ cycles_begun plan p)
       → (sent : r.sent ≡ None)
       → (utc : r.utc ≡ skipped_at m p) → (missed : p.missed ≡ true) → IsMissedIn plan commands scope (acts ++ Told m ∷ []) r
   skip_missed acts m p r (inl none) here cycle sent utc missed = let nothing = none.1 in absurd (omega (arith, nothing, here))
@@ -125,7 +127,7 @@ module _ (plan : Plan) (commands : List Task) (scope : Scope) (some : 0 < plan.e
     n = c.earlier;
     moment = c.moment;
     late = c.late;
-    begins = (late_more plan commands scope some) acts (Told m ∷ []) c.earlier c.moment c.late c.begins;
+    begins = late_more plan commands scope some acts (Told m ∷ []) c.earlier c.moment c.late c.begins;
     cycle = cycle ∙ c.count;
     too_late = leb-true plan.every c.late (sym c.missed ∙ missed);
     sent = sent;
@@ -133,30 +135,30 @@ module _ (plan : Plan) (commands : List Task) (scope : Scope) (some : 0 < plan.e
   }
 
   -- in a cycle that isn't missed, a command that waits for the answer of the one before it is of a chain, and not its first
-  chain_of : (p : Progress) → (WaitsForAnswer plan commands scope some) p → p.missed ≡ false
+  chain_of : (p : Progress) → WaitsForAnswer plan commands scope some p → p.missed ≡ false
       → (plan.setup < place_next commands p) × (is_chained (drop (place_next commands p) commands) ≡ true)
   chain_of p (inl missed) free = absurd (both_ways p.missed free missed)
   chain_of p (inr chain) free = chain
 
   -- where `Begun` holds, and the next action is to skip a command, the record of that command in a cycle that isn't missed comes
   -- about as `IsSkippedIn` says
-  skip_skipped : (acts : List Act) (m : Moment) (r : Record) → (Begun plan commands scope some) acts (state_after plan commands scope acts).progress
-      → (is_next : action_at plan (state_after plan commands scope acts) ≡ actions.Skip)
-      → (cycle : r.cycle ≡ cycles_begun plan (state_after plan commands scope acts).progress) → (place : r.place ≡ place_next commands (state_after plan commands scope acts).progress)
-      → (sent : r.sent ≡ None) → (utc : r.utc ≡ skipped_at m (state_after plan commands scope acts).progress)
-      → (free : (state_after plan commands scope acts).progress.missed ≡ false) → IsSkippedIn plan commands scope (acts ++ Told m ∷ []) r
+  skip_skipped : (acts : List Act) (m : Moment) (r : Record) → HasBegun acts (state acts).progress
+      → (is_next : action_at plan (state acts) ≡ actions.Skip)
+      → (cycle : r.cycle ≡ cycles_begun plan (state acts).progress) → (place : r.place ≡ place_next commands (state acts).progress)
+      → (sent : r.sent ≡ None) → (utc : r.utc ≡ skipped_at m (state acts).progress)
+      → (free : (state acts).progress.missed ≡ false) → IsSkippedIn plan commands scope (acts ++ Told m ∷ []) r
   skip_skipped acts m r cycle_begun is cycle place sent utc free = by_begun cycle_begun where
     -- the model before the act
     s : Model
-    s = state_after plan commands scope acts
+    s = state acts
 
     -- the lemma above, by whether a cycle has begun: one has, as a command is unsent
-    by_begun : (Begun plan commands scope some) acts (state_after plan commands scope acts).progress → IsSkippedIn plan commands scope (acts ++ Told m ∷ []) r
+    by_begun : HasBegun acts (state acts).progress → IsSkippedIn plan commands scope (acts ++ Told m ∷ []) r
     by_begun (inl none) = let here = (needs_of plan s actions.Skip is).2 in let nothing = none.1 in absurd (omega (arith, nothing, here))
     by_begun (inr c) =
-        let needs = needs_of plan (state_after plan commands scope acts) actions.Skip is in
-        let chain = chain_of (state_after plan commands scope acts).progress (c.chained needs.4) free in
-        let last = (last_began plan commands scope some) acts (state_after plan commands scope acts).progress refl c free in
+        let needs = needs_of plan (state acts) actions.Skip is in
+        let chain = chain_of (state acts).progress (c.chained needs.4) free in
+        let last = last_began plan commands scope some acts (state acts).progress refl c free in
         record {
           before = acts;
           moment = m;
@@ -165,61 +167,60 @@ module _ (plan : Plan) (commands : List Task) (scope : Scope) (some : 0 < plan.e
           skips = is;
           cycle = cycle;
           place = place;
-          not_first = chain.0;
-          chained = chain.1;
+          chained = chain;
           broken = needs.5;
           last = last.0;
           in_time = last.1;
           sent = sent;
-          utc = utc ∙ cond-false (state_after plan commands scope acts).progress.missed (state_after plan commands scope acts).progress.due m.utc free;
+          utc = utc ∙ cond-false (state acts).progress.missed (state acts).progress.due m.utc free;
         }
 
   -- where `Begun` holds, and the next action is to skip a command, the record of the first of these commands, if there is one, is
   -- justified
-  skips_truly : (acts : List Act) (m : Moment) (left : List Task) → (Begun plan commands scope some) acts (state_after plan commands scope acts).progress
-      → action_at plan (state_after plan commands scope acts) ≡ actions.Skip
-      → AllByRecursion (UnsentIsJustified plan commands scope (acts ++ Told m ∷ [])) (first_unsent_record (turned (state_after plan commands scope acts).progress) m
-      (mark_next plan commands (turned (state_after plan commands scope acts).progress)) left)
-  skips_truly acts m [] cycle_begun is = tt
-  skips_truly acts m (task ∷ others) cycle_begun is =
-      let p = (state_after plan commands scope acts).progress in
-      let here = (needs_of plan (state_after plan commands scope acts) actions.Skip is).2 in
-      let ends = unsent_end p.missed in
+  skips_justified : (acts : List Act) (m : Moment) (left : List Task) → HasBegun acts (state acts).progress
+      → action_at plan (state acts) ≡ actions.Skip
+      → AllByRecursion (Justified (acts ++ Told m ∷ [])) (first_unsent_record (turned (state acts).progress) m
+      (mark_next plan commands (turned (state acts).progress)) left)
+  skips_justified acts m [] cycle_begun is = tt
+  skips_justified acts m (task ∷ others) cycle_begun is =
+      let p = (state acts).progress in
+      let here = (needs_of plan (state acts) actions.Skip is).2 in
+      let ends = unsent_ends_as p.missed in
       ((λ e. skip_missed acts m p _ cycle_begun here refl refl refl (ends.0 e), λ e. skip_skipped acts m _ cycle_begun is refl refl refl refl (ends.1 e)), tt)
 
   -- where `Begun` holds, and the records before an act are justified by the acts with this one, so are the records after it,
   -- before what is outstanding is lost
-  moved_truly : (acts : List Act) (next : Action) (act : Act) → (Begun plan commands scope some) acts (state_after plan commands scope acts).progress
-      → action_at plan (state_after plan commands scope acts) ≡ next
-      → AllByRecursion (UnsentIsJustified plan commands scope (acts ++ act ∷ [])) (state_after plan commands scope acts).records
-      → AllByRecursion (UnsentIsJustified plan commands scope (acts ++ act ∷ [])) (moved plan commands next (with_progress turned (state_after plan commands scope acts)) act).records
-  moved_truly acts actions.Skip (Told m) cycle_begun is all =
-      let s = state_after plan commands scope acts in
-      all_append (UnsentIsJustified plan commands scope (acts ++ Told m ∷ [])) s.records _ all (skips_truly acts m (drop (place_next commands (turned s.progress)) commands) cycle_begun is)
-  moved_truly acts actions.Skip act cycle_begun is all = all_append (UnsentIsJustified plan commands scope (acts ++ act ∷ [])) (state_after plan commands scope acts).records [] all tt
-  moved_truly acts (actions.Read until) (Gave bytes m) cycle_begun is all =
-      let s = with_progress turned (state_after plan commands scope acts) in
-      came_truly (acts ++ Gave bytes m ∷ []) (is_heard s.progress.phase) s.progress.word bytes (with_moment m (with_progress (moment_noted m) s)) all
-  moved_truly acts (actions.Read until) act cycle_begun is all = all
-  moved_truly acts next act cycle_begun is all =
-      let t = with_progress turned (state_after plan commands scope acts) in
-      subst (λ (x : Model). AllByRecursion (UnsentIsJustified plan commands scope (acts ++ act ∷ [])) x.records) (sym (moved_changed plan commands next t act)) all
+  moved_justified : (acts : List Act) (next : Action) (act : Act) → HasBegun acts (state acts).progress
+      → action_at plan (state acts) ≡ next
+      → AllByRecursion (Justified (acts ++ act ∷ [])) (state acts).records
+      → AllByRecursion (Justified (acts ++ act ∷ [])) (moved plan commands next (with_progress turned (state acts)) act).records
+  moved_justified acts actions.Skip (Told m) cycle_begun is all =
+      let s = state acts in
+      all_append (Justified (acts ++ Told m ∷ [])) s.records _ all (skips_justified acts m (drop (place_next commands (turned s.progress)) commands) cycle_begun is)
+  moved_justified acts actions.Skip act cycle_begun is all = all_append (Justified (acts ++ act ∷ [])) (state acts).records [] all tt
+  moved_justified acts (actions.Read until) (Gave bytes m) cycle_begun is all =
+      let s = with_progress turned (state acts) in
+      came_justified (acts ++ Gave bytes m ∷ []) (is_heard s.progress.phase) s.progress.word bytes (with_moment m (with_progress (moment_noted m) s)) all
+  moved_justified acts (actions.Read until) act cycle_begun is all = all
+  moved_justified acts next act cycle_begun is all =
+      let t = with_progress turned (state acts) in
+      subst (λ (x : Model). AllByRecursion (Justified (acts ++ act ∷ [])) x.records) (sym (moved_changed plan commands next t act)) all
 
   -- if the clock doesn't go back in these acts, each record after them is justified
   abbrev JustifiedIfClockRises : List Act → Type 0
-  JustifiedIfClockRises acts = ClockRises 0 acts → AllByRecursion (UnsentIsJustified plan commands scope acts) (state_after plan commands scope acts).records
+  JustifiedIfClockRises acts = ClockRises 0 acts → AllByRecursion (Justified acts) (state acts).records
 
   -- one act of a run more preserves `JustifiedIfClockRises`
   written_step : (done : List Act) (act : Act) → Runs plan commands (opening plan scope) done
-      → Performs commands (state_after plan commands scope done) (action_at plan (state_after plan commands scope done)) act → JustifiedIfClockRises done → JustifiedIfClockRises (done ++ act ∷ [])
+      → Performs commands (state done) (action_at plan (state done)) act → JustifiedIfClockRises done → JustifiedIfClockRises (done ++ act ∷ [])
   written_step done act runs o h rises =
-      let s = state_after plan commands scope done in
+      let s = state done in
       let front = rises_front 0 done act rises in
-      let cycle_begun = ((begun_if_clock_rises plan commands scope some) done runs front).1 in
-      let old = all_on (UnsentIsJustified plan commands scope done) (UnsentIsJustified plan commands scope (done ++ act ∷ [])) s.records (λ r x. truly_more done (act ∷ []) r x) (h front) in
+      let cycle_begun = (begun_if_clock_rises plan commands scope some done runs front).1 in
+      let old = all_on (Justified done) (Justified (done ++ act ∷ [])) s.records (λ r x. justified_more done (act ∷ []) r x) (h front) in
       let t = moved plan commands (action_at plan s) (with_progress turned s) act in
-      subst (λ (x : Model). AllByRecursion (UnsentIsJustified plan commands scope (done ++ act ∷ [])) x.records) (sym (after_all-append plan commands (opening plan scope) done (act ∷ [])))
-      (losing_truly (done ++ act ∷ []) (loses_all t.progress) t (moved_truly done (action_at plan s) act cycle_begun refl old))
+      subst (λ (x : Model). AllByRecursion (Justified (done ++ act ∷ [])) x.records) (sym (after_all-append plan commands (opening plan scope) done (act ∷ [])))
+      (losing_justified (done ++ act ∷ []) (loses_all t.progress) t (moved_justified done (action_at plan s) act cycle_begun refl old))
 
   -- `JustifiedIfClockRises` holds after every run
   written_holds : (acts : List Act) → Runs plan commands (opening plan scope) acts → JustifiedIfClockRises acts

@@ -17,7 +17,7 @@ use Rattle.gc_station.specs.declared.progress.Action.{Action}
 use Rattle.gc_station.specs.declared.progress.Action.TheVariants as actions
 use Rattle.gc_links.specs.Acts.{Act, Gave}
 use Rattle.gc_station.specs.Answers.{ReadsBefore, deadline_after, IsRecordedBy, AnswerIsJustified}
-use Rattle.gc_station.specs.Ends.{ReadsAtOrPast, OneReadsPast, LateIsJustified, LostIsJustified, IsOvertaken, Resynchronizes, IsLast, IsLostIn}
+use Rattle.gc_station.specs.Ends.{ReadsAtOrPast, OneReadsPast, LateIsJustified, LostIsJustified, IsLast}
 use Rattle.gc_station.specs.Quiet.{IsAsking}
 use Rattle.gc_station.specs.Records.{Record}
 use Rattle.gc_station.specs.Runs.{state_after}
@@ -25,30 +25,6 @@ use Rattle.gc_station.specs.ActKinds.{Puts}
 use Rattle.gc_station.specs.Model.{Model, IsSending, action_at, cycle_to_send, place_to_send, request_text, Performs}
 use Rattle.gc_station.proofs.Lists.{all_append, all_on, AllRisingAt, rising_follow, rising_map}
 use Rattle.gc_station.specs.Scopes.{Scope}
-
--- after these acts, the command with this mark is sent next
-pub record Marked (plan : Plan) (commands : List Task) (scope : Scope) (acts : List Act) (mark : Mark) : Type 0 where
-  pub sends : IsSending plan (state_after plan commands scope acts)
-  pub cycle : mark.cycle ≡ cycle_to_send plan (state_after plan commands scope acts)
-  pub place : mark.place ≡ place_to_send plan commands (state_after plan commands scope acts)
-  pub sent : mark.sent ≡ (state_after plan commands scope acts).progress.moment.utc
-
--- the request p that waits at the place `at`, with this id and mark, was put among these acts; `number` acts came before it,
--- and `Stays` holds of the acts after it, by whether p has timed out and its deadline. If p isn't the oldest (`at` is above 0),
--- it was put by an action that sends a request of the client (`asks`)
-pub record WasAsked (plan : Plan) (commands : List Task) (scope : Scope) (acts : List Act) (Stays : Bool → ℕ → List Act → Type 0) (number at with_id : ℕ) (p : Pending Asked)
-    (mark : Option Mark) : Type 0 where
-  pub before : List Act
-  pub request : Act
-  pub between : List Act
-  pub order : acts ≡ before ++ request ∷ between
-  pub many : length before ≡ number
-  pub asks : 0 < at → IsAsking (action_at plan (state_after plan commands scope before))
-  pub its : (m : Mark) → mark ≡ Some m → Marked plan commands scope before m
-  pub id : with_id ≡ (state_after plan commands scope before).client.next
-  pub put : Puts (request_text (state_after plan commands scope before).client p.call) request
-  pub deadline : (m : Mark) → mark ≡ Some m → p.deadline ≡ deadline_after plan commands scope before
-  pub stays : Stays p.given_up p.deadline between
 
 -- of a request that has timed out (`true`), a moment at or past its deadline was read in these acts; of one that hasn't, none
 -- was
@@ -61,79 +37,6 @@ abbrev pub StayedAt : ℕ → Bool → ℕ → List Act → Type 0
 StayedAt now true deadline acts = OneReadsPast deadline acts ⊎ (deadline ≤ now)
 StayedAt now false deadline acts = AllByRecursion (ReadsBefore deadline) acts × (now < deadline)
 
--- an outstanding request at the place `at` was put among these acts, with the id of that place, and `Stayed` holds of it since.
--- The client's next id is `next`, and `count` requests wait
-abbrev pub Waits : Plan → List Task → Scope → List Act → (next count : ℕ) → (number at : ℕ) → Pending Asked → Option Mark → Type 0
-Waits plan commands scope acts next count number at p mark = WasAsked plan commands scope acts Stayed number at (id_at next count at) p mark
-
--- as `Waits`, at the moment `now`, which isn't among the acts yet; and a request with that id waited at the client as it was
--- after the acts
-abbrev pub WaitsAt : Plan → List Task → Scope → List Act → (client : ById Asked) → (now : ℕ) → (next count : ℕ) → (number at : ℕ) → Pending Asked → Option Mark → Type 0
-WaitsAt plan commands scope acts client now next count number at p mark =
-    WasAsked plan commands scope acts (StayedAt now) number at (id_at next count at) p mark × Ids.Waits client (id_at next count at)
-
--- a record is true: if it is of a reply in time, late or lost, it came about as the law on such records says
-pub record IsJustified (plan : Plan) (commands : List Task) (scope : Scope) (acts : List Act) (r : Record) : Type 0 where
-  pub answered : AnswerIsJustified plan commands scope acts r
-  pub late : LateIsJustified plan commands scope acts r
-  pub lost : LostIsJustified plan commands scope acts r
-
--- what every run keeps: the outstanding requests at the client c, with these marks, were put among the acts, in order
--- (`Waits`); and the records are true by `all` acts
-pub record Honest (plan : Plan) (commands : List Task) (scope : Scope) (acts all : List Act) (c : ById Asked) (marks : List (Option Mark)) (records : List Record) : Type 0 where
-  pub waiting : AllRisingAt (Waits plan commands scope acts c.next (length c.waiting)) 0 0 c.waiting marks
-  pub written : AllByRecursion (IsJustified plan commands scope all) records
-
--- `Honest`, of the client, the marks and the records of a model
-abbrev pub IsHonest : Plan → List Task → Scope → (acts all : List Act) → Model → Type 0
-IsHonest plan commands scope acts all s = Honest plan commands scope acts all s.client s.marks s.records
-
--- a request that was put among acts was put among them and one more. S is what holds of the acts since, and gives T of those
--- and the one more
-pub asked_more : (plan : Plan) (commands : List Task) (scope : Scope) (acts : List Act) (act : Act) (S T : Bool → ℕ → List Act → Type 0) (number at id : ℕ) (p : Pending Asked) (mark : Option Mark)
-    → ((b : Bool) (d : ℕ) (xs : List Act) → S b d xs → T b d (xs ++ act ∷ []))
-    → WasAsked plan commands scope acts S number at id p mark → WasAsked plan commands scope (acts ++ act ∷ []) T number at id p mark
-asked_more plan commands scope acts act S T number at id p mark step s = record {
-  before = s.before;
-  request = s.request;
-  between = s.between ++ act ∷ [];
-  order = ap (λ xs. xs ++ act ∷ []) s.order ∙ append_assoc s.before (s.request ∷ s.between) (act ∷ []);
-  many = s.many;
-  asks = s.asks;
-  its = s.its;
-  id = s.id;
-  put = s.put;
-  deadline = s.deadline;
-  stays = step p.given_up p.deadline s.between s.stays;
-}
-
--- a request that was `WasAsked` at the place `at` with an id was so at any place at' with an equal id, if `at` is above 0
--- wherever at' is (0 is the place of the oldest)
-pub asked_as : (plan : Plan) (commands : List Task) (scope : Scope) (acts : List Act) (S : Bool → ℕ → List Act → Type 0) (number at at' id id' : ℕ)
-    (p : Pending Asked) (mark : Option Mark) → (0 < at' → 0 < at) → id' ≡ id
-    → WasAsked plan commands scope acts S number at id p mark → WasAsked plan commands scope acts S number at' id' p mark
-asked_as plan commands scope acts S number at at' id id' p mark places ids s = record {
-  before = s.before;
-  request = s.request;
-  between = s.between;
-  order = s.order;
-  many = s.many;
-  asks = λ above. s.asks (places above);
-  its = s.its;
-  id = ids ∙ s.id;
-  put = s.put;
-  deadline = s.deadline;
-  stays = s.stays;
-}
-
--- the number of a request that was put is below the count of the acts
-pub asked_among : (plan : Plan) (commands : List Task) (scope : Scope) (acts : List Act) (S : Bool → ℕ → List Act → Type 0) (number at id : ℕ) (p : Pending Asked) (mark : Option Mark)
-    → WasAsked plan commands scope acts S number at id p mark → number < length acts
-asked_among plan commands scope acts S number at id p mark s =
-    let whole : length acts ≡ length s.before + length (s.request ∷ s.between) = ap length s.order ∙ length-append s.before (s.request ∷ s.between) in
-    let many = s.many in
-    omega (arith, whole, many)
-
 -- a moment at or past d that was read among acts was read among them and more
 pub past_more : (d : ℕ) (xs ys : List Act) → OneReadsPast d xs → OneReadsPast d (xs ++ ys)
 past_more d xs ys t = record { earlier = t.earlier; telling = t.telling; later = t.later ++ ys; at = ap (λ zs. zs ++ ys) t.at ∙ append_assoc t.earlier (t.telling ∷ t.later) ys; past = t.past }
@@ -142,104 +45,10 @@ past_more d xs ys t = record { earlier = t.earlier; telling = t.telling; later =
 pub past_here : (d : ℕ) (xs : List Act) (act : Act) → ReadsAtOrPast d act → OneReadsPast d (xs ++ act ∷ [])
 past_here d xs act on = record { earlier = xs; telling = act; later = []; at = refl; past = on }
 
--- the act that writes a record's request and the one that adds the record are among the acts with one more at their end, too
-abbrev recorded_more : (plan : Plan) (commands : List Task) (scope : Scope) (acts : List Act) (act : Act) (r : Record) (then : Act)
-    → IsRecordedBy plan commands scope acts r then → IsRecordedBy plan commands scope (acts ++ act ∷ []) r then
-recorded_more plan commands scope acts act r then a = record {
-  before = a.before;
-  request = a.request;
-  between = a.between;
-  behind = a.behind ++ act ∷ [];
-  order = ap (λ xs. xs ++ act ∷ []) a.order ∙ append_assoc a.before (a.request ∷ (a.between ++ then ∷ a.behind)) (act ∷ [])
-      ∙ ap (λ xs. a.before ++ a.request ∷ xs) (append_assoc a.between (then ∷ a.behind) (act ∷ []));
-  own = a.own;
-  written = a.written;
-}
-
--- a record that is true by the acts so far is true by one act more: one that is lost because the run stopped would be the last
--- act's, after which no act is made
-true_more : (plan : Plan) (commands : List Task) (scope : Scope) (acts : List Act) (act : Act) (r : Record)
-    → Performs commands (state_after plan commands scope acts) (action_at plan (state_after plan commands scope acts)) act
-    → IsJustified plan commands scope acts r → IsJustified plan commands scope (acts ++ act ∷ []) r
-true_more plan commands scope acts act r obeys is = record { answered = answered_more; late = late_more; lost = lost_more } where
-  -- a record of a reply in time is true by one act more
-  answered_more : AnswerIsJustified plan commands scope (acts ++ act ∷ []) r
-  answered_more line e =
-      let a = is.answered line e in
-      record {
-        piece = a.piece;
-        moment = a.moment;
-        its = recorded_more plan commands scope acts act r (Gave a.piece a.moment) a.its;
-        waits = a.waits;
-        in_time = a.in_time;
-        front = a.front;
-        others = a.others;
-        came = a.came;
-        id = a.id;
-      }
-
-  -- a late record is true by one act more
-  late_more : LateIsJustified plan commands scope (acts ++ act ∷ []) r
-  late_more e =
-      let a = is.late e in
-      record {
-        piece = a.piece;
-        moment = a.moment;
-        its = recorded_more plan commands scope acts act r (Gave a.piece a.moment) a.its;
-        too_late = a.too_late;
-        came = a.came;
-      }
-
-  -- no act is made after one at which the run stopped
-  not_last : (before : List Act) (request : Act) (between : List Act) (then : Act) (behind : List Act) → acts ≡ before ++ request ∷ (between ++ then ∷ behind)
-      → IsLast plan commands scope (before ++ request ∷ between) then behind → ⊥
-  not_last before request between then behind order last =
-      let whole : acts ≡ (before ++ request ∷ between) ++ then ∷ [] =
-      order ∙ ap (λ xs. before ++ request ∷ (between ++ then ∷ xs)) last.none ∙ sym (append_assoc before (request ∷ between) (then ∷ [])) in
-      let stopped : action_at plan (state_after plan commands scope acts) ≡ actions.Stop last.why = ap (λ xs. action_at plan (state_after plan commands scope xs)) whole ∙ last.stops in
-      subst (λ (o : Action). Performs commands (state_after plan commands scope acts) o act) stopped obeys
-
-  -- a lost record is true by one act more
-  lost_more : LostIsJustified plan commands scope (acts ++ act ∷ []) r
-  lost_more e =
-      let a = is.lost e in
-      record {
-        act = a.act;
-        its = recorded_more plan commands scope acts act r a.act a.its;
-        shown = on a a.shown;
-      } where
-        -- why a request is lost holds after one more act: a later request's reply came, or the station resynchronized; it isn't
-        -- that the run stopped
-        on : (a : IsLostIn plan commands scope acts r) → IsOvertaken plan commands scope a.its.before a.its.request a.its.between a.act
-            ⊎ (Resynchronizes plan commands scope (a.its.before ++ a.its.request ∷ a.its.between) a.act
-            ⊎ IsLast plan commands scope (a.its.before ++ a.its.request ∷ a.its.between) a.act a.its.behind)
-            → IsOvertaken plan commands scope a.its.before a.its.request a.its.between a.act
-            ⊎ (Resynchronizes plan commands scope (a.its.before ++ a.its.request ∷ a.its.between) a.act
-            ⊎ IsLast plan commands scope (a.its.before ++ a.its.request ∷ a.its.between) a.act (a.its.behind ++ act ∷ []))
-        on a (inl over) = inl over
-        on a (inr (inl anew)) = inr (inl anew)
-        on a (inr (inr last)) = absurd (not_last a.its.before a.its.request a.its.between a.act a.its.behind a.its.order last)
-
--- records that are true by the acts so far are true by one more
-pub more_true : (plan : Plan) (commands : List Task) (scope : Scope) (acts : List Act) (act : Act) (rs : List Record)
-    → Performs commands (state_after plan commands scope acts) (action_at plan (state_after plan commands scope acts)) act
-    → AllByRecursion (IsJustified plan commands scope acts) rs → AllByRecursion (IsJustified plan commands scope (acts ++ act ∷ [])) rs
-more_true plan commands scope acts act rs obeys all = all_on (IsJustified plan commands scope acts) (IsJustified plan commands scope (acts ++ act ∷ [])) rs
-    (λ r is. true_more plan commands scope acts act r obeys is) all
-
 -- an act that reads no moment preserves `Stayed`
 pub stays_still : (act : Act) → ((d : ℕ) → ReadsBefore d act) → (timed_out : Bool) (d : ℕ) (xs : List Act) → Stayed timed_out d xs → Stayed timed_out d (xs ++ act ∷ [])
 stays_still act on true d xs told = past_more d xs (act ∷ []) told
 stays_still act on false d xs all = all_append (ReadsBefore d) xs (act ∷ []) all (on d, tt)
-
--- an act that changes nothing of the client, and reads no moment, preserves `Honest`
-pub still : (plan : Plan) (commands : List Task) (scope : Scope) (acts : List Act) (act : Act) (c : ById Asked) (marks : List (Option Mark)) (rs : List Record) → ((d : ℕ) → ReadsBefore d act)
-    → Honest plan commands scope acts (acts ++ act ∷ []) c marks rs → Honest plan commands scope (acts ++ act ∷ []) (acts ++ act ∷ []) c marks rs
-still plan commands scope acts act c marks rs on h = record {
-  waiting = rising_follow (Waits plan commands scope acts c.next (length c.waiting)) (Waits plan commands scope (acts ++ act ∷ []) c.next (length c.waiting)) 0 0 c.waiting marks
-      (λ n j p mark w. asked_more plan commands scope acts act Stayed Stayed n j _ p mark (stays_still act on) w) h.waiting;
-  written = h.written;
-}
 
 -- a moment times a request out if its deadline has come: from `Stayed` to `StayedAt`
 stays_at : (now : ℕ) (timed_out : Bool) (d : ℕ) (xs : List Act) → Stayed timed_out d xs → StayedAt now (timed_out || nat_le d now) d xs
@@ -249,34 +58,6 @@ stays_at now false d xs all = by_test (nat_le d now) refl where
   by_test : (t : Bool) → nat_le d now ≡ t → StayedAt now t d xs
   by_test true e = let past : d ≤ now = grind (arith, nat_tests, e) in inr past
   by_test false e = let low : now < d = grind (arith, nat_tests, e) in (all, low)
-
--- a request that was put among acts, with `Stayed` since, was put with `StayedAt` since once the moment `now` has timed it
--- out or not
-pub at_moment : (plan : Plan) (commands : List Task) (scope : Scope) (acts : List Act) (now number at id : ℕ) (p : Pending Asked) (mark : Option Mark)
-    → WasAsked plan commands scope acts Stayed number at id p mark
-    → WasAsked plan commands scope acts (StayedAt now) number at id (expired now p) mark
-at_moment plan commands scope acts now number at id p mark s = record {
-  before = s.before;
-  request = s.request;
-  between = s.between;
-  order = s.order;
-  many = s.many;
-  asks = s.asks;
-  its = s.its;
-  id = s.id;
-  put = s.put;
-  deadline = s.deadline;
-  stays = stays_at now p.given_up p.deadline s.between s.stays;
-}
-
--- once the moment `now` has timed out the requests whose deadline has come, the same requests wait, as `WaitsAt` says
-pub expired_waits : (plan : Plan) (commands : List Task) (scope : Scope) (acts : List Act) (now : ℕ) (c : ById Asked) (marks : List (Option Mark))
-    → AllRisingAt (Waits plan commands scope acts c.next (length c.waiting)) 0 0 c.waiting marks
-    → AllRisingAt (WaitsAt plan commands scope acts c now c.next (length (map (expired now) c.waiting))) 0 0 (map (expired now) c.waiting) marks
-expired_waits plan commands scope acts now c marks all =
-    subst (λ (n : ℕ). AllRisingAt (WaitsAt plan commands scope acts c now c.next n) 0 0 (map (expired now) c.waiting) marks) (sym (length-map c.waiting (expired now)))
-    (rising_map (Waits plan commands scope acts c.next (length c.waiting)) (WaitsAt plan commands scope acts c now c.next (length c.waiting)) (expired now) 0 0 c.waiting marks
-    (λ n j p mark low w. let below : j < length c.waiting = omega (arith, low) in (at_moment plan commands scope acts now n j _ p mark w, (j, below, refl))) all)
 
 -- a moment, at which requests may time out, preserves `IsWithinLimits`
 pub expired_window : (c : ById Asked) (now : ℕ) → IsWithinLimits c → IsWithinLimits (expires c now)
@@ -289,21 +70,240 @@ stays_behind act now on past true d xs (inl told) = past_more d xs (act ∷ []) 
 stays_behind act now on past true d xs (inr reached) = past_here d xs act (past d reached)
 stays_behind act now on past false d xs both = all_append (ReadsBefore d) xs (act ∷ []) both.0 (on d both.1, tt)
 
--- requests that wait as `WaitsAt` says, at the moment `now`, wait as `Waits` says once the act that reads that moment is among
--- the acts
-pub behind_moment : (plan : Plan) (commands : List Task) (scope : Scope) (acts : List Act) (act : Act) (client : ById Asked) (now next count : ℕ) (ps : List (Pending Asked))
-    (marks : List (Option Mark))
-    → ((d : ℕ) → now < d → ReadsBefore d act) → ((d : ℕ) → d ≤ now → ReadsAtOrPast d act)
-    → AllRisingAt (WaitsAt plan commands scope acts client now next count) 0 0 ps marks → AllRisingAt (Waits plan commands scope (acts ++ act ∷ []) next count) 0 0 ps marks
-behind_moment plan commands scope acts act client now next count ps marks on past all =
-    rising_follow (WaitsAt plan commands scope acts client now next count) (Waits plan commands scope (acts ++ act ∷ []) next count) 0 0 ps marks
-    (λ n j p mark w. asked_more plan commands scope acts act (StayedAt now) Stayed n j _ p mark (stays_behind act now on past) w.0) all
+module _ (plan : Plan) (commands : List Task) (scope : Scope) where
+  -- the model after these acts
+  abbrev state : List Act → Model
+  state acts = state_after plan commands scope acts
 
--- an act that reads a moment, and so times requests out, preserves `Honest`
-pub moment_told : (plan : Plan) (commands : List Task) (scope : Scope) (acts : List Act) (act : Act) (now : ℕ) (c : ById Asked) (marks : List (Option Mark))
-    (rs : List Record) → ((d : ℕ) → now < d → ReadsBefore d act) → ((d : ℕ) → d ≤ now → ReadsAtOrPast d act)
-    → Honest plan commands scope acts (acts ++ act ∷ []) c marks rs → Honest plan commands scope (acts ++ act ∷ []) (acts ++ act ∷ []) (expires c now) marks rs
-moment_told plan commands scope acts act now c marks rs on past h = record {
-  waiting = behind_moment plan commands scope acts act c now _ _ (map (expired now) c.waiting) marks on past (expired_waits plan commands scope acts now c marks h.waiting);
-  written = h.written;
-}
+  -- after these acts, the command with this mark is sent next
+  pub record Marked (acts : List Act) (mark : Mark) : Type 0 where
+    pub sends : IsSending plan (state acts)
+    pub cycle : mark.cycle ≡ cycle_to_send plan (state acts)
+    pub place : mark.place ≡ place_to_send plan commands (state acts)
+    pub sent : mark.sent ≡ (state acts).progress.moment.utc
+
+  -- the request p that waits at the place `at`, with this id and mark, was put among these acts; `number` acts came before it,
+  -- and `Stays` holds of the acts after it, by whether p has timed out and its deadline. If p isn't the oldest (`at` is above 0),
+  -- it was put by an action that sends a request of the client (`asks`)
+  pub record WasAsked (acts : List Act) (Stays : Bool → ℕ → List Act → Type 0) (number at with_id : ℕ) (p : Pending Asked)
+      (mark : Option Mark) : Type 0 where
+    pub before : List Act
+    pub request : Act
+    pub between : List Act
+    pub order : acts ≡ before ++ request ∷ between
+    pub many : length before ≡ number
+    pub asks : 0 < at → IsAsking (action_at plan (state before))
+    pub its : (m : Mark) → mark ≡ Some m → Marked before m
+    pub id : with_id ≡ (state before).client.next
+    pub put : Puts (request_text (state before).client p.call) request
+    pub deadline : (m : Mark) → mark ≡ Some m → p.deadline ≡ deadline_after plan commands scope before
+    pub stays : Stays p.given_up p.deadline between
+
+  -- an outstanding request at the place `at` was put among these acts, with the id of that place, and `Stayed` holds of it since.
+  -- The client's next id is `next`, and `count` requests wait
+  abbrev pub Waits : List Act → (next count : ℕ) → (number at : ℕ) → Pending Asked → Option Mark → Type 0
+  Waits acts next count number at p mark = WasAsked acts Stayed number at (id_at next count at) p mark
+
+  -- as `Waits`, at the moment `now`, which isn't among the acts yet; and a request with that id waited at the client as it was
+  -- after the acts
+  abbrev pub WaitsAt : List Act → (client : ById Asked) → (now : ℕ) → (next count : ℕ) → (number at : ℕ) → Pending Asked → Option Mark → Type 0
+  WaitsAt acts client now next count number at p mark =
+      WasAsked acts (StayedAt now) number at (id_at next count at) p mark × Ids.Waits client (id_at next count at)
+
+  -- a record is true: if it is of a reply in time, late or lost, it came about as the law on such records says
+  pub record IsJustified (acts : List Act) (r : Record) : Type 0 where
+    pub answered : AnswerIsJustified plan commands scope acts r
+    pub late : LateIsJustified plan commands scope acts r
+    pub lost : LostIsJustified plan commands scope acts r
+
+  -- what every run keeps: the outstanding requests at the client c, with these marks, were put among the acts, in order
+  -- (`Waits`); and the records are true by `all` acts
+  pub record Honest (acts all : List Act) (c : ById Asked) (marks : List (Option Mark)) (records : List Record) : Type 0 where
+    pub waiting : AllRisingAt (Waits acts c.next (length c.waiting)) 0 0 c.waiting marks
+    pub written : AllByRecursion (IsJustified all) records
+
+  -- `Honest`, of the client, the marks and the records of a model
+  abbrev pub IsHonest : (acts all : List Act) → Model → Type 0
+  IsHonest acts all s = Honest acts all s.client s.marks s.records
+
+  -- a request that was put among acts was put among them and one more. S is what holds of the acts since, and gives T of those
+  -- and the one more
+  pub asked_more : (acts : List Act) (act : Act) (S T : Bool → ℕ → List Act → Type 0) (number at id : ℕ) (p : Pending Asked) (mark : Option Mark)
+      → ((b : Bool) (d : ℕ) (xs : List Act) → S b d xs → T b d (xs ++ act ∷ []))
+      → WasAsked acts S number at id p mark → WasAsked (acts ++ act ∷ []) T number at id p mark
+  asked_more acts act S T number at id p mark step s = record {
+    before = s.before;
+    request = s.request;
+    between = s.between ++ act ∷ [];
+    order = ap (λ xs. xs ++ act ∷ []) s.order ∙ append_assoc s.before (s.request ∷ s.between) (act ∷ []);
+    many = s.many;
+    asks = s.asks;
+    its = s.its;
+    id = s.id;
+    put = s.put;
+    deadline = s.deadline;
+    stays = step p.given_up p.deadline s.between s.stays;
+  }
+
+  -- a request that was `WasAsked` at the place `at` with an id was so at any place at' with an equal id, if `at` is above 0
+  -- wherever at' is (0 is the place of the oldest)
+  pub asked_as : (acts : List Act) (S : Bool → ℕ → List Act → Type 0) (number at at' id id' : ℕ)
+      (p : Pending Asked) (mark : Option Mark) → (0 < at' → 0 < at) → id' ≡ id
+      → WasAsked acts S number at id p mark → WasAsked acts S number at' id' p mark
+  asked_as acts S number at at' id id' p mark places ids s = record {
+    before = s.before;
+    request = s.request;
+    between = s.between;
+    order = s.order;
+    many = s.many;
+    asks = λ above. s.asks (places above);
+    its = s.its;
+    id = ids ∙ s.id;
+    put = s.put;
+    deadline = s.deadline;
+    stays = s.stays;
+  }
+
+  -- the number of a request that was put is below the count of the acts
+  pub asked_among : (acts : List Act) (S : Bool → ℕ → List Act → Type 0) (number at id : ℕ) (p : Pending Asked) (mark : Option Mark)
+      → WasAsked acts S number at id p mark → number < length acts
+  asked_among acts S number at id p mark s =
+      let whole : length acts ≡ length s.before + length (s.request ∷ s.between) = ap length s.order ∙ length-append s.before (s.request ∷ s.between) in
+      let many = s.many in
+      omega (arith, whole, many)
+
+  -- the act that writes a record's request and the one that adds the record are among the acts with one more at their end, too
+  abbrev recorded_more : (acts : List Act) (act : Act) (r : Record) (then : Act)
+      → IsRecordedBy plan commands scope acts r then → IsRecordedBy plan commands scope (acts ++ act ∷ []) r then
+  recorded_more acts act r then a = record {
+    before = a.before;
+    request = a.request;
+    between = a.between;
+    behind = a.behind ++ act ∷ [];
+    order = ap (λ xs. xs ++ act ∷ []) a.order ∙ append_assoc a.before (a.request ∷ (a.between ++ then ∷ a.behind)) (act ∷ [])
+        ∙ ap (λ xs. a.before ++ a.request ∷ xs) (append_assoc a.between (then ∷ a.behind) (act ∷ []));
+    own = a.own;
+    written = a.written;
+  }
+
+  -- a record that is true by the acts so far is true by one act more: one that is lost because the run stopped would be the last
+  -- act's, after which no act is made
+  true_more : (acts : List Act) (act : Act) (r : Record)
+      → Performs commands (state acts) (action_at plan (state acts)) act
+      → IsJustified acts r → IsJustified (acts ++ act ∷ []) r
+  true_more acts act r obeys is = record { answered = answered_more; late = late_more; lost = lost_more } where
+    -- a record of a reply in time is true by one act more
+    answered_more : AnswerIsJustified plan commands scope (acts ++ act ∷ []) r
+    answered_more line e =
+        let a = is.answered line e in
+        record {
+          piece = a.piece;
+          moment = a.moment;
+          its = recorded_more acts act r (Gave a.piece a.moment) a.its;
+          waits = a.waits;
+          in_time = a.in_time;
+          front = a.front;
+          others = a.others;
+          came = a.came;
+          id = a.id;
+        }
+
+    -- a late record is true by one act more
+    late_more : LateIsJustified plan commands scope (acts ++ act ∷ []) r
+    late_more e =
+        let a = is.late e in
+        record {
+          piece = a.piece;
+          moment = a.moment;
+          its = recorded_more acts act r (Gave a.piece a.moment) a.its;
+          too_late = a.too_late;
+          came = a.came;
+        }
+
+    -- no act is made after one at which the run stopped
+    not_last : (before : List Act) (request : Act) (between : List Act) (then : Act) (behind : List Act) → acts ≡ before ++ request ∷ (between ++ then ∷ behind)
+        → IsLast plan commands scope (before ++ request ∷ between) then behind → ⊥
+    not_last before request between then behind order last =
+        let whole : acts ≡ (before ++ request ∷ between) ++ then ∷ [] =
+        order ∙ ap (λ xs. before ++ request ∷ (between ++ then ∷ xs)) last.none ∙ sym (append_assoc before (request ∷ between) (then ∷ [])) in
+        let stopped : action_at plan (state acts) ≡ actions.Stop last.why = ap (λ xs. action_at plan (state xs)) whole ∙ last.stops in
+        subst (λ (o : Action). Performs commands (state acts) o act) stopped obeys
+
+    -- a lost record is true by one act more: it isn't lost because the run stopped, as then no act would follow
+    lost_more : LostIsJustified plan commands scope (acts ++ act ∷ []) r
+    lost_more e =
+        let a = is.lost e in
+        record {
+          act = a.act;
+          its = recorded_more acts act r a.act a.its;
+          shown = elim a.shown [
+            | inl over ↦ inl over
+            | inr other ↦ elim other [
+              | inl anew ↦ inr (inl anew)
+              | inr last ↦ absurd (not_last a.its.before a.its.request a.its.between a.act a.its.behind a.its.order last)
+            ]
+          ];
+        }
+
+  -- records that are true by the acts so far are true by one more
+  pub more_true : (acts : List Act) (act : Act) (rs : List Record)
+      → Performs commands (state acts) (action_at plan (state acts)) act
+      → AllByRecursion (IsJustified acts) rs → AllByRecursion (IsJustified (acts ++ act ∷ [])) rs
+  more_true acts act rs obeys all = all_on (IsJustified acts) (IsJustified (acts ++ act ∷ [])) rs
+      (λ r is. true_more acts act r obeys is) all
+
+  -- an act that changes nothing of the client, and reads no moment, preserves `Honest`
+  pub honest_untold : (acts : List Act) (act : Act) (c : ById Asked) (marks : List (Option Mark)) (rs : List Record) → ((d : ℕ) → ReadsBefore d act)
+      → Honest acts (acts ++ act ∷ []) c marks rs → Honest (acts ++ act ∷ []) (acts ++ act ∷ []) c marks rs
+  honest_untold acts act c marks rs on h = record {
+    waiting = rising_follow (Waits acts c.next (length c.waiting)) (Waits (acts ++ act ∷ []) c.next (length c.waiting)) 0 0 c.waiting marks
+        (λ n j p mark w. asked_more acts act Stayed Stayed n j _ p mark (stays_still act on) w) h.waiting;
+    written = h.written;
+  }
+
+  -- a request that was put among acts, with `Stayed` since, was put with `StayedAt` since once the moment `now` has timed it
+  -- out or not
+  pub at_moment : (acts : List Act) (now number at id : ℕ) (p : Pending Asked) (mark : Option Mark)
+      → WasAsked acts Stayed number at id p mark
+      → WasAsked acts (StayedAt now) number at id (expired now p) mark
+  at_moment acts now number at id p mark s = record {
+    before = s.before;
+    request = s.request;
+    between = s.between;
+    order = s.order;
+    many = s.many;
+    asks = s.asks;
+    its = s.its;
+    id = s.id;
+    put = s.put;
+    deadline = s.deadline;
+    stays = stays_at now p.given_up p.deadline s.between s.stays;
+  }
+
+  -- once the moment `now` has timed out the requests whose deadline has come, the same requests wait, as `WaitsAt` says
+  pub expired_waits : (acts : List Act) (now : ℕ) (c : ById Asked) (marks : List (Option Mark))
+      → AllRisingAt (Waits acts c.next (length c.waiting)) 0 0 c.waiting marks
+      → AllRisingAt (WaitsAt acts c now c.next (length (map (expired now) c.waiting))) 0 0 (map (expired now) c.waiting) marks
+  expired_waits acts now c marks all =
+      subst (λ (n : ℕ). AllRisingAt (WaitsAt acts c now c.next n) 0 0 (map (expired now) c.waiting) marks) (sym (length-map c.waiting (expired now)))
+      (rising_map (Waits acts c.next (length c.waiting)) (WaitsAt acts c now c.next (length c.waiting)) (expired now) 0 0 c.waiting marks
+      (λ n j p mark low w. let below : j < length c.waiting = omega (arith, low) in (at_moment acts now n j _ p mark w, (j, below, refl))) all)
+
+  -- requests that wait as `WaitsAt` says, at the moment `now`, wait as `Waits` says once the act that reads that moment is among
+  -- the acts
+  pub behind_moment : (acts : List Act) (act : Act) (client : ById Asked) (now next count : ℕ) (ps : List (Pending Asked))
+      (marks : List (Option Mark))
+      → ((d : ℕ) → now < d → ReadsBefore d act) → ((d : ℕ) → d ≤ now → ReadsAtOrPast d act)
+      → AllRisingAt (WaitsAt acts client now next count) 0 0 ps marks → AllRisingAt (Waits (acts ++ act ∷ []) next count) 0 0 ps marks
+  behind_moment acts act client now next count ps marks on past all =
+      rising_follow (WaitsAt acts client now next count) (Waits (acts ++ act ∷ []) next count) 0 0 ps marks
+      (λ n j p mark w. asked_more acts act (StayedAt now) Stayed n j _ p mark (stays_behind act now on past) w.0) all
+
+  -- an act that reads a moment, and so times requests out, preserves `Honest`
+  pub honest_told : (acts : List Act) (act : Act) (now : ℕ) (c : ById Asked) (marks : List (Option Mark))
+      (rs : List Record) → ((d : ℕ) → now < d → ReadsBefore d act) → ((d : ℕ) → d ≤ now → ReadsAtOrPast d act)
+      → Honest acts (acts ++ act ∷ []) c marks rs → Honest (acts ++ act ∷ []) (acts ++ act ∷ []) (expires c now) marks rs
+  honest_told acts act now c marks rs on past h = record {
+    waiting = behind_moment acts act c now _ _ (map (expired now) c.waiting) marks on past (expired_waits acts now c marks h.waiting);
+    written = h.written;
+  }

@@ -1,10 +1,12 @@
 -- One walk over the actions: which fields an act of each action changes (`changed`), and what has to hold for a fact to hold
 -- after it (`Behind`). A new action is a row in each of these tables; a fact about all actions is an instance. An act is one
 -- call on the link, with its result.
-use Rattle.std.proofs.Common.{◌≡◌, ℕ, Bool, true, false, List, [], ◌∷◌, drop, if◌then◌else◌, refl, sym, subst}
+use Rattle.std.proofs.Common.{◌≡◌, ℕ, Bool, true, false, List, [], ◌∷◌, drop, Some, if◌then◌else◌, refl, sym, subst}
 use Rattle.gc_lines.specs.Frames.{rest_behind}
 use Rattle.gc_catalogue.specs.declared.asked.Asked.TheVariants.{Table}
 use Rattle.gc_catalogue.specs.declared.call.Call.TheVariants.{NullProc}
+use Rattle.gc_client.specs.Rule.{restarts}
+use Rattle.gc_texts.specs.Tasks.{call_at}
 use Rattle.gc_texts.specs.declared.tasks.Task.{Task}
 use Rattle.gc_links.specs.declared.link.Moment.{Moment}
 use Rattle.gc_station.specs.declared.mark.Mark.{Mark}
@@ -21,12 +23,17 @@ use Rattle.gc_station.specs.declared.progress.Waiting.{Waiting}
 use Rattle.gc_links.specs.Acts.{Act, Told, Untold, Put, Cut, Gave, Silent, Ended, Broke, Closed, Opened, Unopened}
 use Rattle.gc_station.specs.Deciding.{is_quiet}
 use Rattle.gc_station.specs.Marks.{commands_in}
-use Rattle.gc_station.specs.Progressing.{moment_noted, cycle_begun, skipped, failing, opened, after_failure, cleared, request_noted, null_sent, renewed, sent, line_synchronizing, lines_synchronizing, pause_ended, drained, quieted, time_passed, early_noted, ended_for, closed, setup_sent}
+use Rattle.gc_station.specs.Progressing.{turned, moment_noted, cycle_begun, skipped, failing, opened, after_failure, cleared, request_noted, null_sent, renewed, sent, line_synchronizing, lines_synchronizing, pause_ended, drained, quieted, time_passed, early_noted, ended_for, closed, setup_sent}
 use Rattle.gc_station.specs.ActKinds.{Puts}
-use Rattle.gc_station.specs.Model.{Model, waiting_of, request_text, null_text, first_text, listed_after_skip, with_listed, after_pass, Performs, is_heard, with_progress, with_moment, with_rest, with_records, asks_null, asks_first, asks_next, unsent_record, line_came, lines_came, lines_completed, piece_synchronizing, after_piece, piece_noted, piece_at, after_read, after_put, after_close, moved, cycle_length, text_or_null, asks_or_null, asks_setup}
+use Rattle.gc_station.specs.Model.{Model, waiting_of, request_text, null_text, first_text, listed_after_skip, with_listed, after_pass, Performs, is_heard, with_progress, with_moment, with_rest, with_records, asks, asks_null, asks_first, asks_next, unsent_record, line_came, lines_came, lines_completed, piece_synchronizing, after_piece, piece_noted, piece_at, after_read, after_put, after_close, moved, settles, losing, after, after_all, cycle_length, text_or_null, asks_or_null, asks_setup}
 use Rattle.gc_station.specs.NextCommand.{place_next, mark_next, commands_before, is_chained_after_next, others_after_next, mark_setup}
 
 -- Parts of an act.
+
+-- the model s before the lines of a piece that came by the moment m: a turn was taken, the moment was read, and requests timed
+-- out
+abbrev pub piece_before : Moment → Model → Model
+piece_before m s = with_moment m (with_progress (moment_noted m) (with_progress turned s))
 
 -- a fact of models that each line keeps is kept by all lines
 pub lines_along : (P : Model → Type 0) → ((t : Model) (line : List ℕ) → P t → P (line_came t line)) → (s : Model) (lines : List (List ℕ)) → P s → P (lines_came s lines)
@@ -67,6 +74,31 @@ closed_along P plan w cause.Stale p ends on = ends
 closed_along P plan w cause.Stopped p ends on = ends
 closed_along P plan w why p ends on = on
 
+-- a fact of models holds after the send of the first of these commands, with this mark, if it holds after the send of any task
+-- with it, and before the send, as nothing is sent if there is no command
+pub first_along : (P : Model → Type 0) (mark : Mark) (left : List Task) (s : Model)
+    → ((task : Task) → P (asks task.deadline task.command.target (call_at task mark.sent) (Some mark) s)) → P s → P (asks_first mark left s)
+first_along P mark [] s sends none = none
+first_along P mark (task ∷ others) s sends none = sends task
+
+-- a fact of models holds after the send of the first of these commands of the setup, with this mark, or of a null procedure if
+-- there is none, if it holds after the send of any task with that mark, and after that of the null procedure
+pub setup_along : (P : Model → Type 0) (plan : Plan) (mark : Mark) (left : List Task) (s : Model)
+    → ((task : Task) → P (asks task.deadline task.command.target (call_at task mark.sent) (Some mark) s)) → P (asks_null plan s) → P (asks_or_null plan mark left s)
+setup_along P plan mark [] s sends null = null
+setup_along P plan mark (task ∷ others) s sends null = sends task
+
+-- a fact of models holds where all outstanding requests are lost, or none is, if it holds in both cases
+pub losing_along : (P : Model → Type 0) (all : Bool) (s : Model) → P (settles (restarts s.client) s) → P s → P (losing all s)
+losing_along P true s lost same = lost
+losing_along P false s lost same = same
+
+-- a fact of models that each act keeps is kept by all acts
+pub acts_along : (plan : Plan) (commands : List Task) (P : Model → Type 0) → ((t : Model) (act : Act) → P t → P (after plan commands t act))
+    → (s : Model) (acts : List Act) → P s → P (after_all plan commands s acts)
+acts_along plan commands P step s [] p = p
+acts_along plan commands P step s (act ∷ acts) p = acts_along plan commands P step (after plan commands s act) acts (step s act p)
+
 -- The next command was sent, whatever it is.
 
 -- the model that sent the next command, by its fields
@@ -91,8 +123,8 @@ is_sent plan commands s = first_sent (is_chained_after_next commands s.progress)
     (drop (place_next commands s.progress) commands) s
 
 -- the model that sent the next command of the setup, by its fields
-abbrev pub preparing : Plan → List Task → Model → Model
-preparing plan commands s = record s {
+abbrev pub sending_setup : Plan → List Task → Model → Model
+sending_setup plan commands s = record s {
   progress = setup_sent plan s.progress;
   client = (asks_setup plan commands s).client;
   marks = (asks_setup plan commands s).marks;
@@ -105,8 +137,8 @@ first_prepared : (plan : Plan) (mark : Mark) (left : List Task) (s : Model)
 first_prepared plan mark [] s = refl
 first_prepared plan mark (task ∷ others) s = refl
 
--- the model that sent the next command of the setup, by its fields (`preparing`), is that after the act that sends
-pub is_prepared : (plan : Plan) (commands : List Task) (s : Model) → preparing plan commands s ≡ with_progress (setup_sent plan) (asks_setup plan commands s)
+-- the model that sent the next command of the setup, by its fields (`sending_setup`), is that after the act that sends
+pub is_prepared : (plan : Plan) (commands : List Task) (s : Model) → sending_setup plan commands s ≡ with_progress (setup_sent plan) (asks_setup plan commands s)
 is_prepared plan commands s = first_prepared plan (mark_setup commands s.progress) (drop s.progress.prepared commands) s
 
 -- Which fields change.
@@ -317,7 +349,8 @@ Behind plan commands P Begin s = ((m : Moment) → P (Told m) (with_moment m (wi
 Behind plan commands P Open s = ((m : Moment) → P Opened (with_progress opened s)) × ((n : ℕ) → P Unopened (with_progress (after_failure plan (commands_in s.marks) cause.Open) s))
 Behind plan commands P Clear s = Putting P (commands_before plan commands s.progress) (10 ∷ []) (with_progress cleared s)
 Behind plan commands P Ask s = Putting P (commands_before plan commands s.progress) (null_text s.progress.word) (with_progress (null_sent plan) s)
-Behind plan commands P Prepare s = Putting P (commands_before plan commands s.progress) (text_or_null s.progress.moment.utc s.client (drop s.progress.prepared commands)) (preparing plan commands s)
+Behind plan commands P Prepare s =
+    Putting P (commands_before plan commands s.progress) (text_or_null s.progress.moment.utc s.client (drop s.progress.prepared commands)) (sending_setup plan commands s)
 Behind plan commands P Send s =
     Putting P (commands_before plan commands s.progress) (first_text s.progress.moment.utc s.client (drop (place_next commands s.progress) commands)) (sending plan commands s)
 Behind plan commands P Skip s =

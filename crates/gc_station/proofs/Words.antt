@@ -16,11 +16,11 @@ use Rattle.gc_station.specs.declared.progress.Action.TheVariants as actions
 use Rattle.gc_station.specs.declared.progress.Progress.{Progress}
 use Rattle.gc_station.specs.Beginnings.{lines_heard_at, unanswered_after}
 use Rattle.gc_station.specs.Deciding.{has_begun, is_none_left}
-use Rattle.gc_station.specs.Progressing.{turned, moment_noted, line_synchronizing, lines_synchronizing, time_passed}
+use Rattle.gc_station.specs.Progressing.{turned, line_synchronizing, lines_synchronizing, time_passed}
 use Rattle.gc_station.specs.Reasons.{HoldsBefore}
-use Rattle.gc_station.specs.Model.{Model, waiting_of, with_progress, with_moment, with_rest, lines_completed, is_heard, after_piece, Performs, moved}
+use Rattle.gc_station.specs.Model.{Model, waiting_of, with_progress, with_rest, lines_completed, is_heard, after_piece, Performs, moved}
 use Rattle.gc_station.proofs.Invariant.{Invariant}
-use Rattle.gc_station.proofs.Walk.{lines_along, quieted_along, closed_along, walk}
+use Rattle.gc_station.proofs.Walk.{lines_along, quieted_along, closed_along, walk, piece_before}
 
 -- if all ids are answered, lines leave none
 pub left_none : (lines : List (List ℕ)) → unanswered_after [] lines ≡ []
@@ -57,7 +57,7 @@ module _ (plan : Plan) (commands : List Task) where
   word_moved s actions.Renew act obeys other = absurd (other refl)
   word_moved s (actions.Read until) act obeys other =
       walk plan commands (Leaves s) (actions.Read until) (with_progress turned s) act obeys (
-        λ bytes m. word_came (is_heard s.progress.phase) s.progress.word bytes (with_moment m (with_progress (moment_noted m) (with_progress turned s))) refl,
+        λ bytes m. word_came (is_heard s.progress.phase) s.progress.word bytes (piece_before m s) refl,
         λ m. quieted_along (λ (q : Progress). q.word ≡ s.progress.word) plan s.progress.phase (time_passed until m (turned s.progress)) refl refl refl,
         refl,
         refl,

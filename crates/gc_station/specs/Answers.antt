@@ -12,7 +12,7 @@ use Rattle.gc_station.specs.Deciding.{later}
 use Rattle.gc_station.specs.Records.{Record}
 use Rattle.gc_station.specs.Runs.{state_after}
 use Rattle.gc_station.specs.ActKinds.{Puts}
-use Rattle.gc_station.specs.Model.{IsSending, cycle_to_send, place_to_send, request_text, lines_completed}
+use Rattle.gc_station.specs.Model.{IsSending, cycle_to_send, place_to_send, request_text, lines_completed, Model}
 use Rattle.gc_station.specs.Scopes.{Scope}
 
 -- the act reads no moment, or one before `deadline`
@@ -33,14 +33,15 @@ deadline_after plan commands scope acts =
     let s = state_after plan commands scope acts in
     later s.progress.moment.elapsed (first_deadline (drop (place_to_send plan commands s) commands))
 
--- the act `act`, made after `acts`, writes the request of the record `r`, all of it or a part: a command is sent next; it has
--- the cycle and the place of `r`; the moment read last is `r.sent`; and the bytes are the line of the call of `r`
-pub record IsOwnRequest (plan : Plan) (commands : List Task) (scope : Scope) (acts : List Act) (act : Act) (r : Record) : Type 0 where
-  pub sends : IsSending plan (state_after plan commands scope acts)
-  pub cycle : r.cycle ≡ cycle_to_send plan (state_after plan commands scope acts)
-  pub place : r.place ≡ place_to_send plan commands (state_after plan commands scope acts)
-  pub sent : r.sent ≡ Some (state_after plan commands scope acts).progress.moment.utc
-  pub put : Puts (request_text (state_after plan commands scope acts).client r.command.call) act
+-- the act, before which a station has the model `s`, writes the request of the record `r`, all of it or a part: a command is
+-- sent next; it has the cycle and the place of `r`; the moment read last is `r.sent`; and the bytes are the line of the call of
+-- `r`
+pub record IsOwnRequest (plan : Plan) (commands : List Task) (s : Model) (act : Act) (r : Record) : Type 0 where
+  pub sends : IsSending plan s
+  pub cycle : r.cycle ≡ cycle_to_send plan s
+  pub place : r.place ≡ place_to_send plan commands s
+  pub sent : r.sent ≡ Some s.progress.moment.utc
+  pub put : Puts (request_text s.client r.command.call) act
 
 -- the act `act`, made after `acts`, adds the record `r`; it may add other records before it (`earlier`) and after it (`later`)
 pub record IsWrittenAt (plan : Plan) (commands : List Task) (scope : Scope) (acts : List Act) (act : Act) (r : Record) : Type 0 where
@@ -56,12 +57,12 @@ pub record IsRecordedBy (plan : Plan) (commands : List Task) (scope : Scope) (ac
   pub between : List Act
   pub behind : List Act
   pub order : acts ≡ before ++ request ∷ (between ++ act ∷ behind)
-  pub own : IsOwnRequest plan commands scope before request r
+  pub own : IsOwnRequest plan commands (state_after plan commands scope before) request r
   pub written : IsWrittenAt plan commands scope (before ++ request ∷ between) act r
 
--- among `acts` a read that gave `piece` adds the record `r`, after the act that writes its request (`its`). Neither the acts between
--- them (`waits`) nor the read (`in_time`) read a moment at or past the request's deadline. The piece completes `line`, after the lines
--- `front`, and `line` has the request's id
+-- among `acts` a read that gave `piece` adds the record `r`, after the act that writes its request (`its`). Neither the acts
+-- between them (`waits`) nor the read (`in_time`) read a moment at or past the request's deadline. The piece completes `line`,
+-- after the lines `front`, and `line` has the request's id
 pub record IsAnsweredIn (plan : Plan) (commands : List Task) (scope : Scope) (acts : List Act) (r : Record) (line : List ℕ) : Type 0 where
   pub piece : List ℕ
   pub moment : Moment

@@ -1,6 +1,6 @@
--- Further attempts of a chain, this project's own: whether a command of an attempt ended as its rule names, so that the chain
--- is sent again. An attempt begins with a command whose link is 0. A command of the setup has link 1, and its rule names no ending:
--- so the current attempt stays that of the command of a cycle that ended last.
+-- Further attempts of a chain, this project's own: whether a command of an attempt ended as its rule names, so that the chain is
+-- sent again. An attempt begins with a command whose link, its place in the chain, is 0. A command of the setup has link 1, and
+-- its rule names no ending: so the current attempt stays that of the command of a cycle that ended last.
 use Rattle.std.specs.Prelude.{ℕ, ◌||◌, Bool, false, List, [], ◌∷◌, Option, Some, None, if◌then◌else◌, nat_eq}
 use Rattle.gc_catalogue.specs.declared.answer.Reading.{Reading}
 use Rattle.gc_catalogue.specs.declared.answer.Reading.TheVariants as reading

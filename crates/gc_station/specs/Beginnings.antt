@@ -37,24 +37,23 @@ abbrev pub NoneBeforeTheLastAnswer : Type 0
 NoneBeforeTheLastAnswer =
     (plan : Plan) (commands : List Task) (scope : Scope) (earlier between : List Act) → Runs plan commands (opening plan scope) (earlier ++ between)
     → IsAsking (action_at plan (state_after plan commands scope (earlier ++ between)))
-    → IsSubsequence (state_after plan commands scope earlier).progress.word (filter_map heard (lines_heard plan commands (state_after plan commands scope earlier) between))
+    → let s = state_after plan commands scope earlier in IsSubsequence s.progress.word (filter_map heard (lines_heard plan commands s between))
 
--- what holds of the act `act`, made after `acts`, while the station synchronizes
-pub record IsSynchronizing (plan : Plan) (commands : List Task) (scope : Scope) (acts : List Act) (act : Act) : Type 0 where
+-- what holds of an act while the station synchronizes; it has the model `s` before the act, and `t` after it
+pub record IsSynchronizing (s : Model) (act : Act) (t : Model) : Type 0 where
   -- the client is new: none of its requests is outstanding
-  pub client : (state_after plan commands scope acts).client ≡ fresh
-  pub marks : (state_after plan commands scope acts).marks ≡ []
+  pub client : s.client ≡ fresh
+  pub marks : s.marks ≡ []
   -- a request that is sent is the null procedure of the first id that isn't answered
-  pub asks : IsRequest act → Puts (null_text (state_after plan commands scope acts).progress.word) act
+  pub asks : IsRequest act → Puts (null_text s.progress.word) act
   -- the ids that are left after the act: each line that it brings answers the first id that is left if it has that id, and
   -- otherwise none
-  pub left : (state_after plan commands scope (acts ++ act ∷ [])).progress.word
-      ≡ unanswered_after (state_after plan commands scope acts).progress.word (lines_heard_at (state_after plan commands scope acts) act)
+  pub left : t.progress.word ≡ unanswered_after s.progress.word (lines_heard_at s act)
 
 -- at the act `act`, made after `acts`, the station resynchronizes, as `Resynchronizes` says; after it no null procedure is
 -- answered, and the client is new
 pub record IsResynchronizing (plan : Plan) (commands : List Task) (scope : Scope) (acts : List Act) (act : Act) : Type 0 where
-  pub resynchronizes : Resynchronizes plan commands scope acts act
+  pub resynchronizes : Resynchronizes plan (state_after plan commands scope acts) act
   pub word : (state_after plan commands scope (acts ++ act ∷ [])).progress.word ≡ the_word
   pub client : (state_after plan commands scope (acts ++ act ∷ [])).client ≡ fresh
 
@@ -62,7 +61,8 @@ pub record IsResynchronizing (plan : Plan) (commands : List Task) (scope : Scope
 -- (`begins`); and an act after which the station synchronizes, and before which it didn't, is `IsResynchronizing` (`anew`)
 pub record SynchronizesInOrder (plan : Plan) (commands : List Task) (scope : Scope) (acts : List Act) (act : Act) : Type 0 where
   pub starts : (state_after plan commands scope []).progress.word ≡ the_word
-  pub begins : has_begun (state_after plan commands scope acts).progress ≡ false → IsSynchronizing plan commands scope acts act
+  pub begins : has_begun (state_after plan commands scope acts).progress ≡ false
+      → IsSynchronizing (state_after plan commands scope acts) act (state_after plan commands scope (acts ++ act ∷ []))
   pub anew : has_begun (state_after plan commands scope acts).progress ≡ true → has_begun (state_after plan commands scope (acts ++ act ∷ [])).progress ≡ false
       → IsResynchronizing plan commands scope acts act
 

@@ -1,7 +1,8 @@
--- Where commands are sent after calls of the table, this project's own. An instrument may keep its reply to a request, and send
--- it again for a later one with the same id; of eight requests in a row no two have one id. Procedures that aren't in the table
--- may leave what it keeps. So no command is sent unless one of the seven requests before it is a call of the table that a reply
--- ended, or the last null procedure of the synchronization. A part reaches from one synchronization to the next (`Parts`).
+-- Where commands are sent after calls of the table, this project's own. The table is that of the procedures that this project
+-- knows. An instrument may keep its reply to a request, and send it again for a later one with the same id; of eight requests in
+-- a row no two have one id. Procedures that aren't in the table may leave what it keeps. So no command is sent unless one of the
+-- seven requests before it is a call of the table that a reply ended, or the last null procedure of the synchronization. A part
+-- reaches from one synchronization to the next (`Parts`).
 use Rattle.std.specs.Prelude.{◌≡◌, ◌⊎◌, ℕ, ◌+◌, ◌<◌, ◌≤◌, true, false, List, ◌∷◌, ◌++◌, length, Some, slice_get}
 use Rattle.std.specs.List.{AllByRecursion}
 use Rattle.gc_catalogue.specs.Asked.{is_of_table}
@@ -48,8 +49,9 @@ CommandsAreSentNearTheTable =
 abbrev pub AreOfTable : List Task → Type 0
 AreOfTable tasks = AllByRecursion (λ task. is_of_table task.command.call ≡ true) tasks
 
--- if all commands are calls of the table, and a run has synchronized and isn't over, the outstanding requests are those sent
--- after the last call of the table that a reply ended; so a command that may be sent is sent as soon as there is room
+-- if all commands are calls of the table, and a run has synchronized and isn't over, as many requests are outstanding as were
+-- sent after the last call of the table that a reply ended (`behind`); so a command that may be sent is sent as soon as there is
+-- room
 abbrev pub TheTableIsNeverHeldUp : Type 0
 TheTableIsNeverHeldUp =
     (plan : Plan) (commands : List Task) (scope : Scope) (acts : List Act) → Runs plan commands (opening plan scope) acts → AreOfTable commands

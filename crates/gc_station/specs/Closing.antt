@@ -17,18 +17,18 @@ use Rattle.gc_station.specs.Runs.{state_after}
 use Rattle.gc_station.specs.Model.{Model, waiting_of, action_at, opening, Performs, Runs}
 use Rattle.gc_station.specs.Scopes.{Scope}
 
--- if a null procedure of a synchronization is sent next, nothing is outstanding, and the client is new: the first command after
--- the synchronization has id 0. Nothing is said of any other action
-abbrev pub IsAlone : Action → Model → Type 0
-IsAlone Ask s = (s.client ≡ fresh) × (s.marks ≡ [])
-IsAlone _ s = Unit {0}
+-- if a null procedure of a synchronization is sent next, the client is as at its start (`fresh`), and no request is outstanding.
+-- Nothing is said of any other action
+abbrev pub HasFreshClient : Action → Model → Type 0
+HasFreshClient Ask s = (s.client ≡ fresh) × (s.marks ≡ [])
+HasFreshClient _ s = Unit {0}
 
 -- the act performs the action that is next for a station with the model `s` (`obeys`), and the conditions of that action hold:
--- those of `HoldsBefore` (`needs`), and for a null procedure of a synchronization `IsAlone` (`alone`)
+-- those of `HoldsBefore` (`needs`), and for a null procedure of a synchronization `HasFreshClient` (`is_fresh`)
 pub record IsReasoned (plan : Plan) (commands : List Task) (s : Model) (act : Act) : Type 0 where
   pub obeys : Performs commands s (action_at plan s) act
   pub needs : HoldsBefore plan s.progress (waiting_of s) (action_at plan s)
-  pub alone : IsAlone (action_at plan s) s
+  pub is_fresh : HasFreshClient (action_at plan s) s
 
 -- the result of the act is this cause: the other end closed, a read failed, the clock couldn't be read, or a write was cut. No
 -- act shows any other cause
@@ -39,8 +39,8 @@ Shows cause.Clock act = act ≡ Untold
 Shows (cause.Write requests bytes) act = (text : List ℕ) × (act ≡ Cut text bytes)
 Shows _ act = ⊥
 
--- after `acts` the connection, if there is one, is to be closed for the cause `why`: because of what `IsAtItsEnd` says, or because
--- the last act shows the cause
+-- after `acts` the connection, if there is one, is to be closed for the cause `why`: because of what `IsAtItsEnd` says, or
+-- because the last act shows the cause
 pub record ClosesForACause (plan : Plan) (commands : List Task) (scope : Scope) (acts : List Act) : Type 0 where
   pub why : Cause
   pub closes : action_at plan (state_after plan commands scope acts) ≡ Close why
@@ -55,21 +55,21 @@ EndsDone p commands why = (why ≡ cause.Done) × IsFinished commands p
 -- at the progress `p` with `commands` outstanding commands a connection was closed, or couldn't be made, for the cause `other`;
 -- then the run ends for the cause `why`: it is done (`EndsDone`); or it isn't, `why` is `other`, a new connection would take a
 -- try, and no try is left
-abbrev pub EndsAgain : Plan → Progress → (commands : ℕ) (other why : Cause) → Type 0
-EndsAgain plan p commands other why =
+abbrev pub EndsAtFailure : Plan → Progress → (commands : ℕ) (other why : Cause) → Type 0
+EndsAtFailure plan p commands other why =
     EndsDone p commands why ⊎ ((why ≡ other) × (is_finished commands p ≡ false) × (is_spared plan other p ≡ false) × (p.tries ≡ 0))
 
 -- at the progress `p` with `commands` outstanding commands a connection was closed, or couldn't be made, for the cause `other`;
 -- then the run ends for the cause `why`. After `Clock` (the clock can't be read), `Turns` (all turns are used up), `Stale` and
 -- `Stopped`, `why` is that same cause. After `Done` the run is done: no command is left to be sent, and none is outstanding.
--- After any other cause it ends as `EndsAgain` says
+-- After any other cause it ends as `EndsAtFailure` says
 abbrev pub EndsAfter : Plan → Progress → (commands : ℕ) (other why : Cause) → Type 0
 EndsAfter plan p commands cause.Done why = EndsDone p commands why
 EndsAfter plan p commands cause.Clock why = why ≡ cause.Clock
 EndsAfter plan p commands cause.Turns why = why ≡ cause.Turns
 EndsAfter plan p commands cause.Stale why = why ≡ cause.Stale
 EndsAfter plan p commands cause.Stopped why = why ≡ cause.Stopped
-EndsAfter plan p commands other why = EndsAgain plan p commands other why
+EndsAfter plan p commands other why = EndsAtFailure plan p commands other why
 
 -- the act, which performed the action `next`, closed the connection for some cause, or couldn't make one; and the run ends then
 -- for the cause `why`, as `EndsAfter` says. `p` and `w` are of the station before the act
@@ -94,5 +94,5 @@ pub record StopsForACause (plan : Plan) (commands : List Task) (scope : Scope) (
 abbrev pub EndsForTurnsOnlyAfterAsManyActs : Type 0
 EndsForTurnsOnlyAfterAsManyActs =
     (plan : Plan) (commands : List Task) (scope : Scope) (acts : List Act) → Runs plan commands (opening plan scope) acts
-    → (action_at plan (state_after plan commands scope acts) ≡ Close cause.Turns) ⊎ (action_at plan (state_after plan commands scope acts) ≡ Stop cause.Turns)
+    → let next = action_at plan (state_after plan commands scope acts) in (next ≡ Close cause.Turns) ⊎ (next ≡ Stop cause.Turns)
     → scope.turns ≤ length acts

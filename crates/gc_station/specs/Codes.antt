@@ -16,39 +16,39 @@ use Rattle.gc_values.specs.declared.fault.ValueFault.{ValueFault}
 use Rattle.gc_station.specs.Marks.{end_of, is_well}
 use Rattle.gc_station.specs.Scopes.{AreReadings}
 
--- how a command ends that asked for `call`, and whose reply, `line`, came in time. `r` has the reply's fields, and `reads` gives what a
--- line says of a call. `expected` says where the command's target is, if the text says so, and which return codes are accepted of it
-pub record EndsByItsCodes (reads : Asked → List ℕ → Reading) (expected : Expected) (call : Asked) (line : List ℕ) (r : ReplyFields) : Type 0 where
+-- how a command ended (`ended`) that asked for `call`, and whose reply, `line`, came in time. `r` has the reply's fields.
+-- `expected` says where the command's target is, if the text says so, and which return codes are accepted of it
+pub record EndsByItsCodes (expected : Expected) (call : Asked) (line : List ℕ) (r : ReplyFields) (ended : end.End) : Type 0 where
   -- it was answered well only if the communication code is 0, and the return code is 0 or an accepted one
-  pub only : is_well (end_of reads expected call (Answered line)) ≡ true → (r.rc_com ≡ 0) × ((r.rc ≡ 0) ⊎ (lists_code expected.accepted r.rc ≡ true))
+  pub only : is_well ended ≡ true → (r.rc_com ≡ 0) × ((r.rc ≡ 0) ⊎ (lists_code expected.accepted r.rc ≡ true))
   -- if no code is accepted, both codes have to be 0
-  pub without : expected.accepted ≡ no_codes → is_well (end_of reads expected call (Answered line)) ≡ true → (r.rc_com ≡ 0) × (r.rc ≡ 0)
+  pub without : expected.accepted ≡ no_codes → is_well ended ≡ true → (r.rc_com ≡ 0) × (r.rc ≡ 0)
   -- it wasn't answered well if the reply says neither an answer nor a refusal with an accepted code
   pub unread : (said : Reading) → IsAskedReading call r said → ((answer : Answer) → said ≡ reading.Value answer → ⊥)
-      → ((code : ℕ) → said ≡ reading.Refused code → lists_code expected.accepted code ≡ false) → is_well (end_of reads expected call (Answered line)) ≡ false
+      → ((code : ℕ) → said ≡ reading.Refused code → lists_code expected.accepted code ≡ false) → is_well ended ≡ false
   -- if both codes are 0, and the parameters are an answer to what was asked, it was answered well, unless the answer was measured
   -- elsewhere than the target is
   pub found : (answer : Answer) → IsAskedReading call r (reading.Value answer)
-      → is_well (end_of reads expected call (Answered line)) ≡ not (is_elsewhere expected.near answer)
-  -- then it ended as elsewhere
+      → is_well ended ≡ not (is_elsewhere expected.near answer)
+  -- and where the answer was measured elsewhere, it ended as elsewhere
   pub away : (answer : Answer) → IsAskedReading call r (reading.Value answer) → is_elsewhere expected.near answer ≡ true
-      → end_of reads expected call (Answered line) ≡ end.Elsewhere line
+      → ended ≡ end.Elsewhere line
   -- as `found`, with an accepted return code other than 0
   pub warned : (answer : Answer) → r.rc_com ≡ 0 → r.rc ≢ 0 → lists_code expected.accepted r.rc ≡ true → IsAskedReading call (record r { rc = 0 }) (reading.Value answer)
-      → is_well (end_of reads expected call (Answered line)) ≡ not (is_elsewhere expected.near answer)
+      → is_well ended ≡ not (is_elsewhere expected.near answer)
   -- as `away`, with an accepted return code other than 0
   pub warned_away : (answer : Answer) → r.rc_com ≡ 0 → r.rc ≢ 0 → lists_code expected.accepted r.rc ≡ true
       → IsAskedReading call (record r { rc = 0 }) (reading.Value answer) → is_elsewhere expected.near answer ≡ true
-      → end_of reads expected call (Answered line) ≡ end.Elsewhere line
+      → ended ≡ end.Elsewhere line
   -- with an accepted return code other than 0, and parameters that don't read, it is answered with a warning, and without values
   pub warned_without : (fault : ValueFault) → r.rc_com ≡ 0 → r.rc ≢ 0 → lists_code expected.accepted r.rc ≡ true
-      → IsAskedReading call (record r { rc = 0 }) (reading.Unreadable fault) → end_of reads expected call (Answered line) ≡ end.Answered quality.Warning None line
+      → IsAskedReading call (record r { rc = 0 }) (reading.Unreadable fault) → ended ≡ end.Answered quality.Warning None line
 
--- which commands are answered well
+-- which commands are answered well; `reads` gives what a line says of a call
 pub record WellIsAnAcceptedCode : Type 0 where
   -- a command that a reply in time ended, by its codes
   pub replied : (reads : Asked → List ℕ → Reading) (expected : Expected) (call : Asked) (line : List ℕ) (r : ReplyFields) → AreReadings reads → IsReply line r
-      → EndsByItsCodes reads expected call line r
+      → EndsByItsCodes expected call line r (end_of reads expected call (Answered line))
   -- a command that is late, lost, skipped or missed never
   pub none : (reads : Asked → List ℕ → Reading) (expected : Expected) (call : Asked)
       → (is_well (end_of reads expected call Late) ≡ false) × (is_well (end_of reads expected call Lost) ≡ false)

@@ -1,7 +1,7 @@
 -- When cycles begin, and which commands aren't sent, in the acts' own moments: this project's own. Cycles are due on a grid:
 -- the first when it begins, and each other one `every` milliseconds after the one before it. An act is one call on the link,
 -- with its result.
-use Rattle.std.specs.Prelude.{◌≡◌, ℕ, zero, suc, ◌+◌, ◌-◌, ◌<◌, ◌≤◌, true, false, List, [], ◌∷◌, ◌++◌, drop, None}
+use Rattle.std.specs.Prelude.{◌≡◌, ℕ, zero, suc, ◌+◌, ◌-◌, ◌<◌, ◌≤◌, false, List, [], ◌∷◌, ◌++◌, None}
 use Rattle.std.specs.List.{AllByRecursion}
 use Rattle.gc_texts.specs.Endings.{Skipped, Missed}
 use Rattle.gc_texts.specs.declared.tasks.Task.{Task}
@@ -12,9 +12,10 @@ use Rattle.gc_station.specs.Records.{Record}
 use Rattle.gc_station.specs.Runs.{state_after}
 use Rattle.gc_station.specs.Scopes.{Scope}
 use Rattle.gc_station.specs.Model.{opening, action_at, waiting_of, Runs}
-use Rattle.gc_station.specs.NextCommand.{cycles_begun, place_next, is_chained}
+use Rattle.gc_station.specs.NextCommand.{cycles_begun, place_next}
 use Rattle.gc_station.specs.declared.plan.Plan.{Plan}
 use Rattle.gc_station.specs.declared.progress.Action.TheVariants.{Begin, Send, Skip}
+use Rattle.gc_station.specs.Chains.{IsChained}
 
 -- the clock doesn't go back: the first moment that these acts read is at or past `now`, each later one at or past the one
 -- before it, and all are at most 2^64 - 1
@@ -61,11 +62,11 @@ abbrev pub CyclesBeginWhenDue : Type 0
 CyclesBeginWhenDue =
     (plan : Plan) (commands : List Task) (scope : Scope) (acts later : List Act) (m : Moment) → 0 < plan.every
     → Runs plan commands (opening plan scope) (acts ++ Told m ∷ later)
-    → ClockRises 0 (acts ++ Told m ∷ []) → action_at plan (state_after plan commands scope acts) ≡ Begin
-    → (late : ℕ) × BeginsLate plan commands scope (acts ++ Told m ∷ []) (cycles_begun plan (state_after plan commands scope acts).progress) m late
+    → ClockRises 0 (acts ++ Told m ∷ []) → let s = state_after plan commands scope acts in action_at plan s ≡ Begin
+    → (late : ℕ) × BeginsLate plan commands scope (acts ++ Told m ∷ []) (cycles_begun plan s.progress) m late
 
--- if a command of a cycle is sent, its cycle began before the next one was due, where cycles have due moments and the clock doesn't
--- go back
+-- if a command of a cycle is sent, its cycle began before the next one was due, where cycles have due moments and the clock
+-- doesn't go back
 abbrev pub SentOnlyInTime : Type 0
 SentOnlyInTime =
     (plan : Plan) (commands : List Task) (scope : Scope) (acts : List Act) → 0 < plan.every → Runs plan commands (opening plan scope) acts → ClockRises 0 acts
@@ -83,9 +84,9 @@ pub record IsMissedIn (plan : Plan) (commands : List Task) (scope : Scope) (acts
   pub sent : r.sent ≡ None
   pub due : r.utc ≡ moment.utc - late
 
--- the command of the record `r` is skipped: it is of a chain, and not its first (it isn't the cycle's first, and it is chained); its
--- cycle began before the next one was due; it wasn't sent, because the one before it wasn't answered well, or a connection was
--- closed or the station resynchronized since that one was sent (`broken`); and the record has the moment that was read to record it
+-- the command of the record `r` is skipped: it goes on with a chain (`IsChained`); its cycle began before the next one was due;
+-- it wasn't sent, because the one before it wasn't answered well, or a connection was closed or the station resynchronized since
+-- that one was sent (`broken`); and the record has the moment that was read to record it
 pub record IsSkippedIn (plan : Plan) (commands : List Task) (scope : Scope) (acts : List Act) (r : Record) : Type 0 where
   pub before : List Act
   pub moment : Moment
@@ -94,8 +95,7 @@ pub record IsSkippedIn (plan : Plan) (commands : List Task) (scope : Scope) (act
   pub skips : action_at plan (state_after plan commands scope before) ≡ Skip
   pub cycle : r.cycle ≡ cycles_begun plan (state_after plan commands scope before).progress
   pub place : r.place ≡ place_next commands (state_after plan commands scope before).progress
-  pub not_first : plan.setup < place_next commands (state_after plan commands scope before).progress
-  pub chained : is_chained (drop (place_next commands (state_after plan commands scope before).progress) commands) ≡ true
+  pub chained : IsChained plan commands (state_after plan commands scope before)
   pub broken : may_go (state_after plan commands scope before).progress (waiting_of (state_after plan commands scope before)) ≡ false
   pub last : LastBegan plan commands scope before
   pub in_time : last.late < plan.every

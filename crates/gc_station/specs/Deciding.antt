@@ -1,10 +1,11 @@
 -- What a station does next, this project's own. It is a function of the plan, of how far the station is, of how many requests are
 -- outstanding (in all, of those that haven't timed out, and of commands), and of how the last commands ended. The phases are:
 -- without a connection (`Down`), in the pause before the next attempt (`Pausing`), before the line feed that clears a connection
--- (`Clearing`), until a connection is quiet (`Draining`), with a connection for requests (`Ready`), before a close (`Closing`), and
--- at the end (`Over`). Of the progress, `left` counts the cycles that haven't begun, and `unsent` the commands of the cycle that are
--- left: neither sent, nor recorded without being sent, nor left out.
-use Rattle.std.specs.Prelude.{ℕ, ◌+◌, ◌-◌, ◌&&◌, ◌||◌, Bool, true, false, not, if◌then◌else◌, nat_lt, nat_le, nat_eq, min, max, List, [], ◌∷◌}
+-- (`Clearing`), until a connection is quiet (`Draining`), with a connection for requests (`Ready`), before a close (`Closing`),
+-- and at the end (`Over`). Of the progress, `left` counts the cycles that haven't begun, and `unsent` the commands of the cycle
+-- that are left: neither sent, nor recorded without being sent, nor left out.
+use Rattle.std.specs.Prelude.{ℕ, ◌-◌, ◌&&◌, ◌||◌, Bool, true, false, not, if◌then◌else◌, nat_lt, nat_le, nat_eq, min, max, List, [], ◌∷◌}
+pub use Rattle.gc_catalogue.specs.Moments.{later}
 use Rattle.gc_client.specs.declared.window.TheConstants.{WINDOW}
 use Rattle.gc_station.specs.declared.plan.Plan.{Plan}
 use Rattle.gc_station.specs.declared.cause.Cause.TheVariants.{Done, Dead, Turns, Stale, Stopped, SetUp}
@@ -19,10 +20,6 @@ use Rattle.gc_station.specs.declared.progress.Waiting.{Waiting}
 -- how many requests may be in flight that haven't timed out: as many as the plan says, but at least one and at most seven
 abbrev pub width_of : Plan → ℕ
 width_of plan = min (max plan.width 1) 7
-
--- the moment `wait` milliseconds after `moment`, or the greatest `u64` if that is past it
-abbrev pub later : (moment wait : ℕ) → ℕ
-later moment wait = min (moment + wait) 18446744073709551615
 
 -- whether there is a connection in this phase
 abbrev pub is_up : Phase → Bool
@@ -55,8 +52,8 @@ has_begun p = is_none_left p.word
 abbrev pub dead_after : Plan → ℕ
 dead_after plan = later plan.deadline plan.deadline
 
--- whether the line is dead: a request is outstanding, or the null procedure of the first id that isn't answered was sent on this
--- connection (`again` isn't 0); and no reply line came for `dead_after`, counted from `alive`
+-- whether the line is dead: a request is outstanding, or a null procedure of the synchronization has a deadline (`again`) other
+-- than 0; and no reply line came for `dead_after`, counted from `alive`
 abbrev pub is_dead : Plan → Progress → Waiting → Bool
 is_dead plan p w = (nat_lt 0 w.all || nat_lt 0 p.again) && nat_le (dead_after plan) (p.moment.elapsed - p.alive)
 
@@ -110,8 +107,8 @@ is_finished commands p = nat_eq p.left 0 && nat_eq p.unsent 0 && nat_eq commands
 
 -- the next action while the station synchronizes: to send the null procedure of the first id that isn't answered, for the first
 -- time or again at its deadline, and to read until then. Nothing is sent if no command is left to be sent or is outstanding (the
--- connection is closed: the run is done), nor between cycles (it reads until the next is due), nor over a dead line (the connection
--- is closed)
+-- connection is closed: the run is done), nor between cycles (it reads until the next is due), nor over a dead line (the
+-- connection is closed)
 abbrev pub action_beginning : Plan → Progress → Waiting → Action
 action_beginning plan p w =
     if is_finished w.commands p then Close Done
@@ -125,8 +122,8 @@ action_beginning plan p w =
 abbrev pub action_done : Plan → Progress → Action
 action_done plan p = if nat_eq p.left 0 then Close Done else if is_due plan p then Begin else Read Due
 
--- whether another request may be sent: fewer that haven't timed out are in flight than `width_of` allows, and fewer are outstanding
--- in all than the window has places
+-- whether another request may be sent: fewer that haven't timed out are in flight than `width_of` allows, and fewer are
+-- outstanding in all than the window has places
 abbrev pub has_room : Plan → Waiting → Bool
 has_room plan w = nat_lt w.current (width_of plan) && nat_lt w.all WINDOW
 
@@ -134,8 +131,8 @@ has_room plan w = nat_lt w.current (width_of plan) && nat_lt w.all WINDOW
 abbrev pub action_room : Plan → Progress → Waiting → Action → Action
 action_room plan p w action = if has_room plan w then action else action_waiting plan p w
 
--- the next action when the next command may be sent, of a cycle (`action` is `Send`) or of the setup (`Prepare`): `action`, if one
--- of the seven requests before it is a call of the table that a reply ended (`behind`). Else a null procedure is sent first
+-- the next action when the next command may be sent, of a cycle (`action` is `Send`) or of the setup (`Prepare`): `action`, if
+-- one of the seven requests before it is a call of the table that a reply ended (`behind`). Else a null procedure is sent first
 -- (`Flush`), once no request is in flight that hasn't timed out. Until then, and without room for either, it is the action of a
 -- station that waits
 abbrev pub action_next : Plan → Progress → Waiting → Action → Action
@@ -204,9 +201,9 @@ action_preparing plan p w =
 abbrev pub action_cycle : Plan → Progress → Waiting → Action
 action_cycle plan p w = if nat_lt 0 p.unsent && not (waits_for_all p) then action_next plan p w Send else action_sent plan p w
 
--- whether the setup is still to be done: there is one, and no cycle began or went on since the connection was made and the station
--- synchronized (`preparing`); and a command of the setup wasn't sent yet, or a command is outstanding, or the one recorded last
--- wasn't answered well
+-- whether the setup is still to be done: there is one, and no cycle began or went on since the connection was made and the
+-- station synchronized (`preparing`); and a command of the setup wasn't sent yet, or a command is outstanding, or the one
+-- recorded last wasn't answered well
 abbrev pub is_preparing : Plan → Progress → Waiting → Bool
 is_preparing plan p w = p.preparing && not (nat_le plan.setup p.prepared && nat_eq w.commands 0 && w.well)
 

@@ -1,7 +1,7 @@
 -- Each command once, this project's own: the commands that had their turn, cycle by cycle and in order, are the records of a
 -- run that are of cycles, and after them the outstanding commands, but for those of attempts that were left out, each once. An
 -- act is one call on the link, with its result.
-use Rattle.std.specs.Prelude.{◌≡◌, ◌⊎◌, ◌<◌, ℕ, zero, suc, List, [], ◌∷◌, ◌++◌, take, drop, nat_eq, map, Option, Some, None}
+use Rattle.std.specs.Prelude.{◌≡◌, ◌⊎◌, ℕ, zero, suc, List, [], ◌∷◌, ◌++◌, take, drop, nat_eq, map, Option, Some, None, filter, not}
 use Rattle.gc_catalogue.specs.declared.asked.Asked.{Asked}
 use Rattle.gc_client.specs.declared.pending.Pending.{Pending}
 use Rattle.gc_client.specs.OneForOne.{of_pending}
@@ -12,13 +12,13 @@ use Rattle.gc_station.specs.declared.cause.Cause.TheVariants.{Done}
 use Rattle.gc_station.specs.declared.mark.Mark.{Mark}
 use Rattle.gc_station.specs.declared.progress.Action.TheVariants.{Stop}
 use Rattle.gc_links.specs.Acts.{Act}
-use Rattle.gc_station.specs.Lists.{with_unless}
 use Rattle.gc_station.specs.Records.{Record}
 pub use Rattle.gc_station.specs.Requests.{Request, requests, of_command, of_task, in_text}
 use Rattle.gc_station.specs.Runs.{state_after}
 use Rattle.gc_station.specs.Model.{Model, action_at}
 use Rattle.gc_station.specs.NextCommand.{cycles_begun, place_next}
 use Rattle.gc_station.specs.Scopes.{Scope}
+use Rattle.gc_station.specs.Links.{IsBefore}
 
 -- all commands of the first `cycles` cycles, in order. Cycles count from 1, and the commands of each are those of the list
 -- `commands` but the first `setup`, which are the setup
@@ -34,8 +34,7 @@ commands_reached setup commands (suc n) place = all_cycles setup commands n ++ r
 
 -- those of these requests that are of a cycle: the others are of the setup, which has cycle 0
 abbrev pub of_cycles : List Request → List Request
-of_cycles [] = []
-of_cycles (x ∷ xs) = with_unless (nat_eq x.cycle 0) x (of_cycles xs)
+of_cycles xs = filter (λ (x : Request). not (nat_eq x.cycle 0)) xs
 
 -- the request that the record `r` is of
 abbrev pub of_record : Record → Request
@@ -65,27 +64,31 @@ Interleave {A} xs ys (z ∷ zs) =
 abbrev pub of_text : List Task → List Request → List Request
 of_text commands xs = map (in_text commands) (of_cycles xs)
 
+-- the commands that had their turn, sent or not, if the station has the model `s`
+abbrev pub reached : Plan → List Task → Model → List Request
+reached plan commands s = commands_reached plan.setup commands (cycles_begun plan s.progress) (place_next commands s.progress)
+
 -- if the station has the model `s`: each command that had its turn, in order, either has its record, or is outstanding after the
 -- records; or it is of an attempt that was left out (`passes`)
 abbrev pub IsEachOnce : Plan → List Task → Model → Type 0
 IsEachOnce plan commands s =
-    Interleave (of_text commands (map of_record s.records ++ still_waiting s.marks s.client.waiting)) s.passes
-    (commands_reached plan.setup commands (cycles_begun plan s.progress) (place_next commands s.progress))
+    Interleave (of_text commands (map of_record s.records ++ still_waiting s.marks s.client.waiting)) s.passes (reached plan commands s)
+
+-- these requests, each once and in order, are those of the records of the model `s` that are of cycles, and the commands that
+-- were left out
+abbrev pub AreRecordedOnce : List Task → Model → List Request → Type 0
+AreRecordedOnce commands s all = Interleave (of_text commands (map of_record s.records)) s.passes all
 
 -- after `acts`, which begin a run, `IsEachOnce` holds. If the run stopped there, the records and the attempts that were left
 -- out are the commands that had their turn (`settled`); and if it is done, they are all commands of all cycles (`done`)
 pub record EachOnce (plan : Plan) (commands : List Task) (scope : Scope) (acts : List Act) : Type 0 where
   pub each : IsEachOnce plan commands (state_after plan commands scope acts)
   pub settled : (cause : Cause) → action_at plan (state_after plan commands scope acts) ≡ Stop cause
-      → Interleave (of_text commands (map of_record (state_after plan commands scope acts).records)) (state_after plan commands scope acts).passes
-      (commands_reached plan.setup commands (cycles_begun plan (state_after plan commands scope acts).progress)
-      (place_next commands (state_after plan commands scope acts).progress))
+      → AreRecordedOnce commands (state_after plan commands scope acts) (reached plan commands (state_after plan commands scope acts))
   pub done : action_at plan (state_after plan commands scope acts) ≡ Stop Done
-      → Interleave (of_text commands (map of_record (state_after plan commands scope acts).records)) (state_after plan commands scope acts).passes
-      (all_cycles plan.setup commands plan.cycles)
+      → AreRecordedOnce commands (state_after plan commands scope acts) (all_cycles plan.setup commands plan.cycles)
 
 -- with the model `t` a station is further than with `s`: in a later cycle, or at a later place in the same cycle
 abbrev pub IsFurther : Plan → List Task → (s t : Model) → Type 0
 IsFurther plan commands s t =
-    (cycles_begun plan s.progress < cycles_begun plan t.progress)
-    ⊎ ((cycles_begun plan s.progress ≡ cycles_begun plan t.progress) × (place_next commands s.progress < place_next commands t.progress))
+    IsBefore (cycles_begun plan s.progress) (place_next commands s.progress) (cycles_begun plan t.progress) (place_next commands t.progress)

@@ -19,7 +19,7 @@ use Rattle.gc_station.specs.Quiet.{IsAsking}
 use Rattle.gc_station.specs.Records.{Record}
 use Rattle.gc_station.specs.Runs.{state_after}
 use Rattle.gc_station.specs.ActKinds.{Puts}
-use Rattle.gc_station.specs.Model.{action_at, request_text, lines_completed}
+use Rattle.gc_station.specs.Model.{action_at, request_text, lines_completed, Model}
 use Rattle.gc_station.specs.Scopes.{Scope}
 
 -- the act reads a moment at or past `deadline`
@@ -37,22 +37,22 @@ pub record OneReadsPast (deadline : ℕ) (acts : List Act) : Type 0 where
   pub at : acts ≡ earlier ++ telling ∷ later
   pub past : ReadsAtOrPast deadline telling
 
--- a read after `acts` that gives `piece` completes a line with the id `id`
-pub record BringsLine (plan : Plan) (commands : List Task) (scope : Scope) (acts : List Act) (piece : List ℕ) (id : ℕ) : Type 0 where
+-- a read that gives `piece` completes a line with the id `id`, if `rest` are the bytes before it since the last line feed
+pub record BringsLine (rest piece : List ℕ) (id : ℕ) : Type 0 where
   pub front : List (List ℕ)
   pub line : List ℕ
   pub others : List (List ℕ)
-  pub came : lines_completed (state_after plan commands scope acts).rest piece ≡ front ++ line ∷ others
+  pub came : lines_completed rest piece ≡ front ++ line ∷ others
   pub has : heard line ≡ Some id
 
--- among `acts` a read that gave `piece` adds the record `r`, after the act that writes its request (`its`). Between the two, or by the
--- read itself, a moment at or past the request's deadline is read; and the piece completes a line with the request's id
+-- among `acts` a read that gave `piece` adds the record `r`, after the act that writes its request (`its`). Between the two, or
+-- by the read itself, a moment at or past the request's deadline is read; and the piece completes a line with the request's id
 pub record IsLateIn (plan : Plan) (commands : List Task) (scope : Scope) (acts : List Act) (r : Record) : Type 0 where
   pub piece : List ℕ
   pub moment : Moment
   pub its : IsRecordedBy plan commands scope acts r (Gave piece moment)
   pub too_late : OneReadsPast (deadline_after plan commands scope its.before) (its.between ++ Gave piece moment ∷ [])
-  pub came : BringsLine plan commands scope (its.before ++ its.request ∷ its.between) piece (state_after plan commands scope its.before).client.next
+  pub came : BringsLine (state_after plan commands scope (its.before ++ its.request ∷ its.between)).rest piece (state_after plan commands scope its.before).client.next
 
 -- between `request`, which comes after the acts `before`, and `act` another request was sent (`other`); that other one is still
 -- outstanding, and `act` is a read that completes a line with its id
@@ -68,16 +68,16 @@ pub record IsOvertaken (plan : Plan) (commands : List Task) (scope : Scope) (bef
   pub piece : List ℕ
   pub moment : Moment
   pub reads : act ≡ Gave piece moment
-  pub came : BringsLine plan commands scope (before ++ request ∷ between) piece (state_after plan commands scope (before ++ request ∷ first)).client.next
+  pub came : BringsLine (state_after plan commands scope (before ++ request ∷ between)).rest piece (state_after plan commands scope (before ++ request ∷ first)).client.next
 
--- the act `act`, made after `acts`, resynchronizes the station: it reads the clock, and seven requests are outstanding, which
--- have all timed out
-pub record Resynchronizes (plan : Plan) (commands : List Task) (scope : Scope) (acts : List Act) (act : Act) : Type 0 where
-  pub renews : action_at plan (state_after plan commands scope acts) ≡ Renew
+-- the act, before which a station has the model `s`, resynchronizes it: the act reads the clock, and seven requests are
+-- outstanding, which have all timed out
+pub record Resynchronizes (plan : Plan) (s : Model) (act : Act) : Type 0 where
+  pub renews : action_at plan s ≡ Renew
   pub moment : Moment
   pub told : act ≡ Told moment
-  pub seven : length (state_after plan commands scope acts).client.waiting ≡ WINDOW
-  pub given_up : deadlines (state_after plan commands scope acts).client.waiting ≡ []
+  pub seven : length s.client.waiting ≡ WINDOW
+  pub given_up : deadlines s.client.waiting ≡ []
 
 -- the act `act`, made after `acts`, is the last one: no act comes after it (`behind`), and the run stops
 pub record IsLast (plan : Plan) (commands : List Task) (scope : Scope) (acts : List Act) (act : Act) (behind : List Act) : Type 0 where
@@ -85,13 +85,13 @@ pub record IsLast (plan : Plan) (commands : List Task) (scope : Scope) (acts : L
   pub why : Cause
   pub stops : action_at plan (state_after plan commands scope (acts ++ act ∷ [])) ≡ Stop why
 
--- among `acts` the act `act` adds the record `r`, after the one that writes its request (`its`). It brings a line with the id of a
--- request that was sent after that one, or the station resynchronizes at it, or it is the last act of the run
+-- among `acts` the act `act` adds the record `r`, after the one that writes its request (`its`). It brings a line with the id of
+-- a request that was sent after that one, or the station resynchronizes at it, or it is the last act of the run
 pub record IsLostIn (plan : Plan) (commands : List Task) (scope : Scope) (acts : List Act) (r : Record) : Type 0 where
   pub act : Act
   pub its : IsRecordedBy plan commands scope acts r act
   pub shown : IsOvertaken plan commands scope its.before its.request its.between act
-      ⊎ (Resynchronizes plan commands scope (its.before ++ its.request ∷ its.between) act
+      ⊎ (Resynchronizes plan (state_after plan commands scope (its.before ++ its.request ∷ its.between)) act
       ⊎ IsLast plan commands scope (its.before ++ its.request ∷ its.between) act its.behind)
 
 -- if the record `r` says that its command is late, `IsLateIn` holds: the request was sent, and its reply came too late

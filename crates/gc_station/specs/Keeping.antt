@@ -15,7 +15,7 @@ use Rattle.gc_station.specs.Model.{opening, Runs}
 use Rattle.gc_station.specs.Runs.{state_after}
 use Rattle.gc_station.specs.Scopes.{Scope, scoped, ForEachReadings, ForReadings}
 
--- what contracts see of a link and a book before one act of a run. Such a moment is a turn of the run
+-- what contracts see of a link and a book just before an act of a run; each act is a turn of the run
 pub record Snapshot : Type 0 where
   -- the acts that the link has recorded, if they are known
   pub acts : Option (List Act)
@@ -24,49 +24,48 @@ pub record Snapshot : Type 0 where
   -- whether these bytes are durable, as far as the book is meant to make them so; a book that isn't meant to always says `true`
   pub lasts : Bool
 
--- before the act of this turn the link had recorded `acts` after those of `told`, and the book had taken, after `taken`, the
--- texts of all records that these acts settled; and they were durable
-pub record IsKept (plan : Plan) (commands : List Task) (scope : Scope) (text : Record → List ℕ) (told : Option (List Act)) (taken : Option (List ℕ))
-    (acts : List Act) (turn : Snapshot) : Type 0 where
-  pub tells : Tells told turn.acts acts
-  pub took : Appends taken turn.taken (texts_of text (state_after plan commands scope acts).records)
-  pub lasts : turn.lasts ≡ true
+-- a run of `scope`. Before it the link had recorded `told`, and the book had taken `taken`
+module _ (plan : Plan) (commands : List Task) (scope : Scope) (text : Record → List ℕ) (told : Option (List Act)) (taken : Option (List ℕ)) where
+  -- before the act of this turn the link had recorded `acts` after those of `told`, and the book had taken, after `taken`, the
+  -- texts of all records that these acts settled; and they were durable
+  pub record IsKept (acts : List Act) (turn : Snapshot) : Type 0 where
+    pub tells : Tells told turn.acts acts
+    pub took : Appends taken turn.taken (texts_of text (state_after plan commands scope acts).records)
+    pub lasts : turn.lasts ≡ true
 
--- the acts `acts`, which follow those of `done`, have these turns, one for one and in order: each turn is of the moment before
--- its act, and `IsKept` says that what the acts before that moment settled was durable in the book. `told` and `taken` are what
--- the link had recorded and the book had taken before the run
-abbrev pub AreKept : Plan → List Task → Scope → (Record → List ℕ) → (told : Option (List Act)) (taken : Option (List ℕ)) (done acts : List Act)
-    → List Snapshot → Type 0
-AreKept plan commands scope text told taken done [] [] = Unit {0}
-AreKept plan commands scope text told taken done [] (turn ∷ turns) = ⊥
-AreKept plan commands scope text told taken done (act ∷ acts) [] = ⊥
-AreKept plan commands scope text told taken done (act ∷ acts) (turn ∷ turns) =
-    IsKept plan commands scope text told taken done turn × AreKept plan commands scope text told taken (done ++ act ∷ []) acts turns
+  -- the acts `acts`, which follow those of `done`, have these turns, one for one and in order: each turn is of the moment before
+  -- its act, and `IsKept` says that what the acts before that moment settled was durable in the book
+  abbrev pub AreKept : (done acts : List Act) → List Snapshot → Type 0
+  AreKept done [] [] = Unit {0}
+  AreKept done [] (turn ∷ turns) = ⊥
+  AreKept done (act ∷ acts) [] = ⊥
+  AreKept done (act ∷ acts) (turn ∷ turns) = IsKept done turn × AreKept (done ++ act ∷ []) acts turns
 
--- from `told` to `told'` a link recorded the acts of a run (`acts`), each the one that was to be made next, and after them
--- `others`. Before each of `acts` one turn was added to the list of turns, which was `seen` before the run and is `seen'` after
--- it; and at that turn all that the acts before it settled was durable in the book (`AreKept`)
-pub record KeepsUp (plan : Plan) (commands : List Task) (scope : Scope) (text : Record → List ℕ) (told told' : Option (List Act)) (taken : Option (List ℕ))
-    (seen seen' : List Snapshot) (others : List Act) : Type 0 where
-  pub acts : List Act
-  pub tells : Tells told told' (acts ++ others)
-  pub runs : Runs plan commands (opening plan scope) acts
-  pub turns : List Snapshot
-  pub saw : seen' ≡ seen ++ turns
-  pub kept : AreKept plan commands scope text told taken [] acts turns
+-- a run of `scope`. From `told` to `told'` the link recorded acts, and before them the book had taken `taken`. The list of turns
+-- was `seen` before the run, and is `seen'` after it
+module _ (plan : Plan) (commands : List Task) (scope : Scope) (text : Record → List ℕ) (told told' : Option (List Act)) (taken : Option (List ℕ))
+    (seen seen' : List Snapshot) where
+  -- the link recorded the acts of a run (`acts`), each the one that was to be made next, and after them `others`. Before each of
+  -- `acts` one turn was added to the list of turns; and at that turn all that the acts before it settled was durable in the book
+  -- (`AreKept`)
+  pub record KeepsUp (others : List Act) : Type 0 where
+    pub acts : List Act
+    pub tells : Tells told told' (acts ++ others)
+    pub runs : Runs plan commands (opening plan scope) acts
+    pub turns : List Snapshot
+    pub saw : seen' ≡ seen ++ turns
+    pub kept : AreKept plan commands scope text told taken [] acts turns
 
--- `KeepsUp` of a run with this many turns, for each function that gives each line's reading for a call
-abbrev pub KeepsUpForEachReadings : Plan → List Task → (turns : ℕ) → (Record → List ℕ) → (told told' : Option (List Act)) → (taken : Option (List ℕ))
-    → (seen seen' : List Snapshot) → (others : List Act) → Type 0
-KeepsUpForEachReadings plan commands turns text told told' taken seen seen' others =
-    ForEachReadings (λ reads. KeepsUp plan commands (scoped turns reads) text told told' taken seen seen' others)
+-- a run with this many turns, of a link, a book and a list of turns as above
+module _ (plan : Plan) (commands : List Task) (turns : ℕ) (text : Record → List ℕ) (told told' : Option (List Act)) (taken : Option (List ℕ))
+    (seen seen' : List Snapshot) where
+  -- `KeepsUp` of the run, for each function that gives each line's reading for a call
+  abbrev pub KeepsUpForEachReadings : (others : List Act) → Type 0
+  KeepsUpForEachReadings others = ForEachReadings (λ reads. KeepsUp plan commands (scoped turns reads) text told told' taken seen seen' others)
 
--- `KeepsUp` of a run with this many turns, for each function that gives each line's reading for a call; and there is such a
--- function
-abbrev pub KeepsUpForReadings : Plan → List Task → (turns : ℕ) → (Record → List ℕ) → (told told' : Option (List Act)) → (taken : Option (List ℕ))
-    → (seen seen' : List Snapshot) → (others : List Act) → Type 0
-KeepsUpForReadings plan commands turns text told told' taken seen seen' others =
-    ForReadings (λ reads. KeepsUp plan commands (scoped turns reads) text told told' taken seen seen' others)
+  -- `KeepsUp` of the run, for each function that gives each line's reading for a call; and there is such a function
+  abbrev pub KeepsUpForReadings : (others : List Act) → Type 0
+  KeepsUpForReadings others = ForReadings (λ reads. KeepsUp plan commands (scoped turns reads) text told told' taken seen seen' others)
 
 -- the acts of a link after a run with this result: a close if the book failed (`Err`); otherwise none
 abbrev pub close_if_failed : {X E : Type 0} → Result X E → List Act

@@ -1,6 +1,5 @@
 pub mod Causes
 pub mod Scopes
-pub mod Lists
 pub mod Records
 pub mod Marks
 pub mod Zeros

@@ -30,8 +30,8 @@ IsBefore i m j n = (i < j) ⊎ ((i ≡ j) × (m < n))
 abbrev pub parts : Plan → List Task → Scope → List Act → List Part
 parts plan commands scope acts = parts_of plan commands (opening plan scope) acts
 
--- one of `records`, number `k`, is of the command at place `a` of this cycle, and is an answer of a good quality (`IsGoodAnswer`).
--- `reads` gives what a line says of a call
+-- one of `records`, number `k`, is of the command at place `a` of this cycle, and is an answer of a good quality
+-- (`IsGoodAnswer`). `reads` gives what a line says of a call
 pub record WasAnsweredWell (reads : Asked → List ℕ → Reading) (commands : List Task) (records : List Record) (cycle a : ℕ) : Type 0 where
   pub k : ℕ
   pub answer : Record
@@ -40,8 +40,8 @@ pub record WasAnsweredWell (reads : Asked → List ℕ → Reading) (commands : 
   pub own_place : answer.place ≡ a
   pub good : IsGoodAnswer reads commands answer
 
--- after `acts` the command at place `a` of this cycle has a record, and was answered well (`its`). Request number `m` of `part` is of
--- that command, and each command that was sent after it in that part is of a cycle, and none of the setup
+-- after `acts` the command at place `a` of this cycle has a record, and was answered well (`its`). Request number `m` of `part`
+-- is of that command, and each command that was sent after it in that part is of a cycle, and none of the setup
 pub record IsAnsweredEarlier (plan : Plan) (commands : List Task) (scope : Scope) (acts : List Act) (part : Part) (cycle a : ℕ) : Type 0 where
   pub its : WasAnsweredWell scope.reads commands (state_after plan commands scope acts).records cycle a
   pub m : ℕ
@@ -49,18 +49,18 @@ pub record IsAnsweredEarlier (plan : Plan) (commands : List Task) (scope : Scope
   pub mark : slice_get part.marks m ≡ Some (Some (mark_of expected its.answer))
   pub of_cycles : (x : ℕ) (mark : Mark) → m < x → slice_get part.marks x ≡ Some (Some mark) → 0 < mark.cycle
 
--- what holds just before request number `n` of part number `i` (both counted from 0) is sent, which is of the command of this cycle
--- and place: after the acts `before` part `i` is the last one, and `first` is that part so far, with `n` requests; and each earlier
--- command of the same chain was answered well, as a request of `first`
-pub record IsSentAfter (plan : Plan) (commands : List Task) (scope : Scope) (acts : List Act) (i n cycle place : ℕ) : Type 0 where
+-- what holds just before request number `n` of part number `i` (both counted from 0) is sent, which is of the command with this
+-- mark: after the acts `before` part `i` is the last one, and `so_far` is that part so far, with `n` requests; and each earlier
+-- command of the same chain was answered well, as a request of `so_far`
+pub record IsSentAfter (plan : Plan) (commands : List Task) (scope : Scope) (acts : List Act) (i n : ℕ) (mark : Mark) : Type 0 where
   pub before : List Act
   pub rest : List Act
   pub order : acts ≡ before ++ rest
-  pub first : Part
-  pub of_parts : slice_get (parts plan commands scope before) i ≡ Some first
+  pub so_far : Part
+  pub of_parts : slice_get (parts plan commands scope before) i ≡ Some so_far
   pub last : length (parts plan commands scope before) ≡ suc i
-  pub count : length first.marks ≡ n
-  pub chain : (a : ℕ) → plan.setup ≤ a → a < place → AreChained commands a place → IsAnsweredEarlier plan commands scope before first cycle a
+  pub count : length so_far.marks ≡ n
+  pub chain : (a : ℕ) → plan.setup ≤ a → a < mark.place → AreChained commands a mark.place → IsAnsweredEarlier plan commands scope before so_far mark.cycle a
 
 -- each command of a cycle is sent only after the answers of all earlier commands of its chain, as a request of the same part of
 -- a run
@@ -68,7 +68,7 @@ abbrev pub ChainsStay : Type 0
 ChainsStay =
     (plan : Plan) (commands : List Task) (scope : Scope) (acts : List Act) → Runs plan commands (opening plan scope) acts
     → (i n : ℕ) (part : Part) (mark : Mark) → slice_get (parts plan commands scope acts) i ≡ Some part → slice_get part.marks n ≡ Some (Some mark)
-    → 0 < mark.cycle → IsSentAfter plan commands scope acts i n mark.cycle mark.place
+    → 0 < mark.cycle → IsSentAfter plan commands scope acts i n mark
 
 -- of two commands of cycles that are sent as requests `m` of part `i` and `n` of part `j`, the later one has a later place in
 -- the same cycle, or is of a later cycle

@@ -79,8 +79,8 @@ opening plan scope = record {
 }
 
 -- what a decision looks at besides the progress: how many requests of `client` are outstanding (`all`), how many of them haven't
--- timed out (`current`), and how many are, by their `marks`, of commands (`commands`). `well`: whether the command that was recorded
--- last was answered well. `listed` and `fresh` are as in `Model`
+-- timed out (`current`), and how many are, by their `marks`, of commands (`commands`). `well`: whether the command that was
+-- recorded last was answered well. `listed` and `fresh` are as in `Model`
 abbrev pub waiting_by : (client : ById Asked) (marks : List (Option Mark)) (well listed : Bool) (fresh : ℕ) → Waiting
 waiting_by client marks well listed fresh = record {
   all = length client.waiting;
@@ -313,17 +313,12 @@ piece_synchronizing piece s = with_progress (λ p. lines_synchronizing p (lines_
 
 -- whether what comes in a phase is heard: in `Ready` alone. In each other phase it is discarded
 abbrev pub is_heard : Phase → Bool
-is_heard phase.Down = false
-is_heard phase.Pausing = false
-is_heard phase.Clearing = false
-is_heard phase.Draining = false
 is_heard phase.Ready = true
-is_heard (phase.Closing cause) = false
-is_heard (phase.Over cause) = false
+is_heard _ = false
 
 -- the model `s` after `piece`. `ready`: whether what comes in this phase is heard (`is_heard`); otherwise the piece is discarded.
--- `word`: the ids of the synchronization that aren't answered. If all are, the client hears the piece; otherwise the synchronization
--- does, and the client doesn't hear what follows its last answer in the piece
+-- `word`: the ids of the synchronization that aren't answered. If all are, the client hears the piece; otherwise the
+-- synchronization does, and the client doesn't hear what follows its last answer in the piece
 abbrev pub after_piece : (ready : Bool) (word piece : List ℕ) → Model → Model
 after_piece true [] piece s = piece_came piece s
 after_piece true (asked ∷ others) piece s = piece_synchronizing piece s
@@ -383,8 +378,8 @@ after_open plan s _ = with_progress (after_failure plan (commands_in s.marks) ca
 abbrev pub after_close : Plan → Cause → Model → Model
 after_close plan cause s = with_progress (closed plan (waiting_of s) cause) (with_rest [] s)
 
--- the model `s` after an act that performs `action`, but without the turn that each act takes, and before all outstanding requests
--- are lost if that follows (`ended`)
+-- the model `s` after an act that performs `action`, but without the turn that each act takes, and before all outstanding
+-- requests are lost if that follows (`ended`)
 abbrev pub moved : Plan → List Task → Action → Model → Act → Model
 moved plan commands ReadClock s act = after_clock (λ m p. early_noted plan (commands_in s.marks) (moment_noted m p)) s act
 moved plan commands Renew s act = after_clock (λ m p. early_noted plan 0 (renewed plan m p)) s act

@@ -15,8 +15,8 @@ use Rattle.gc_station.specs.Progressing.{is_idle}
 abbrev pub dead_at : Plan → Progress → ℕ
 dead_at plan p = later p.alive (dead_after plan)
 
--- the moment at which the next cycle is due: `every` milliseconds after `began`, the moment that counts as the beginning of the last
--- one. It isn't that of the first cycle, which is due at once
+-- the moment at which the next cycle is due: `every` milliseconds after `began`, the moment that counts as the beginning of the
+-- last one. It isn't that of the first cycle, which is due at once
 abbrev pub due_at : Plan → Progress → ℕ
 due_at plan p = later p.began plan.every
 
@@ -26,7 +26,8 @@ abbrev pub retry_at : Plan → Progress → ℕ
 retry_at plan p = if is_idle plan p then max (later p.since p.pause) (due_at plan p) else later p.since p.pause
 
 -- the moment from which on the run is stale, if no answer of a good quality is recorded until then; the greatest `u64` if it
--- never is. `fresh` is when such an answer was recorded last; 0 if none was; an earlier moment if the clock went back past it since
+-- never is. `fresh` is when such an answer was recorded last; 0 if none was; an earlier moment if the clock went back past it
+-- since
 abbrev pub stale_at : Plan → (fresh : ℕ) → ℕ
 stale_at plan fresh = if nat_lt 0 plan.stale then later fresh plan.stale else 18446744073709551615
 
@@ -47,7 +48,8 @@ abbrev pub read_end_without_deadline : Plan → Progress → Until → ℕ
 read_end_without_deadline plan p Due = due_at plan p
 read_end_without_deadline plan p Limit = read_end_in p.phase plan p
 
--- the moment at which a read ends if nothing comes: `read_end_without_deadline`, or the next deadline of a request if that is earlier
+-- the moment at which a read ends if nothing comes: `read_end_without_deadline`, or the next deadline of a request if that is
+-- earlier
 abbrev pub read_end : Plan → Progress → Until → (deadline : Option ℕ) → ℕ
 read_end plan p until (Some deadline) = min deadline (read_end_without_deadline plan p until)
 read_end plan p until None = read_end_without_deadline plan p until
@@ -59,8 +61,8 @@ read_timeout plan p fresh until deadline =
     min (max (min (read_end plan p until deadline) (stale_at plan fresh) - p.moment.elapsed) 1) (longest_timeout plan)
 
 -- whether the cycle that began last has overrun: it isn't missed, and wasn't done when the next one, which hasn't begun, was due.
--- False if no cycle is left, or cycles have no due moments (`every` is 0). Before the first cycle, where it may be true, `overrun`
--- reports none
+-- False if no cycle is left, or cycles have no due moments (`every` is 0). Before the first cycle, where it may be true,
+-- `overrun` reports none
 abbrev pub has_overrun : Plan → Progress → Bool
 has_overrun plan p = not p.early && not p.missed && is_due plan p && nat_lt 0 p.left && nat_lt 0 plan.every
 

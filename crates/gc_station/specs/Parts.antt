@@ -1,7 +1,7 @@
 -- A run of a station as its client has it, this project's own: a part for each synchronization, with what happens while the
 -- station synchronizes, then the client's steps, and which command each request is that is sent. An act is one call on the
 -- link, with its result.
-use Rattle.std.specs.Prelude.{◌≡◌, ℕ, ◌&&◌, Bool, true, false, if◌then◌else◌, List, [], ◌∷◌, ◌++◌, drop, map, Option, Some, None, slice_get, unwrap_or}
+use Rattle.std.specs.Prelude.{◌≡◌, ℕ, ◌&&◌, Bool, true, false, if◌then◌else◌, List, [], ◌∷◌, ◌++◌, drop, map, Option, Some, None, slice_get, unwrap_or, filter}
 use Rattle.gc_catalogue.specs.declared.asked.Asked.{Asked}
 use Rattle.gc_catalogue.specs.declared.asked.Asked.TheVariants.{Table}
 use Rattle.gc_catalogue.specs.declared.call.Call.TheVariants.{NullProc}
@@ -18,7 +18,6 @@ use Rattle.gc_station.specs.declared.progress.Action.{Action}
 use Rattle.gc_station.specs.declared.progress.Action.TheVariants as action
 use Rattle.gc_links.specs.Acts.{Act, Told, Put, Cut, Gave, Silent}
 use Rattle.gc_station.specs.Deciding.{later, has_begun}
-use Rattle.gc_station.specs.Lists.{with_if}
 use Rattle.gc_station.specs.Progressing.{loses_all}
 use Rattle.gc_station.specs.Records.{Record}
 use Rattle.gc_station.specs.Requests.{asked_at}
@@ -171,8 +170,7 @@ went_out Missed = false
 
 -- those of these records whose command was sent, in order
 abbrev pub sent_of : List Record → List Record
-sent_of [] = []
-sent_of (r ∷ rs) = with_if (went_out r.end) r (sent_of rs)
+sent_of rs = filter (λ (r : Record). went_out r.end) rs
 
 -- when the command of the record `r` was sent; 0 if it wasn't
 abbrev pub sent_at : Record → ℕ

@@ -73,12 +73,13 @@ cycle_start plan m p =
     if nat_eq p.left plan.cycles || nat_eq plan.every 0 then m.elapsed
     else min (later p.began plan.every) m.elapsed
 
--- whether a cycle that would begin at the moment `m` is missed: the one after it is due by then, or would be, if it is the last one
+-- whether a cycle that would begin at the moment `m` is missed: the one after it is due by then, or would be, if it is the last
+-- one
 abbrev pub is_missed_at : Plan → Moment → Progress → Bool
 is_missed_at plan m p = nat_lt 0 plan.every && nat_le plan.every (m.elapsed - cycle_start plan m p)
 
--- when a cycle that begins at the moment `m` was due, by the clock of time stamps, in milliseconds since 1970-01-01: as much before
--- `m` as by the clock for deadlines, at the earliest 0
+-- when a cycle that begins at the moment `m` was due, by the clock of time stamps, in milliseconds since 1970-01-01: as much
+-- before `m` as by the clock for deadlines, at the earliest 0
 abbrev pub due_of : Plan → Moment → Progress → ℕ
 due_of plan m p = m.utc - (m.elapsed - cycle_start plan m p)
 
@@ -164,8 +165,8 @@ next_attempt p = if nat_eq p.prepared 0 then p.attempt else later p.attempt 1
 abbrev pub setup_restarted : Plan → Progress → Progress
 setup_restarted plan p = record p { preparing = nat_lt 0 plan.setup; prepared = 0; attempt = next_attempt p }
 
--- the progress after a connection was closed for the cause `why`, or couldn't be made, with `commands` commands outstanding.
--- The next attempt to connect takes a try, unless it is spared (`is_spared`); no chain goes on, and the setup is sent again on the
+-- the progress after a connection was closed for the cause `why`, or couldn't be made, with `commands` commands outstanding. The
+-- next attempt to connect takes a try, unless it is spared (`is_spared`); no chain goes on, and the setup is sent again on the
 -- next connection
 abbrev pub after_failure : Plan → (commands : ℕ) → Cause → Progress → Progress
 after_failure plan commands why p =
@@ -218,13 +219,13 @@ sent next_is_chained others p = had_turn 1 next_is_chained others true (request_
 abbrev pub setup_sent : Plan → Progress → Progress
 setup_sent plan p = let q = request_noted p in record q { prepared = min (p.prepared + 1) plan.setup; chain_unbroken = false }
 
--- the progress after a line was heard. If it is a reply (`is_reply`), it shows that the other end is alive; any other line changes
--- nothing
+-- the progress after a line was heard. If it is a reply (`is_reply`), it shows that the other end is alive; any other line
+-- changes nothing
 abbrev pub line_noted : (is_reply : Bool) → Progress → Progress
 line_noted is_reply p = record p { alive = if is_reply then p.moment.elapsed else p.alive; asked = if is_reply then false else p.asked }
 
--- the progress once a line was heard after which `waiting` requests are outstanding. `of_table`: it settled requests, and the last of
--- them, to which it is the reply, is a call of the table. Then the outstanding requests are those sent after that call
+-- the progress once a line was heard after which `waiting` requests are outstanding. `of_table`: it settled requests, and the
+-- last of them, to which it is the reply, is a call of the table. Then the outstanding requests are those sent after that call
 abbrev pub caught_up : (of_table : Bool) (waiting : ℕ) → Progress → Progress
 caught_up of_table waiting p = record p { behind = if of_table then waiting else p.behind }
 
@@ -248,8 +249,8 @@ abbrev pub early_after : Until → (early : Bool) → Bool
 early_after Due early = true
 early_after Limit early = early
 
--- whether bytes give all tries back: they settled a command, since fewer than `before` are outstanding after them; and if there is
--- a setup, a cycle began or went on after it (`preparing` is false)
+-- whether bytes give all tries back: they settled a command, since fewer than `before` are outstanding after them; and if there
+-- is a setup, a cycle began or went on after it (`preparing` is false)
 abbrev pub gives_back : (before : ℕ) (after : Waiting) → Progress → Bool
 gives_back before after p = nat_lt after.commands before && not p.preparing
 
@@ -278,9 +279,9 @@ quieted plan phase.Pausing p = pause_ended plan p
 quieted plan phase.Draining p = if is_quiet plan p then drained p else p
 quieted plan _ p = p
 
--- the progress once the moment `m` was read by a read that gave nothing and ended as `until` says: as `moment_noted`, but the quiet
--- time goes on. If the clock went back, so that the start of the quiet time (`since`) lies after `m`, it becomes `m`. After a read
--- until the next cycle is due the cycle counts as done early (`early_after`)
+-- the progress once the moment `m` was read by a read that gave nothing and ended as `until` says: as `moment_noted`, but the
+-- quiet time goes on. If the clock went back, so that the start of the quiet time (`since`) lies after `m`, it becomes `m`. After
+-- a read until the next cycle is due the cycle counts as done early (`early_after`)
 abbrev pub time_passed : Until → Moment → Progress → Progress
 time_passed until m p = let q = moment_noted m p in record q { since = min p.since m.elapsed; early = early_after until p.early }
 
@@ -309,13 +310,8 @@ closed plan w why p = after_failure plan w.commands why p
 
 -- whether the run is over in this phase
 abbrev pub is_over_in : Phase → Bool
-is_over_in phase.Down = false
-is_over_in phase.Pausing = false
-is_over_in phase.Clearing = false
-is_over_in phase.Draining = false
-is_over_in phase.Ready = false
-is_over_in (phase.Closing cause) = false
 is_over_in (phase.Over cause) = true
+is_over_in _ = false
 
 -- whether no act follows: the run is over, or there is no connection and no turn is left
 abbrev pub is_over : Progress → Bool

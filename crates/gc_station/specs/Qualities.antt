@@ -50,9 +50,9 @@ IsOfQuality reads accepted call Refused said line = (said ≡ None) × IsRefusal
 abbrev pub accepted_at : List Task → (place : ℕ) → Codes
 accepted_at commands place = (expected_first (drop place commands)).accepted
 
--- the record `r` is an answer of a good quality: with both codes 0 and values that read, or with a return code that is accepted of
--- its command. `line` is its reply, and `said` the values that it has; the line says them, with that quality (`says`). `reads` gives
--- what a line says of a call
+-- the record `r` is an answer of a good quality: with both codes 0 and values that read, or with a return code that is accepted
+-- of its command. `line` is its reply, and `said` the values that it has; the line says them, with that quality (`says`). `reads`
+-- gives what a line says of a call
 pub record IsGoodAnswer (reads : Asked → List ℕ → Reading) (commands : List Task) (r : Record) : Type 0 where
   pub line : List ℕ
   pub quality : Quality

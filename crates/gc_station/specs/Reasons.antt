@@ -11,8 +11,8 @@ use Rattle.gc_station.specs.declared.progress.Progress.{Progress}
 use Rattle.gc_station.specs.declared.progress.Waiting.{Waiting}
 use Rattle.gc_station.specs.Deciding.{width_of, has_begun, is_up, is_idle, is_dead, is_stale, may_go, is_preparing}
 
--- another request may be sent: fewer that haven't timed out are in flight than `width_of` allows, and fewer are outstanding in all
--- than the window has places
+-- another request may be sent: fewer that haven't timed out are in flight than `width_of` allows, and fewer are outstanding in
+-- all than the window has places
 abbrev pub HasRoom : Plan → Waiting → Type 0
 HasRoom plan w = (w.current < width_of plan) × (w.all < WINDOW)
 
@@ -22,8 +22,8 @@ abbrev pub IsHeld : Progress → Type 0
 IsHeld p = (p.unsent ≡ 0) ⊎ ((p.next_is_chained ≡ true) ⊎ (0 < p.next_others))
 
 -- the station is between two chains: no command of the cycle is left, or the next one begins a chain or a further attempt of one;
--- or there is a setup, and since the connection was made and the station synchronized no cycle began or went on (`preparing`). In a
--- missed cycle each command, the first one too, counts as going on with a chain
+-- or there is a setup, and since the connection was made and the station synchronized no cycle began or went on (`preparing`). In
+-- a missed cycle each command, the first one too, counts as going on with a chain
 abbrev pub IsBetween : Progress → Type 0
 IsBetween p = (p.unsent ≡ 0) ⊎ ((p.next_is_chained ≡ false) ⊎ (p.preparing ≡ true))
 
@@ -32,27 +32,27 @@ IsBetween p = (p.unsent ≡ 0) ⊎ ((p.next_is_chained ≡ false) ⊎ (p.prepari
 abbrev pub IsResting : Progress → Waiting → Type 0
 IsResting p w = (is_up p.phase ≡ false) ⊎ ((has_begun p ≡ false) ⊎ ((w.current ≡ 0) × IsBetween p))
 
--- if the end of the run was asked for, the next command goes on with a chain that has begun
+-- if the end of the run was asked for, the next command goes on with a chain (`next_is_chained`)
 abbrev pub StaysInItsChain : Progress → Type 0
 StaysInItsChain p = p.stops ≡ true → p.next_is_chained ≡ true
 
--- the setup isn't done, and waits for the answer of the command of it that was sent last
-abbrev pub SetUpWaits : Plan → Progress → Waiting → Type 0
-SetUpWaits plan p w = (is_preparing plan p w ≡ true) × (0 < p.prepared)
+-- the setup isn't done, and a command of it was sent in this attempt
+abbrev pub SetUpHasBegun : Plan → Progress → Waiting → Type 0
+SetUpHasBegun plan p w = (is_preparing plan p w ≡ true) × (0 < p.prepared)
 
 -- no command may be sent: the station hasn't synchronized; or there is no room; or some request hasn't timed out, and one of
--- three holds. Commands are outstanding, and the next one waits until they are settled (`IsHeld`, or `SetUpWaits` for the
+-- three holds. Commands are outstanding, and the next one waits until they are settled (`IsHeld`, or `SetUpHasBegun` for the
 -- setup); or none of the last seven requests is a call of the table that a reply ended; or the end of the run was asked for,
 -- and the station is between two chains
 abbrev pub NothingMayGo : Plan → Progress → Waiting → Type 0
 NothingMayGo plan p w =
     (has_begun p ≡ false)
-    ⊎ ((width_of plan ≤ w.current) ⊎ ((WINDOW ≤ w.all) ⊎ (((IsHeld p ⊎ SetUpWaits plan p w) × (0 < w.commands) × (0 < w.current))
+    ⊎ ((width_of plan ≤ w.current) ⊎ ((WINDOW ≤ w.all) ⊎ (((IsHeld p ⊎ SetUpHasBegun plan p w) × (0 < w.commands) × (0 < w.current))
     ⊎ (((WINDOW ≤ p.behind) × (0 < w.current)) ⊎ ((p.stops ≡ true) × IsBetween p × (0 < w.current))))))
 
--- the next command may be sent, as far as its chain goes: it is the first of its chain, or of a further attempt, of which `MayRetry`
--- says more; or all that were sent are settled, the one before it was answered well, and since that was sent no connection was closed,
--- and the station didn't resynchronize
+-- the next command may be sent, as far as its chain goes: it is the first of its chain, or of a further attempt, of which
+-- `MayRetry` says more; or all that were sent are settled, the one before it was answered well, and since that was sent no
+-- connection was closed, and the station didn't resynchronize
 abbrev pub MayGo : Progress → Waiting → Type 0
 MayGo p w = (p.next_is_chained ≡ false) ⊎ ((w.commands ≡ 0) × (w.well ≡ true) × (p.chain_unbroken ≡ true))
 
@@ -70,7 +70,7 @@ MayRetry p w = (p.next_others ≡ 0) ⊎ ((w.commands ≡ 0) × (w.listed ≡ tr
 -- be sent, and none of the last seven requests is a call of the table that a reply ended
 abbrev pub WantsNull : Plan → Progress → Waiting → Type 0
 WantsNull plan p w =
-    ((IsHeld p ⊎ SetUpWaits plan p w) × (0 < w.commands)) ⊎ ((((0 < p.unsent) × MayGo p w) ⊎ MayPrepare plan p w) × (WINDOW ≤ p.behind))
+    ((IsHeld p ⊎ SetUpHasBegun plan p w) × (0 < w.commands)) ⊎ ((((0 < p.unsent) × MayGo p w) ⊎ MayPrepare plan p w) × (WINDOW ≤ p.behind))
 
 -- no command of any cycle is left to be sent, and none is outstanding: `commands` is how many are outstanding
 abbrev pub IsFinished : (commands : ℕ) → Progress → Type 0

@@ -10,7 +10,7 @@ use Rattle.gc_texts.specs.declared.ending.Ending.{Ending}
 use Rattle.gc_texts.specs.Endings.{End, ending_seen}
 use Rattle.gc_catalogue.specs.declared.answer.Reading.{Reading}
 use Rattle.gc_catalogue.specs.declared.asked.Asked.{Asked}
-use Rattle.gc_station.specs.Scopes.{AreReadings}
+use Rattle.gc_station.specs.Scopes.{ForEachReadings}
 
 -- how a command ended
 pub record Record : Type 0 where
@@ -79,6 +79,4 @@ WritesMore text old new news result =
 -- as `WritesMore`, of the records `news reads`, for each function `reads` that gives each line's reading for a call
 abbrev pub WritesNews : {X E : Type 0} → (Record → List ℕ) → (old new : Option (List ℕ)) → (news : (Asked → List ℕ → Reading) → List Record)
     → Result X E → Type 0
-WritesNews text old new news result =
-    (reads : Asked → List ℕ → Reading) (start : Option (List ℕ)) (before : List Record)
-    → AreReadings reads → Appends start old (texts_of text before) → WritesAll text before (before ++ news reads) start new result
+WritesNews text old new news result = ForEachReadings (λ reads. WritesMore text old new (news reads) result)

@@ -52,6 +52,10 @@ code_of_end reads call _ = None
 abbrev pub is_listed : (Asked → List ℕ → Reading) → List Task → Record → Bool
 is_listed reads commands r = repeats_after (rule_at commands r.cycle r.place) (code_of_end reads r.command.call r.end) r.end
 
+-- no attempt begins with one of these records
+abbrev pub BeginNoAttempt : List Record → Type 0
+BeginNoAttempt rs = AllByRecursion (λ (r : Record). r.turn.link ≡ 0 → ⊥) rs
+
 -- among `records` is one (`one`) of a command that ended as the rule of its chain names; and no attempt begins after it
 -- (`same`), so it is of the same attempt as the last record that is of a cycle
 pub record HasListed (reads : Asked → List ℕ → Reading) (commands : List Task) (records : List Record) : Type 0 where
@@ -60,7 +64,7 @@ pub record HasListed (reads : Asked → List ℕ → Reading) (commands : List T
   pub behind : List Record
   pub order : records ≡ front ++ one ∷ behind
   pub listed : is_listed reads commands one ≡ true
-  pub same : AllByRecursion (λ (r : Record). r.turn.link ≡ 0 → ⊥) behind
+  pub same : BeginNoAttempt behind
 
 -- the next command isn't the first of its cycle, which comes after the setup, and begins a further attempt of its chain
 abbrev pub IsFurtherAttempt : Plan → List Task → Model → Type 0
@@ -71,8 +75,8 @@ pub record FurtherAttemptsHaveACause : Type 0 where
   -- if a further attempt is begun, all commands that were sent are settled, and one of the attempt before ended as its rule
   -- names
   pub goes : (plan : Plan) (commands : List Task) (scope : Scope) (acts : List Act) → Runs plan commands (opening plan scope) acts
-      → action_at plan (state_after plan commands scope acts) ≡ Send → IsFurtherAttempt plan commands (state_after plan commands scope acts)
-      → (commands_in (state_after plan commands scope acts).marks ≡ 0) × HasListed scope.reads commands (state_after plan commands scope acts).records
+      → let s = state_after plan commands scope acts in action_at plan s ≡ Send → IsFurtherAttempt plan commands s
+      → (commands_in s.marks ≡ 0) × HasListed scope.reads commands s.records
   -- only further attempts are left out, once all commands that were sent are settled: if none of the attempt before ended as
   -- its rule names, or the cycle is missed, or the next command is chained, which the first of an attempt never is in a text
   pub passes : (plan : Plan) (commands : List Task) (scope : Scope) (acts : List Act) → Runs plan commands (opening plan scope) acts
@@ -81,9 +85,13 @@ pub record FurtherAttemptsHaveACause : Type 0 where
       IsFurtherAttempt plan commands s × (commands_in s.marks ≡ 0)
       × ((HasListed scope.reads commands s.records → ⊥) ⊎ ((s.progress.missed ≡ true) ⊎ (is_chained (drop (place_next commands s.progress) commands) ≡ true)))
 
--- after any acts, each record has the turn of the command at its cycle and place (`turn_at`); of a record of the setup nothing is
--- said of the attempt in it
+-- the record `r` has the turn of the command at its cycle and place (`turn_at`); if it is of the setup nothing is said of the
+-- attempt in it
+abbrev pub HasItsTurn : List Task → Record → Type 0
+HasItsTurn commands r = r.turn ≡ turn_at commands r.cycle r.turn.attempt r.place
+
+-- after any acts, `HasItsTurn` holds of each record
 abbrev pub EachRecordHasItsTurn : Type 0
 EachRecordHasItsTurn =
     (plan : Plan) (commands : List Task) (scope : Scope) (acts : List Act)
-    → AllByRecursion (λ r. r.turn ≡ turn_at commands r.cycle r.turn.attempt r.place) (state_after plan commands scope acts).records
+    → AllByRecursion (HasItsTurn commands) (state_after plan commands scope acts).records

@@ -13,7 +13,5 @@ use Rattle.gc_station.specs.Model.{action_at}
 -- width, or none is; and fewer than seven are outstanding in all
 abbrev pub RequestsHaveRoom : Type 0
 RequestsHaveRoom =
-    (plan : Plan) (commands : List Task) (scope : Scope) (acts : List Act) → IsAsking (action_at plan (state_after plan commands scope acts))
-    → ((length (deadlines (state_after plan commands scope acts).client.waiting) ≡ 0)
-    ⊎ (length (deadlines (state_after plan commands scope acts).client.waiting) < plan.width))
-    × (length (state_after plan commands scope acts).client.waiting < 7)
+    (plan : Plan) (commands : List Task) (scope : Scope) (acts : List Act) → let s = state_after plan commands scope acts in IsAsking (action_at plan s)
+    → ((length (deadlines s.client.waiting) ≡ 0) ⊎ (length (deadlines s.client.waiting) < plan.width)) × (length s.client.waiting < 7)

@@ -21,73 +21,63 @@ use Rattle.gc_station.specs.Scopes.{Scope, scoped, ForEachReadings, ForReadings}
 abbrev pub state_after : Plan → List Task → Scope → List Act → Model
 state_after plan commands scope acts = after_all plan commands (opening plan scope) acts
 
--- a run ended for `cause` with `tally`. From `told` to `told'` the link recorded `acts`, each the one that was to be made next;
--- after them none was. From `taken` to `taken'` the book took the texts of the records of these acts, and `tally` counts these
+-- a run of `scope`. From `told` to `told'` its link recorded acts, and from `taken` to `taken'` its book took the texts of
 -- records
-pub record RanTo (plan : Plan) (commands : List Task) (scope : Scope) (text : Record → List ℕ) (told told' : Option (List Act))
-    (taken taken' : Option (List ℕ)) (cause : Cause) (tally : Tally) : Type 0 where
-  pub acts : List Act
-  pub tells : Tells told told' acts
-  pub runs : Runs plan commands (opening plan scope) acts
-  pub stops : action_at plan (state_after plan commands scope acts) ≡ Stop cause
-  pub took : Appends taken taken' (texts_of text (state_after plan commands scope acts).records)
-  pub counts : tally ≡ tally_of (state_after plan commands scope acts).records
+module _ (plan : Plan) (commands : List Task) (scope : Scope) (text : Record → List ℕ) (told told' : Option (List Act)) (taken taken' : Option (List ℕ)) where
+  -- the run ended for `cause` with `tally`. The link recorded `acts`, each the one that was to be made next; after them none was.
+  -- The book took the texts of the records of these acts, and `tally` counts these records
+  pub record RanTo (cause : Cause) (tally : Tally) : Type 0 where
+    pub acts : List Act
+    pub tells : Tells told told' acts
+    pub runs : Runs plan commands (opening plan scope) acts
+    pub stops : action_at plan (state_after plan commands scope acts) ≡ Stop cause
+    pub took : Appends taken taken' (texts_of text (state_after plan commands scope acts).records)
+    pub counts : tally ≡ tally_of (state_after plan commands scope acts).records
 
--- a run in which the book failed at a record. From `told` to `told'` the link recorded `acts` and `last`, each the one that was
--- to be made next, and after them a close. From `taken` to `taken'` the book took the texts of all records of `acts`, and of
--- the records that `last` adds a part
-pub record FailedAtRecord (plan : Plan) (commands : List Task) (scope : Scope) (text : Record → List ℕ) (told told' : Option (List Act))
-    (taken taken' : Option (List ℕ)) : Type 0 where
-  pub acts : List Act
-  pub last : Act
-  pub tells : Tells told told' (acts ++ last ∷ (Closed ∷ []))
-  pub runs : Runs plan commands (opening plan scope) (acts ++ last ∷ [])
-  pub took : WritesPart text (state_after plan commands scope acts).records (state_after plan commands scope (acts ++ last ∷ [])).records taken taken'
+  -- the book failed at a record. The link recorded `acts` and `last`, each the one that was to be made next, and after them a
+  -- close. The book took the texts of all records of `acts`, and of the records that `last` adds a part
+  pub record FailedAtRecord : Type 0 where
+    pub acts : List Act
+    pub last : Act
+    pub tells : Tells told told' (acts ++ last ∷ (Closed ∷ []))
+    pub runs : Runs plan commands (opening plan scope) (acts ++ last ∷ [])
+    pub took : WritesPart text (state_after plan commands scope acts).records (state_after plan commands scope (acts ++ last ∷ [])).records taken taken'
 
--- a run in which the book couldn't make its records last. From `told` to `told'` the link recorded `acts`, each the one that
--- was to be made next, and after them a close. From `taken` to `taken'` the book took the texts of all records of these acts
-pub record FailedAtSync (plan : Plan) (commands : List Task) (scope : Scope) (text : Record → List ℕ) (told told' : Option (List Act))
-    (taken taken' : Option (List ℕ)) : Type 0 where
-  pub acts : List Act
-  pub tells : Tells told told' (acts ++ Closed ∷ [])
-  pub runs : Runs plan commands (opening plan scope) acts
-  pub took : Appends taken taken' (texts_of text (state_after plan commands scope acts).records)
+  -- the book couldn't make its records last. The link recorded `acts`, each the one that was to be made next, and after them a
+  -- close. The book took the texts of all records of these acts
+  pub record FailedAtSync : Type 0 where
+    pub acts : List Act
+    pub tells : Tells told told' (acts ++ Closed ∷ [])
+    pub runs : Runs plan commands (opening plan scope) acts
+    pub took : Appends taken taken' (texts_of text (state_after plan commands scope acts).records)
 
--- a run in which the book failed: at a record (`FailedAtRecord`), or when its records were to be made durable (`FailedAtSync`)
-abbrev pub BookFailed : Plan → List Task → Scope → (Record → List ℕ) → (told told' : Option (List Act)) → (taken taken' : Option (List ℕ)) → Type 0
-BookFailed plan commands scope text told told' taken taken' =
-    FailedAtRecord plan commands scope text told told' taken taken' ⊎ FailedAtSync plan commands scope text told told' taken taken'
+  -- the book failed: at a record (`FailedAtRecord`), or when its records were to be made durable (`FailedAtSync`)
+  abbrev pub BookFailed : Type 0
+  BookFailed = FailedAtRecord ⊎ FailedAtSync
 
--- a run with this result: it ended for the cause of the result, with its tally (`Ok`); or the book failed (`Err`)
-abbrev pub EndsAs : {E : Type 0} → Plan → List Task → Scope → (Record → List ℕ) → (told told' : Option (List Act)) → (taken taken' : Option (List ℕ))
-    → Result (Cause × Tally) E → Type 0
-EndsAs plan commands scope text told told' taken taken' (Ok end) = RanTo plan commands scope text told told' taken taken' end.0 end.1
-EndsAs plan commands scope text told told' taken taken' (Err _) = BookFailed plan commands scope text told told' taken taken'
+  -- the run with this result: it ended for the cause of the result, with its tally (`Ok`); or the book failed (`Err`)
+  abbrev pub EndsAs : {E : Type 0} → Result (Cause × Tally) E → Type 0
+  EndsAs (Ok end) = RanTo end.0 end.1
+  EndsAs (Err _) = BookFailed
 
--- a run with this result. `Ok`: it ended for a cause without a fault, because it is done or its end was asked for. `Err
--- Output`: the book failed. Any other fault: it ended for a cause with that fault
-abbrev pub Ran : Plan → List Task → Scope → (Record → List ℕ) → (told told' : Option (List Act)) → (taken taken' : Option (List ℕ))
-    → Result Tally RunFault → Type 0
-Ran plan commands scope text told told' taken taken' (Ok tally) =
-    (cause : Cause) × RanTo plan commands scope text told told' taken taken' cause tally × (fault_of cause ≡ None)
-Ran plan commands scope text told told' taken taken' (Err Output) = BookFailed plan commands scope text told told' taken taken'
-Ran plan commands scope text told told' taken taken' (Err fault) =
-    (cause : Cause) × (tally : Tally) × RanTo plan commands scope text told told' taken taken' cause tally × (fault_of cause ≡ Some fault)
+  -- the run with this result. `Ok`: it ended for a cause without a fault, because it is done or its end was asked for. `Err
+  -- Output`: the book failed. Any other fault: it ended for a cause with that fault
+  abbrev pub Ran : Result Tally RunFault → Type 0
+  Ran (Ok tally) = (cause : Cause) × RanTo cause tally × (fault_of cause ≡ None)
+  Ran (Err Output) = BookFailed
+  Ran (Err fault) = (cause : Cause) × (tally : Tally) × RanTo cause tally × (fault_of cause ≡ Some fault)
 
--- a run with this result and this many turns ended as `EndsAs` says, for each function that gives each line's reading for a call.
--- From `told` to `told'` its link recorded the acts, and from `taken` to `taken'` its book took the records by `text`
-abbrev pub EndsForReadings : {E : Type 0} → Plan → List Task → (turns : ℕ) → (Record → List ℕ) → (told told' : Option (List Act))
-    → (taken taken' : Option (List ℕ)) → Result (Cause × Tally) E → Type 0
-EndsForReadings plan commands turns text told told' taken taken' result =
-    ForEachReadings (λ reads. EndsAs plan commands (scoped turns reads) text told told' taken taken' result)
-
--- a run with this result and this many turns is as `Ran` says, for each function that gives each line's reading for a call;
--- and there is such a function. From `told` to `told'` its link recorded the acts, and from `taken` to `taken'` its book took the
+-- a run with this many turns. From `told` to `told'` its link recorded the acts, and from `taken` to `taken'` its book took the
 -- records by `text`
-abbrev pub RanForReadings : Plan → List Task → (turns : ℕ) → (Record → List ℕ) → (told told' : Option (List Act)) → (taken taken' : Option (List ℕ))
-    → Result Tally RunFault → Type 0
-RanForReadings plan commands turns text told told' taken taken' result =
-    ForReadings (λ reads. Ran plan commands (scoped turns reads) text told told' taken taken' result)
+module _ (plan : Plan) (commands : List Task) (turns : ℕ) (text : Record → List ℕ) (told told' : Option (List Act)) (taken taken' : Option (List ℕ)) where
+  -- the run with this result ended as `EndsAs` says, for each function that gives each line's reading for a call
+  abbrev pub EndsForReadings : {E : Type 0} → Result (Cause × Tally) E → Type 0
+  EndsForReadings result = ForEachReadings (λ reads. EndsAs plan commands (scoped turns reads) text told told' taken taken' result)
+
+  -- the run with this result is as `Ran` says, for each function that gives each line's reading for a call; and there is such a
+  -- function
+  abbrev pub RanForReadings : Result Tally RunFault → Type 0
+  RanForReadings result = ForReadings (λ reads. Ran plan commands (scoped turns reads) text told told' taken taken' result)
 
 -- after a run with the fault `Output` its book has failed (`new`); after any other run the book has failed exactly if it had
 -- before (`old`)

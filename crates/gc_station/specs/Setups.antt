@@ -1,7 +1,7 @@
 -- The setup, this project's own: the first commands of the list are sent once on each connection, and once after each
 -- synchronization, before any command of a cycle. Each is sent only after the good answer of the one before it. An act is one
 -- call on the link, with its result.
-use Rattle.std.specs.Prelude.{◌≡◌, ◌⊎◌, ℕ, ◌+◌, ◌<◌, ◌≤◌, true, nat_eq, List, [], ◌∷◌, ◌++◌, length, drop, map, Option, Some, None}
+use Rattle.std.specs.Prelude.{◌≡◌, ◌⊎◌, ℕ, ◌+◌, ◌<◌, ◌≤◌, true, nat_eq, List, [], ◌∷◌, ◌++◌, length, drop, map, Option, Some, None, filter}
 use Rattle.gc_texts.specs.declared.tasks.Task.{Task}
 use Rattle.gc_links.specs.Acts.{Act}
 use Rattle.gc_station.specs.declared.cause.Cause.{Cause}
@@ -10,7 +10,6 @@ use Rattle.gc_station.specs.declared.plan.Plan.{Plan}
 use Rattle.gc_station.specs.declared.progress.Action.{Action}
 use Rattle.gc_station.specs.declared.progress.Action.TheVariants.{Prepare, Send, Stop}
 use Rattle.gc_station.specs.Deciding.{has_begun, later}
-use Rattle.gc_station.specs.Lists.{with_if}
 use Rattle.gc_station.specs.Marks.{is_well}
 use Rattle.gc_station.specs.Model.{Model, opening, action_at, after, Runs}
 use Rattle.gc_station.specs.NextCommand.{mark_setup}
@@ -46,10 +45,13 @@ dispatches_of [] = []
 dispatches_of (None ∷ marks) = dispatches_of marks
 dispatches_of (Some mark ∷ marks) = dispatch_of_mark mark ∷ dispatches_of marks
 
+-- the dispatches of the model `s`: those of its records, and after them those of the outstanding commands
+abbrev pub dispatch_row : Model → List Dispatch
+dispatch_row s = map dispatch_of_record s.records ++ dispatches_of s.marks
+
 -- those of these commands that are of the setup, which has cycle 0
 abbrev pub of_setup : List Dispatch → List Dispatch
-of_setup [] = []
-of_setup (x ∷ xs) = with_if (nat_eq x.cycle 0) x (of_setup xs)
+of_setup xs = filter (λ (x : Dispatch). nat_eq x.cycle 0) xs
 
 -- the first of these commands, as it is sent with `mark`; none if there is no command
 abbrev pub sent_first : Mark → List Task → List Dispatch
@@ -70,9 +72,7 @@ setup_sent_by plan commands s (act ∷ acts) = sent_as (action_at plan s) comman
 -- after `acts`, which begin a run: each command of the setup that was sent, in order, has one record or, after the records, is
 -- outstanding (`each`); and if the run stopped, none is outstanding (`settled`)
 pub record EachSetUpOnce (plan : Plan) (commands : List Task) (scope : Scope) (acts : List Act) : Type 0 where
-  pub each :
-      of_setup (map dispatch_of_record (state_after plan commands scope acts).records ++ dispatches_of (state_after plan commands scope acts).marks)
-      ≡ setup_sent_by plan commands (opening plan scope) acts
+  pub each : of_setup (dispatch_row (state_after plan commands scope acts)) ≡ setup_sent_by plan commands (opening plan scope) acts
   pub settled : (cause : Cause) → action_at plan (state_after plan commands scope acts) ≡ Stop cause
       → of_setup (map dispatch_of_record (state_after plan commands scope acts).records) ≡ setup_sent_by plan commands (opening plan scope) acts
 

@@ -1,5 +1,5 @@
--- How long no reply line came before a connection is closed for that: this project's own. An act is one call on the link, with its
--- result.
+-- How long no reply line came before a connection is closed for that: this project's own. An act is one call on the link, with
+-- its result.
 use Rattle.std.specs.Prelude.{◌≡◌, ◌⊎◌, ℕ, ◌-◌, ◌<◌, ◌≤◌, false, List, [], ◌∷◌, ◌++◌}
 use Rattle.std.specs.List.{AllByRecursion}
 use Rattle.gc_texts.specs.declared.tasks.Task.{Task}
@@ -44,8 +44,8 @@ pub record WentBack (from : ℕ) (acts : List Act) : Type 0 where
   pub later : from < latest told others
 
 -- among `acts` the act `start` read the moment `from`. After it, on the same connection, no line came that reads as a reply,
--- and the moment that was read last is at least `wait` milliseconds later. After `start` no request was sent, or one was sent
--- at once, so that its reply had all that time; or the clock went back at `start`
+-- and the moment that was read last is at least `wait` milliseconds later. After `start` nothing was sent, or bytes were sent at
+-- once, so that a reply to them had all that time; or the clock went back at `start`
 pub record IsMuteFor (wait : ℕ) (plan : Plan) (commands : List Task) (scope : Scope) (acts : List Act) : Type 0 where
   pub before : List Act
   pub start : Act

@@ -42,8 +42,8 @@ waiting_in station = waiting_by station.client.ids station.marks.items station.r
 abbrev pub IsPaired : Station → Type 0
 IsPaired station = length station.marks.items ≡ length station.client.ids.waiting
 
--- the model `s` describes `station`. The station's tally and what it notes of its last records are as `s` gives them, if `s.reads`
--- gives each reply's reading for its call
+-- the model `s` describes `station`. The station's tally and what it notes of its last records are as `s` gives them, if
+-- `s.reads` gives each reply's reading for its call
 pub record Refines (station : Station) (s : Model) : Type 0 where
   -- the progress is the model's
   pub progress : station.progress ≡ s.progress
@@ -126,25 +126,17 @@ abbrev pub DoesAlone : Plan → List Task → Action → (told told' : Option (L
 DoesAlone plan commands action told told' old new =
     (text : Record → List ℕ) (known : Option (List ℕ)) → Does plan commands action (seen told text known old) (seen told' text known new)
 
--- the station `old`, which became `new`, made an act that performs `action` (`Made`), and its model changed as `moved` says. From
--- `told` to `told'` the link recorded the act; from `taken` to `taken'` a book took its records, each written by `text`
-abbrev pub Moves : {X E : Type 0} → Plan → List Task → Action → (Record → List ℕ) → (told told' : Option (List Act)) → (taken taken' : Option (List ℕ))
-    → (old new : Station) → Result X E → Type 0
-Moves plan commands action text told told' taken taken' old new result =
-    Made commands action (moved plan commands action) (seen told text taken old) (seen told' text taken' new) result
+-- from `old` to `new` a station made an act that performs `action` (`Made`), and its model changed as `moved` says
+abbrev pub Moves : {X E : Type 0} → Plan → List Task → Action → (old new : Seen) → Result X E → Type 0
+Moves plan commands action old new result = Made commands action (moved plan commands action) old new result
 
--- the station `old`, which became `new`, made a read that ends as `until` says (`Moves`), whatever its commands are
-abbrev pub MovesByReading : {X E : Type 0} → Plan → Until → (Record → List ℕ) → (told told' : Option (List Act)) → (taken taken' : Option (List ℕ))
-    → (old new : Station) → Result X E → Type 0
-MovesByReading plan until text told told' taken taken' old new result =
-    (commands : List Task) → Moves plan commands (Read until) text told told' taken taken' old new result
+-- from `old` to `new` a station made a read that ends as `until` says (`Moves`), whatever its commands are
+abbrev pub MovesByReading : {X E : Type 0} → Plan → Until → (old new : Seen) → Result X E → Type 0
+MovesByReading plan until old new result = (commands : List Task) → Moves plan commands (Read until) old new result
 
--- the station `old`, which became `new`, took a turn with an act that performs `action` (`Made`), and its model changed as `stepped`
--- says. From `told` to `told'` the link recorded the act; from `taken` to `taken'` a book took its records, each written by `text`
-abbrev pub Steps : {X E : Type 0} → Plan → List Task → Action → (Record → List ℕ) → (told told' : Option (List Act)) → (taken taken' : Option (List ℕ))
-    → (old new : Station) → Result X E → Type 0
-Steps plan commands action text told told' taken taken' old new result =
-    Made commands action (stepped plan commands action) (seen told text taken old) (seen told' text taken' new) result
+-- from `old` to `new` a station took a turn with an act that performs `action` (`Made`), and its model changed as `stepped` says
+abbrev pub Steps : {X E : Type 0} → Plan → List Task → Action → (old new : Seen) → Result X E → Type 0
+Steps plan commands action old new result = Made commands action (stepped plan commands action) old new result
 
 -- the progress after a write with this result: `p` itself or, if the write was cut after `n` bytes (`Err n`), failing for a
 -- cause that has `n` and the number `requests`
@@ -210,8 +202,8 @@ station_skipping plan commands moment station = record station {
   };
 }
 
--- from `old` to `new` a station dropped the marks of the requests that it settled; its tally and what it notes of its last records
--- may have changed, and the rest didn't
+-- from `old` to `new` a station dropped the marks of the requests that it settled; its tally and what it notes of its last
+-- records may have changed, and the rest didn't
 abbrev pub DropsSettledMarks : (old new : Station) → Type 0
 DropsSettledMarks old new = new ≡ record old {
   marks = record { items = drop (length old.settled.items) old.marks.items };

@@ -66,9 +66,9 @@ pub record NoneWellSince (plan : Plan) (commands : List Task) (scope : Scope) (a
   pub unwell : AllByRecursion IsNotWell records
   pub fresh : (state_after plan commands scope acts).fresh ≡ least_moment from behind
 
--- the plan sets a limit (`wanted`), and after `acts` the moment read last lies `plan.stale` milliseconds or more after that of the
--- last act that recorded a command that was answered well, or after 0 if none did; if the clock went back past that since, after
--- the least moment that was read since
+-- the plan sets a limit (`wanted`), and after `acts` the moment read last lies `plan.stale` milliseconds or more after that of
+-- the last act that recorded a command that was answered well, or after 0 if none did; if the clock went back past that since,
+-- after the least moment that was read since
 pub record IsStaleAt (plan : Plan) (commands : List Task) (scope : Scope) (acts : List Act) : Type 0 where
   pub since : NoneWellSince plan commands scope acts
   pub wanted : 0 < plan.stale
@@ -87,13 +87,13 @@ StopsAtItsClose why =
     → action_at plan (state_after plan commands scope acts) ≡ Stop why
     → (earlier : List Act) × (acts ≡ earlier ++ Closed ∷ []) × (action_at plan (state_after plan commands scope earlier) ≡ Close why)
 
--- a moment read at which a run with turns left is stale ends the run: no act is after the act that read it, but at most one close
+-- if a run is stale after an act that read a moment (`telling`), and has turns left, it ends: no act comes after that one, or
+-- only a close
 abbrev pub EndsOnceStale : Type 0
 EndsOnceStale =
     (plan : Plan) (commands : List Task) (scope : Scope) (earlier behind : List Act) (telling : Act)
     → Runs plan commands (opening plan scope) (earlier ++ telling ∷ behind) → IsListening telling
-    → 0 < (state_after plan commands scope (earlier ++ telling ∷ [])).progress.turns
-    → is_stale plan (state_after plan commands scope (earlier ++ telling ∷ [])).progress (waiting_of (state_after plan commands scope (earlier ++ telling ∷ []))) ≡ true
+    → let s = state_after plan commands scope (earlier ++ telling ∷ []) in 0 < s.progress.turns → is_stale plan s.progress (waiting_of s) ≡ true
     → (behind ≡ []) ⊎ (behind ≡ Closed ∷ [])
 
 -- once a moment was read at which the end of the run was asked for, no cycle begins, no command of the setup is sent, and each
@@ -101,8 +101,8 @@ EndsOnceStale =
 abbrev pub GoesOnInItsChain : Type 0
 GoesOnInItsChain =
     (plan : Plan) (commands : List Task) (scope : Scope) (acts : List Act) → Runs plan commands (opening plan scope) acts → asked_after false acts ≡ true
-    → (action_at plan (state_after plan commands scope acts) ≡ Send → (state_after plan commands scope acts).progress.next_is_chained ≡ true)
-    × (action_at plan (state_after plan commands scope acts) ≡ Begin → ⊥) × (action_at plan (state_after plan commands scope acts) ≡ Prepare → ⊥)
+    → let s = state_after plan commands scope acts in
+    (action_at plan s ≡ Send → s.progress.next_is_chained ≡ true) × (action_at plan s ≡ Begin → ⊥) × (action_at plan s ≡ Prepare → ⊥)
 
 -- a close for the cause `Stopped` is next, whether there is a connection or not, only where the end of the run was asked for at a
 -- moment that was read; and there is no connection, or the station synchronizes, or it is between two chains, or two attempts of
@@ -110,7 +110,6 @@ GoesOnInItsChain =
 abbrev pub ClosesBetweenChains : Type 0
 ClosesBetweenChains =
     (plan : Plan) (commands : List Task) (scope : Scope) (acts : List Act) → Runs plan commands (opening plan scope) acts
-    → action_at plan (state_after plan commands scope acts) ≡ Close Stopped
-    → (asked_after false acts ≡ true) × IsResting (state_after plan commands scope acts).progress (waiting_of (state_after plan commands scope acts))
-    × (0 < (state_after plan commands scope acts).progress.unsent → (state_after plan commands scope acts).progress.next_is_chained ≡ true
-    → may_go (state_after plan commands scope acts).progress (waiting_of (state_after plan commands scope acts)) ≡ false)
+    → let s = state_after plan commands scope acts in action_at plan s ≡ Close Stopped
+    → (asked_after false acts ≡ true) × IsResting s.progress (waiting_of s)
+    × (0 < s.progress.unsent → s.progress.next_is_chained ≡ true → may_go s.progress (waiting_of s) ≡ false)

@@ -12,7 +12,8 @@ use Rattle.gc_station.specs.Runs.{state_after}
 use Rattle.gc_station.specs.Model.{Model, after, action_at, opening, Runs}
 use Rattle.gc_station.specs.Scopes.{Scope}
 
--- a cause for which a connection ended or couldn't be made, and after which the run reconnects, unless it is done or no try is left
+-- a cause for which a connection ended or couldn't be made, and after which the run reconnects, unless it is done or no try is
+-- left
 abbrev pub IsTried : Cause → Type 0
 IsTried cause.Done = ⊥
 IsTried cause.Clock = ⊥

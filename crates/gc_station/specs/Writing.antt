@@ -9,14 +9,14 @@ use Rattle.gc_links.specs.declared.link.Moment.{Moment}
 use Rattle.gc_station.specs.Attempts.{listed_by}
 use Rattle.gc_station.specs.Marks.{records_of, last_well, fresh_after}
 use Rattle.gc_station.specs.Records.{Record}
-use Rattle.gc_station.specs.Scopes.{AreReadings}
+use Rattle.gc_station.specs.Scopes.{ForEachReadings}
 use Rattle.gc_station.specs.Tallies.{tallied}
 use Rattle.gc_station.specs.declared.mark.Mark.{Mark}
 use Rattle.gc_station.specs.declared.station.Station.{Station}
 use Rattle.gc_station.specs.declared.tally.Counts.{Counts}
 
--- of any one settlement, which is of the request with the first mark, the marks `a` give the same record as the marks `b`, or both
--- give none
+-- of any one settlement, which is of the request with the first mark, the marks `a` give the same record as the marks `b`, or
+-- both give none
 abbrev pub GiveSameRecord : (a b : List (Option Mark)) → Type 0
 GiveSameRecord a b =
     (reads : Asked → List ℕ → Reading) (utc : ℕ) (settlement : Rule.Settlement Asked)
@@ -37,7 +37,7 @@ news_of utc marks settlements reads = records_of reads utc marks (map settlement
 -- if the call with this result succeeded, the value `new` is what `of` gives for each function that gives each line's reading
 -- for a call
 abbrev pub BecomesAsRead : {X E A : Type 0} → A → ((Asked → List ℕ → Reading) → A) → Result X E → Type 0
-BecomesAsRead new of result = OnOk result ((reads : Asked → List ℕ → Reading) → AreReadings reads → new ≡ of reads)
+BecomesAsRead new of result = OnOk result (ForEachReadings (λ reads. new ≡ of reads))
 
 -- if the call with this result succeeded, the counts `new` are `old` with the records of these settlements counted, which were
 -- made at the moment `now` by these marks

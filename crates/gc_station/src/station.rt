@@ -12,7 +12,7 @@ ghost use Rattle.gc_station.specs.Scopes.{AreReadings, scoped};
 ghost use Rattle.gc_station.specs.Records.{WritesNews};
 ghost use Rattle.gc_station.specs.Model.{Model, opening, action_at, ended};
 ghost use Rattle.gc_station.specs.NextCommand.{place_next, expected_first, mark_next, commands_before, is_chained, others_in, is_chained_after, others_after, mark_setup};
-ghost use Rattle.gc_station.specs.Stations.{waiting_in, IsPaired, Refines, DoesAlone, Moves, Steps, OnCall, Becomes, DropsSettledMarks, IsFitting, station_expiring};
+ghost use Rattle.gc_station.specs.Stations.{waiting_in, IsPaired, Refines, DoesAlone, Moves, Steps, seen, OnCall, Becomes, DropsSettledMarks, IsFitting, station_expiring};
 ghost use Rattle.gc_station.specs.Writing.{news_settled, CountsSettled, NotesSettledWell, NotesSettledListed, NotesSettledFresh};
 ghost use Rattle.gc_station.specs.declared.progress.Action.TheVariants.{ReadClock, Renew, Begin, Open, Close};
 ghost use Rattle.gc_texts.specs.declared.tasks.Task.{Task};
@@ -320,8 +320,9 @@ impl Station {
         requires paired { IsPaired self.old }
         requires within { self.old.progress.unsent ≤ length commands.now }
         requires room { IsFitting self.old.progress (length self.old.client.ids.waiting) action }
-        ensures does { OnCall action (Moves plan.now commands.now action (B.text book.old)
-            (L.acts link.old) (L.acts link.new) (B.taken book.old) (B.taken book.new) self.old self.new result) }
+        ensures does { OnCall action (Moves plan.now commands.now action
+            (seen (L.acts link.old) (B.text book.old) (B.taken book.old) self.old)
+            (seen (L.acts link.new) (B.text book.old) (B.taken book.new) self.new) result) }
         ensures fails { FailsWith result (B.failed book.old) (B.failed book.new) }
         ensures form { B.text book.new ≡ B.text book.old }
     {
@@ -372,8 +373,9 @@ impl Station {
         requires paired { IsPaired self.old }
         requires within { self.old.progress.unsent ≤ length commands.now }
         requires room { IsFitting self.old.progress (length self.old.client.ids.waiting) action }
-        ensures does { OnCall action (Steps plan.now commands.now action (B.text book.old)
-            (L.acts link.old) (L.acts link.new) (B.taken book.old) (B.taken book.new) self.old self.new result) }
+        ensures does { OnCall action (Steps plan.now commands.now action
+            (seen (L.acts link.old) (B.text book.old) (B.taken book.old) self.old)
+            (seen (L.acts link.new) (B.text book.old) (B.taken book.new) self.new) result) }
         ensures fails { FailsWith result (B.failed book.old) (B.failed book.new) }
         ensures form { B.text book.new ≡ B.text book.old }
     {

@@ -136,9 +136,8 @@ impl<'a> Script<'a> {
         self.note_at(word, self.clock);
     }
 
-    // Appends what is put: `lf` for a lone line feed, else a request without its line end, and if the link is timed, only the digit of
-    // its id, as `#3`. If that is the eighth null procedure of a synchronization in a row, the word `begin` takes the place of all
-    // eight, with the moment of the first.
+    // Appends what is put: `lf` for a lone line feed, else a request as `note_request` does. If that is the eighth null procedure
+    // of a synchronization in a row, `begin` takes the place of all eight (`note_begin`).
     fn note_put(&mut self, bytes: &[u8]) {
         if bytes == b"\n".as_slice() {
             self.note_now(b"lf");
@@ -146,17 +145,29 @@ impl<'a> Script<'a> {
         }
         let request = bytes.strip_suffix(b"\r\n").unwrap_or(bytes);
         self.count_null(request);
+        self.note_request(request);
+        if self.nulls == NULL_IDS.len() {
+            self.note_begin();
+        }
+    }
+
+    // Appends a request, which has no line end here; if the link is timed, only `#` and the digit of its id, or `#?` if it has
+    // none.
+    fn note_request(&mut self, request: &[u8]) {
         let word = [b'#', id_of(request).unwrap_or(b'?')];
         if self.timed {
             self.note_at(&word, self.clock);
         } else {
             self.note_at(request, self.clock);
         }
-        if self.nulls == NULL_IDS.len() {
-            self.text.truncate(self.first);
-            self.note_at(b"begin", self.first_at);
-            self.nulls = 0;
-        }
+    }
+
+    // Replaces the text from the first null procedure of a synchronization on by the word `begin`, with the moment of the first,
+    // and starts the count of null procedures again.
+    fn note_begin(&mut self) {
+        self.text.truncate(self.first);
+        self.note_at(b"begin", self.first_at);
+        self.nulls = 0;
     }
 
     // Counts the null procedures of a synchronization that are put one after the other, with the ids of `NULL_IDS` in order, and stores

@@ -2,12 +2,12 @@
 -- the deadline, the accepted return codes, the retry, whether commands are chained, and the target of the group that a command
 -- may continue. A group is a run of commands for one target, which a line `chained`, `unchained`, `retry`, `at start` or `each
 -- cycle` ends. `Says` says that a mode is what these lines say.
-use Rattle.std.proofs.Common.{◌≡◌, inl, inr, ◌+◌, ◌≤◌, nat_lt, if◌then◌else◌, arith, ℕ, ◌&&◌, Bool, true, false, List, [], ◌∷◌, ◌++◌, length, map, Option, Some, None, refl, sym, ap, ◌∙◌, subst, append_assoc, append-nil}
+use Rattle.std.proofs.Common.{◌≡◌, inl, inr, ◌+◌, ◌≤◌, nat_lt, if◌then◌else◌, arith, ℕ, ◌&&◌, Bool, true, false, List, [], ◌∷◌, ◌++◌, length, map, Option, Some, refl, sym, ap, ◌∙◌, subst, append_assoc, append-nil}
 use Rattle.std.specs.List.{AllByRecursion}
 use Rattle.std.proofs.lemmas.Bool.{eq-eqb, and_parts, and_from}
 use Rattle.std.proofs.lemmas.List.{length-map, length-append, map-append}
 use Rattle.std.proofs.SliceLists.{all_by_recursion_push}
-use Rattle.std.proofs.lemmas.Option.{same_Some}
+use Rattle.std.proofs.lemmas.Option.{none-some, same_Some}
 use Rattle.gc_texts.specs.Chained.{section_after, setup_commands, cycle_commands, IsSetAfter, SaysNoDeadline, IsDeadlineAfter, SaysNoChaining, chaining_line, IsChainingAfter, SaysNoCodes, AreAcceptedAfter, SaysNoRetry, IsRetryAfter, KeepsGroup, EndsInGroupOf, IsTaskOf, TasksFollowTheirLines}
 use Rattle.gc_texts.specs.Attempts.{in_attempt, laid_out}
 use Rattle.gc_texts.specs.Repeats.{RetriesHold}
@@ -29,14 +29,13 @@ use Rattle.gc_texts.proofs.TaskReading.{mode_after_lines, mode_after_both, setup
 use Rattle.gc_texts.proofs.FirstAttempts.{chains_have_first}
 use Rattle.gc_texts.proofs.TaskLaws.{continued_group}
 
--- whether the setup holds in the mode after lines is what `section_after` says of these lines, from whether it
--- holds in the mode before them on
+-- whether the mode after lines is that of the setup is what `section_after` says of these lines, where `mode` holds before them
 section_after_lines : (mode : Mode) (lines : List TaskLine) → (mode_after_lines mode lines).setup ≡ section_after mode.setup lines
 section_after_lines mode [] = refl
 section_after_lines mode (says.AtStart ∷ later) = section_after_lines (mode_after mode says.AtStart) later
 section_after_lines mode (line ∷ later) = section_after_lines (mode_after mode line) later
 
--- with a task in front of it if `b` is true, a list is longer by one, and else, without it, as long as before
+-- a list of n tasks has one more with a task in front of it, which is there only if b is true
 setup_one : (b : Bool) (t : Task) (ts : List Task) (n : ℕ) → length ts ≡ n → length ((if b then t ∷ [] else []) ++ ts) ≡ (if b then 1 else 0) + n
 setup_one true t ts n e = omega (arith, e)
 setup_one false t ts n e = omega (arith, e)
@@ -49,14 +48,12 @@ setup_count mode (says.Command c now ∷ later) =
     (setup_count (mode_after mode (says.Command c now)) later)
 setup_count mode (line ∷ later) = setup_count (mode_after mode line) later
 
--- the sum m of the counts n and k, and of 1 for a command if it is of the section that is counted (`b`), is the same, whether the
--- 1 is added to n or to k
+-- where 1 is added to n only if b is true, the sum with k is the same as where it is added to k
 counted_in_section : (b : Bool) (n m k : ℕ) → m ≡ (if b then n + 1 else n) + k → m ≡ n + ((if b then 1 else 0) + k)
 counted_in_section true n m k e = omega (arith, e)
 counted_in_section false n m k e = omega (arith, e)
 
--- the sum m of the counts n and k, and of 1 for a command if it isn't of the other section (`b` is false), is the same, whether
--- the 1 is added to n or to k
+-- where 1 is added to n only if b is false, the sum with k is the same as where it is added to k
 counted_in_other_section : (b : Bool) (n m k : ℕ) → m ≡ (if b then n else n + 1) + k → m ≡ n + ((if b then 0 else 1) + k)
 counted_in_other_section true n m k e = omega (arith, e)
 counted_in_other_section false n m k e = omega (arith, e)
@@ -137,10 +134,6 @@ more_group lines line target keeps (before, command, now, between, at, all, same
   same,
 )
 
--- from `None ≡ Some target`, which is false, `EndsInGroupOf` follows: so nothing has to be shown of a mode without a group
-no_group : (lines : List TaskLine) (target : ℕ) → None ≡ Some target → EndsInGroupOf lines target
-no_group lines target e = cc
-
 -- where the group of the mode, if it has one, is that of the last command of the lines before (`EndsInGroupOf`), the group of the
 -- mode after one more line, if it has one, is that of the last command of all of these lines
 group_more : (lines : List TaskLine) (mode : Mode) (line : TaskLine) → ((target : ℕ) → mode.group ≡ Some target → EndsInGroupOf lines target)
@@ -150,7 +143,7 @@ group_more lines mode (says.Deadline d) group target e = more_group lines (says.
 group_more lines mode (says.Naming n) group target e = more_group lines (says.Naming n) target tt (group target e)
 group_more lines mode (says.Locating n) group target e = more_group lines (says.Locating n) target tt (group target e)
 group_more lines mode (says.Accepting cs) group target e = more_group lines (says.Accepting cs) target tt (group target e)
-group_more lines mode line group target e = no_group (lines ++ line ∷ []) target e
+group_more lines mode line group target e = absurd (none-some target e)
 
 -- where `mode` is what `lines` say (`Says`), the mode after one more line is what all of them say. `deadline` and `chained`
 -- are what holds before all lines
@@ -179,7 +172,7 @@ says_opening deadline chained = record {
   chained_is = inl (tt, refl);
   accepted_are = inl (tt, refl);
   retry_is = inl (tt, refl);
-  group = λ target e. no_group [] target e;
+  group = λ target e. absurd (none-some target e);
 }
 
 -- lines that are deadlines, names, places and accepted codes leave the group as it is

@@ -1,6 +1,6 @@
 -- The line `T 5007 now`: it asks one target, and has the form of no other command, because `now` is no list of the six parameters
 -- that procedure 5007 has.
-use Rattle.std.proofs.Common.{◌≡◌, ◌≢◌, ℕ, List, [], ◌∷◌, length, Some, arith, refl, ap, subst, sym, ◌∙◌, codes, unwrap_or}
+use Rattle.std.proofs.Common.{◌≡◌, ℕ, List, [], ◌∷◌, length, Some, arith, refl, ap, subst, sym, ◌∙◌, codes, unwrap_or}
 use Rattle.std.proofs.lemmas.List.{length-map}
 use Rattle.gc_catalogue.specs.Calls.{IsCall, call_fields}
 use Rattle.gc_catalogue.specs.declared.call.Call.{Call}
@@ -10,42 +10,27 @@ use Rattle.gc_values.specs.Digits.{number}
 use Rattle.gc_values.proofs.ListLaws.{same_count}
 use Rattle.gc_values.proofs.ParamLists.{one_list, joined_params}
 use Rattle.gc_texts.specs.Commands.{IsCommand}
-use Rattle.gc_texts.specs.Cuts.{Lacks, before, behind}
+use Rattle.gc_texts.specs.Cuts.{before, behind}
 use Rattle.gc_texts.specs.TaskLines.{SetsClock}
 use Rattle.gc_texts.specs.Troubles.{parameter_count}
 use Rattle.gc_texts.specs.Wishes.{IsWish}
+use Rattle.gc_texts.specs.Words.{first_word, second_word}
 use Rattle.gc_texts.specs.declared.commands.Command.{Command}
 use Rattle.gc_texts.specs.declared.wish.Wish.{Wish}
-use Rattle.gc_texts.proofs.Cutting.{digits_lack_spaces, has_mark}
+use Rattle.gc_texts.proofs.Cutting.{lacks_by_test, digits_lack_spaces, has_mark}
 use Rattle.gc_texts.proofs.Fronts.{behind_mark}
 use Rattle.gc_texts.proofs.Procedures.{one_number, procedure_parts}
 use Rattle.gc_texts.proofs.ParameterCounts.{parameter_counts_are}
 use Rattle.gc_texts.proofs.WishForms.{same_wish, no_wish}
 
--- `5007` has no space
-spaceless : Lacks 32 (codes "5007")
-spaceless = ((λ e. omega (arith, e)), ((λ e. omega (arith, e)), ((λ e. omega (arith, e)), ((λ e. omega (arith, e)), tt))))
-
--- `now` lacks a mark that is none of its bytes, n (110), o (111) and w (119)
-lacks_in_now : (mark : ℕ) → 110 ≢ mark → 111 ≢ mark → 119 ≢ mark → Lacks mark (codes "now")
-lacks_in_now mark a b c = (a, (b, (c, tt)))
-
--- `now` has no space
-no_spaces : Lacks 32 (codes "now")
-no_spaces = lacks_in_now 32 (λ e. omega (arith, e)) (λ e. omega (arith, e)) (λ e. omega (arith, e))
-
--- `now` has no comma
-no_commas : Lacks 44 (codes "now")
-no_commas = lacks_in_now 44 (λ e. omega (arith, e)) (λ e. omega (arith, e)) (λ e. omega (arith, e))
-
 -- `now` is one parameter
 now_is : IsParam (codes "now")
 now_is =
     record {
-      first = λ rest e. has_mark 32 [] rest (codes "now") (sym e) no_spaces;
-      last = λ front e. has_mark 32 front [] (codes "now") (sym e) no_spaces;
+      first = λ rest e. has_mark 32 [] rest (codes "now") (sym e) (lacks_by_test 32 (codes "now") refl);
+      last = λ front e. has_mark 32 front [] (codes "now") (sym e) (lacks_by_test 32 (codes "now") refl);
       pairs = refl;
-      commas = λ front rest e. absurd (has_mark 44 front rest (codes "now") (sym e) no_commas);
+      commas = λ front rest e. absurd (has_mark 44 front rest (codes "now") (sym e) (lacks_by_test 44 (codes "now") refl));
     }
 
 -- no call of procedure 5007 has `now` for its parameters: the procedure has six
@@ -63,13 +48,13 @@ command_is_no_clock line command is e =
     let procedure : is.procedure ≡ codes "5007 now" = sym (behind_mark 32 is.target_text is.procedure (digits_lack_spaces is.target_text is.target_is.names.digits))
     ∙ ap (behind 32) (sym is.line_is) ∙ e in
     let p = is.procedure_is in
-    let parts = procedure_parts is.procedure (codes "5007") (Some (codes "now")) command.call (procedure, spaceless) p in
+    let parts = procedure_parts is.procedure (codes "5007") (Some (codes "now")) command.call (procedure, lacks_by_test 32 (codes "5007") refl) p in
     let rpc : p.rpc ≡ 5007 = p.number.names.value ∙ ap number (sym parts.0) in
     let params : unwrap_or p.params [] ≡ codes "now" = ap (λ o. unwrap_or o []) (sym parts.1) in
     no_now command.call (subst (λ (n : ℕ). IsCall n (codes "now") command.call) rpc (subst (λ (ps : List ℕ). IsCall p.rpc ps command.call) params p.calls))
 
 -- where the second word of a line is `raw`, what follows its first word isn't `5007 now`
-raw_is_no_clock : (line : List ℕ) → before 32 (behind 32 line) ≡ codes "raw" → behind 32 line ≡ codes "5007 now" → ⊥
+raw_is_no_clock : (line : List ℕ) → second_word line ≡ codes "raw" → behind 32 line ≡ codes "5007 now" → ⊥
 raw_is_no_clock line raw e = let bad : codes "5007" ≡ codes "raw" = ap (before 32) (sym e) ∙ raw in cc
 
 -- no line both has the form of a wish and sets a clock
@@ -79,4 +64,4 @@ wish_is_no_clock line v w is sets =
 
 -- a line sets a clock with one wish at most
 pub one_clock : (line : List ℕ) (v w : Wish) → SetsClock line v → SetsClock line w → v ≡ w
-one_clock line v w x y = same_wish v w (one_number (before 32 line) v.target w.target 4294967295 x.target_is y.target_is) (x.call_is ∙ sym y.call_is)
+one_clock line v w x y = same_wish v w (one_number (first_word line) v.target w.target 4294967295 x.target_is y.target_is) (x.call_is ∙ sym y.call_is)

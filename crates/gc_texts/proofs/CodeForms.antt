@@ -2,14 +2,14 @@
 -- space (byte 32) between two. A line `accept` with no code after it sets none; a line `accept ` with a list after it sets
 -- those. While a list is read, `left` is what is unread of the text (`None` at its end), `read` the codes so far, and
 -- `count` how many they are; `rest` is what is left after the next word.
-use Rattle.std.proofs.Common.{◌≡◌, ◌<◌, ◌≤◌, ◌+◌, ◌-◌, inl, inr, ℕ, suc, replicate, slice_set, List, [], ◌∷◌, ◌++◌, length, get_or, Option, Some, None, MatchOption, arith, ap, subst, sym, ◌∙◌, append_assoc, append-nil, codes}
+use Rattle.std.proofs.Common.{◌≡◌, ◌<◌, ◌≤◌, ◌+◌, ◌-◌, inl, inr, ℕ, suc, replicate, slice_set, List, [], ◌∷◌, ◌++◌, length, get_or, Option, Some, None, arith, ap, subst, sym, ◌∙◌, append_assoc, append-nil, codes}
 use Rattle.std.proofs.Math.Seq.{set-append_seam}
 use Rattle.std.proofs.lemmas.List.{append_cancel_left, length_push}
 use Rattle.gc_texts.specs.Codes.{IsCodeList, IsCode, AreCodes, padded_codes}
 use Rattle.gc_texts.specs.Cuts.{Cuts, Lacks}
 use Rattle.gc_texts.specs.TaskLines.{SetsAccepted}
 use Rattle.gc_texts.specs.declared.codes.Codes.{Codes}
-use Rattle.gc_texts.proofs.Cutting.{read_alike, digits_lack_spaces}
+use Rattle.gc_texts.proofs.Cutting.{IsReadAs, read_alike, digits_lack_spaces}
 use Rattle.gc_texts.proofs.Procedures.{one_number}
 use Rattle.gc_texts.proofs.WordForms.{IsWordForm, one_word_list, AreLeft, ReadsWords, all_read_are, next_item_of, one_more_read}
 
@@ -47,8 +47,7 @@ one_accepting line a b (inr x) (inr y) =
 -- where a line is `accept ` and `rest`, but not `accept` alone, and `r` is the codes that `rest` lists, or `None` where it lists
 -- none, `r` is the codes that the line sets, too, or `None` where it sets none
 pub accepts_so : (line rest : List ℕ) (r : Option Codes) → (line ≡ codes "accept" → ⊥) → line ≡ codes "accept " ++ rest
-    → MatchOption r ((found : Codes) → IsCodeList rest found → ⊥) (λ found. IsCodeList rest found)
-    → MatchOption r ((found : Codes) → SetsAccepted line found → ⊥) (λ found. SetsAccepted line found)
+    → IsReadAs (IsCodeList rest) r → IsReadAs (SetsAccepted line) r
 accepts_so line rest r other e = read_alike (IsCodeList rest) (SetsAccepted line) r (λ found are. inr (record { rest = rest; line_is = e; listed = are })) rest_lists where
   -- `rest` lists the codes that the line sets, because the line isn't `accept` alone
   rest_lists : (found : Codes) → SetsAccepted line found → IsCodeList rest found

@@ -1,16 +1,20 @@
 -- Texts cut at the first mark, which is a byte, as LF between lines or a space between words; and what is read of a text, if
 -- anything.
-use Rattle.std.proofs.Common.{◌≡◌, ◌≢◌, ◌<◌, ◌+◌, ◌≤◌, ℕ, zero, suc, List, [], ◌∷◌, ◌++◌, length, take, drop, get_or, Option, Some, None, MatchOption, arith, refl, ap, subst, sym, ◌∙◌}
-use Rattle.std.proofs.lemmas.Bool.{eqb-true, eq-eqb}
+use Rattle.std.proofs.Common.{◌≡◌, ◌≢◌, ◌<◌, ◌+◌, ◌≤◌, ◌==◌, false, ℕ, zero, suc, List, [], ◌∷◌, ◌++◌, length, take, drop, get_or, Option, Some, None, MatchOption, arith, refl, ap, subst, sym, ◌∙◌}
+use Rattle.std.specs.List.{list_any}
+use Rattle.std.proofs.lemmas.Bool.{eqb-true, eqb-false, eq-eqb, or_parts}
 use Rattle.std.proofs.lemmas.List.{take_all}
 use Rattle.memchr.specs.Find.{IsFirstByte, is_byte}
 use Rattle.gc_values.specs.Digits.{AreDigits}
 use Rattle.gc_texts.specs.Cuts.{Lacks, Cuts}
 
--- where `Says` and `Sets` hold of the same values, and `r` is a value of which `Says` holds, or `None` where it holds of none,
--- the same is so of `r` and `Sets`
+-- `r` is a value of which `Says` holds, or `None` where it holds of none
+abbrev pub IsReadAs : {Value : Type 0} → (Says : Value → Type 0) → (r : Option Value) → Type 0
+IsReadAs {Value} Says r = MatchOption r ((v : Value) → Says v → ⊥) (λ v. Says v)
+
+-- where `Says` and `Sets` hold of the same values, what is read by the one (`IsReadAs`) is read by the other
 pub read_alike : {Value : Type 0} (Says Sets : Value → Type 0) (r : Option Value) → ((v : Value) → Says v → Sets v) → ((v : Value) → Sets v → Says v)
-    → MatchOption r ((v : Value) → Says v → ⊥) (λ v. Says v) → MatchOption r ((v : Value) → Sets v → ⊥) (λ v. Sets v)
+    → IsReadAs Says r → IsReadAs Sets r
 read_alike Says Sets None to from none = λ v is. none v (from v is)
 read_alike Says Sets (Some v) to from is = to v is
 
@@ -73,6 +77,13 @@ pub cut_none : (mark : ℕ) (text front : List ℕ) (rest : Option (List ℕ))
     → Cuts mark text front rest → Lacks mark text → (front ≡ text) × (rest ≡ None)
 cut_none mark text front None cut lacks = (sym cut.0, refl)
 cut_none mark text front (Some rest) cut lacks = absurd (has_mark mark front rest text (sym cut.0) lacks)
+
+-- a text lacks the mark where the test of its bytes finds none that is the mark
+pub lacks_by_test : (mark : ℕ) (bs : List ℕ) → list_any (λ b. b == mark) bs ≡ false → Lacks mark bs
+lacks_by_test mark [] none = tt
+lacks_by_test mark (b ∷ bs) none =
+    let apart = or_parts (b == mark) (list_any (λ c. c == mark) bs) none in
+    (eqb-false b mark apart.0, lacks_by_test mark bs apart.1)
 
 -- digits are no spaces
 pub digits_lack_spaces : (ds : List ℕ) → AreDigits ds → Lacks 32 ds

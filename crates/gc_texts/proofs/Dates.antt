@@ -6,8 +6,8 @@ use Rattle.std.specs.Prelude.{nat_lt}
 use Rattle.std.proofs.lemmas.Bool.{lt-ltb, le-ltb, cond-true, cond-false, cond_both}
 use Rattle.std.proofs.lemmas.Bool.Decides.{leb_tells}
 use Rattle.gc_texts.specs.declared.stamp.Date.{Date}
-use Rattle.gc_catalogue.specs.Calendar.{is_leap}
-use Rattle.gc_texts.specs.Stamps.{month_days, year_days, days_of_months, next_day, days_after}
+use Rattle.gc_catalogue.specs.Calendar.{is_leap, month_days}
+use Rattle.gc_texts.specs.Stamps.{year_days, days_of_months, next_day, days_after}
 
 -- day `d` of month `m` of year `y`
 abbrev pub on : (y m d : ℕ) → Date
@@ -24,12 +24,12 @@ next_within : (y m d : ℕ) → d < month_days y m → next_day (on y m d) ≡ o
 next_within y m d below = cond-true (nat_lt d (month_days y m)) _ _ (lt-ltb d (month_days y m) below)
 
 -- where a month has at least d + k days, the date k days after its day d is its day d + k
-pub within : (k y m d : ℕ) → d + k ≤ month_days y m → days_after k (on y m d) ≡ on y m (d + k)
+pub within_month : (k y m d : ℕ) → d + k ≤ month_days y m → days_after k (on y m d) ≡ on y m (d + k)
 unfolding days_after
-within zero y m d le = let e : d ≡ d + 0 = omega arith in ap (on y m) e
-within (suc k) y m d le =
+within_month zero y m d le = let e : d ≡ d + 0 = omega arith in ap (on y m) e
+within_month (suc k) y m d le =
     let e : d + 1 + k ≡ d + suc k = omega arith in
-    ap (days_after k) (next_within y m d (omega (arith, le))) ∙ within k y m (d + 1) (omega (arith, le)) ∙ ap (on y m) e
+    ap (days_after k) (next_within y m d (omega (arith, le))) ∙ within_month k y m (d + 1) (omega (arith, le)) ∙ ap (on y m) e
 
 -- the day after a month's last is the first of the next month, where the month isn't December
 next_month : (y m d : ℕ) → d ≡ month_days y m → m < 12 → next_day (on y m d) ≡ on y (m + 1) 1
@@ -156,7 +156,7 @@ pub day_in_month : (y m days left : ℕ) (d : Date) → left < month_days y m �
     → on y m (left + 1) ≡ days_after days d
 day_in_month y m days left d part so =
     let e : 1 + left ≡ left + 1 = omega arith in
-    sym (so ∙ within left y m 1 (omega (arith, part)) ∙ ap (on y m) e)
+    sym (so ∙ within_month left y m 1 (omega (arith, part)) ∙ ap (on y m) e)
 
 -- a year has at least one day
 pub year_has_days : (y : ℕ) → 0 < year_days y

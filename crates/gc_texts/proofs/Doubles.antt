@@ -1,5 +1,5 @@
 -- What can't be read of a text as a double, and doubles that are no place or no tolerance.
-use Rattle.std.proofs.Common.{◌≡◌, List, ℕ, Bool, true, false, Result, Ok, Err, sym, ap, ◌∙◌}
+use Rattle.std.proofs.Common.{◌≡◌, List, ℕ, true, false, Result, Ok, Err, sym, ap, ◌∙◌}
 use Rattle.std.proofs.lemmas.Bool.{both_ways}
 use Rattle.gc_values.specs.Directions.{is_place, is_tolerance}
 use Rattle.gc_values.specs.declared.decimal.Decimal.{Decimal}

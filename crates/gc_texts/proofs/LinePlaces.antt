@@ -11,18 +11,20 @@ front_line : (left : Option (List ℕ)) (now line : List ℕ) (rest : Option (Li
     → left ≡ Some now → Cuts 10 now line rest → lines_left left ≡ without_cr line ∷ lines_left rest
 front_line left now line rest some cut = ap lines_left some ∙ lines-cut now line rest cut
 
--- where the first of the lines left is the wanted one (`wanted` is 1, or 0), the wanted line is the line that
--- is cut off next, without its CR
-pub line_here : (wanted_line : List ℕ) (left : Option (List ℕ)) (now line : List ℕ) (rest : Option (List ℕ)) (wanted : ℕ)
-    → wanted_line ≡ get_or (lines_left left) (wanted - 1) [] → left ≡ Some now → Cuts 10 now line rest → wanted ≤ 1 → without_cr line ≡ wanted_line
-line_here wanted_line left now line rest wanted so some cut last =
-    let none : wanted - 1 ≡ 0 = omega (arith, last) in
-    sym (so ∙ ap (λ n. get_or (lines_left left) n []) none ∙ ap (λ ls. get_or ls 0 []) (front_line left now line rest some cut))
+-- `wanted_line` is number `wanted` of the lines left, the first for 0, and empty where they are fewer. `line` is the line that
+-- is cut off next, and `rest` what is left then
+module _
+    (wanted_line : List ℕ) (left : Option (List ℕ)) (now line : List ℕ) (rest : Option (List ℕ)) (wanted : ℕ)
+    (so : wanted_line ≡ get_or (lines_left left) (wanted - 1) []) (some : left ≡ Some now) (cut : Cuts 10 now line rest) where
+  -- where the first of the lines left is the wanted one (`wanted` is 1, or 0), the wanted line is the line that is cut off next,
+  -- without its CR
+  pub line_here : wanted ≤ 1 → without_cr line ≡ wanted_line
+  line_here last =
+      let none : wanted - 1 ≡ 0 = omega (arith, last) in
+      sym (so ∙ ap (λ n. get_or (lines_left left) n []) none ∙ ap (λ ls. get_or ls 0 []) (front_line left now line rest some cut))
 
--- where a later one of the lines left is wanted, it is number `wanted - 1` of the rest's lines, and empty where they are fewer
-pub line_behind : (wanted_line : List ℕ) (left : Option (List ℕ)) (now line : List ℕ) (rest : Option (List ℕ)) (wanted : ℕ)
-    → wanted_line ≡ get_or (lines_left left) (wanted - 1) [] → left ≡ Some now → Cuts 10 now line rest → 1 < wanted
-    → wanted_line ≡ get_or (lines_left rest) (wanted - 1 - 1) []
-line_behind wanted_line left now line rest wanted so some cut more =
-    let one : wanted - 1 ≡ suc (wanted - 1 - 1) = omega (arith, more) in
-    so ∙ ap (λ n. get_or (lines_left left) n []) one ∙ ap (λ ls. get_or ls (suc (wanted - 1 - 1)) []) (front_line left now line rest some cut)
+  -- where a later one of the lines left is wanted, it is number `wanted - 1` of the rest's lines, and empty where they are fewer
+  pub line_behind : 1 < wanted → wanted_line ≡ get_or (lines_left rest) (wanted - 1 - 1) []
+  line_behind more =
+      let one : wanted - 1 ≡ suc (wanted - 1 - 1) = omega (arith, more) in
+      so ∙ ap (λ n. get_or (lines_left left) n []) one ∙ ap (λ ls. get_or ls (suc (wanted - 1 - 1)) []) (front_line left now line rest some cut)

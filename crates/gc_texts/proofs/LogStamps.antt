@@ -1,5 +1,5 @@
 -- The bytes of a log line: none of them is a space in its moment, and all of them are printable.
-use Rattle.std.proofs.Common.{◌≡◌, ℕ, zero, suc, ◌+◌, ◌/◌, ◌%◌, ◌<◌, ◌≤◌, ◌^◌, Bool, true, false, List, [], ◌∷◌, ◌++◌, refl, sym, subst, arith}
+use Rattle.std.proofs.Common.{◌≡◌, ℕ, zero, suc, ◌+◌, ◌/◌, ◌%◌, ◌<◌, ◌≤◌, ◌^◌, true, false, List, [], ◌∷◌, ◌++◌, refl, sym, subst, arith}
 use Rattle.std.specs.Prelude.{nat_lt, ◌==◌, ◌&&◌, not}
 use Rattle.std.specs.Fmt.{decimal}
 use Rattle.std.specs.List.{All, AllByRecursion}
@@ -9,10 +9,12 @@ use Rattle.std.proofs.lemmas.Fmt.{decimal_is_IsNumeral}
 use Rattle.std.proofs.lemmas.Str.Parse.{digit_from_value}
 use Rattle.std.proofs.lemmas.Bool.{cond_both, ltb-true, and_parts}
 use Rattle.std.proofs.lemmas.List.Elements.{recursion_from_All, All-from_recursion, All-append}
+use Rattle.gc_lines.proofs.Lists.{all_on}
 use Rattle.gc_texts.specs.Cuts.{Lacks}
 use Rattle.gc_texts.specs.Laws.{LogLinesReadBack, LogLinesArePrintable}
 use Rattle.gc_texts.specs.Logs.{mark_text, is_unescaped, hex_digit, escape, escaped, IsPrintable, IsPrintableByte}
-use Rattle.gc_texts.specs.Stamps.{next_day, days_after, date_of, month_days, two_digits, three_digits, date_text, time_text, stamp_text}
+use Rattle.gc_catalogue.specs.Calendar.{month_days}
+use Rattle.gc_texts.specs.Stamps.{next_day, days_after, date_of, two_digits, three_digits, date_text, time_text, stamp_text}
 use Rattle.gc_texts.specs.declared.log_line.LogMark.{LogMark}
 use Rattle.gc_texts.specs.declared.log_line.LogMark.TheVariants.{Went, WentPart, Came, CamePart, Link}
 use Rattle.gc_texts.specs.declared.stamp.Date.{Date}
@@ -124,8 +126,7 @@ visible_lacks_space (b ∷ bs) h = ((λ e. absurd (omega (arith, e, h.0.above)))
 
 -- bytes that are printable, and no spaces, are printable
 visible_prints : (bs : List ℕ) → AllByRecursion IsVisible bs → AllByRecursion IsPrintableByte bs
-visible_prints [] h = tt
-visible_prints (b ∷ bs) h = ((omega (arith, h.0.above), h.0.below), visible_prints bs h.1)
+visible_prints bs h = all_on IsVisible IsPrintableByte bs (λ b is. (omega (arith, is.above), is.below)) h
 
 -- a digit of base 16, as it is written, is printable
 hex_digit_prints : (n : ℕ) → n < 16 → IsPrintableByte (hex_digit n)

@@ -1,8 +1,8 @@
 -- Lines of a log: each byte reads back, and so does each line. A log line is a moment, a space, a mark (which says whether
 -- bytes went or came, whole or in part, or that it is about the link), a space and the escaped bytes.
-use Rattle.std.proofs.Common.{◌≡◌, ◌≢◌, ℕ, ◌+◌, ◌/◌, ◌%◌, ◌<◌, ◌≤◌, Bool, true, false, cond, List, [], ◌∷◌, ◌++◌, length, Option, Some, None, refl, sym, ap, subst, ◌∙◌, arith, append_assoc, append-nil, length-append}
+use Rattle.std.proofs.Common.{◌≡◌, ◌≢◌, ℕ, ◌+◌, ◌/◌, ◌%◌, ◌<◌, ◌≤◌, true, false, cond, List, [], ◌∷◌, ◌++◌, length, Option, Some, None, refl, sym, ap, subst, ◌∙◌, arith, append_assoc, append-nil, length-append}
 use Rattle.std.specs.List.{All, AllByRecursion}
-use Rattle.std.specs.Prelude.{nat_lt, ◌==◌}
+use Rattle.std.specs.Prelude.{nat_lt, ◌==◌, codes}
 use Rattle.std.proofs.Math.Nat.{div-add-mod}
 use Rattle.std.proofs.lemmas.Bool.{cond_both, eqb-true, ltb-true, ltb-false}
 use Rattle.std.proofs.lemmas.List.Elements.{recursion_from_All}
@@ -11,7 +11,7 @@ use Rattle.gc_texts.specs.Cuts.{Lacks, Cuts}
 use Rattle.gc_texts.specs.Logs.{mark_text, is_unescaped, hex_digit, escape, escaped, IsPrintable, IsLogLine}
 use Rattle.gc_texts.specs.declared.log_line.LogMark.{LogMark}
 use Rattle.gc_texts.specs.declared.log_line.LogMark.TheVariants.{Went, WentPart, Came, CamePart, Link}
-use Rattle.gc_texts.proofs.Cutting.{cut_found, one_front}
+use Rattle.gc_texts.proofs.Cutting.{lacks_by_test, cut_found, one_front}
 
 -- a byte is a number below 256
 abbrev IsByte : ℕ → Type 0
@@ -22,22 +22,9 @@ data IsEscape (b : ℕ) (text : List ℕ) : Type 0 where
   as_it_is : is_unescaped b ≡ true → text ≡ b ∷ [] → IsEscape b text
   as_digits : is_unescaped b ≡ false → text ≡ 92 ∷ 120 ∷ hex_digit (b / 16) ∷ hex_digit (b % 16) ∷ [] → IsEscape b text
 
--- the text that is chosen by whether a byte is written as it is (`test`) is one of the byte's two forms
-escapes_at : (b : ℕ) (test : Bool) → is_unescaped b ≡ test → IsEscape b (cond test (b ∷ []) (92 ∷ 120 ∷ hex_digit (b / 16) ∷ hex_digit (b % 16) ∷ []))
-escapes_at b true is = as_it_is is refl
-escapes_at b false is = as_digits is refl
-
 -- the escaped form of a byte is that byte, or `\x` and its two digits
 escapes : (b : ℕ) → IsEscape b (escape b)
-escapes b = escapes_at b (is_unescaped b) refl
-
--- a digit of base 16 below 10 is written 0 to 9, the codes from 48 on
-low_digit : (n : ℕ) → n < 10 → hex_digit n ≡ 48 + n
-low_digit n low = cond_both (nat_lt n 10) (48 + n) (87 + n) (λ d. d ≡ 48 + n) (λ _. refl) (λ e. absurd (omega (arith, low, ltb-false n 10 e)))
-
--- a digit of base 16 from 10 on is written a to f, the codes from 97 on
-high_digit : (n : ℕ) → 10 ≤ n → hex_digit n ≡ 87 + n
-high_digit n high = cond_both (nat_lt n 10) (48 + n) (87 + n) (λ d. d ≡ 87 + n) (λ e. absurd (omega (arith, high, ltb-true n 10 e))) (λ _. refl)
+escapes b = cond_both (is_unescaped b) (b ∷ []) (92 ∷ 120 ∷ hex_digit (b / 16) ∷ hex_digit (b % 16) ∷ []) (IsEscape b) (λ is. as_it_is is refl) (λ is. as_digits is refl)
 
 -- two digits of base 16 that are written alike are the same
 one_value : (m n : ℕ) → hex_digit m ≡ hex_digit n → m < 16 → n < 16 → m ≡ n
@@ -156,11 +143,11 @@ escaped_injective xs ys h j e =
 
 -- a mark has no space
 mark_lacks : (mark : LogMark) → Lacks 32 (mark_text mark)
-mark_lacks Went = ((λ e. absurd (omega (arith, e))), tt)
-mark_lacks WentPart = ((λ e. absurd (omega (arith, e))), ((λ e. absurd (omega (arith, e))), tt))
-mark_lacks Came = ((λ e. absurd (omega (arith, e))), tt)
-mark_lacks CamePart = ((λ e. absurd (omega (arith, e))), ((λ e. absurd (omega (arith, e))), tt))
-mark_lacks Link = ((λ e. absurd (omega (arith, e))), tt)
+mark_lacks Went = lacks_by_test 32 (codes ">") refl
+mark_lacks WentPart = lacks_by_test 32 (codes ">|") refl
+mark_lacks Came = lacks_by_test 32 (codes "<") refl
+mark_lacks CamePart = lacks_by_test 32 (codes "<|") refl
+mark_lacks Link = lacks_by_test 32 (codes "-") refl
 
 -- the parts of a log line, cut at its spaces, and which lines are none
 module _

@@ -2,7 +2,7 @@
 use Rattle.std.proofs.Common.{◌≡◌, ℕ, ◌+◌, ◌*◌, ◌/◌, ◌%◌, ◌<◌, List, [], ◌∷◌, ◌++◌, refl, ap, ◌∙◌, arith}
 use Rattle.std.specs.Prelude.{codes}
 use Rattle.std.proofs.Math.Nat.{div-add-mod}
-use Rattle.gc_texts.specs.Moments.{millis_of, digit, StampsAreMoments}
+use Rattle.gc_texts.specs.Moments.{millis_of, digit, clock_text, StampsAreMoments}
 use Rattle.gc_texts.specs.Stamps.{next_day, days_after, date_of, two_digits, three_digits, date_text, time_text, stamp_text}
 use Rattle.gc_texts.proofs.Dates.{days_sum}
 
@@ -22,11 +22,9 @@ three_digits_are a b c h k =
     let rest : n % 100 ≡ b * 10 + c = omega (arith, h, k, div-add-mod n 100) in
     ap (λ x. digit x ∷ two_digits (n % 100)) first ∙ ap (λ x. digit a ∷ two_digits x) rest ∙ ap (λ xs. digit a ∷ xs) (two_digits_are b c k)
 
--- the text of a time of day, given in milliseconds, is its hours, minutes, seconds and milliseconds, with colons (58) and a
--- point (46) between them
+-- the text of a time of day, given in milliseconds, is its hours, minutes, seconds and milliseconds, as `clock_text` writes them
 time_is : (hours minutes seconds more : ℕ) → minutes < 60 → seconds < 60 → more < 1000
-    → time_text (hours * 3600000 + minutes * 60000 + seconds * 1000 + more)
-    ≡ two_digits hours ++ 58 ∷ (two_digits minutes ++ 58 ∷ (two_digits seconds ++ 46 ∷ three_digits more))
+    → time_text (hours * 3600000 + minutes * 60000 + seconds * 1000 + more) ≡ clock_text hours minutes seconds more
 time_is hours minutes seconds more m s k =
     let n = hours * 3600000 + minutes * 60000 + seconds * 1000 + more in
     let a : n / 3600000 ≡ hours = omega (arith, m, s, k, div-add-mod n 3600000) in
@@ -47,8 +45,7 @@ stamp_of date time = date ++ codes "T" ++ time ++ codes "Z"
 -- the stamp of a moment is its date, and its hour, minute, second and millisecond in two, two, two and three digits
 stamp_is : (days hours minutes seconds more : ℕ) → hours < 24 → minutes < 60 → seconds < 60 → more < 1000
     → stamp_text (millis_of days hours minutes seconds more)
-    ≡ date_text (date_of days) ++ codes "T"
-    ++ (two_digits hours ++ codes ":" ++ two_digits minutes ++ codes ":" ++ two_digits seconds ++ codes "." ++ three_digits more) ++ codes "Z"
+    ≡ date_text (date_of days) ++ codes "T" ++ clock_text hours minutes seconds more ++ codes "Z"
 stamp_is days hours minutes seconds more h m s k =
     let n = millis_of days hours minutes seconds more in
     let day : n / 86400000 ≡ days = omega (arith, h, m, s, k, div-add-mod n 86400000) in

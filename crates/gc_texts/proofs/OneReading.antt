@@ -1,11 +1,11 @@
 -- A procedure's text gives one call at most, and lines give one list of items at most where each gives one item at most.
 use Rattle.std.proofs.Common.{◌≡◌, ℕ, List, [], ◌∷◌, ◌++◌, Option, Some, None, refl, ap, subst, ◌∙◌, unwrap_or}
+use Rattle.std.specs.List.{AllZip}
 use Rattle.std.proofs.lemmas.List.{append-nil}
 use Rattle.gc_catalogue.specs.declared.call.Call.{Call}
 use Rattle.gc_catalogue.specs.Calls.{IsCall}
 use Rattle.gc_catalogue.proofs.CallLaws.{one_call}
 use Rattle.gc_texts.specs.Cuts.{Cuts, Lacks}
-use Rattle.gc_texts.specs.LineForms.{Form, AreItems}
 use Rattle.gc_texts.specs.Procedures.{IsNumber, IsProcedure, params_text_of}
 use Rattle.gc_texts.proofs.Cutting.{digits_lack_spaces}
 use Rattle.gc_texts.proofs.Procedures.{one_number, procedure_parts}
@@ -25,9 +25,9 @@ one_procedure text c d p q =
     let lists : unwrap_or q.params [] ≡ unwrap_or p.params [] = ap (λ o. unwrap_or o []) parts.1 in
     one_call p.rpc (unwrap_or p.params []) c d p.calls (subst (λ (n : ℕ). IsCall n (unwrap_or p.params []) d) rpcs (subst (λ (ps : List ℕ). IsCall q.rpc ps d) lists q.calls))
 
--- where each line has the form of one item at most, lines have the forms of one list of items at most (`AreItems`)
-pub one_list : {Item : Type 0} (form : Form Item) → ((line : List ℕ) (a b : Item) → form line a → form line b → a ≡ b)
-    → (lines : List (List ℕ)) (xs ys : List Item) → AreItems form lines xs → AreItems form lines ys → xs ≡ ys
+-- where each line, or whatever has a form, has the form of one item at most, lines have the forms of one list of items at most
+pub one_list : {Line Item : Type 0} (form : Line → Item → Type 0) → ((line : Line) (a b : Item) → form line a → form line b → a ≡ b)
+    → (lines : List Line) (xs ys : List Item) → AllZip form lines xs → AllZip form lines ys → xs ≡ ys
 one_list form one [] [] [] h k = refl
 one_list form one [] [] (y ∷ ys) h k = absurd k
 one_list form one [] (x ∷ xs) ys h k = absurd h

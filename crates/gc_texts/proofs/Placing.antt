@@ -1,6 +1,7 @@
 -- Where targets are, as lines of a text say it, and what follows for the tasks of a target and for an answer.
-use Rattle.std.proofs.Common.{◌≡◌, ℕ, zero, suc, ◌+◌, take, drop, ◌<◌, get_or, slice_set, arith, ◌==◌, ◌&&◌, not, nat_lt, List, [], ◌∷◌, ◌++◌, length, map, Option, Some, None, Bool, true, false, cond, refl, sym, ap, ◌∙◌, subst, append_assoc, append-nil}
+use Rattle.std.proofs.Common.{◌≡◌, ℕ, zero, suc, ◌+◌, take, drop, ◌<◌, get_or, slice_set, arith, ◌==◌, not, nat_lt, List, [], ◌∷◌, ◌++◌, length, map, Option, Some, None, true, false, cond, refl, sym, ap, ◌∙◌, subst, append_assoc, append-nil}
 use Rattle.std.proofs.lemmas.Bool.{eq-eqb, and_parts, or_parts, not-true, not-false}
+use Rattle.std.proofs.lemmas.List.Concat.{flat_map-append}
 use Rattle.gc_catalogue.specs.declared.answer.Answer.{Answer}
 use Rattle.gc_values.specs.Directions.{is_near, IsNear}
 use Rattle.gc_values.specs.declared.direction.Direction.{Direction}
@@ -14,7 +15,6 @@ use Rattle.gc_texts.specs.declared.near.Near.{Near}
 use Rattle.gc_texts.specs.declared.task_line.TaskLine.{TaskLine}
 use Rattle.gc_texts.specs.declared.task_line.TaskLine.TheVariants as says
 use Rattle.gc_texts.specs.declared.tasks.Task.{Task}
-use Rattle.gc_texts.proofs.TaskReading.{nears_both}
 
 -- where lines may follow these names and places, and one of them says where a target is, neither `nears` nor a line before it
 -- says where that target is
@@ -49,7 +49,7 @@ each_has_its_place nears (t ∷ tasks) (u ∷ earlier) others task e =
 pub places_hold : PlacesHoldForAll
 places_hold text deadline chained setup tasks names nears is front later near at earlier others task among same =
     let follow : MayFollow [] [] (front ++ says.Locating near ∷ later) = subst (λ said. MayFollow [] [] said) at is.lines.follow in
-    let all : nears ≡ nears_of front ++ near ∷ nears_of later = is.nears_are ∙ ap nears_of at ∙ nears_both front (says.Locating near ∷ later) in
+    let all : nears ≡ nears_of front ++ near ∷ nears_of later = is.nears_are ∙ ap nears_of at ∙ flat_map-append near_at front (says.Locating near ∷ later) in
     each_has_its_place nears (tasks_of (opening deadline chained) is.said) earlier others task (sym is.tasks_are ∙ among)
     ∙ ap (λ t. near_of t nears) same ∙ ap (near_of near.target) all ∙ found_near (nears_of front) (nears_of later) near (no_place_before [] [] front later near follow)
 
@@ -61,7 +61,7 @@ near_unless_elsewhere near answer d isnt has =
     (near_is_within d near.place near.tolerance).0 (not-false (is_near d near.place near.tolerance) (ap (is_away near) (sym has) ∙ isnt))
 
 -- the tasks, when the loop has given the first i of them their places, and the others none yet
-abbrev halfway : List Near → (i : ℕ) → List Task → List Task
+abbrev pub halfway : List Near → (i : ℕ) → List Task → List Task
 halfway nears i tasks = map (placed nears) (take i tasks) ++ drop i tasks
 
 -- where the first i tasks have their places, and task i is given its own, the first i + 1 have theirs
@@ -76,7 +76,7 @@ placed_at nears (x ∷ tasks) (suc i) d below = let low : i < length tasks = ome
 -- first i + 1 have theirs
 pub placed_next : (nears : List Near) (tasks now : List Task) (i : ℕ) (d new : Task)
     → now ≡ halfway nears i tasks → i < length tasks → new ≡ placed nears (get_or now i d)
-    → slice_set now i new ≡ map (placed nears) (take (i + 1) tasks) ++ drop (i + 1) tasks
+    → slice_set now i new ≡ halfway nears (i + 1) tasks
 placed_next nears tasks now i d new is below e =
     let one : suc i ≡ i + 1 = omega arith in
     ap (slice_set now i) e ∙ ap (λ ts. slice_set ts i (placed nears (get_or ts i d))) is ∙ placed_at nears tasks i d below ∙ ap (λ n. halfway nears n tasks) one

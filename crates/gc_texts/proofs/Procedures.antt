@@ -1,13 +1,12 @@
 -- Which texts are those of a procedure: its number in digits and, after a space (byte 32), its parameters, if there are any.
 -- A text that is cut at its first space has a front and, if it has a space, a rest.
 use Rattle.std.proofs.Common.{◌≡◌, ◌<◌, ℕ, List, [], ◌∷◌, ◌++◌, length, Option, Some, None, arith, refl, ap, subst, sym, ◌∙◌, unwrap_or}
-use Rattle.std.specs.Prelude.{MatchOption}
 use Rattle.std.proofs.lemmas.List.{append-nil}
 use Rattle.gc_catalogue.specs.declared.call.Call.{Call}
 use Rattle.gc_catalogue.specs.Calls.{IsCall}
 use Rattle.gc_texts.specs.Cuts.{Cuts, Lacks}
 use Rattle.gc_texts.specs.Procedures.{IsNumber, IsProcedure, HasBytes, params_text_of}
-use Rattle.gc_texts.proofs.Cutting.{cut_found, cut_none, digits_lack_spaces}
+use Rattle.gc_texts.proofs.Cutting.{IsReadAs, read_alike, cut_found, cut_none, digits_lack_spaces}
 
 -- where a text is digits without a space, and then parameters after a space, or none, its cut at the first space gives the digits
 -- as the front and the parameters as the rest
@@ -37,62 +36,58 @@ no_bytes None e more = cc
 no_bytes (Some []) e more = absurd (omega (arith, more))
 no_bytes (Some (b ∷ bs)) e more = cc
 
--- a text with a space after its front, and nothing after the space, is no procedure's
-pub no_parameters : (text front : List ℕ) → Cuts 32 text front (Some []) → (call : Call) → IsProcedure text call → ⊥
-no_parameters text front cut call p =
-    let parts = procedure_parts text front (Some []) call cut p in
-    no_bytes p.params (sym parts.1) p.some
-
 -- digits write one number at most
 pub one_number : (digits : List ℕ) (m n max : ℕ) → IsNumber digits m max → IsNumber digits n max → m ≡ n
 one_number digits m n max h k = h.names.value ∙ sym k.names.value
 
--- where the front of a text, up to its first space, is the number `rpc`, up to 65535, what follows the space, if there is one, has
--- at least one byte, and `params` is that, or else empty: if `r` is the call of `rpc` and `params`, it is the call of the text, too; and
--- if it is `None`, as they make no call, the text is no procedure's
+-- a text's front, up to its first space, is the number `rpc`, up to 65535, and what follows the space, if there is one, is
+-- `params`, at least one byte; without a space `params` is empty. Then the call of `rpc` and `params`, or `None` where they make
+-- none, is also what is read of the text as a procedure's (`IsReadAs`)
 pub procedure_is : (text front params : List ℕ) (rest : Option (List ℕ)) (rpc : ℕ) (r : Option Call)
     (cut : Cuts 32 text front rest) (more : HasBytes rest) (same : params ≡ unwrap_or rest []) (number : IsNumber front rpc 65535)
-    → MatchOption r ((call : Call) → IsCall rpc params call → ⊥) (λ call. IsCall rpc params call)
-    → MatchOption r ((call : Call) → IsProcedure text call → ⊥) (λ call. IsProcedure text call)
-procedure_is text front params rest rpc None cut more same number none =
-    λ call p.
-    let parts = procedure_parts text front rest call cut p in
-    let rpcs : p.rpc ≡ rpc = one_number front p.rpc rpc 65535 (subst (λ (t : List ℕ). IsNumber t p.rpc 65535) (sym parts.0) p.number) number in
-    let lists : unwrap_or p.params [] ≡ params = ap (λ o. unwrap_or o []) (sym parts.1) ∙ sym same in
-    none call (subst (λ (n : ℕ). IsCall n params call) rpcs (subst (λ (ps : List ℕ). IsCall p.rpc ps call) lists p.calls))
-procedure_is text front params rest rpc (Some call) cut more same number calls =
-    record {
-      rpc_text = front;
-      rpc = rpc;
-      params = rest;
-      text_is = cut_text text front rest cut;
-      number = number;
-      some = more;
-      calls = subst (λ (ps : List ℕ). IsCall rpc ps call) same calls;
-    }
-  where
-    -- a text that is cut at its first space is its front and what follows that, with the space
-    cut_text : (text front : List ℕ) (rest : Option (List ℕ)) → Cuts 32 text front rest → text ≡ front ++ params_text_of rest
-    cut_text text front None cut = cut.0 ∙ sym (append-nil front)
-    cut_text text front (Some rest) cut = cut.0
+    → IsReadAs (IsCall rpc params) r → IsReadAs (IsProcedure text) r
+procedure_is text front params rest rpc r cut more same number = read_alike (IsCall rpc params) (IsProcedure text) r of_call of_text where
+  -- a text that is cut at its first space is its front and what follows that, with the space
+  cut_text : (text front : List ℕ) (rest : Option (List ℕ)) → Cuts 32 text front rest → text ≡ front ++ params_text_of rest
+  cut_text text front None cut = cut.0 ∙ sym (append-nil front)
+  cut_text text front (Some rest) cut = cut.0
+
+  -- the call of `rpc` and `params` is the text's
+  of_call : (call : Call) → IsCall rpc params call → IsProcedure text call
+  of_call call calls = record {
+    rpc_text = front;
+    rpc = rpc;
+    params = rest;
+    text_is = cut_text text front rest cut;
+    number = number;
+    some = more;
+    calls = subst (λ (ps : List ℕ). IsCall rpc ps call) same calls;
+  }
+
+  -- the text's call is that of `rpc` and `params`
+  of_text : (call : Call) → IsProcedure text call → IsCall rpc params call
+  of_text call p =
+      let parts = procedure_parts text front rest call cut p in
+      let rpcs : p.rpc ≡ rpc = one_number front p.rpc rpc 65535 (subst (λ (t : List ℕ). IsNumber t p.rpc 65535) (sym parts.0) p.number) number in
+      let lists : unwrap_or p.params [] ≡ params = ap (λ o. unwrap_or o []) (sym parts.1) ∙ sym same in
+      subst (λ (n : ℕ). IsCall n params call) rpcs (subst (λ (ps : List ℕ). IsCall p.rpc ps call) lists p.calls)
 
 -- in a cut, the rest may be replaced by one that equals it
 pub with_rest : (mark : ℕ) (text front : List ℕ) (o rest : Option (List ℕ))
     → Cuts mark text front o → o ≡ rest → Cuts mark text front rest
 with_rest mark text front o rest cut e = let P : Option (List ℕ) → Type 0 = λ r. Cuts mark text front r in subst P e cut
 
--- where the front of a text, up to its first space, is the number `rpc`, up to 65535, and what follows the space is `params`, at least
--- one byte: if `r` is the call of `rpc` and `params`, it is the call of the text, too; and if it is `None`, as they make no call, the
--- text is no procedure's
+-- where a text's front, up to its first space, is the number `rpc`, up to 65535, and `params` follows the space, at least one
+-- byte, the call of `rpc` and `params`, or `None` where they make none, is also what is read of the text as a procedure's
+-- (`IsReadAs`)
 pub with_parameters : (text front params : List ℕ) (o : Option (List ℕ)) (rpc : ℕ) (r : Option Call)
     (cut : Cuts 32 text front o) (is : o ≡ Some params) (more : 0 < length params) (number : IsNumber front rpc 65535)
-    → MatchOption r ((call : Call) → IsCall rpc params call → ⊥) (λ call. IsCall rpc params call)
-    → MatchOption r ((call : Call) → IsProcedure text call → ⊥) (λ call. IsProcedure text call)
+    → IsReadAs (IsCall rpc params) r → IsReadAs (IsProcedure text) r
 with_parameters text front params o rpc r cut e more number called =
     procedure_is text front params (Some params) rpc r (with_rest 32 text front o (Some params) cut e) more refl number called
 
 -- a text that has a first space and nothing after it is no procedure's
 pub without_parameters : (text front params : List ℕ) (o : Option (List ℕ)) → Cuts 32 text front o → o ≡ Some params → length params ≡ 0
     → (call : Call) → IsProcedure text call → ⊥
-without_parameters text front [] o cut e none call p = no_parameters text front (with_rest 32 text front o (Some []) cut e) call p
+without_parameters text front [] o cut e none call p = let parts = procedure_parts text front o call cut p in no_bytes p.params (sym parts.1 ∙ e) p.some
 without_parameters text front (b ∷ bs) o cut e none call p = absurd (omega (arith, none))

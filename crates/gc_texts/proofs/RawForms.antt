@@ -1,15 +1,15 @@
 -- Lines that ask for a procedure that isn't in the table (`IsRawWish`): their words, and that no command's line is one of them.
-use Rattle.std.proofs.Common.{◌≡◌, ◌<◌, ◌≤◌, ◌==◌, ℕ, List, [], ◌∷◌, ◌++◌, length, get_or, Option, Some, None, Bool, true, false, cond, arith, refl, ap, subst, sym, ◌∙◌, codes, append-nil}
+use Rattle.std.proofs.Common.{◌≡◌, ◌<◌, ◌≤◌, ◌==◌, ℕ, List, [], ◌∷◌, ◌++◌, length, get_or, Option, Some, None, Bool, true, false, cond, arith, refl, ap, sym, ◌∙◌, codes, append-nil}
 use Rattle.gc_values.specs.Digits.{AreDigits}
 use Rattle.gc_catalogue.specs.declared.asked.Asked.TheVariants.{Raw}
 use Rattle.gc_catalogue.specs.RawTexts.{raw_bytes}
 use Rattle.gc_catalogue.specs.declared.raw.RawCall.{RawCall}
 use Rattle.gc_catalogue.proofs.AskedRules.{one_asked}
 use Rattle.gc_texts.specs.Commands.{IsCommand}
-use Rattle.gc_texts.specs.Cuts.{Lacks, before, behind}
-use Rattle.gc_texts.specs.Procedures.{IsNumber, IsProcedure, params_text_of}
+use Rattle.gc_texts.specs.Cuts.{before}
+use Rattle.gc_texts.specs.Procedures.{params_text_of}
 use Rattle.gc_texts.specs.Wishes.{IsRawWish}
-use Rattle.gc_texts.specs.Words.{first_word, second_word, third_word, after_three_words}
+use Rattle.gc_texts.specs.Words.{first_word, second_word, third_word}
 use Rattle.gc_texts.specs.declared.commands.Command.{Command}
 use Rattle.gc_texts.proofs.Cutting.{digits_lack_spaces}
 use Rattle.gc_texts.proofs.Fronts.{before_mark, before_none, behind_mark}
@@ -23,7 +23,7 @@ before_params digits (Some params) are = before_mark 32 digits params (digits_la
 -- the second word of a command's line is its procedure's number
 number_word : (line : List ℕ) (command : Command) → (is : IsCommand line command) → second_word line ≡ is.procedure_is.rpc_text
 number_word line command is =
-    ap (λ l. before 32 (behind 32 l)) is.line_is
+    ap second_word is.line_is
     ∙ ap (before 32) (behind_mark 32 is.target_text is.procedure (digits_lack_spaces is.target_text is.target_is.names.digits) ∙ is.procedure_is.text_is)
     ∙ before_params is.procedure_is.rpc_text is.procedure_is.params is.procedure_is.number.names.digits
 

@@ -1,19 +1,20 @@
 -- Which texts are the words of a line `retry`, and what they name. A word is a return code, a number from 1 to 65535, or an
 -- outcome, and words have one space (byte 32) between two. While they are read, `left` is what is unread of the text (`None`
 -- at its end), `read` the words so far, and `rest` what is left after the next word.
-use Rattle.std.proofs.Common.{◌≡◌, ◌<◌, ◌≤◌, inl, inr, ℕ, Bool, true, false, cond, ne_eqb, ◌==◌, List, [], ◌∷◌, ◌++◌, get_or, Option, Some, None, MatchOption, arith, refl, ap, subst, sym, ◌∙◌, append-nil, codes, if◌then◌else◌}
+use Rattle.std.proofs.Common.{◌≡◌, ◌<◌, ◌≤◌, inl, inr, ℕ, Bool, true, false, ne_eqb, ◌==◌, List, [], ◌∷◌, ◌++◌, get_or, Option, Some, None, arith, refl, ap, subst, sym, ◌∙◌, append-nil, codes, if◌then◌else◌}
 use Rattle.std.proofs.lemmas.Bool.{ltb-true, ltb-false}
 use Rattle.std.proofs.lemmas.List.{append_cancel_left}
 use Rattle.gc_texts.specs.Again.{no_again}
-use Rattle.gc_texts.specs.Cuts.{Cuts, Lacks, before, behind}
+use Rattle.gc_texts.specs.Cuts.{Cuts, Lacks, behind}
 use Rattle.gc_texts.specs.Retries.{IsReason, AreReasons, NamesRule, IsRetryRule, has_room, count_with, again_with, codes_with, named_with}
 use Rattle.gc_texts.specs.TaskLines.{SetsRetry}
+use Rattle.gc_texts.specs.Words.{first_word}
 use Rattle.gc_texts.specs.declared.again.Again.{Again}
 use Rattle.gc_texts.specs.declared.retry.Reason.{Reason}
 use Rattle.gc_texts.specs.declared.retry.Reason.TheVariants as reason
 use Rattle.gc_texts.specs.declared.retry.Retry.{Retry}
 use Rattle.gc_values.specs.Digits.{AreDigits}
-use Rattle.gc_texts.proofs.Cutting.{read_alike, digits_lack_spaces}
+use Rattle.gc_texts.proofs.Cutting.{IsReadAs, read_alike, lacks_by_test, digits_lack_spaces}
 use Rattle.gc_texts.proofs.Procedures.{one_number}
 use Rattle.gc_texts.proofs.WordForms.{IsWordForm, one_word_list, AreLeft, ReadsWords, all_read_are, next_item_of, one_more_read}
 
@@ -39,11 +40,8 @@ kind_at b = if b == 110 then 1 else if b == 108 then 2 else if b == 97 then 3 el
 -- a byte up to that of 9 is of the kind of a code
 low_kind : (b : ℕ) → b ≤ 57 → kind_at b ≡ 0
 low_kind b low =
-    ap (λ t. cond t 1 (if b == 108 then 2 else if b == 97 then 3 else if b == 111 then 4 else if b == 107 then 5 else 0)) (ne_eqb b 110 (λ e. omega (arith, e, low)))
-    ∙ ap (λ t. cond t 2 (if b == 97 then 3 else if b == 111 then 4 else if b == 107 then 5 else 0)) (ne_eqb b 108 (λ e. omega (arith, e, low)))
-    ∙ ap (λ t. cond t 3 (if b == 111 then 4 else if b == 107 then 5 else 0)) (ne_eqb b 97 (λ e. omega (arith, e, low)))
-    ∙ ap (λ t. cond t 4 (if b == 107 then 5 else 0)) (ne_eqb b 111 (λ e. omega (arith, e, low)))
-    ∙ ap (λ t. cond t 5 0) (ne_eqb b 107 (λ e. omega (arith, e, low)))
+    let other : (n : ℕ) → 57 < n → (b == n) ≡ false = λ n high. ne_eqb b n (λ e. omega (arith, e, low, high)) in
+    rw (other 110 (omega arith), other 108 (omega arith), other 97 (omega arith), other 111 (omega arith), other 107 (omega arith)) refl
 
 -- the second byte of a word, or 0 where it has none, shows its kind
 kind_is : (word : List ℕ) (r : Reason) → IsReason word r → kind_at (get_or word 1 0) ≡ kind r
@@ -71,41 +69,11 @@ one_reason word a b x y = same_reason word a b x y (sym (kind_is word a x) ∙ k
 -- a code or an outcome has no space
 reason_lacks_space : (word : List ℕ) (r : Reason) → IsReason word r → Lacks 32 word
 reason_lacks_space word (reason.Code code) is = digits_lack_spaces word is.number.names.digits
-reason_lacks_space word reason.Unreadable is = subst (Lacks 32) (sym is) (
-  (λ e. omega (arith, e)),
-  (
-    (λ e. omega (arith, e)),
-    (
-      (λ e. omega (arith, e)),
-      (
-        (λ e. omega (arith, e)),
-        (
-          (λ e. omega (arith, e)),
-          (
-            (λ e. omega (arith, e)),
-            ((λ e. omega (arith, e)), ((λ e. omega (arith, e)), ((λ e. omega (arith, e)), ((λ e. omega (arith, e)), tt)))),
-          ),
-        ),
-      ),
-    ),
-  ),
-)
-reason_lacks_space word reason.Elsewhere is = subst (Lacks 32) (sym is) (
-  (λ e. omega (arith, e)),
-  (
-    (λ e. omega (arith, e)),
-    ((λ e. omega (arith, e)), ((λ e. omega (arith, e)), ((λ e. omega (arith, e)), ((λ e. omega (arith, e)), ((λ e. omega (arith, e)), ((λ e. omega (arith, e)), ((λ e. omega (arith, e)), tt))))))),
-  ),
-)
-reason_lacks_space word reason.Late is = subst (Lacks 32) (sym is) ((λ e. omega (arith, e)), ((λ e. omega (arith, e)), ((λ e. omega (arith, e)), ((λ e. omega (arith, e)), tt))))
-reason_lacks_space word reason.Lost is = subst (Lacks 32) (sym is) ((λ e. omega (arith, e)), ((λ e. omega (arith, e)), ((λ e. omega (arith, e)), ((λ e. omega (arith, e)), tt))))
-reason_lacks_space word reason.Skipped is = subst (Lacks 32) (sym is) (
-  (λ e. omega (arith, e)),
-  (
-    (λ e. omega (arith, e)),
-    ((λ e. omega (arith, e)), ((λ e. omega (arith, e)), ((λ e. omega (arith, e)), ((λ e. omega (arith, e)), ((λ e. omega (arith, e)), tt))))),
-  ),
-)
+reason_lacks_space word reason.Unreadable is = subst (Lacks 32) (sym is) (lacks_by_test 32 (codes "unreadable") refl)
+reason_lacks_space word reason.Elsewhere is = subst (Lacks 32) (sym is) (lacks_by_test 32 (codes "elsewhere") refl)
+reason_lacks_space word reason.Late is = subst (Lacks 32) (sym is) (lacks_by_test 32 (codes "late") refl)
+reason_lacks_space word reason.Lost is = subst (Lacks 32) (sym is) (lacks_by_test 32 (codes "lost") refl)
+reason_lacks_space word reason.Skipped is = subst (Lacks 32) (sym is) (lacks_by_test 32 (codes "skipped") refl)
 
 -- a word of a line `retry` has no space, and is one code or outcome at most
 reason_form : IsWordForm IsReason
@@ -121,7 +89,7 @@ same_retry a b e f = ap (λ n. record { times = n; again = a.again }) e ∙ ap (
 
 -- a text is one rule at most
 one_rule : (text : List ℕ) (a b : Retry) → IsRetryRule text a → IsRetryRule text b → a ≡ b
-one_rule text a b x y = same_retry a b (one_number (before 32 text) a.times b.times 9 x.times_are y.times_are) (one_named (behind 32 text) a.again b.again x.again_is y.again_is)
+one_rule text a b x y = same_retry a b (one_number (first_word text) a.times b.times 9 x.times_are y.times_are) (one_named (behind 32 text) a.again b.again x.again_is y.again_is)
 
 -- `0` alone is no rule
 not_zero : (a : Retry) → IsRetryRule (codes "0") a → ⊥
@@ -140,8 +108,7 @@ one_retrying line a b (inr x) (inr y) =
 -- where a line is `retry ` and `rest`, but not `retry 0`, and `r` is the rule that `rest` is, or `None` where it is none, `r` is
 -- what the line sets, too, or `None` where it sets none
 pub retries_so : (line rest : List ℕ) (r : Option Retry) → (line ≡ codes "retry 0" → ⊥) → line ≡ codes "retry " ++ rest
-    → MatchOption r ((found : Retry) → IsRetryRule rest found → ⊥) (λ found. IsRetryRule rest found)
-    → MatchOption r ((found : Retry) → SetsRetry line found → ⊥) (λ found. SetsRetry line found)
+    → IsReadAs (IsRetryRule rest) r → IsReadAs (SetsRetry line) r
 retries_so line rest r other e = read_alike (IsRetryRule rest) (SetsRetry line) r (λ found is. inr (record { rest = rest; line_is = e; rule_is = is })) rest_rules where
   -- `rest` is the rule that the line sets, because the line isn't `retry 0`
   rest_rules : (found : Retry) → SetsRetry line found → IsRetryRule rest found
@@ -186,7 +153,7 @@ codes_grow count (r ∷ later) =
     let all : count_with count r ≤ codes_with (count_with count r) later = codes_grow (count_with count r) later in
     omega (arith, one, all)
 
--- words and later ones have as many codes as the later ones have when they are counted on from the codes of the words
+-- the codes of words and later words are counted by counting those of the words first, and from there on those of the later words
 codes_both : (count : ℕ) (read later : List Reason) → codes_with count (read ++ later) ≡ codes_with (codes_with count read) later
 codes_both count [] later = refl
 codes_both count (x ∷ read) later = codes_both (count_with count x) read later

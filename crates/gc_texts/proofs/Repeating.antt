@@ -1,6 +1,7 @@
 -- The attempts of the chains of a station's text.
-use Rattle.std.proofs.Common.{◌⊎◌, ◌&&◌, nat_lt, Option, subst, ◌≡◌, ◌+◌, ◌*◌, inr, inl, ℕ, zero, suc, Bool, true, false, List, [], ◌∷◌, ◌++◌, length, map, Some, None, refl, ap, sym, ◌∙◌, append_assoc, append-nil, if◌then◌else◌}
+use Rattle.std.proofs.Common.{◌⊎◌, ◌&&◌, nat_lt, subst, ◌≡◌, ◌+◌, ◌*◌, inr, inl, ℕ, zero, suc, Bool, true, false, List, [], ◌∷◌, ◌++◌, length, map, Some, None, refl, ap, sym, ◌∙◌, append_assoc, append-nil, if◌then◌else◌}
 use Rattle.std.proofs.lemmas.Bool.{and_parts}
+use Rattle.std.proofs.lemmas.Option.{none-some}
 use Rattle.std.specs.List.{AllByRecursion, flat_map}
 use Rattle.std.proofs.lemmas.List.{length-map, map-append}
 use Rattle.std.proofs.SliceLists.{all_by_recursion_push}
@@ -8,7 +9,7 @@ use Rattle.gc_texts.specs.Again.{no_again}
 use Rattle.gc_texts.specs.Attempts.{in_attempt, attempts_from, attempts, laid_from, laid_out}
 use Rattle.gc_texts.specs.Laws.{IsOneChain}
 use Rattle.gc_texts.specs.Nears.{near_of}
-use Rattle.gc_texts.specs.Repeats.{as_planned, IsAttempt, AreAttempts, Chain, AreLaidOut, ChainsGoOutAgain}
+use Rattle.gc_texts.specs.Repeats.{as_planned, IsAttempt, AreAttempts, Chain, planned_in, placed_planned, AreLaidOut, ChainsGoOutAgain}
 use Rattle.gc_texts.specs.Retries.{no_retry}
 use Rattle.gc_texts.specs.Tasks.{opening, mode_after, continues_group, task_at, setup_of, planned_of, placed}
 use Rattle.gc_texts.specs.declared.again.Again.{Again}
@@ -19,7 +20,7 @@ use Rattle.gc_texts.specs.declared.task_line.TaskLine.TheVariants as says
 use Rattle.gc_texts.specs.declared.mode.Mode.{Mode}
 use Rattle.gc_texts.specs.declared.attempts.Planned.{Planned}
 use Rattle.gc_texts.specs.declared.tasks.Task.{Task}
-use Rattle.gc_texts.proofs.TaskLaws.{IsFirst, PlannedKeep, commands_keep}
+use Rattle.gc_texts.proofs.TaskLaws.{IsFirst, continued_group, PlannedKeep, commands_keep}
 
 -- the task of a command is as its line says it: in the first attempt of its chain, without a place, a rule and a count of others
 abbrev IsAsItsLineSays : Planned → Type 0
@@ -42,11 +43,6 @@ abbrev SameRetries : (retry : Retry) → List Planned → Type 0
 SameRetries retry [] = Unit {0}
 SameRetries retry (p ∷ later) = (p.task.chained ≡ true → p.retry ≡ retry) × SameRetries p.retry later
 
--- where `group` is `None`, `continues_group` holds of no command's target
-no_group : (group : Option ℕ) (target : ℕ) → group ≡ None → continues_group group target ≡ true → ⊥
-no_group None target e on = cc
-no_group (Some t) target e on = cc
-
 -- where the mode is the setup's, or has no group, or has `retry`, the retry of the command before these lines, each chained
 -- command of the cycle has the retry of the one before it (`SameRetries`)
 same_retries : (mode : Mode) (retry : Retry) (lines : List TaskLine)
@@ -67,7 +63,7 @@ same_retries mode retry (says.Command c now ∷ later) h =
       by_setup false e (inr (inl is)) at_start in_cycle = (
         (λ on.
             let so : (mode.chained && continues_group mode.group c.target) ≡ true = ap (λ b. if b then nat_lt 0 mode.begun else mode.chained && continues_group mode.group c.target) (sym e) ∙ on in
-            absurd (no_group mode.group c.target is (and_parts mode.chained (continues_group mode.group c.target) so).1)),
+            absurd (none-some c.target (sym is ∙ continued_group mode.group c.target (and_parts mode.chained (continues_group mode.group c.target) so).1))),
         in_cycle,
       )
 same_retries mode retry (says.Chained ∷ later) h = same_retries (mode_after mode says.Chained) retry later (inr (inl refl))
@@ -139,10 +135,6 @@ module _ (nears : List Near) where
   chained_more [] p all is = (is, tt)
   chained_more (q ∷ ps) p all is = (all.0, chained_more ps p all.1 is)
 
-  -- a command with the place of its target
-  abbrev own_planned : Planned → Planned
-  own_planned p = record { task = own p; retry = p.retry }
-
   -- a task with a retry
   abbrev with_retry : Retry → Task → Planned
   with_retry retry task = record { task = task; retry = retry }
@@ -151,19 +143,19 @@ module _ (nears : List Near) where
   abbrev Laid : List Task → List Planned → Type 0
   Laid tasks planned =
       (chains : List Chain) × AreLaidOut chains tasks
-      × (flat_map {A = Planned} (λ (chain : Chain). map (with_retry chain.retry) chain.commands) chains ≡ map own_planned planned)
+      × (flat_map planned_in chains ≡ map (placed_planned nears) planned)
 
   -- each of these commands has this retry
   abbrev HaveRetry : Retry → List Planned → Type 0
   HaveRetry retry ps = AllByRecursion (λ p. p.retry ≡ retry) ps
 
   -- where commands have one retry, their tasks (`own`) with that retry are the commands with the places of their targets
-  -- (`own_planned`)
-  retries_are : (retry : Retry) (ps : List Planned) → HaveRetry retry ps → map (with_retry retry) (map own ps) ≡ map own_planned ps
+  -- (`placed_planned`)
+  retries_are : (retry : Retry) (ps : List Planned) → HaveRetry retry ps → map (with_retry retry) (map own ps) ≡ map (placed_planned nears) ps
   retries_are retry [] have = refl
   retries_are retry (p ∷ ps) have =
       ap (λ r. record { task = own p; retry = r } ∷ map (with_retry retry) (map own ps)) (sym have.0)
-      ∙ ap (λ l. own_planned p ∷ l) (retries_are retry ps have.1)
+      ∙ ap (λ l. placed_planned nears p ∷ l) (retries_are retry ps have.1)
 
   -- where tasks are the attempts of the chains of the commands `later` (`Laid`), and `chain` is one chain of commands that have
   -- this retry and tasks as their lines say them, the attempts of that chain and then those tasks are the attempts of the chains
@@ -174,7 +166,8 @@ module _ (nears : List Near) where
   one_more retry chain later tasks one all have (chains, laid, are) = (
     record { retry = retry; commands = map own chain } ∷ chains,
     (one, (map (placed nears) (attempts retry chain), tasks, refl, attempts_are 1 retry.times retry.again chain all, laid)),
-    ap (λ ps. map (with_retry retry) (map own chain) ++ ps) are ∙ ap (λ ps. ps ++ map own_planned later) (retries_are retry chain have) ∙ sym (map-append own_planned chain later),
+    ap (λ ps. map (with_retry retry) (map own chain) ++ ps) are ∙ ap (λ ps. ps ++ map (placed_planned nears) later) (retries_are retry chain have)
+        ∙ sym (map-append (placed_planned nears) chain later),
   )
 
   -- `Laid` holds of the empty list of tasks and the empty list of commands

@@ -28,8 +28,8 @@ lines_one from (x ∷ before) s =
     ∙ sym (append_assoc (settlement_line from x) later (settlement_line (from + length (x ∷ before)) s))
 
 -- where there is a settlement at place i, the first i settlements are i in number
-pub front_is : (ss : List (Settlement Call)) (i : ℕ) → i < length ss → length (map settlement_seen (take i ss)) ≡ i
-front_is ss i below = length-map (take i ss) settlement_seen ∙ omega (arith, length-take i ss, below)
+pub front_count : (ss : List (Settlement Call)) (i : ℕ) → i < length ss → length (map settlement_seen (take i ss)) ≡ i
+front_count ss i below = length-map (take i ss) settlement_seen ∙ omega (arith, length-take i ss, below)
 
 -- the lines of the first i + 1 settlements, numbered from `place` on, are those of the first i, and that of the next one (s)
 pub lines_to_next : (place : ℕ) (ss : List (Settlement Call)) (i : ℕ) (s : Settlement Call) → i < length ss → s ≡ get_or ss i s
@@ -38,7 +38,7 @@ pub lines_to_next : (place : ℕ) (ss : List (Settlement Call)) (i : ℕ) (s : S
 lines_to_next place ss i s below is =
     let front = map settlement_seen (take i ss) in
     ap (λ xs. lines_from place (map settlement_seen xs)) (at_place ss i s below is).0 ∙ ap (lines_from place) (map_push settlement_seen (take i ss) s)
-    ∙ lines_one place front (settlement_seen s) ∙ ap (λ n. lines_from place front ++ settlement_line (place + n) (settlement_seen s)) (front_is ss i below)
+    ∙ lines_one place front (settlement_seen s) ∙ ap (λ n. lines_from place front ++ settlement_line (place + n) (settlement_seen s)) (front_count ss i below)
 
 -- where the lines of the first i settlements were appended to a text, and then that of the next, the lines of the first i + 1
 -- were

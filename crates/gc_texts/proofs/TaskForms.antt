@@ -1,23 +1,24 @@
 -- Which lines have the forms of a station's text.
-use Rattle.std.proofs.Common.{◌≡◌, ◌≤◌, ◌==◌, inl, inr, ℕ, List, [], ◌∷◌, ◌++◌, get_or, Bool, true, false, Option, Some, None, MatchOption, arith, refl, ap, subst, sym, ◌∙◌, codes, cond, ne_eqb, if◌then◌else◌}
+use Rattle.std.proofs.Common.{◌≡◌, ◌<◌, ◌≤◌, ◌==◌, inl, inr, ℕ, List, [], ◌∷◌, ◌++◌, get_or, Bool, true, false, Option, Some, None, arith, refl, ap, subst, sym, ◌∙◌, codes, ne_eqb, if◌then◌else◌}
 use Rattle.std.proofs.lemmas.List.{append_cancel_left}
 use Rattle.gc_catalogue.specs.declared.asked.Asked.{Asked}
 use Rattle.gc_catalogue.specs.declared.asked.Asked.TheVariants.{Table, Raw}
 use Rattle.gc_values.specs.Digits.{AreDigits}
 use Rattle.gc_values.proofs.DecimalLaws.{spells_unique}
-use Rattle.gc_texts.specs.Cuts.{Cuts, before, behind}
+use Rattle.gc_texts.specs.Cuts.{Cuts}
 use Rattle.gc_texts.specs.Names.{is_name}
 use Rattle.gc_texts.specs.Procedures.{IsNumber}
 use Rattle.gc_texts.specs.Nears.{AreNearWords, IsNearText}
 use Rattle.gc_texts.specs.TaskLines.{IsDeadline, IsNameLine, IsNearLine, SetsAccepted, AsksForWish, IsTaskLine}
 use Rattle.gc_texts.specs.Wishes.{AsksFor}
+use Rattle.gc_texts.specs.Words.{first_word, second_word, third_word, after_three_words}
 use Rattle.gc_texts.specs.declared.codes.Codes.{Codes}
 use Rattle.gc_texts.specs.declared.wish.Wish.{Wish}
 use Rattle.gc_texts.specs.declared.name.Name.{Name}
 use Rattle.gc_texts.specs.declared.near.Near.{Near}
 use Rattle.gc_texts.specs.declared.task_line.TaskLine.{TaskLine}
 use Rattle.gc_texts.specs.declared.task_line.TaskLine.TheVariants as says
-use Rattle.gc_texts.proofs.Cutting.{read_alike, cut_found, one_front, digits_lack_spaces}
+use Rattle.gc_texts.proofs.Cutting.{IsReadAs, read_alike, cut_found, one_front, digits_lack_spaces}
 use Rattle.gc_texts.proofs.ClockForms.{one_clock, wish_is_no_clock}
 use Rattle.gc_texts.proofs.CodeForms.{one_accepting}
 use Rattle.gc_texts.proofs.ReasonForms.{one_retrying}
@@ -90,14 +91,16 @@ kind_in line = first_kind (get_or line 0 0)
 -- a line whose first byte is at most 57, that of 9, is of the kind of a command (0)
 digit_kind : (b : ℕ) → b ≤ 57 → first_kind b ≡ 0
 digit_kind b low =
-    ap (λ t. cond t 1 (if b == 99 then 2 else if b == 117 then 3 else if b == 110 then 4 else if b == 97 then 5 else if b == 114 then 6 else if b == 101 then 7 else 0))
-    (ne_eqb b 100 (λ e. omega (arith, e, low)))
-    ∙ ap (λ t. cond t 2 (if b == 117 then 3 else if b == 110 then 4 else if b == 97 then 5 else if b == 114 then 6 else if b == 101 then 7 else 0)) (ne_eqb b 99 (λ e. omega (arith, e, low)))
-    ∙ ap (λ t. cond t 3 (if b == 110 then 4 else if b == 97 then 5 else if b == 114 then 6 else if b == 101 then 7 else 0)) (ne_eqb b 117 (λ e. omega (arith, e, low)))
-    ∙ ap (λ t. cond t 4 (if b == 97 then 5 else if b == 114 then 6 else if b == 101 then 7 else 0)) (ne_eqb b 110 (λ e. omega (arith, e, low)))
-    ∙ ap (λ t. cond t 5 (if b == 114 then 6 else if b == 101 then 7 else 0)) (ne_eqb b 97 (λ e. omega (arith, e, low)))
-    ∙ ap (λ t. cond t 6 (if b == 101 then 7 else 0)) (ne_eqb b 114 (λ e. omega (arith, e, low)))
-    ∙ ap (λ t. cond t 7 0) (ne_eqb b 101 (λ e. omega (arith, e, low)))
+    let other : (n : ℕ) → 57 < n → (b == n) ≡ false = λ n high. ne_eqb b n (λ e. omega (arith, e, low, high)) in
+    rw (
+      other 100 (omega arith),
+      other 99 (omega arith),
+      other 117 (omega arith),
+      other 110 (omega arith),
+      other 97 (omega arith),
+      other 114 (omega arith),
+      other 101 (omega arith),
+    ) refl
 
 -- a line that begins with digits and a space is of the kind of a command (0)
 digits_kind : (ds rest : List ℕ) → AreDigits ds → first_kind (get_or (ds ++ 32 ∷ rest) 0 0) ≡ 0
@@ -160,14 +163,13 @@ one_near target hz v tolerance m n x y =
 -- a line gives one place at most
 one_locating : (line : List ℕ) (m n : Near) → IsNearLine line m → IsNearLine line n → m ≡ n
 one_locating line m n x y =
-    one_near (before 32 y.rest) (before 32 (behind 32 y.rest)) (before 32 (behind 32 (behind 32 y.rest))) (behind 32 (behind 32 (behind 32 y.rest))) m n
+    one_near (first_word y.rest) (second_word y.rest) (third_word y.rest) (after_three_words y.rest) m n
     (subst (λ (r : List ℕ). IsNearText r m) (append_cancel_left (codes "near ") x.rest y.rest (sym x.line_is ∙ y.line_is)) x.near_is) y.near_is
 
 -- where a line is `near ` and `rest`, and `r` is the place that `rest` says, or `None` where it says none, `r` is the place that
 -- the line says, too, or `None` where it says none
 pub locates_so : (line rest : List ℕ) (r : Option Near) → line ≡ codes "near " ++ rest
-    → MatchOption r ((near : Near) → IsNearText rest near → ⊥) (λ near. IsNearText rest near)
-    → MatchOption r ((near : Near) → IsNearLine line near → ⊥) (λ near. IsNearLine line near)
+    → IsReadAs (IsNearText rest) r → IsReadAs (IsNearLine line) r
 locates_so line rest r e =
     read_alike (IsNearText rest) (IsNearLine line) r (λ near is. record { rest = rest; line_is = e; near_is = is })
     (λ near is. subst (λ (t : List ℕ). IsNearText t near) (append_cancel_left (codes "near ") is.rest rest (sym is.line_is ∙ e)) is.near_is)

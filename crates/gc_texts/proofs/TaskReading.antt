@@ -1,10 +1,13 @@
 -- The tasks, names and places of lines that follow one another, and how far the reading of a station's text has come
 -- (`ReadsTasks`). The mode at a line is what the lines before it make hold there.
+use Rattle.std.proofs.lemmas.Bool.{cond_both}
 use Rattle.std.proofs.lemmas.List.{length-append}
-use Rattle.std.proofs.Common.{◌⊎◌, inr, cond, arith, if◌then◌else◌, ◌≡◌, ◌+◌, ◌≤◌, ℕ, List, [], ◌∷◌, ◌++◌, length, Option, Some, Bool, true, false, refl, ap, subst, sym, ◌∙◌, append_assoc, append-nil}
+use Rattle.std.proofs.lemmas.List.Concat.{flat_map-append}
+use Rattle.std.proofs.lemmas.Slice.Zip.{AllZip-long}
+use Rattle.std.proofs.Common.{◌⊎◌, inr, arith, if◌then◌else◌, ◌≡◌, ◌+◌, ◌≤◌, ℕ, List, [], ◌∷◌, ◌++◌, length, Option, Some, Bool, true, false, refl, ap, subst, sym, ◌∙◌, append_assoc, append-nil}
 use Rattle.std.specs.Prelude.{not, filter}
 use Rattle.gc_texts.specs.Cuts.{Cuts}
-use Rattle.gc_texts.specs.LineForms.{text_lines, is_skipped, is_kept, without_cr, AreItems}
+use Rattle.gc_texts.specs.LineForms.{text_lines, is_skipped, is_kept, without_cr}
 use Rattle.gc_texts.specs.TaskLines.{IsTaskLine}
 use Rattle.gc_texts.specs.Tasks.{opening, mode_after, is_chained, place_in_chain, task_at, setup_at, setup_of, planned_at, planned_of, name_at, names_of, near_at, nears_of, may_follow, MayFollow, IsFirstFaultyTask, ReachesASoundTaskLine}
 use Rattle.gc_texts.specs.declared.name.Name.{Name}
@@ -59,19 +62,15 @@ record Counted (mode : Mode) (n : ℕ) : Type 0 where
   place : mode.place ≤ n
   link : mode.link ≤ n
 
--- where two numbers are both at most n, the one of the two that b chooses is at most n
-either_low : (b : Bool) (x y n : ℕ) → x ≤ n → y ≤ n → (if b then x else y) ≤ n
-either_low true x y n low other = low
-either_low false x y n low other = other
-
 -- where each count of a mode is at most n, each count of the mode after one more line is at most n + 1
 counted_line : (mode : Mode) (line : TaskLine) (n : ℕ) → Counted mode n → Counted (mode_after mode line) (n + 1)
 counted_line mode (says.Command c now) n h = record {
-  begun = either_low mode.setup (mode.begun + 1) mode.begun (n + 1) (omega (arith, h.begun)) (omega (arith, h.begun));
-  place = either_low mode.setup mode.place (mode.place + 1) (n + 1) (omega (arith, h.place)) (omega (arith, h.place));
+  begun = cond_both mode.setup (mode.begun + 1) mode.begun (λ k. k ≤ n + 1) (λ _. omega (arith, h.begun)) (λ _. omega (arith, h.begun));
+  place = cond_both mode.setup mode.place (mode.place + 1) (λ k. k ≤ n + 1) (λ _. omega (arith, h.place)) (λ _. omega (arith, h.place));
   link =
-      let inner : (if is_chained mode c.target then mode.link else 0) ≤ n = either_low (is_chained mode c.target) mode.link 0 n h.link (omega arith) in
-      let low : place_in_chain mode (is_chained mode c.target) ≤ n = either_low mode.setup mode.begun (if is_chained mode c.target then mode.link else 0) n h.begun inner in
+      let inner : (if is_chained mode c.target then mode.link else 0) ≤ n = cond_both (is_chained mode c.target) mode.link 0 (λ k. k ≤ n) (λ _. h.link) (λ _. omega arith) in
+      let low : place_in_chain mode (is_chained mode c.target) ≤ n =
+      cond_both mode.setup mode.begun (if is_chained mode c.target then mode.link else 0) (λ k. k ≤ n) (λ _. h.begun) (λ _. inner) in
       omega (arith, low);
 }
 counted_line mode line n h = record { begun = omega (arith, h.begun); place = omega (arith, h.place); link = omega (arith, h.link) }
@@ -83,14 +82,10 @@ counted_lines mode (line ∷ lines) n h =
     let more = counted_lines (mode_after mode line) lines (n + 1) (counted_line mode line n h) in
     record { begun = omega (arith, more.begun); place = omega (arith, more.place); link = omega (arith, more.link) }
 
--- the list that is empty where b is true, and else has `p` alone, has one command at most
-one_planned : (b : Bool) (p : Planned) → length (if b then [] else p ∷ []) ≤ 1
-one_planned true p = omega arith
-one_planned false p = omega arith
-
 -- a line gives one command of the cycle at most
 planned_line : (mode : Mode) (line : TaskLine) → length (planned_at mode line) ≤ 1
-planned_line mode (says.Command c now) = one_planned mode.setup (record { task = task_at mode c now; retry = mode.retry })
+planned_line mode (says.Command c now) =
+    cond_both mode.setup [] (record { task = task_at mode c now; retry = mode.retry } ∷ []) (λ ps. length ps ≤ 1) (λ _. omega arith) (λ _. omega arith)
 planned_line mode line = omega arith
 
 -- there are at most as many commands of the cycle as lines
@@ -103,39 +98,23 @@ planned_few mode (line ∷ lines) =
     length-append (planned_at mode line) (planned_of (mode_after mode line) lines) in
     omega (arith, one, more, all)
 
--- where each line says one thing, as many things are said as there are lines
-said_many : (lines : List (List ℕ)) (said : List TaskLine) → AreItems IsTaskLine lines said → length said ≡ length lines
-said_many [] [] are = refl
-said_many [] (s ∷ said) are = absurd are
-said_many (line ∷ lines) [] are = absurd are
-said_many (line ∷ lines) (s ∷ said) are = let n = said_many lines said are.1 in omega (arith, n)
-
--- where at most as many lines are kept as there are lines, the same holds with one more line, whether it is kept (`b`) or not
-kept_one : (b : Bool) (line : List ℕ) (kept all : List (List ℕ)) → length kept ≤ length all → length (cond b (line ∷ kept) kept) ≤ length (line ∷ all)
-kept_one true line kept all few = omega (arith, few)
-kept_one false line kept all few = omega (arith, few)
-
 -- at most as many lines aren't skipped as there are lines
 kept_few : (lines : List (List ℕ)) → length (filter is_kept lines) ≤ length lines
 kept_few [] = omega arith
-kept_few (line ∷ lines) = kept_one (is_kept line) line (filter is_kept lines) lines (kept_few lines)
+kept_few (line ∷ lines) =
+    let few = kept_few lines in
+    cond_both (is_kept line) (line ∷ filter is_kept lines) (filter is_kept lines) (λ kept. length kept ≤ length (line ∷ lines)) (λ _. omega (arith, few)) (λ _. omega (arith, few))
 
 -- the names of lines and then `next` are those of the lines, and then that of `next`, if it gives one
 names_more : (lines : List TaskLine) (next : TaskLine) → names_of (lines ++ next ∷ []) ≡ names_of lines ++ name_at next
-names_more [] next = append-nil (name_at next)
-names_more (line ∷ lines) next = ap (λ ns. name_at line ++ ns) (names_more lines next) ∙ sym (append_assoc (name_at line) (names_of lines) (name_at next))
-
--- the lines `xs` and then `ys` give the places of `xs`, and after them those of `ys`
-pub nears_both : (xs ys : List TaskLine) → nears_of (xs ++ ys) ≡ nears_of xs ++ nears_of ys
-nears_both [] ys = refl
-nears_both (x ∷ xs) ys = ap (λ ns. near_at x ++ ns) (nears_both xs ys) ∙ sym (append_assoc (near_at x) (nears_of xs) (nears_of ys))
+names_more lines next = flat_map-append name_at lines (next ∷ []) ∙ ap (λ ns. names_of lines ++ ns) (append-nil (name_at next))
 
 -- the places of lines and then `next` are those of the lines, and then that of `next`, if it says one
 nears_more : (lines : List TaskLine) (next : TaskLine) → nears_of (lines ++ next ∷ []) ≡ nears_of lines ++ near_at next
-nears_more lines next = nears_both lines (next ∷ []) ∙ ap (λ ns. nears_of lines ++ ns) (append-nil (near_at next))
+nears_more lines next = flat_map-append near_at lines (next ∷ []) ∙ ap (λ ns. nears_of lines ++ ns) (append-nil (near_at next))
 
--- where lines may follow these names and places, and one more may follow these and, after them, the names and places of the
--- lines, the lines and then that one may follow these names and places
+-- where lines may follow these names and places, and one more line may follow these together with the names and places of the
+-- lines, all of these lines may follow these names and places
 follow_more : (names : List Name) (nears : List Near) (lines : List TaskLine) (next : TaskLine) → MayFollow names nears lines
     → may_follow (names ++ names_of lines) (nears ++ nears_of lines) next ≡ true → MayFollow names nears (lines ++ next ∷ [])
 follow_more names nears [] next follow allowed = (ap (λ ns. may_follow ns nears next) (sym (append-nil names)) ∙ ap (λ ps. may_follow (names ++ []) ps next) (sym (append-nil nears)) ∙ allowed, tt)
@@ -146,76 +125,79 @@ follow_more names nears (line ∷ lines) next follow allowed = (
       ∙ ap (λ ps. may_follow (names ++ (name_at line ++ names_of lines)) ps next) (append_assoc nears (near_at line) (nears_of lines)) ∙ allowed),
 )
 
--- how far the reading has come, which began in the mode `first`: `left` of the text is unread, `number` lines were read, and they
--- gave these tasks of the setup, commands of the cycle, names and places, and the mode after them. Where a line that isn't
--- skipped was read, a line that isn't faulty was reached
-pub record ReadsTasks (text : List ℕ) (first : Mode) (left : Option (List ℕ)) (number : ℕ)
-    (setup : List Task) (cycle : List Planned) (names : List Name) (nears : List Near) (mode : Mode) : Type 0 where
+-- what lines gave that were read: the tasks of the setup, the commands of the cycle, the names and the places; and the mode after
+-- these lines
+pub record Gathered : Type 0 where
+  pub setup : List Task
+  pub cycle : List Planned
+  pub names : List Name
+  pub nears : List Near
+  pub mode : Mode
+
+-- how far the reading has come, which began in the mode `first`: `left` of the text is unread, `number` lines were read, and
+-- `so_far` is what they gave, with the mode after them. Where a line that isn't skipped was read, a line that isn't faulty was
+-- reached
+pub record ReadsTasks (text : List ℕ) (first : Mode) (left : Option (List ℕ)) (number : ℕ) (so_far : Gathered) : Type 0 where
   pub said : List TaskLine
   pub reads : Reads IsTaskLine text left number said
   pub follow : MayFollow [] [] said
-  pub setup_are : setup ≡ setup_of first said
-  pub cycle_are : cycle ≡ planned_of first said
-  pub names_are : names ≡ names_of said
-  pub nears_are : nears ≡ nears_of said
-  pub mode_is : mode ≡ mode_after_lines first said
+  pub setup_are : so_far.setup ≡ setup_of first said
+  pub cycle_are : so_far.cycle ≡ planned_of first said
+  pub names_are : so_far.names ≡ names_of said
+  pub nears_are : so_far.nears ≡ nears_of said
+  pub mode_is : so_far.mode ≡ mode_after_lines first said
   pub reached : (said ≡ []) ⊎ ReachesASoundTaskLine text
-
--- of a text of at most 65,536 bytes at most 65,537 lines are read, so that a u32 counts them
-pub tasks_few : (text : List ℕ) (first : Mode) (left : Option (List ℕ)) (number : ℕ)
-    (setup : List Task) (cycle : List Planned) (names : List Name) (nears : List Near) (mode : Mode)
-    → length text ≤ 65536 → ReadsTasks text first left number setup cycle names nears mode → number ≤ 65537
-tasks_few text first left number setup cycle names nears mode within r = reads_few IsTaskLine text left number r.said within r.reads
 
 -- what holds of the lines that were read of a text of at most 65,536 bytes
 module _
-    (text : List ℕ) (deadline : ℕ) (chained : Bool) (left : Option (List ℕ)) (number : ℕ)
-    (setup : List Task) (cycle : List Planned) (names : List Name) (nears : List Near) (mode : Mode)
-    (within : length text ≤ 65536) (r : ReadsTasks text (opening deadline chained) left number setup cycle names nears mode) where
+    (text : List ℕ) (deadline : ℕ) (chained : Bool) (left : Option (List ℕ)) (number : ℕ) (so_far : Gathered)
+    (within : length text ≤ 65536) (r : ReadsTasks text (opening deadline chained) left number so_far) where
+  -- at most 65,537 lines were read, so that a u32 counts them
+  pub tasks_few : number ≤ 65537
+  tasks_few = reads_few IsTaskLine text left number r.said within r.reads
+
   -- at most 65,537 of the lines that were read aren't skipped
   said_few : length r.said ≤ 65537
   said_few =
-      let many = said_many (filter is_kept r.reads.read) r.said r.reads.items_are in
+      let many = AllZip-long IsTaskLine (filter is_kept r.reads.read) r.said r.reads.items_are in
       let few = kept_few r.reads.read in
-      let read = reads_few IsTaskLine text left number r.said within r.reads in
-      omega (arith, many, few, read, r.reads.count)
+      omega (arith, many, few, tasks_few, r.reads.count)
 
   -- each count of the mode is at most 65,537
-  counted : Counted mode 65537
+  counted : Counted so_far.mode 65537
   counted =
       let all = counted_lines (opening deadline chained) r.said 0 (record { begun = omega arith; place = omega arith; link = omega arith }) in
       let few = said_few in
       subst (λ m. Counted m 65537) (sym r.mode_is) (record { begun = omega (arith, few, all.begun); place = omega (arith, few, all.place); link = omega (arith, few, all.link) })
 
   -- the mode counts at most 65,537 commands of the setup
-  pub begun_few : mode.begun ≤ 65537
+  pub begun_few : so_far.mode.begun ≤ 65537
   begun_few = counted.begun
 
   -- the mode counts at most 65,537 commands of the cycle
-  pub place_few : mode.place ≤ 65537
+  pub place_few : so_far.mode.place ≤ 65537
   place_few = counted.place
 
   -- the mode counts at most 65,537 commands of a chain
-  pub link_few : mode.link ≤ 65537
+  pub link_few : so_far.mode.link ≤ 65537
   link_few = counted.link
 
   -- the cycle's commands are at most 65,537
-  pub cycle_few : length cycle ≤ 65537
+  pub cycle_few : length so_far.cycle ≤ 65537
   cycle_few = let few = said_few in let all = planned_few (opening deadline chained) r.said in let is = ap length r.cycle_are in omega (arith, few, all, is)
 
 -- one turn of the reading loop: `line` is cut off what is left, `plain` is that line without its CR, and `skipped` whether it
 -- is skipped
 module _
     (text : List ℕ) (first : Mode) (left : Option (List ℕ)) (now line plain : List ℕ) (rest : Option (List ℕ)) (number : ℕ)
-    (setup : List Task) (cycle : List Planned) (names : List Name) (nears : List Near) (mode : Mode) (skipped : Bool)
-    (r : ReadsTasks text first left number setup cycle names nears mode) (some : left ≡ Some now) (cut : Cuts 10 now line rest)
+    (so_far : Gathered) (skipped : Bool) (r : ReadsTasks text first left number so_far) (some : left ≡ Some now) (cut : Cuts 10 now line rest)
     (is_plain : plain ≡ without_cr line) (tested : skipped ≡ is_skipped plain) where
   -- a line may follow the lines that were read exactly where it may follow the names and places so far
-  said_so : (said : TaskLine) → may_follow (names_of r.said) (nears_of r.said) said ≡ may_follow names nears said
-  said_so said = ap (λ ns. may_follow ns (nears_of r.said) said) (sym r.names_are) ∙ ap (λ ps. may_follow names ps said) (sym r.nears_are)
+  said_so : (said : TaskLine) → may_follow (names_of r.said) (nears_of r.said) said ≡ may_follow so_far.names so_far.nears said
+  said_so said = ap (λ ns. may_follow ns (nears_of r.said) said) (sym r.names_are) ∙ ap (λ ps. may_follow so_far.names ps said) (sym r.nears_are)
 
   -- a skipped line is read, and changes nothing but the number of lines
-  pub task_skips : skipped ≡ true → ReadsTasks text first rest (number + 1) setup cycle names nears mode
+  pub task_skips : skipped ≡ true → ReadsTasks text first rest (number + 1) so_far
   task_skips is =
       record {
         said = r.said;
@@ -242,7 +224,7 @@ module _
   is_line isnt = ap not (ap is_skipped (sym is_plain) ∙ sym tested ∙ isnt)
 
   -- a line that isn't skipped, and says nothing that may follow the lines before it, is the first faulty one
-  faulty : skipped ≡ false → ((said : TaskLine) → IsTaskLine plain said → may_follow names nears said ≡ false)
+  faulty : skipped ≡ false → ((said : TaskLine) → IsTaskLine plain said → may_follow so_far.names so_far.nears said ≡ false)
       → IsFirstFaultyTask text (number + 1)
   faulty isnt none =
       record {
@@ -263,13 +245,13 @@ module _
 
   -- a line that isn't skipped, has a form, and may not follow the names and places so far (`may_follow`), is the first faulty one
   pub task_refused : (said : TaskLine) (allowed : Bool) → skipped ≡ false → IsTaskLine plain said
-      → allowed ≡ may_follow names nears said → allowed ≡ false → IsFirstFaultyTask text (number + 1)
-  task_refused said allowed isnt is asked no_more = faulty isnt (λ other form. ap (may_follow names nears) (one_said plain other said form is) ∙ sym asked ∙ no_more)
+      → allowed ≡ may_follow so_far.names so_far.nears said → allowed ≡ false → IsFirstFaultyTask text (number + 1)
+  task_refused said allowed isnt is asked no_more = faulty isnt (λ other form. ap (may_follow so_far.names so_far.nears) (one_said plain other said form is) ∙ sym asked ∙ no_more)
 
   -- where the line isn't skipped, has a form and may follow the names and places so far (`may_follow`), the text has a line that
   -- isn't faulty, with no faulty line before it (`ReachesASoundTaskLine`): this is needed where memory is refused at the line
   pub task_wants : (said : TaskLine) (allowed : Bool) → skipped ≡ false → IsTaskLine plain said
-      → allowed ≡ may_follow names nears said → allowed ≡ true → ReachesASoundTaskLine text
+      → allowed ≡ may_follow so_far.names so_far.nears said → allowed ≡ true → ReachesASoundTaskLine text
   task_wants said allowed isnt is asked did =
       record {
         front = reads_before.read;
@@ -287,18 +269,19 @@ module _
   -- a line that isn't skipped, has a form and may follow the names and places so far (`may_follow`) is read: the lists grow by
   -- what the line gives, and the mode is the one after it
   pub task_reads :
-      (said : TaskLine) (new_setup : List Task) (new_cycle : List Planned) (new_names : List Name) (new_nears : List Near) (next : Mode) (allowed : Bool)
-      (isnt : skipped ≡ false) (is : IsTaskLine plain said) (asked : allowed ≡ may_follow names nears said) (did : allowed ≡ true)
-      (more_setup : new_setup ≡ setup ++ setup_at mode said) (more_cycle : new_cycle ≡ cycle ++ planned_at mode said)
-      (more_names : new_names ≡ names ++ name_at said) (more_nears : new_nears ≡ nears ++ near_at said) (more : next ≡ mode_after mode said)
-      → ReadsTasks text first rest (number + 1) new_setup new_cycle new_names new_nears next
-  task_reads said new_setup new_cycle new_names new_nears next allowed isnt is asked did more_setup more_cycle more_names more_nears more =
+      (said : TaskLine) (new : Gathered) (allowed : Bool)
+      (isnt : skipped ≡ false) (is : IsTaskLine plain said) (asked : allowed ≡ may_follow so_far.names so_far.nears said) (did : allowed ≡ true)
+      (more_setup : new.setup ≡ so_far.setup ++ setup_at so_far.mode said) (more_cycle : new.cycle ≡ so_far.cycle ++ planned_at so_far.mode said)
+      (more_names : new.names ≡ so_far.names ++ name_at said) (more_nears : new.nears ≡ so_far.nears ++ near_at said)
+      (more : new.mode ≡ mode_after so_far.mode said)
+      → ReadsTasks text first rest (number + 1) new
+  task_reads said new allowed isnt is asked did more_setup more_cycle more_names more_nears more =
       record {
         said = r.said ++ said ∷ [];
         reads = turn_reads IsTaskLine text left now line plain rest number r.said skipped r.reads some cut is_plain tested said (r.said ++ said ∷ []) isnt is refl;
         follow = follow_more [] [] r.said said r.follow (said_so said ∙ sym asked ∙ did);
-        setup_are = more_setup ∙ ap (λ ts. ts ++ setup_at mode said) r.setup_are ∙ ap (λ m. setup_of first r.said ++ setup_at m said) r.mode_is ∙ sym (setup_more first r.said said);
-        cycle_are = more_cycle ∙ ap (λ ts. ts ++ planned_at mode said) r.cycle_are ∙ ap (λ m. planned_of first r.said ++ planned_at m said) r.mode_is ∙ sym (planned_more first r.said said);
+        setup_are = more_setup ∙ ap (λ ts. ts ++ setup_at so_far.mode said) r.setup_are ∙ ap (λ m. setup_of first r.said ++ setup_at m said) r.mode_is ∙ sym (setup_more first r.said said);
+        cycle_are = more_cycle ∙ ap (λ ts. ts ++ planned_at so_far.mode said) r.cycle_are ∙ ap (λ m. planned_of first r.said ++ planned_at m said) r.mode_is ∙ sym (planned_more first r.said said);
         names_are = more_names ∙ ap (λ ns. ns ++ name_at said) r.names_are ∙ sym (names_more r.said said);
         nears_are = more_nears ∙ ap (λ ns. ns ++ near_at said) r.nears_are ∙ sym (nears_more r.said said);
         mode_is = more ∙ ap (λ m. mode_after m said) r.mode_is ∙ sym (mode_after_both first r.said (said ∷ []));

@@ -3,6 +3,7 @@
 -- empty or begins with `#` is skipped; any other has to have the form of an item. LF is byte 10, and CR byte 13.
 use Rattle.std.proofs.Common.{◌≡◌, ◌≢◌, ◌≤◌, ◌+◌, ℕ, List, [], ◌∷◌, ◌++◌, length, map, Option, Some, None, Bool, true, false, cond, arith, ap, subst, sym, ◌∙◌, ◌==◌, append_assoc, append-nil, length-append, ne_eqb}
 use Rattle.std.specs.Prelude.{filter, not}
+use Rattle.std.proofs.lemmas.Bool.{cond_both}
 use Rattle.std.proofs.lemmas.List.{length-map}
 use Rattle.std.proofs.lemmas.List.Elements.{filter-append}
 use Rattle.gc_texts.specs.Cuts.{Cuts, Lacks}
@@ -36,18 +37,13 @@ pieces-cut before [] rest lacks = ap (λ x. x ∷ text_pieces [] rest) (sym (app
 pieces-cut before (b ∷ front) rest lacks =
     piece-on before (front ++ 10 ∷ rest) b lacks.0 ∙ pieces-cut (before ++ b ∷ []) front rest lacks.1 ∙ ap (λ x. x ∷ text_pieces [] rest) (append_assoc before (b ∷ []) front)
 
--- where `bs` has at most one piece more than bytes, whether its first piece begins anew or goes on with `before` and b, the same
--- holds of b and `bs` together; `t` says whether b is a line feed
-few_more : (before bs : List ℕ) (b : ℕ) (t : Bool)
-    → length (text_pieces [] bs) ≤ length bs + 1 → length (text_pieces (before ++ b ∷ []) bs) ≤ length bs + 1
-    → length (cond t (before ∷ text_pieces [] bs) (text_pieces (before ++ b ∷ []) bs)) ≤ length (b ∷ bs) + 1
-few_more before bs b true new on = omega (arith, new)
-few_more before bs b false new on = omega (arith, on)
-
 -- there is at most one piece more than `bs` has bytes, whatever the first piece begins with (`before`)
 pieces-few : (before bs : List ℕ) → length (text_pieces before bs) ≤ length bs + 1
 pieces-few before [] = omega arith
-pieces-few before (b ∷ bs) = few_more before bs b (b == 10) (pieces-few [] bs) (pieces-few (before ++ b ∷ []) bs)
+pieces-few before (b ∷ bs) =
+    let anew = pieces-few [] bs in
+    let on = pieces-few (before ++ b ∷ []) bs in
+    cond_both (b == 10) (before ∷ text_pieces [] bs) (text_pieces (before ++ b ∷ []) bs) (λ ps. length ps ≤ length (b ∷ bs) + 1) (λ _. omega (arith, anew)) (λ _. omega (arith, on))
 
 -- where a text is cut at its first LF, if it has one, its lines are `front` without a CR at its end, and then those of `rest`
 pub lines-cut : (text front : List ℕ) (rest : Option (List ℕ)) → Cuts 10 text front rest → text_lines text ≡ without_cr front ∷ lines_left rest
@@ -107,41 +103,6 @@ pub kept_line : {Item : Type 0} (form : Form Item) (line : List ℕ) (item : Ite
     → is_skipped line ≡ false → form line item → LineItems form line (item ∷ [])
 kept_line form line item kept is = subst (λ ls. AreItems form ls (item ∷ [])) (sym (ap (λ t. cond (not t) (line ∷ []) []) kept)) (is, tt)
 
--- where the next line isn't skipped and has the form of no item, it is the first faulty one
-pub first_faulty : {Item : Type 0} (form : Form Item) (text now line : List ℕ) (rest : Option (List ℕ)) (number : ℕ) (items : List Item)
-    → Reads form text (Some now) number items → Cuts 10 now line rest → is_skipped (without_cr line) ≡ false
-    → ((e : Item) → form (without_cr line) e → ⊥) → FirstFaulty form text (number + 1)
-first_faulty form text now line rest number items r cut kept none =
-    record {
-      front = r.read;
-      line = without_cr line;
-      rest = lines_left rest;
-      lines_are = r.lines_are ∙ ap (λ ls. r.read ++ ls) (lines-cut now line rest cut);
-      place = omega (arith, r.count);
-      kept = ap not kept;
-      no_item = none;
-      items = items;
-      before = r.items_are;
-    }
-
--- where the next line isn't skipped and has the form of an item, the text has such a line with no faulty line before it
--- (`ReachesASoundLine`)
-pub next_item : {Item : Type 0} (form : Form Item) (text now line : List ℕ) (rest : Option (List ℕ)) (number : ℕ) (items : List Item)
-    → Reads form text (Some now) number items → Cuts 10 now line rest → is_skipped (without_cr line) ≡ false → (e : Item) → form (without_cr line) e
-    → ReachesASoundLine form text
-next_item form text now line rest number items r cut kept e is =
-    record {
-      front = r.read;
-      line = without_cr line;
-      rest = lines_left rest;
-      lines_are = r.lines_are ∙ ap (λ ls. r.read ++ ls) (lines-cut now line rest cut);
-      kept = ap not kept;
-      item = e;
-      is_item = is;
-      items = items;
-      before = r.items_are;
-    }
-
 -- one turn of the reading loop: `line` is cut off what is left, `plain` is that line without its CR, and `skipped` whether it
 -- is skipped
 module _
@@ -168,13 +129,37 @@ module _
       let own : LineItems form (without_cr line) (item ∷ []) = kept_line form (without_cr line) item (not_skipped isnt) (subst (λ l. form l item) is_plain is) in
       subst (λ es. Reads form text rest (number + 1) es) (sym grown) (reads_on form text now line rest number items (item ∷ []) reads_before cut own)
 
+  -- the text's lines are those that were read, this one without its CR, and those of the rest
+  split : text_lines text ≡ reads_before.read ++ without_cr line ∷ lines_left rest
+  split = reads_before.lines_are ∙ ap (λ ls. reads_before.read ++ ls) (lines-cut now line rest cut)
+
   -- a line that isn't skipped and has the form of no item is the first faulty one
   pub turn_fails : skipped ≡ false → ((e : Item) → form plain e → ⊥) → FirstFaulty form text (number + 1)
   turn_fails isnt none =
-      first_faulty form text now line rest number items reads_before cut (not_skipped isnt) (λ e is. none e (subst (λ l. form l e) (sym is_plain) is))
+      record {
+        front = reads_before.read;
+        line = without_cr line;
+        rest = lines_left rest;
+        lines_are = split;
+        place = ap (λ n. n + 1) reads_before.count;
+        kept = ap not (not_skipped isnt);
+        no_item = λ e is. none e (subst (λ l. form l e) (sym is_plain) is);
+        items = items;
+        before = reads_before.items_are;
+      }
 
   -- where the line isn't skipped and has the form of an item, the text has such a line with no faulty line before it
   -- (`ReachesASoundLine`): this is needed where memory is refused for the item
   pub turn_wants : (item : Item) → skipped ≡ false → form plain item → ReachesASoundLine form text
   turn_wants item isnt is =
-      next_item form text now line rest number items reads_before cut (not_skipped isnt) item (subst (λ l. form l item) is_plain is)
+      record {
+        front = reads_before.read;
+        line = without_cr line;
+        rest = lines_left rest;
+        lines_are = split;
+        kept = ap not (not_skipped isnt);
+        item = item;
+        is_item = subst (λ l. form l item) is_plain is;
+        items = items;
+        before = reads_before.items_are;
+      }

@@ -59,10 +59,6 @@ words_joined form now word None item (next ∷ others) cut is left = let bad : n
 words_joined form now word (Some behind) item [] cut is left = absurd left
 words_joined form now word (Some behind) item (next ∷ others) cut is left = (word, behind, cut.0, is, left)
 
--- `ReadsWords` holds before the first word, with all of the text left and no items read
-pub none_read : {Item : Type 0} (form : Form Item) (text : List ℕ) → ReadsWords form text (Some text) []
-none_read form text = record { found = λ later are. are; only = λ all are. (all, refl, are) }
-
 -- where nothing is left, the words that were read are those of the text
 pub all_read_are : {Item : Type 0} (form : Form Item) (text : List ℕ) (left : Option (List ℕ)) (read : List Item)
     → ReadsWords form text left read → left ≡ None → AreWords form text (read ++ [])

@@ -35,7 +35,7 @@ run_fault_number RecordsUnopened = 64
 run_fault_number RecordsHeld = 65
 run_fault_number RecordsForeign = 66
 
--- what is printed after a fault's number: how far a write came, or which line is faulty
+-- what is printed after a fault's number: of `Write` how far it came, of `Schedule` which line is faulty, of any other nothing
 abbrev pub fault_detail : RunFault → List ℕ
 fault_detail (Write replies bytes) = how_far replies bytes
 fault_detail (Schedule line) = codes " line " ++ decimal line

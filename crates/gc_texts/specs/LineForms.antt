@@ -1,5 +1,6 @@
 -- A text of lines, each of which is written for one item: this project's own.
 use Rattle.std.specs.Prelude.{◌≡◌, ℕ, ◌+◌, ◌-◌, ◌<◌, ◌≤◌, ◌↔◌, ◌==◌, Bool, true, List, [], ◌∷◌, ◌++◌, length, get_or, map, filter, not, if◌then◌else◌, Result, Err}
+use Rattle.std.specs.List.{AllZip}
 use Rattle.gc_texts.specs.declared.fault.RunFault.{RunFault}
 use Rattle.gc_texts.specs.declared.fault.RunFault.TheVariants.{Schedule, Memory, InputTooLong}
 use Rattle.gc_texts.specs.declared.text.TheConstants.{TEXT_LIMIT}
@@ -38,10 +39,7 @@ is_kept line = not (is_skipped line)
 
 -- these lines have the forms of these items, one for one and in order
 abbrev pub AreItems : {Item : Type 0} → Form Item → List (List ℕ) → List Item → Type 0
-AreItems form [] [] = Unit {0}
-AreItems form [] (x ∷ xs) = ⊥
-AreItems form (line ∷ lines) [] = ⊥
-AreItems form (line ∷ lines) (x ∷ xs) = form line x × AreItems form lines xs
+AreItems form lines items = AllZip form lines items
 
 -- the lines of the text that aren't skipped have the forms of these items, one for one and in order
 abbrev pub IsText : {Item : Type 0} → Form Item → List ℕ → List Item → Type 0

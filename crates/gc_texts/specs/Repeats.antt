@@ -39,6 +39,14 @@ pub record Chain : Type 0 where
   pub retry : Retry
   pub commands : List Task
 
+-- the commands of a chain, each with the chain's retry
+abbrev pub planned_in : Chain → List Planned
+planned_in chain = map (λ task. record { task = task; retry = chain.retry }) chain.commands
+
+-- a command with the place of its target (`placed`)
+abbrev pub placed_planned : List Near → Planned → Planned
+placed_planned nears planned = record { task = placed nears planned.task; retry = planned.retry }
+
 -- the commands of each of these chains are one chain (`IsOneChain`), and these tasks are the attempts of the chains, in order: of each
 -- chain the first, and as many more as its line `retry` says
 abbrev pub AreLaidOut : List Chain → List Task → Type 0
@@ -57,8 +65,7 @@ ChainsGoOutAgain =
     (is : IsTasks text deadline chained setup tasks names nears)
     → (chains : List Chain) × (front : List Task) × (cycle : List Task)
     × (tasks ≡ front ++ cycle) × (setup ≡ length front) × AreLaidOut chains cycle
-    × (flat_map {A = Planned} (λ (chain : Chain). map (λ task. record { task = task; retry = chain.retry }) chain.commands) chains
-    ≡ map (λ planned. record { task = placed nears planned.task; retry = planned.retry }) (planned_of (opening deadline chained) is.said))
+    × (flat_map planned_in chains ≡ map (placed_planned nears) (planned_of (opening deadline chained) is.said))
 
 -- a command of the cycle has the retry that the last line `retry` before it says; without such a line its chain isn't repeated
 abbrev pub RetriesHold : Type 0

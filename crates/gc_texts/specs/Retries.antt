@@ -1,11 +1,11 @@
 -- Lines `retry` of a station's text: how often a chain is repeated, and after which endings of its commands. This project's
 -- own.
-use Rattle.std.specs.Prelude.{◌≡◌, ℕ, ◌+◌, ◌≤◌, Bool, true, nat_lt, List, [], ◌∷◌, ◌++◌, slice_set, codes}
+use Rattle.std.specs.Prelude.{◌≡◌, ℕ, ◌+◌, ◌≤◌, Bool, true, nat_lt, List, [], ◌∷◌, slice_set, codes}
 use Rattle.gc_texts.specs.Again.{no_again}
 use Rattle.gc_texts.specs.Codes.{IsCode}
-use Rattle.gc_texts.specs.Cuts.{before, behind}
+use Rattle.gc_texts.specs.Cuts.{behind}
 use Rattle.gc_texts.specs.Procedures.{IsNumber}
-use Rattle.gc_texts.specs.Words.{AreWords}
+use Rattle.gc_texts.specs.Words.{AreWords, first_word}
 use Rattle.gc_texts.specs.declared.again.Again.{Again}
 use Rattle.gc_texts.specs.declared.retry.Reason.{Reason}
 use Rattle.gc_texts.specs.declared.retry.Reason.TheVariants.{Code, Unreadable, Elsewhere, Late, Lost, Skipped}
@@ -67,6 +67,6 @@ pub record NamesRule (text : List ℕ) (again : Again) : Type 0 where
 
 -- `N WORD WORD ..`: how often a chain is repeated, from 1 to 9 times, and after which endings
 pub record IsRetryRule (text : List ℕ) (retry : Retry) : Type 0 where
-  pub times_are : IsNumber (before 32 text) retry.times 9
+  pub times_are : IsNumber (first_word text) retry.times 9
   pub some : 1 ≤ retry.times
   pub again_is : NamesRule (behind 32 text) retry.again

@@ -1,15 +1,9 @@
 -- Moments as text: UTC by the Gregorian calendar, in the form of ISO 8601; that a stamp has milliseconds is this project's own.
-use Rattle.std.specs.Prelude.{ℕ, zero, suc, ◌+◌, ◌/◌, ◌%◌, ◌==◌, ◌||◌, nat_lt, List, [], ◌∷◌, ◌++◌, if◌then◌else◌, codes, min, pos}
+use Rattle.std.specs.Prelude.{ℕ, zero, suc, ◌+◌, ◌/◌, ◌%◌, nat_lt, List, [], ◌∷◌, ◌++◌, if◌then◌else◌, codes, min, pos}
 use Rattle.std.specs.Fmt.{decimal}
-use Rattle.gc_catalogue.specs.Calendar.{is_leap}
+use Rattle.gc_catalogue.specs.Calendar.{is_leap, month_days}
 use Rattle.gc_catalogue.specs.declared.call.DateTime.{DateTime}
 use Rattle.gc_texts.specs.declared.stamp.Date.{Date}
-
--- how many days a month of a year has; months count from 1
-abbrev pub month_days : (year month : ℕ) → ℕ
-month_days year month =
-    if month == 2 then (if is_leap year then 29 else 28)
-    else (if (month == 4) || (month == 6) || (month == 9) || (month == 11) then 30 else 31)
 
 -- how many days a year has
 abbrev pub year_days : ℕ → ℕ

@@ -4,6 +4,7 @@
 -- section are in front, and how many of those in front are in the last chain. A group is a run of commands for one target,
 -- with no line `chained`, `unchained`, `retry`, `at start` or `each cycle` between them.
 use Rattle.std.specs.Prelude.{◌≡◌, ℕ, ◌+◌, ◌<◌, ◌≤◌, ◌==◌, ◌&&◌, Bool, true, false, not, nat_lt, List, [], ◌∷◌, ◌++◌, length, map, filter, Option, None, Some, Vec, vec_capacity, vec_len, Result, Err, if◌then◌else◌}
+use Rattle.std.specs.List.{flat_map}
 use Rattle.gc_catalogue.specs.declared.asked.Asked.{Asked}
 use Rattle.gc_catalogue.specs.declared.asked.Asked.TheVariants.{Table}
 use Rattle.gc_catalogue.specs.declared.call.Call.TheVariants.{SetDate}
@@ -143,8 +144,7 @@ name_at _ = []
 
 -- the names that these lines give
 abbrev pub names_of : List TaskLine → List Name
-names_of [] = []
-names_of (line ∷ later) = name_at line ++ names_of later
+names_of lines = flat_map name_at lines
 
 -- the place that a line gives a target, as a list of one; none if it is no line `near`
 abbrev pub near_at : TaskLine → List Near
@@ -153,8 +153,7 @@ near_at _ = []
 
 -- the places that these lines give
 abbrev pub nears_of : List TaskLine → List Near
-nears_of [] = []
-nears_of (line ∷ later) = near_at line ++ nears_of later
+nears_of lines = flat_map near_at lines
 
 -- a task with the place of its target: the first of `nears` that is of that target, and none where there is none
 abbrev pub placed : List Near → Task → Task

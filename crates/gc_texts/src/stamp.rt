@@ -2,11 +2,11 @@
 
 ghost use Rattle.std.specs.Prelude.{◌≡◌, ℕ, ◌+◌, ◌^◌, ◌<◌, ◌≤◌, ◌++◌, if◌then◌else◌};
 ghost use Rattle.arrayvec.specs.ArrayVec.{array_vec_len};
-ghost use Rattle.gc_texts.specs.Stamps.{month_days, year_days, days_after, date_of, two_digits, three_digits, date_text, time_text, stamp_text, date_time};
+ghost use Rattle.gc_texts.specs.Stamps.{year_days, days_after, date_of, two_digits, three_digits, date_text, time_text, stamp_text, date_time};
 
 use crate::turn::Turn;
 use arrayvec::ArrayVec;
-use gc_catalogue::{DateTime, is_leap};
+use gc_catalogue::{DateTime, is_leap, month_days};
 use gc_lines::append;
 use itoa::Buffer;
 
@@ -33,18 +33,6 @@ struct Date {
     month: u64,
     // From 1 on.
     day: u64,
-}
-
-// How many days a month of a year has; months count from 1.
-fn month_days(year: u64, month: u64) -> u64
-    ensures { result ≡ month_days year month }
-{
-    match month {
-        2 if is_leap(year) => 29,
-        2 => 28,
-        4 | 6 | 9 | 11 => 30,
-        _ => 31,
-    }
 }
 
 // How many days a year has.

@@ -1,16 +1,16 @@
 -- A written decimal is ASCII, and so it is UTF-8.
-use Rattle.std.proofs.Common.{ℕ, ◌/◌, ◌%◌, ◌^◌, ℤ, pos, negsuc, unsigned_abs, List, [], ◌∷◌, ◌++◌, arith, lit<}
+use Rattle.std.proofs.Common.{ℕ, ◌/◌, ◌%◌, ◌^◌, ◌<◌, ℤ, pos, negsuc, unsigned_abs, List, [], ◌∷◌, ◌++◌, arith, lit<}
 use Rattle.std.specs.Str.{IsAscii, IsUtf8}
 use Rattle.std.proofs.lemmas.Str.{IsAscii-append, IsUtf8-from_ascii}
-use Rattle.std.proofs.lemmas.Str.Ascii.{IsAscii-nil, IsAscii-cons}
-use Rattle.gc_values.specs.Digits.{AreDigits}
+use Rattle.std.proofs.lemmas.Str.Ascii.{IsAscii-nil, IsAscii-cons, IsAscii-from_all}
+use Rattle.std.proofs.lemmas.List.Elements.{All-weaker, All-from_recursion}
+use Rattle.gc_values.specs.Digits.{IsDigit, AreDigits}
 use Rattle.gc_values.specs.Written.{minus_text, whole_text, behind_text, written}
 use Rattle.gc_values.proofs.WrittenSpells.{writes_whole, is_fraction_text}
 
 -- digits are ASCII
 ascii_digits : (ds : List ℕ) → AreDigits ds → IsAscii ds
-ascii_digits [] h = IsAscii-nil
-ascii_digits (d ∷ ds) h = IsAscii-cons d ds (let top = h.0 in omega (arith, top)) (ascii_digits ds h.1)
+ascii_digits ds h = IsAscii-from_all ds (All-weaker IsDigit (λ b. b < 128) (λ d digit. let top = digit.1 in omega (arith, top)) ds (All-from_recursion IsDigit ds h))
 
 -- a minus, or none, is ASCII
 ascii_minus : (z : ℤ) → IsAscii (minus_text z)

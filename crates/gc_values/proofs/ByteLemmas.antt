@@ -1,12 +1,12 @@
--- A byte parameter, which is two hexadecimal digits between single quotes: a text is one byte at most, and a byte's text reads
--- back.
+-- A byte parameter, which is two hexadecimal digits between single quotes: a text is the parameter of one byte at most, and a
+-- byte's text reads back.
 use Rattle.std.proofs.Common.{◌≡◌, ℕ, ◌+◌, ◌*◌, ◌/◌, ◌%◌, ◌<◌, List, [], ◌∷◌, Some, refl, sym, ap, ◌∙◌, arith}
 use Rattle.std.specs.Prelude.{Option, slice_index}
 use Rattle.hex.specs.Hex.{hex_digit_value, lower_digits, encode_with, encode_lower}
 use Rattle.hex.proofs.HexLemmas.{IsDigits-lower_digits}
 use Rattle.gc_values.specs.Byte.{IsByte, byte_text}
 
--- equal bytes have the same value as hexadecimal digits
+-- where equal bytes are hexadecimal digits, these have the same value
 one_digit : (a b x y : ℕ) → a ≡ b → hex_digit_value a ≡ Some x → hex_digit_value b ≡ Some y → x ≡ y
 one_digit a b x y e p q = let f = ap hex_digit_value e in let s : ◌≡◌ {A = Option ℕ} (Some x) (Some y) = sym p ∙ f ∙ q in cc
 

@@ -21,17 +21,17 @@ written_spells_decimal d = written_spells d.digits d.scale d.is_canonical d.has_
 pub spells_unique : (text : List ℕ) (d e : Decimal) → Spells text d.digits d.scale → Spells text e.digits e.scale → d ≡ e
 spells_unique text d e x y = let same = spells_once text d.digits d.scale e.digits e.scale x y in same_decimal d e same.0 same.1
 
--- `SpellsBeyond` isn't true of a text that spells a decimal
+-- a text that spells a decimal doesn't spell a number out of range
 pub spelled_not_beyond : (text : List ℕ) (d : Decimal) → Spells text d.digits d.scale → SpellsBeyond text → ⊥
 spelled_not_beyond text d x beyond = in_range_only text d.digits d.scale x d.is_in_range beyond
 
--- `SpellsNothing` isn't true of a text that spells a decimal
+-- a text that spells a decimal isn't one that is no number
 pub spelled_has_form : (text : List ℕ) (d : Decimal) → Spells text d.digits d.scale → SpellsNothing text → ⊥
 spelled_has_form text d x nothing = nothing x.0 x.1
 
 -- a text isn't both a number out of range and no number
-pub one_fault : (text : List ℕ) → SpellsBeyond text → SpellsNothing text → ⊥
-one_fault text beyond nothing = nothing beyond.2.0 beyond.2.1
+pub beyond_has_form : (text : List ℕ) → SpellsBeyond text → SpellsNothing text → ⊥
+beyond_has_form text beyond nothing = nothing beyond.2.0 beyond.2.1
 
 -- decimals with equal written texts are equal
 pub written_unique : (d e : Decimal) → written d.digits d.scale ≡ written e.digits e.scale → d ≡ e

@@ -4,18 +4,6 @@ use Rattle.std.proofs.Props.{props}
 use Rattle.gc_values.specs.Fraction.{IsCanonical, IsInRange}
 use Rattle.gc_values.specs.declared.decimal.Decimal.{Decimal}
 
--- there is at most one proof that m is at most n
-le_prop : (m n : ℕ) → IsProp (m ≤ n)
-le_prop m n = hlevel props
-
--- there is at most one proof that a number has no place more than it needs
-canonical_prop : (m : ℤ) (s : ℕ) → IsProp (IsCanonical m s)
-canonical_prop m s = hlevel props
-
--- there is at most one proof that a number is in range
-range_prop : (m : ℤ) (s : ℕ) → IsProp (IsInRange m s)
-range_prop m s = hlevel props
-
 -- the decimal of digits and a scale, with the proofs of its facts
 abbrev decimal_of : (m : ℤ) (s : ℕ) → s ≤ 24 → IsInRange m s → IsCanonical m s → Decimal
 decimal_of m s p r c = record { digits = m; scale = s; has_few_places = p; is_in_range = r; is_canonical = c }
@@ -23,7 +11,10 @@ decimal_of m s p r c = record { digits = m; scale = s; has_few_places = p; is_in
 -- decimals of the same digits and scale are equal whatever the proofs are
 same_proofs : (m : ℤ) (s : ℕ) (p p' : s ≤ 24) (r r' : IsInRange m s) (c c' : IsCanonical m s) → decimal_of m s p r c ≡ decimal_of m s p' r' c'
 same_proofs m s p p' r r' c c' =
-    ap (λ x. decimal_of m s x r c) (le_prop s 24 p p') ∙ ap (λ x. decimal_of m s p' x c) (range_prop m s r r') ∙ ap (decimal_of m s p' r') (canonical_prop m s c c')
+    let one_few : IsProp (s ≤ 24) = hlevel props in
+    let one_in_range : IsProp (IsInRange m s) = hlevel props in
+    let one_canonical : IsProp (IsCanonical m s) = hlevel props in
+    ap (λ x. decimal_of m s x r c) (one_few p p') ∙ ap (λ x. decimal_of m s p' x c) (one_in_range r r') ∙ ap (decimal_of m s p' r') (one_canonical c c')
 
 -- decimals of equal digits and scales are equal whatever the proofs are
 same_fields : (m : ℤ) (s : ℕ) (p : s ≤ 24) (r : IsInRange m s) (c : IsCanonical m s) (n : ℤ) (t : ℕ) → m ≡ n → s ≡ t

@@ -1,18 +1,18 @@
 -- Each text spells a decimal, or a number out of its range, or none. `IsDecided` says of something that it holds, or that it
 -- doesn't.
-use Rattle.std.proofs.Common.{◌≡◌, ℕ, ◌+◌, ◌*◌, ◌^◌, ◌<◌, ◌≤◌, Bool, true, false, List, [], ◌∷◌, ◌++◌, length, ℤ, unsigned_abs, Option, Some, None, refl, sym, ap, ◌∙◌, subst, ◌⊎◌, inl, inr, arith}
+use Rattle.std.proofs.Common.{◌≡◌, ℕ, ◌+◌, ◌*◌, ◌^◌, ◌<◌, Bool, true, false, List, [], ◌∷◌, ◌++◌, length, ℤ, unsigned_abs, Option, Some, None, refl, sym, ap, ◌∙◌, subst, ◌⊎◌, inl, inr, arith}
 use Rattle.std.proofs.lemmas.Bool.{cases_lt, cases_eq}
-use Rattle.gc_values.specs.Cut.{StartsNoDigit, StartsNoSign, StartsNoPoint, CutsSign, CutsDigits, CutsFraction}
-use Rattle.gc_values.specs.Digits.{AreDigits, number}
-use Rattle.gc_values.specs.Fraction.{Fraction, signed, IsRounded}
+use Rattle.gc_values.specs.Cut.{StartsNoDigit, StartsNoSign, CutsSign, CutsFraction}
+use Rattle.gc_values.specs.Digits.{number}
+use Rattle.gc_values.specs.Fraction.{signed}
 use Rattle.gc_values.specs.Nearest.{half_up}
 use Rattle.gc_values.specs.RoundedFacts.{half_up_rounds}
-use Rattle.gc_values.specs.Spelling.{Sign, is_minus, Exponent, IsExponentDigits, IsExponent, exponent_text, mark, ups, downs, fraction_digits, fraction_text, Parts, IsNumeral, spelling, value, Names, Spells, SpellsBeyond, SpellsNothing}
+use Rattle.gc_values.specs.Spelling.{is_minus, Exponent, IsExponentDigits, IsExponent, exponent_text, mark, ups, downs, fraction_digits, Parts, IsNumeral, spelling, value, Spells, SpellsBeyond, SpellsNothing}
 use Rattle.gc_values.specs.declared.decimal.Decimal.{Decimal}
 use Rattle.gc_values.proofs.EachWhole.{IsDecided, digits_or_not, digits_cut, sign_cut}
 use Rattle.gc_values.proofs.Powers.{ten_pow_pos}
 use Rattle.gc_values.proofs.Rounded.{zeros_off, rounded_from}
-use Rattle.gc_values.proofs.Unique.{SameParts, same_parts, sign_once, digits_no_sign}
+use Rattle.gc_values.proofs.Unique.{Cut, same_parts, cut_is_numeral, sign_once, digits_no_sign}
 
 -- each text that begins with no digit is cut into a fraction, or none, and a rest
 fraction_cut : (text : List ℕ) → StartsNoDigit text → (run : List ℕ) × (rest : List ℕ) × CutsFraction text run rest
@@ -96,18 +96,6 @@ exponent_or_not (b ∷ bs) = elim (cases_eq b 101) [
 abbrev NumeralOf : List ℕ → Type 0
 NumeralOf text = (p : Parts) × IsNumeral p × (text ≡ spelling p)
 
--- a text cut from the left: sign, digits, fraction and rest
-record Cut (text : List ℕ) : Type 0 where
-  negative : Bool
-  behind_sign : List ℕ
-  whole : List ℕ
-  behind_whole : List ℕ
-  fraction : List ℕ
-  rest : List ℕ
-  sign : CutsSign text negative behind_sign
-  digits : CutsDigits behind_sign whole behind_whole
-  point : CutsFraction behind_whole fraction rest
-
 -- each text is cut into a sign, digits, a fraction and a rest, as `Cut` has them
 cut_from_left : (text : List ℕ) → Cut text
 cut_from_left text =
@@ -116,36 +104,23 @@ cut_from_left text =
     let f = fraction_cut d.1 d.2.longest in
     record { negative = s.0; behind_sign = s.1; whole = d.0; behind_whole = d.1; fraction = f.0; rest = f.1; sign = s.2; digits = d.2; point = f.2 }
 
--- where a text was cut, as `Cut` has it, and is a numeral's, the parts that were cut off are the numeral's
-cut_same : (text : List ℕ) (c : Cut text) (n : NumeralOf text) → SameParts c.negative c.whole c.fraction c.rest n.0
-cut_same text c n = same_parts text c.negative c.behind_sign c.whole c.behind_whole c.fraction c.rest c.sign c.digits c.point n.0 n.1 n.2
-
 -- where a text was cut, as `Cut` has it, into at least one digit in all, and a rest that is an exponent or empty, the text is a
 -- numeral
 numeral_made : (text : List ℕ) (c : Cut text) → 0 < length c.whole + length c.fraction → ExponentOf c.rest → NumeralOf text
-numeral_made text c some x = (
-  record { sign = c.sign.sign; whole = c.whole; fraction = c.point.fraction; exponent = x.0 },
-  record {
-    whole = c.digits.digits;
-    fraction = subst AreDigits c.point.run_is c.point.digits;
-    some = subst (λ run. 0 < length c.whole + length run) c.point.run_is some;
-    exponent = x.1;
-  },
-  c.sign.text_is
-      ∙ ap (λ xs. Rattle.gc_values.specs.Spelling.sign_text c.sign.sign ++ xs) (c.digits.text_is
-      ∙ ap (λ xs. c.whole ++ xs) (c.point.text_is ∙ ap (λ xs. fraction_text c.point.fraction ++ xs) x.2)),
-)
+numeral_made text c some x =
+    let r = cut_is_numeral text c (ups x.0) (downs x.0) some (record { exponent = x.0; form = x.1; text_is = x.2; up_is = refl; down_is = refl }) in
+    (r.parts, r.form, r.text_is)
 
 -- a text is a numeral, or isn't
 numeral_or_not : (text : List ℕ) → IsDecided (NumeralOf text)
 numeral_or_not text =
     let c = cut_from_left text in
     elim (cases_lt 0 (length c.whole + length c.fraction)) [
-      | inr empty ↦ inr (λ n. let same = cut_same text c n in
+      | inr empty ↦ inr (λ n. let same = same_parts text c n.0 n.1 n.2 in
           let none = n.1.some in omega (arith, empty, none, ap length same.whole_is, ap length same.fraction_is))
       | inl some ↦ elim (exponent_or_not c.rest) [
         | inl x ↦ inl (numeral_made text c some x)
-        | inr none ↦ inr (λ n. none (n.0.exponent, n.1.exponent, (cut_same text c n).rest_is))
+        | inr none ↦ inr (λ n. none (n.0.exponent, n.1.exponent, (same_parts text c n.0 n.1 n.2).rest_is))
       ]
     ]
 

@@ -1,16 +1,17 @@
 -- Each item is read as a value of a kind, or has a fault; and so is each parameter list read as values, or has a fault.
 -- `IsDecided` says of something that it holds, or that it doesn't.
-use Rattle.std.proofs.Common.{◌≡◌, ◌≢◌, ℕ, zero, suc, ◌+◌, ◌*◌, ◌%◌, ◌<◌, ◌≤◌, Bool, true, false, List, [], ◌∷◌, ◌++◌, length, replicate, ℤ, pos, negsuc, Option, Some, None, refl, sym, ap, ◌∙◌, subst, ◌⊎◌, inl, inr, arith}
+use Rattle.std.proofs.Common.{◌≡◌, ◌≢◌, ℕ, zero, suc, ◌+◌, ◌*◌, ◌%◌, Bool, true, false, List, [], ◌∷◌, ◌++◌, length, replicate, ℤ, pos, negsuc, Option, Some, None, refl, sym, ap, ◌∙◌, subst, ◌⊎◌, inl, inr, arith}
 use Rattle.std.proofs.lemmas.Bool.{cases_lt, cases_eq}
 use Rattle.std.proofs.lemmas.Int.{ints}
+use Rattle.std.proofs.lemmas.List.{same_from_push}
 use Rattle.hex.specs.Hex.{hex_digit_value}
 use Rattle.gc_values.specs.Boolean.{number_of, NamesBoolean}
-use Rattle.gc_values.specs.Byte.{IsByte, IsNoByte}
+use Rattle.gc_values.specs.Byte.{IsByte}
 use Rattle.gc_values.specs.Item.{kind_of, IsItem, IsItemFault}
-use Rattle.gc_values.specs.Lists.{kinds_of, AreItems, AreParams, FirstFault, IsListReadOrFaulty, too_many, wrong_count, faulty_item, open_quote, faulty_items}
+use Rattle.gc_values.specs.Lists.{kinds_of, AreItems, FirstFault, IsListReadOrFaulty, too_many, wrong_count, faulty_item, open_quote, faulty_items}
 use Rattle.gc_values.specs.Params.{quotes, AreSpaces, IsParams}
-use Rattle.gc_values.specs.Text.{IsStringByte, AreStringBytes, quoted, IsString, IsTextItem, IsNoString, IsLongString}
-use Rattle.gc_values.specs.Whole.{NamesWhole, NamesNoWhole, NamesWholeBeyond, IsBetween}
+use Rattle.gc_values.specs.Text.{IsStringByte, AreStringBytes, quoted, IsString}
+use Rattle.gc_values.specs.Whole.{NamesWhole, IsBetween}
 use Rattle.gc_values.specs.declared.fault.ValueFault.{ValueFault}
 use Rattle.gc_values.specs.declared.fault.ValueFault.TheVariants as fault
 use Rattle.gc_values.specs.declared.value.Kind.{Kind}
@@ -18,7 +19,7 @@ use Rattle.gc_values.specs.declared.value.Kind.TheVariants as kind
 use Rattle.gc_values.specs.declared.value.Value.{Value}
 use Rattle.gc_values.specs.declared.value.Value.TheVariants as value
 use Rattle.gc_values.proofs.EachDecimal.{each_decimal}
-use Rattle.gc_values.proofs.EachWhole.{IsDecided, whole_between}
+use Rattle.gc_values.proofs.EachWhole.{IsDecided, all_or_not, whole_between}
 use Rattle.gc_values.proofs.ParamLists.{has_pieces, not_even_is_odd}
 use Rattle.gc_values.proofs.TextLemmas.{one_quoted}
 
@@ -68,9 +69,7 @@ EndsInQuote text = (bytes : List ℕ) × (text ≡ bytes ++ 34 ∷ [])
 
 -- a text of one byte, which is no double quote, doesn't end in a double quote
 one_byte_ends_in_no_quote : (b : ℕ) → b ≢ 34 → EndsInQuote (b ∷ []) → ⊥
-one_byte_ends_in_no_quote b other ([], is) = other (let same : b ≡ 34 = cc in same)
-one_byte_ends_in_no_quote b other (x ∷ [], is) = absurd (cc)
-one_byte_ends_in_no_quote b other (x ∷ y ∷ xs, is) = absurd (cc)
+one_byte_ends_in_no_quote b other (bytes, is) = other (same_from_push [] bytes b 34 is).1
 
 -- a text of at least two bytes that ends in a double quote still does without its first byte
 end_behind : (b c : ℕ) (rest : List ℕ) → EndsInQuote (b ∷ c ∷ rest) → EndsInQuote (c ∷ rest)
@@ -108,11 +107,7 @@ string_byte_or_not b = elim (cases_eq b 34) [
 
 -- bytes are all allowed in a string, or not
 string_bytes_or_not : (bytes : List ℕ) → IsDecided (AreStringBytes bytes)
-string_bytes_or_not [] = inl tt
-string_bytes_or_not (b ∷ bs) = elim (string_byte_or_not b) [
-  | inr other ↦ inr (λ h. other h.0)
-  | inl plain ↦ elim (string_bytes_or_not bs) [ inl more ↦ inl (plain, more) | inr none ↦ inr (λ h. none h.1) ]
-]
+string_bytes_or_not bytes = all_or_not IsStringByte string_byte_or_not bytes
 
 -- the bytes of the string that an item is
 abbrev StringOf : List ℕ → Type 0

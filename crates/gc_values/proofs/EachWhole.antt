@@ -1,8 +1,9 @@
 -- Each text is cut at its sign and its digits, and writes a whole number or none.
-use Rattle.std.proofs.Common.{◌≡◌, ℕ, suc, ◌<◌, ◌≤◌, Bool, true, false, List, [], ◌∷◌, ◌++◌, length, ℤ, pos, negsuc, refl, sym, ap, ◌∙◌, subst, ◌⊎◌, inl, inr, arith}
+use Rattle.std.proofs.Common.{ℕ, suc, Bool, true, false, List, [], ◌∷◌, ℤ, pos, negsuc, refl, ap, ◌⊎◌, inl, inr, arith}
+use Rattle.std.specs.List.{AllByRecursion}
 use Rattle.std.proofs.lemmas.Bool.{cases_lt, cases_eq}
 use Rattle.std.proofs.lemmas.Int.{ints}
-use Rattle.gc_values.specs.Cut.{StartsNoDigit, CutsSign, CutsDigits}
+use Rattle.gc_values.specs.Cut.{CutsSign, CutsDigits}
 use Rattle.gc_values.specs.Digits.{IsDigit, AreDigits, number}
 use Rattle.gc_values.specs.Fraction.{signed}
 use Rattle.gc_values.specs.Spelling.{Absent, Plus, Minus}
@@ -23,13 +24,17 @@ digit_or_not b = elim (cases_lt b 48) [
   ]
 ]
 
+-- where each byte has a property, or hasn't it, all bytes of a text have it, or not
+pub all_or_not : (P : ℕ → Type 0) → ((b : ℕ) → IsDecided (P b)) → (bytes : List ℕ) → IsDecided (AllByRecursion P bytes)
+all_or_not P each [] = inl tt
+all_or_not P each (b ∷ bs) = elim (each b) [
+  | inr other ↦ inr (λ h. other h.0)
+  | inl here ↦ elim (all_or_not P each bs) [ inl more ↦ inl (here, more) | inr none ↦ inr (λ h. none h.1) ]
+]
+
 -- a text is digits alone, or isn't
 pub digits_or_not : (text : List ℕ) → IsDecided (AreDigits text)
-digits_or_not [] = inl tt
-digits_or_not (b ∷ bs) = elim (digit_or_not b) [
-  | inr other ↦ inr (λ d. other d.0)
-  | inl digit ↦ elim (digits_or_not bs) [ inl more ↦ inl (digit, more) | inr none ↦ inr (λ d. none d.1) ]
-]
+digits_or_not text = all_or_not IsDigit digit_or_not text
 
 -- each text is cut into its longest run of digits and a rest
 pub digits_cut : (text : List ℕ) → (run : List ℕ) × (rest : List ℕ) × CutsDigits text run rest

@@ -3,19 +3,20 @@ use Rattle.std.proofs.Common.{◌≡◌, ℕ, ℤ, ◌+◌, ◌-◌, ◌*◌, �
 use Rattle.std.proofs.Math.Nat.{mul-le-mul_left, mul-le-mul_right, pow-suc}
 use Rattle.std.proofs.lemmas.Nat.{pow-add}
 use Rattle.std.proofs.lemmas.List.{drop_more, length-take-le, take-append-drop}
-use Rattle.std.proofs.Permutation.{every_append}
 use Rattle.gc_values.specs.Digits.{AreDigits, IsDigit, number}
 use Rattle.gc_values.specs.Nearest.{MadeOf}
 use Rattle.gc_values.specs.Plainly.{CountsDigits, CutsPlain, CutsDecimal, CutsNumber, IsItemAndRest}
+use Rattle.gc_values.specs.RoundedFacts.{ten_pow_cut}
 use Rattle.gc_values.specs.Spelling.{Absent, Spells}
 use Rattle.gc_values.specs.declared.decimal.Decimal.{Decimal}
-use Rattle.gc_values.proofs.Kept.{AreDigits-append, AreDigits-take_more, followed_more, number-append, number-lt}
+use Rattle.gc_values.proofs.Every.{every_append, every_more}
+use Rattle.gc_values.proofs.Kept.{followed_more, number-append, number-lt}
 use Rattle.gc_values.proofs.Powers.{ten_pow_le}
 use Rattle.gc_values.proofs.ReadLemmas.{reads_value}
 use Rattle.gc_values.proofs.TextShape.{IsBare, bare_above, bare_digits, bare_param}
 use Rattle.gc_values.proofs.UnitsLemmas.{capped_short}
 
--- A step of counting digits, as `CountsDigits` has it: where i digits were counted after the number `front`, fewer than `most`,
+-- a step of counting digits, as `CountsDigits` has it: where i digits were counted after the number `front`, fewer than `most`,
 -- and the next byte is a digit, i + 1 are counted, with ten times the number so far, plus that digit, as their number.
 pub counts_more : (front : ℕ) (text : List ℕ) (most value more i : ℕ) → (counted : CountsDigits front text most value i)
     → (inside : i < length text) → (few : i < most) → (digit : IsDigit (get_or text i 0)) → (more_is : more ≡ value * 10 + (get_or text i 0 - 48))
@@ -23,7 +24,7 @@ pub counts_more : (front : ℕ) (text : List ℕ) (most value more i : ℕ) → 
 counts_more front text most value more i c inside few digit e = record {
   within = omega arith;
   few = omega arith;
-  digits = AreDigits-take_more text i c.digits inside digit;
+  digits = every_more IsDigit text i 0 inside c.digits digit;
   value_is = followed_more front value more text i inside c.value_is e;
 }
 
@@ -45,8 +46,7 @@ counts_room text most value i c few =
     let small : number (take i text) < 10 ^ length (take i text) = number-lt (take i text) c.digits in
     let size : length (take i text) ≡ i = length-take-le i text c.within in
     let most : (value + 1) * 10 ^ (18 - i) ≤ 10 ^ i * 10 ^ (18 - i) = mul-le-mul_right {m = value + 1} {n = 10 ^ i} (10 ^ (18 - i)) (omega (arith, c.value_is, small, ap (λ k. 10 ^ k) size)) in
-    let power : 10 ^ i * 10 ^ (18 - i) ≡ 10 ^ 18 = sym (pow-add 10 i (18 - i)) ∙ ap (λ k. 10 ^ k) (let sum : i + (18 - i) ≡ 18 = omega arith in sum) in
-    omega (arith, most, power)
+    omega (arith, most, ten_pow_cut i 18 few)
 
 -- where a text is an item and then a tail, and the tail is empty or begins with a comma, the text is the item and what follows
 -- the item's comma, if there is one, as `IsItemAndRest` has it
@@ -70,42 +70,64 @@ front_spells : (w f : List ℕ) (units : ℕ) (m : ℤ) (s : ℕ) → (is_w : Ar
     → (short : length w ≤ 13) → (few : length w + length f ≤ 18) → (units_are : units ≡ number (w ++ f))
     → (made : MadeOf false units (length f) m s) → Spells (w ++ 46 ∷ f) m s
 front_spells w f units m s is_w is_f some short few e made =
-    let digits = AreDigits-append w f is_w is_f in
+    let digits = every_append IsDigit w f is_w is_f in
     let size = length-append w f in
     let below : number (w ++ f) < 10 ^ length (w ++ f) = number-lt (w ++ f) digits in
     let most : 10 ^ length (w ++ f) ≤ 10 ^ (13 + length f) = ten_pow_le (length (w ++ f)) (13 + length f) (omega (arith, size)) in
-    reads_value (w ++ 46 ∷ f) false w f 0 0 units (length f) m s
+    reads_value (w ++ 46 ∷ f) false units (length f) m s
     (record {
-      parts = record { sign = Absent; whole = w; fraction = Some f; exponent = None };
-      form = record { whole = is_w; fraction = is_f; some = omega arith; exponent = tt };
-      text_is = ap (λ t. w ++ 46 ∷ t) (sym (append-nil f));
-      negative_is = refl;
-      whole_is = refl;
-      fraction_is = refl;
-      up_is = refl;
-      down_is = refl;
+      whole = w;
+      fraction = f;
+      up = 0;
+      down = 0;
+      numeral = record {
+        parts = record { sign = Absent; whole = w; fraction = Some f; exponent = None };
+        form = record { whole = is_w; fraction = is_f; some = omega arith; exponent = tt };
+        text_is = ap (λ t. w ++ 46 ∷ t) (sym (append-nil f));
+        negative_is = refl;
+        whole_is = refl;
+        fraction_is = refl;
+        up_is = refl;
+        down_is = refl;
+      };
+      rounded = capped_short (w ++ f) (length f) 0 0 (10 ^ 37 + 1) units digits (omega (arith, size)) (omega (arith, size)) refl refl (lit≤ tt) e;
     })
-    (capped_short (w ++ f) (length f) 0 0 (10 ^ 37 + 1) units digits (omega (arith, size)) (omega (arith, size)) refl refl (lit≤ tt) e)
     (omega (arith, e, below, most, pow-add 10 13 (length f))) made
 
--- where 1 to 13 digits, a point, and digits after it were counted, at most 18 digits in all, and the end or a comma follows, the
--- decimal that is made of their number was cut off
-pub front_found : (text behind tail : List ℕ) (at places whole value : ℕ) (rest : Option (List ℕ)) (d : Decimal)
-    → (before_point : CountsDigits 0 text 13 whole at) → (some : 0 < at) → (inside : at < length text) → (point : get_or text at 0 ≡ 46)
-    → (behind_is : behind ≡ drop (at + 1) text) → (after_point : CountsDigits whole behind (18 - at) value places)
-    → (tail_is : tail ≡ drop places behind) → (ends : IsItemAndRest tail [] rest) → (made : MadeOf false value places d.digits d.scale)
-    → CutsDecimal text d rest
-front_found text behind tail at places whole value rest d a some inside point behind_is b tail_is stands made =
+-- the text is 1 to 13 digits, a point, and digits (`behind` is what follows the point), at most 18 digits in all, and then the
+-- tail; `value` is the number of all these digits, and `places` is how many of them follow the point
+pub record HasFrontDigits (text tail : List ℕ) (value places : ℕ) : Type 0 where
+  pub at : ℕ
+  pub whole : ℕ
+  pub behind : List ℕ
+  pub before_point : CountsDigits 0 text 13 whole at
+  pub some : 0 < at
+  pub inside : at < length text
+  pub point : get_or text at 0 ≡ 46
+  pub behind_is : behind ≡ drop (at + 1) text
+  pub after_point : CountsDigits whole behind (18 - at) value places
+  pub tail_is : tail ≡ drop places behind
+
+-- where digits, a point and digits come first in a text (`HasFrontDigits`), and the end or a comma follows them, the decimal that
+-- is made of their number was cut off
+pub front_found : (text tail : List ℕ) (value places : ℕ) (rest : Option (List ℕ)) (d : Decimal) → HasFrontDigits text tail value places
+    → IsItemAndRest tail [] rest → MadeOf false value places d.digits d.scale → CutsDecimal text d rest
+front_found text tail value places rest d h stands made =
+    let at : ℕ = h.at in
+    let behind : List ℕ = h.behind in
+    let a = h.before_point in
+    let b = h.after_point in
+    let some = h.some in
     let w : List ℕ = take at text in
     let f : List ℕ = take places behind in
     let long_w : length w ≡ at = length-take-le at text a.within in
     let long_f : length f ≡ places = length-take-le places behind b.within in
     let few_a = a.few in
     let few_b = b.few in
-    let parted : behind ≡ f ++ tail = sym (take-append-drop places behind) ∙ ap (λ t. f ++ t) (sym tail_is) in
+    let parted : behind ≡ f ++ tail = sym (take-append-drop places behind) ∙ ap (λ t. f ++ t) (sym h.tail_is) in
     let whole_text : text ≡ w ++ 46 ∷ (f ++ tail) = sym (take-append-drop at text)
-    ∙ ap (λ t. w ++ t) (drop_more text at 0 inside ∙ ap (λ b. b ∷ drop (at + 1) text) point ∙ ap (λ t. 46 ∷ t) (sym behind_is ∙ parted)) in
-    let number_is : value ≡ number (w ++ f) = b.value_is ∙ ap (λ n. n * 10 ^ places + number f) (let n : whole ≡ number w = omega (arith, a.value_is) in n)
+    ∙ ap (λ t. w ++ t) (drop_more text at 0 h.inside ∙ ap (λ b. b ∷ drop (at + 1) text) h.point ∙ ap (λ t. 46 ∷ t) (sym h.behind_is ∙ parted)) in
+    let number_is : value ≡ number (w ++ f) = b.value_is ∙ ap (λ n. n * 10 ^ places + number f) (let n : h.whole ≡ number w = omega (arith, a.value_is) in n)
     ∙ ap (λ k. number w * 10 ^ k + number f) (sym long_f) ∙ sym (number-append w f) in
     record {
       item = w ++ 46 ∷ f;

@@ -10,6 +10,7 @@ use Rattle.std.proofs.lemmas.Bool.Decides.{nat_tests}
 use Rattle.std.proofs.lemmas.Bool.{cases_lt}
 use Rattle.gc_values.specs.Digits.{IsDigit, AreDigits, number}
 use Rattle.gc_values.specs.KeptDigits.{digit_or_zero, kept, carry, kept_and_rounded}
+use Rattle.gc_values.proofs.Every.{every_at, every_take, every_drop}
 use Rattle.gc_values.proofs.Powers.{ten_pow_le}
 use Rattle.gc_values.proofs.Rounding.{RoundsHalfUp, rounds_same_value, rounds_whole, rounds_down, rounds_up}
 
@@ -54,14 +55,8 @@ kept_more ds i = elim (cases_lt i (length ds)) [
       omega (arith, kept_past ds (i + 1) (omega arith), kept_past ds i past, ap (λ p. number ds * p) power, get_or_past ds i 48 past)
 ]
 
--- digits without their first k are digits
-AreDigits-drop : (ds : List ℕ) (k : ℕ) → AreDigits ds → AreDigits (drop k ds)
-AreDigits-drop ds zero h = h
-AreDigits-drop [] (suc k) h = h
-AreDigits-drop (d ∷ ds) (suc k) h = AreDigits-drop ds k h.1
-
--- Digits xs, then the digit c, then digits ys. Where m is the number of xs, and 1 more if c is 5 or above, m is the number of all
--- of them, with the point moved to before c, rounded to a whole number.
+-- for digits xs, then the digit c, then digits ys: the number that is the number of xs where c is below 5, and 1 more where c is
+-- 5 or above, is the number of all of them with a point before c, rounded to a whole number
 cut_round : (xs : List ℕ) (c : ℕ) (ys : List ℕ) (m : ℕ) → AreDigits (c ∷ ys) → (c - 48 < 5 → m ≡ number xs) → (5 ≤ c - 48 → m ≡ number xs + 1) →
     RoundsHalfUp (number (xs ++ c ∷ ys) * 10 ^ length xs) (10 ^ length (xs ++ c ∷ ys)) m
 cut_round xs c ys m digits is_low is_high =
@@ -87,8 +82,7 @@ low_digit d h = grind (arith, nat_tests)
 high_digit : (d : ℕ) → 5 ≤ d → carry d ≡ 1
 high_digit d h = grind (arith, nat_tests)
 
--- for digits after a point: their value times 10^k, rounded to a whole number, is the number of the first k digits, with the
--- next one rounded in
+-- for digits after a point: their value times 10^k, rounded to a whole number, is `kept_and_rounded` of the first k
 pub rounds_digits : (ds : List ℕ) (k : ℕ) → AreDigits ds → RoundsHalfUp (number ds * 10 ^ k) (10 ^ length ds) (kept_and_rounded ds k)
 rounds_digits ds k digits = elim (cases_lt k (length ds)) [
   | inl inside ↦
@@ -97,7 +91,7 @@ rounds_digits ds k digits = elim (cases_lt k (length ds)) [
       let split : take k ds ++ c ∷ drop (suc k) ds ≡ ds = ap (λ ys. take k ds ++ ys) (sym behind) ∙ take-append-drop k ds in
       let front : length (take k ds) ≡ k = length-take-le k ds (omega arith) in
       let within : kept ds k ≡ number (take k ds) = kept_within ds k (omega arith) in
-      let digits' : AreDigits (c ∷ drop (suc k) ds) = subst AreDigits behind (AreDigits-drop ds k digits) in
+      let digits' : AreDigits (c ∷ drop (suc k) ds) = subst AreDigits behind (every_drop IsDigit ds k digits) in
       let there : RoundsHalfUp (number (take k ds ++ c ∷ drop (suc k) ds) * 10 ^ length (take k ds)) (10 ^ length (take k ds ++ c ∷ drop (suc k) ds)) (kept_and_rounded ds k) =
       cut_round (take k ds) c (drop (suc k) ds) (kept_and_rounded ds k) digits' (λ low. omega (arith, within, low_digit (c - 48) low)) (λ high. omega (arith, within, high_digit (c - 48) high)) in
       subst (λ n. RoundsHalfUp (number ds * 10 ^ n) (10 ^ length ds) (kept_and_rounded ds k)) front
@@ -110,17 +104,6 @@ rounds_digits ds k digits = elim (cases_lt k (length ds)) [
       let whole : kept_and_rounded ds k * 10 ^ length ds ≡ number ds * 10 ^ k = ap (λ m. m * 10 ^ length ds) same ∙ omega (arith, ap (λ p. number ds * p) power) in
       subst (λ a. RoundsHalfUp a (10 ^ length ds) (kept_and_rounded ds k)) whole (rounds_whole (kept_and_rounded ds k) (10 ^ length ds) (one-le-pow (length ds) 10 (lit< tt)))
 ]
-
--- where i is below the count of the digits ds, the byte at place i is a digit
-pub AreDigits-at : (ds : List ℕ) (i : ℕ) (d : ℕ) → AreDigits ds → i < length ds → IsDigit (get_or ds i d)
-AreDigits-at [] i d h lt = absurd (omega arith)
-AreDigits-at (b ∷ bs) zero d h lt = h.0
-AreDigits-at (b ∷ bs) (suc i) d h lt = AreDigits-at bs i d h.1 (omega arith)
-
--- digits xs and then digits ys are digits together
-pub AreDigits-append : (xs ys : List ℕ) → AreDigits xs → AreDigits ys → AreDigits (xs ++ ys)
-AreDigits-append [] ys h k = k
-AreDigits-append (x ∷ xs) ys h k = (h.0, AreDigits-append xs ys h.1 k)
 
 -- the digit at a place of the first run of digits is the one at that place of both runs in a row
 pub at_first : (xs ys : List ℕ) (i : ℕ) → i < length xs → get_or xs i 0 - 48 ≡ digit_or_zero (xs ++ ys) i
@@ -136,7 +119,7 @@ at_neither xs ys i h h' = ap (λ b. b - 48) (sym (get_or_past ys (i - length xs)
 
 -- the element of digits at a place is at least '0'
 pub digit_at_least_48 : (ds : List ℕ) (i : ℕ) → AreDigits ds → i < length ds → 48 ≤ get_or ds i 0
-digit_at_least_48 ds i h lt = (AreDigits-at ds i 0 h lt).0
+digit_at_least_48 ds i h lt = (every_at IsDigit ds i 0 lt h).0
 
 -- where i is the count of the digits or more, `kept_and_rounded` is the number of all digits, with a zero after it for each that
 -- is missing: nothing is rounded in
@@ -162,32 +145,18 @@ min_mul cap n p some = elim (cases_lt n cap) [
   | inr at ↦ min_mul_at cap n p some at
 ]
 
--- where 10^top is at least `cap` and z is above `top`: n * 10^z, cut off at `cap`, is the same with `top` zeros in place of z
-min_pow_many : (cap n top z : ℕ) → cap ≤ 10 ^ top → top < z → min cap (n * 10 ^ min z top) ≡ min cap (n * 10 ^ z)
-min_pow_many cap zero top z large past = omega arith
-min_pow_many cap (suc n) top z large past =
-    let up : 10 ^ top ≤ 10 ^ z = ten_pow_le top z (omega arith) in
-    let same : 10 ^ min z top ≡ 10 ^ top = ap (λ e. 10 ^ e) (let e : min z top ≡ top = omega arith in e) in
-    let low : 1 * 10 ^ top ≤ suc n * 10 ^ top = mul-le-mul_right {m = 1} {n = suc n} (10 ^ top) (omega arith) in
-    let high : 1 * 10 ^ z ≤ suc n * 10 ^ z = mul-le-mul_right {m = 1} {n = suc n} (10 ^ z) (omega arith) in
-    omega (arith, ap (λ x. suc n * x) same)
-
 -- where 10^top is at least `cap`: n * 10^z, cut off at `cap`, is the same with at most `top` zeros
 pub min_pow : (cap n top z : ℕ) → cap ≤ 10 ^ top → min cap (n * 10 ^ min z top) ≡ min cap (n * 10 ^ z)
-min_pow cap n top z large = elim (cases_lt top z) [
-  | inl past ↦ min_pow_many cap n top z large past
-  | inr within ↦ ap (λ e. min cap (n * 10 ^ e)) (let e : min z top ≡ z = omega arith in e)
+min_pow cap zero top z large = omega arith
+min_pow cap (suc n) top z large = elim (cases_lt top z) [
+  | inl past ↦
+      let up : 10 ^ top ≤ 10 ^ z = ten_pow_le top z (omega (arith, past)) in
+      let same : 10 ^ min z top ≡ 10 ^ top = ap (λ e. 10 ^ e) (let e : min z top ≡ top = omega (arith, past) in e) in
+      let low : 1 * 10 ^ top ≤ suc n * 10 ^ top = mul-le-mul_right {m = 1} {n = suc n} (10 ^ top) (omega arith) in
+      let high : 1 * 10 ^ z ≤ suc n * 10 ^ z = mul-le-mul_right {m = 1} {n = suc n} (10 ^ z) (omega arith) in
+      omega (arith, large, up, low, high, ap (λ x. suc n * x) same)
+  | inr within ↦ ap (λ e. min cap (suc n * 10 ^ e)) (let e : min z top ≡ z = omega (arith, within) in e)
 ]
-
--- where the first i bytes are digits, and so is the next one, the first suc i bytes are digits
-AreDigits-take_suc : (ds : List ℕ) (i : ℕ) → AreDigits (take i ds) → i < length ds → IsDigit (get_or ds i 0) → AreDigits (take (suc i) ds)
-AreDigits-take_suc [] i h lt d = tt
-AreDigits-take_suc (b ∷ bs) zero h lt d = (d, tt)
-AreDigits-take_suc (b ∷ bs) (suc i) h lt d = (h.0, AreDigits-take_suc bs i h.1 (omega arith) d)
-
--- where the first i bytes are digits, and so is the next one, the first i + 1 bytes are digits
-pub AreDigits-take_more : (ds : List ℕ) (i : ℕ) → AreDigits (take i ds) → i < length ds → IsDigit (get_or ds i 0) → AreDigits (take (i + 1) ds)
-AreDigits-take_more ds i h lt d = rw add-one (AreDigits-take_suc ds i h lt d)
 
 -- where i is below the length of ds, the number of the first i + 1 digits is ten times that of the first i, plus the digit at
 -- place i
@@ -195,12 +164,6 @@ pub number-take_more : (ds : List ℕ) (i : ℕ) → i < length ds → number (t
 number-take_more ds i inside =
     let pushed : take (i + 1) ds ≡ take i ds ++ (get_or ds i 0 ∷ []) = rw add-one (take-suc ds i 0 inside) in
     omega (arith, ap number pushed, number-append (take i ds) (get_or ds i 0 ∷ []))
-
--- the first i digits are digits
-AreDigits-take : (ds : List ℕ) (i : ℕ) → AreDigits ds → AreDigits (take i ds)
-AreDigits-take ds zero h = tt
-AreDigits-take [] (suc i) h = tt
-AreDigits-take (d ∷ ds) (suc i) h = (h.0, AreDigits-take ds i h.1)
 
 -- a step of reading digits after a number `front`: where `value` is the number of `front` and the first i digits, and `more` is
 -- ten times that plus the next digit, `more` is the number of `front` and the first i + 1
@@ -215,7 +178,7 @@ followed_more front value more ds i inside e f =
 pub followed_small : (front value : ℕ) (ds : List ℕ) (i : ℕ) → AreDigits ds → i < length ds → value ≡ front * 10 ^ i + number (take i ds)
     → (front + 1) * 10 ^ length ds ≤ 10 ^ 18 → value < 10 ^ 18
 followed_small front value ds i digits inside e room =
-    let small : number (take i ds) < 10 ^ length (take i ds) = number-lt (take i ds) (AreDigits-take ds i digits) in
+    let small : number (take i ds) < 10 ^ length (take i ds) = number-lt (take i ds) (every_take IsDigit ds i digits) in
     let size : length (take i ds) ≡ i = length-take-le i ds (omega arith) in
     let most : 10 ^ i ≤ 10 ^ length ds = ten_pow_le i (length ds) (omega arith) in
     let all : (front + 1) * 10 ^ i ≤ (front + 1) * 10 ^ length ds = mul-le-mul_left {m = 10 ^ i} {n = 10 ^ length ds} (front + 1) most in

@@ -6,6 +6,7 @@ pub mod DecimalLemmas
 pub mod EachDecimal
 pub mod EachItem
 pub mod EachWhole
+pub mod Every
 pub mod Examples
 pub mod FrontDecimals
 pub mod HexPair

@@ -1,11 +1,9 @@
 -- One list of values for parameters and kinds, or one fault, and never both.
-use Rattle.std.specs.Prelude.{◌≡◌, ◌≤◌, ℕ, suc, List, [], ◌∷◌, map, length, Result, Err, refl}
+use Rattle.std.specs.Prelude.{◌≡◌, ◌≤◌, ℕ, suc, List, [], ◌∷◌, map, length, refl}
 use Rattle.std.proofs.Common.{sym, ◌∙◌, ap, subst, inl, inr, arith}
 use Rattle.gc_values.specs.Item.{kind_of, text, IsItemFault}
-use Rattle.gc_values.specs.Params.{AreTooMany, HasOpenQuote, joined, quotes}
-use Rattle.gc_values.specs.ValueFault.{IsEither}
+use Rattle.gc_values.specs.Params.{joined, quotes}
 use Rattle.gc_values.specs.declared.fault.ValueFault.{ValueFault}
-use Rattle.gc_values.specs.declared.fault.ValueFault.TheVariants.{OpenQuote, TooMany}
 use Rattle.gc_values.specs.declared.value.Kind.{Kind}
 use Rattle.gc_values.specs.declared.value.Value.{Value}
 use Rattle.gc_values.specs.Lists.{kinds_of, AreItems, AreParams, AreValues, FirstFault, IsItemsFault, IsListFault, too_many, wrong_count, faulty_item, open_quote, faulty_items}
@@ -107,11 +105,3 @@ items_fit (v ∷ vs) (item ∷ items) x = (item_is_value v item x.0, items_fit v
 -- values that a list is read as lie in their ranges
 pub params_fit : (vs : List Value) (params : List ℕ) → AreParams params vs → AreValues vs
 params_fit vs params x = items_fit vs x.items x.read
-
--- where r is a refusal of splitting a list, `OpenQuote` only for an open quote and `TooMany` only for too many parameters, as the
--- contract of `split` says, its fault is a fault of the list
-pub split_fault : {X : Type 0} (r : Result X ValueFault) (ks : List Kind) (params : List ℕ) (e : ValueFault) → r ≡ Err e
-    → IsEither OpenQuote TooMany e
-    → (r ≡ Err OpenQuote → HasOpenQuote params) → (r ≡ Err TooMany → AreTooMany params) → IsListFault ks params e
-split_fault r ks params e was (inl q) odd many = open_quote q (odd (was ∙ ap (λ f. Err f) q))
-split_fault r ks params e was (inr q) odd many = let found = many (was ∙ ap (λ f. Err f) q) in faulty_items found.0 found.1 (too_many q found.2)

@@ -1,7 +1,7 @@
 -- One text has the form of a written number and names it. A whole part is the digits before a point, or of a whole number; a
--- fraction part is the digits after the point. `IsTextOf` says of a text that it is what is written of some digits and places,
--- as a decimal has them.
-use Rattle.std.proofs.Common.{◌≡◌, ◌≢◌, ◌↔◌, ℕ, zero, suc, ◌+◌, ◌-◌, ◌*◌, ◌/◌, ◌%◌, ◌^◌, ◌<◌, ◌≤◌, Bool, true, false, cond, get_or, ℤ, pos, negsuc, List, [], ◌∷◌, ◌++◌, length, map, refl, sym, ap, ◌∙◌, subst, inl, inr, arith, lit<, lit≤, length-append}
+-- fraction part is the digits after the point. `IsWrittenText` says of a text that it is what is written of some m / 10^s that
+-- needs all its places and has at most 24.
+use Rattle.std.proofs.Common.{◌≡◌, ◌≢◌, ◌↔◌, ℕ, zero, suc, ◌+◌, ◌-◌, ◌*◌, ◌/◌, ◌%◌, ◌^◌, ◌<◌, ◌≤◌, Bool, true, false, cond, get_or, ℤ, pos, negsuc, List, [], ◌∷◌, ◌++◌, length, map, refl, sym, ap, ◌∙◌, subst, inl, inr, arith, lit<, lit≤}
 use Rattle.std.proofs.Math.Nat.{pow-suc, pos_of_ne-zero, div-one, mul-pos}
 use Rattle.std.proofs.lemmas.Bool.{cases_order}
 use Rattle.std.proofs.lemmas.Bool.Decides.{eqb_tells}
@@ -16,6 +16,7 @@ use Rattle.gc_values.specs.Whole.{NamesWhole, signed_text}
 use Rattle.gc_values.specs.Written.{digits_text, whole_text, last_digits, behind_text, written}
 use Rattle.gc_values.specs.WrittenForm.{IsWholePart, IsFractionPart, HasWholeForm, HasDecimalForm, minus_where}
 use Rattle.gc_values.specs.declared.decimal.Decimal.{Decimal}
+use Rattle.gc_values.proofs.Every.{every_behind}
 use Rattle.gc_values.proofs.Kept.{number-append, number-lt}
 use Rattle.gc_values.proofs.Powers.{ten_pow_pos, ten_pow_le}
 use Rattle.gc_values.proofs.ReadLemmas.{spells_once}
@@ -169,24 +170,19 @@ has_last_digit (d ∷ e ∷ ds) some = let r = has_last_digit (e ∷ ds) (omega 
 last_digit : (front : List ℕ) (d : ℕ) → IsDigit d → number (front ++ d ∷ []) % 10 ≡ d - 48
 last_digit front d h = omega (arith, number-append front (d ∷ []), h)
 
--- where two lists of bytes in a row are digits, the second is
-AreDigits-back : (xs ys : List ℕ) → AreDigits (xs ++ ys) → AreDigits ys
-AreDigits-back [] ys h = h
-AreDigits-back (x ∷ xs) ys h = AreDigits-back xs ys h.1
-
--- the text is what is written of a decimal, with some digits m and some places s
-record IsTextOf (text : List ℕ) : Type 0 where
+-- the text is what is written of some m / 10^s that needs all its places and has at most 24
+record IsWrittenText (text : List ℕ) : Type 0 where
   pub m : ℤ
   pub s : ℕ
   pub canonical : IsCanonical m s
   pub places : s ≤ 24
   pub text_is : text ≡ written m s
 
--- `IsTextOf` is true of a text of a decimal's form where a / 10^s has the text's digits before the point and after it, isn't 0
--- after a minus, needs all its places, and has at most 24
-is_text_of : (text : List ℕ) (f : HasDecimalForm text) (a s : ℕ) → (some : f.negative ≡ true → 0 < a) → (canonical : 0 < s → a % 10 ≢ 0)
-    → (places : s ≤ 24) → (front : a / 10 ^ s ≡ number f.whole) → (back : behind_text s (a % 10 ^ s) ≡ f.fraction) → IsTextOf text
-is_text_of text f a s some canonical places front back = record {
+-- a text of a decimal's form is a written one (`IsWrittenText`) where a / 10^s has the text's digits before the point and after
+-- it, isn't 0 after a minus, needs all its places, and has at most 24
+is_written_text : (text : List ℕ) (f : HasDecimalForm text) (a s : ℕ) → (some : f.negative ≡ true → 0 < a) → (canonical : 0 < s → a % 10 ≢ 0)
+    → (places : s ≤ 24) → (front : a / 10 ^ s ≡ number f.whole) → (back : behind_text s (a % 10 ^ s) ≡ f.fraction) → IsWrittenText text
+is_written_text text f a s some canonical places front back = record {
   m = signed f.negative a;
   s = s;
   canonical = λ more divides. canonical more (ap (λ n. n % 10) (sym (unsigned_abs-signed f.negative a)) ∙ divides);
@@ -197,11 +193,11 @@ is_text_of text f a s some canonical places front back = record {
       ∙ sym (written-signed f.negative a s some);
 }
 
--- `IsTextOf` is true of a text of a decimal's form with a lone 0 after the point
-is_text_of_whole : (text : List ℕ) (f : HasDecimalForm text) → f.fraction ≡ 48 ∷ [] → IsTextOf text
-is_text_of_whole text f none =
+-- a text of a decimal's form with a lone 0 after the point is a written one (`IsWrittenText`)
+whole_is_written : (text : List ℕ) (f : HasDecimalForm text) → f.fraction ≡ 48 ∷ [] → IsWrittenText text
+whole_is_written text f none =
     let all : number (f.whole ++ f.fraction) ≡ number f.whole * 10 = ap (λ ds. number (f.whole ++ ds)) none ∙ omega (arith, number-append f.whole (48 ∷ [])) in
-    is_text_of text f (number f.whole) 0 (λ e. let h = f.no_minus_on_zero e in omega (arith, h, all)) (λ h. absurd (omega (arith, h))) (lit≤ tt) (div-one (number f.whole)) (sym none)
+    is_written_text text f (number f.whole) 0 (λ e. let h = f.no_minus_on_zero e in omega (arith, h, all)) (λ h. absurd (omega (arith, h))) (lit≤ tt) (div-one (number f.whole)) (sym none)
 
 -- s digits, at least one, that write n are what is written after the point for n at s places
 behind_again : (s n : ℕ) (ds : List ℕ) → AreDigits ds → length ds ≡ s → number ds ≡ n → 0 < s → behind_text s n ≡ ds
@@ -213,14 +209,14 @@ behind_again s n ds digits long is some = elim (eqb_tells s 0) [
       (number-last_digits s n (subst (λ x. x < 10 ^ s) is (subst (λ k. number ds < 10 ^ k) long (number-lt ds digits))) ∙ sym is)
 ]
 
--- `IsTextOf` is true of a text of a decimal's form whose digits after the point don't end in 0
-is_text_of_fraction : (text : List ℕ) (f : HasDecimalForm text) → number f.fraction % 10 ≢ 0 → IsTextOf text
-is_text_of_fraction text f other =
+-- a text of a decimal's form whose digits after the point don't end in 0 is a written one (`IsWrittenText`)
+fraction_is_written : (text : List ℕ) (f : HasDecimalForm text) → number f.fraction % 10 ≢ 0 → IsWrittenText text
+fraction_is_written text f other =
     let p : ℕ = 10 ^ length f.fraction in
     let all : number (f.whole ++ f.fraction) ≡ number f.whole * p + number f.fraction = number-append f.whole f.fraction in
     let few : number f.fraction < p = number-lt f.fraction f.fraction_is.are_digits in
     let tens : number (f.whole ++ f.fraction) % 10 ≡ number f.fraction % 10 = last_of_all f.whole f.fraction f.fraction_is.some in
-    is_text_of text f (number (f.whole ++ f.fraction)) (length f.fraction) f.no_minus_on_zero (λ _ divides. other (sym tens ∙ divides)) f.fraction_is.few
+    is_written_text text f (number (f.whole ++ f.fraction)) (length f.fraction) f.no_minus_on_zero (λ _ divides. other (sym tens ∙ divides)) f.fraction_is.few
     (ap (λ x. x / p) all ∙ div-mul-add (number f.whole) p (number f.fraction) few)
     (behind_again (length f.fraction) (number (f.whole ++ f.fraction) % p) f.fraction f.fraction_is.are_digits refl
     (sym (ap (λ x. x % p) all ∙ mod-mul-add (number f.whole) p (number f.fraction) few)) f.fraction_is.some) where
@@ -230,26 +226,21 @@ is_text_of_fraction text f other =
       last_of_all ws [] some = absurd (omega (arith, some))
       last_of_all ws (d ∷ ds) some = omega (arith, number-append ws (d ∷ ds), pow-suc 10 (length ds), ap (λ x. number ws * x) (pow-suc 10 (length ds)))
 
--- `IsTextOf` is true of every text of a decimal's form
-every_form : (text : List ℕ) → HasDecimalForm text → IsTextOf text
-every_form text f = elim (eqb_tells (number f.fraction % 10) 0) [
+-- every text of a decimal's form is a written one (`IsWrittenText`)
+form_is_written : (text : List ℕ) → HasDecimalForm text → IsWrittenText text
+form_is_written text f = elim (eqb_tells (number f.fraction % 10) 0) [
   | inl divides ↦
       let r = has_last_digit f.fraction f.fraction_is.some in
-      let digit : IsDigit r.last = (AreDigits-back r.front (r.last ∷ []) (subst AreDigits r.ds_are f.fraction_is.are_digits)).0 in
+      let digit : IsDigit r.last = (every_behind IsDigit r.front (r.last ∷ []) (subst AreDigits r.ds_are f.fraction_is.are_digits)).0 in
       let zero : r.last ≡ 48 = omega (arith, ap (λ ds. number ds % 10) r.ds_are, divides.1, last_digit r.front r.last digit, digit) in
       let ends_so : f.fraction ≡ r.front ++ 48 ∷ [] = r.ds_are ∙ ap (λ d. r.front ++ d ∷ []) zero in
-      is_text_of_whole text f (ends_so ∙ ap (λ xs. xs ++ 48 ∷ []) (f.fraction_is.no_zero_at_the_end r.front ends_so))
-  | inr other ↦ is_text_of_fraction text f other.1
+      whole_is_written text f (ends_so ∙ ap (λ xs. xs ++ 48 ∷ []) (f.fraction_is.no_zero_at_the_end r.front ends_so))
+  | inr other ↦ fraction_is_written text f other.1
 ]
-
--- where '0' alone is a front and a '0', the front is empty
-zero_alone_front : (front : List ℕ) → 48 ∷ [] ≡ front ++ 48 ∷ [] → front ≡ []
-zero_alone_front [] e = refl
-zero_alone_front (x ∷ front) e = absurd (let l = ap length e in omega (arith, l, length-append front (48 ∷ [])))
 
 -- a lone 0 is a fraction part
 zero_behind : IsFractionPart (48 ∷ [])
-zero_behind = record { are_digits = ((lit≤ tt, lit≤ tt), tt); some = lit< tt; few = lit≤ tt; no_zero_at_the_end = zero_alone_front }
+zero_behind = record { are_digits = ((lit≤ tt, lit≤ tt), tt); some = lit< tt; few = lit≤ tt; no_zero_at_the_end = λ front e. sym (same_from_push [] front 48 48 e).0 }
 
 -- the last s digits, 1 to 24, of a number that doesn't end in 0 are a fraction part
 last_part : (a s : ℕ) → s ≤ 24 → 0 < s → a % 10 ≢ 0 → IsFractionPart (last_digits s (a % 10 ^ s))
@@ -312,7 +303,7 @@ decimal_text_once d text = (
     subst (λ t. Spells t d.digits d.scale) (sym e) (written_spells d.digits d.scale d.is_canonical d.has_few_places),
   ),
   λ h.
-      let r = every_form text h.0 in
+      let r = form_is_written text h.0 in
       let same = spells_once text r.m r.s d.digits d.scale (subst (λ t. Spells t r.m r.s) (sym r.text_is) (written_spells r.m r.s r.canonical r.places)) h.1 in
       r.text_is ∙ ap (λ z. written z r.s) same.0 ∙ ap (written d.digits) same.1,
 )

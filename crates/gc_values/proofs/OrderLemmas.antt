@@ -1,6 +1,5 @@
 -- Decimals are in the order of their values. Signed numbers are given here as a sign, where `true` is a minus, and a magnitude.
-use Rattle.std.proofs.Common.{◌≡◌, ℕ, ◌+◌, ◌-◌, ◌*◌, ◌^◌, ◌<◌, Bool, true, false, ℤ, pos, ◌*ℤ◌, ◌<ℤ◌, sym, ap, subst, arith}
-use Rattle.std.proofs.Math.Nat.{mul-lt-mul_of_pos_left, lt_of_mul-lt-mul_left}
+use Rattle.std.proofs.Common.{◌≡◌, ℕ, ◌+◌, ◌-◌, ◌*◌, ◌^◌, ◌<◌, Bool, true, false, ℤ, pos, ◌*ℤ◌, ◌<ℤ◌, sym, ap, subst, arith, mul-lt-mul_of_pos_right, lt_of_mul-lt-mul_right}
 use Rattle.std.proofs.lemmas.Int.{ints}
 use Rattle.std.specs.Cmp.{int_ranks}
 use Rattle.std.specs.Ordering.{MatchOrdering, int_cmp}
@@ -9,11 +8,11 @@ use Rattle.std.specs.declared.cmp.Ordering.TheVariants.{Less, Equal, Greater}
 use Rattle.gc_values.specs.DecimalOrder.{units_once}
 use Rattle.gc_values.specs.Decimals.{fraction, units, decimal_cmp}
 use Rattle.gc_values.specs.Fraction.{signed, IsBelow}
+use Rattle.gc_values.specs.RoundedFacts.{ten_pow_cut}
 use Rattle.gc_values.specs.declared.decimal.Decimal.{Decimal}
 use Rattle.gc_values.proofs.DecimalLemmas.{same_decimal}
 use Rattle.gc_values.proofs.Rounded.{has_sign}
 use Rattle.gc_values.proofs.Signs.{signed-mul}
-use Rattle.gc_values.proofs.WithinLemmas.{whole_place}
 
 -- the number of sign b and magnitude x is below the one of sign c and magnitude y, where `true` is a minus
 abbrev signed_less : (b : Bool) (x : ℕ) (c : Bool) (y : ℕ) → Type 0
@@ -36,30 +35,22 @@ less_to false x true y h = absurd h
 less_to true x false y h = omega (arith, ints)
 less_to true x true y h = omega (arith, ints)
 
--- numbers keep their order when both are multiplied by p, which is above 0
-times_keeps_order : (x y p : ℕ) → 0 < p → x < y → x * p < y * p
-times_keeps_order x y p some h = omega (arith, mul-lt-mul_of_pos_left {m = x} {n = y} {k = p} h some)
-
--- numbers keep their order when a common factor is taken out
-factor_keeps_order : (x y p : ℕ) → x * p < y * p → x < y
-factor_keeps_order x y p h = lt_of_mul-lt-mul_left p (omega arith)
-
 -- signed numbers keep their order when both are multiplied by p, which is above 0
 less_times : (b : Bool) (x : ℕ) (c : Bool) (y p : ℕ) → 0 < p → signed_less b x c y → signed_less b (x * p) c (y * p)
-less_times false x false y p some h = times_keeps_order x y p some h
+less_times false x false y p some h = mul-lt-mul_of_pos_right h some
 less_times false x true y p some h = h
-less_times true x false y p some h = let all : 0 * p < (x + y) * p = times_keeps_order 0 (x + y) p some h in omega arith
-less_times true x true y p some h = times_keeps_order y x p some h
+less_times true x false y p some h = let all : 0 * p < (x + y) * p = mul-lt-mul_of_pos_right h some in omega arith
+less_times true x true y p some h = mul-lt-mul_of_pos_right h some
 
 -- signed numbers keep their order when a common factor is taken out
 less_over : (b : Bool) (x : ℕ) (c : Bool) (y p : ℕ) → signed_less b (x * p) c (y * p) → signed_less b x c y
-less_over false x false y p h = factor_keeps_order x y p h
+less_over false x false y p h = lt_of_mul-lt-mul_right p h
 less_over false x true y p h = h
-less_over true x false y p h = factor_keeps_order 0 (x + y) p (omega arith)
-less_over true x true y p h = factor_keeps_order y x p h
+less_over true x false y p h = let all : 0 * p < (x + y) * p = omega arith in lt_of_mul-lt-mul_right p all
+less_over true x true y p h = lt_of_mul-lt-mul_right p h
 
--- Two values m / a and n / d with signs, where a * a' and d * d' are both p, which is above 0: in units of 1 / p they are m * a'
--- and n * d'. Where these are in order, m * d and n * a are, too.
+-- for two values m / a and n / d with signs, where a * a' and d * d' are both p, which is above 0, so that in units of 1 / p they
+-- are m * a' and n * d': where these are in order, m * d and n * a are, too
 less_at_other_scale : (b : Bool) (m : ℕ) (c : Bool) (n a a' d d' p : ℕ) → 0 < p → a * a' ≡ p → d * d' ≡ p
     → signed_less b (m * a') c (n * d') → signed_less b (m * d) c (n * a)
 less_at_other_scale b m c n a a' d d' p some e f h =
@@ -90,7 +81,7 @@ less_at_other_scale_whole z w a a' d d' p some e f =
 pub below_from_units : (a b : Decimal) → units a <ℤ units b → IsBelow (fraction a) (fraction b)
 below_from_units a b =
     less_at_other_scale_whole a.digits b.digits (10 ^ a.scale) (10 ^ (24 - a.scale)) (10 ^ b.scale) (10 ^ (24 - b.scale)) (10 ^ 24) (omega arith)
-    (whole_place a.scale a.has_few_places) (whole_place b.scale b.has_few_places)
+    (ten_pow_cut a.scale 24 a.has_few_places) (ten_pow_cut b.scale 24 b.has_few_places)
 
 -- where an ordering says P, Q or R by its three cases, and P', Q' and R' follow from them, it says P', Q' or R'
 ranked_as : (o : Ordering) (P Q R P' Q' R' : Type 0) → MatchOrdering o P Q R → (P → P') → (Q → Q') → (R → R') → MatchOrdering o P' Q' R'

@@ -1,14 +1,14 @@
 -- A parameter list is split at its commas in one way. A piece is what is between two commas, and an item is a piece without
 -- the spaces at its ends. `HasPieces` says of a text that it is pieces joined by commas, each of them a parameter with any
 -- spaces round it.
-use Rattle.std.proofs.Common.{◌≡◌, ℕ, zero, suc, ◌+◌, ◌%◌, ◌<◌, List, [], ◌∷◌, ◌++◌, length, replicate, Some, None, refl, sym, ap, ◌∙◌, subst, inl, inr, arith, length-append, append_assoc}
+use Rattle.std.proofs.Common.{◌≡◌, ℕ, ◌+◌, ◌%◌, ◌<◌, List, [], ◌∷◌, ◌++◌, length, Some, None, refl, sym, ap, ◌∙◌, subst, inl, inr, arith, length-append, append_assoc}
 use Rattle.std.proofs.lemmas.List.{append-nil}
 use Rattle.std.proofs.lemmas.Bool.{cases_eq}
 use Rattle.std.specs.List.{AllByRecursion}
 use Rattle.gc_values.specs.Params.{quotes, AreSpaces, HasCommasInQuotes, IsParam, IsPadded, ArePieces, joined, AreJoined, IsParams}
 use Rattle.gc_values.specs.Pieces.{CutsPiece, IsTrimmed, without_front_spaces, without_end_spaces}
 use Rattle.gc_values.proofs.Quotes.{quotes-append, quotes_same, quotes-spaces, HasCommasInQuotes-nil, HasCommasInQuotes-push, not_inside, one_cut}
-use Rattle.gc_values.proofs.Trimming.{padded_keeps, quotes-padded, trimmed_is_param, param_is_trimmed, one_trimmed, trimmed_exists}
+use Rattle.gc_values.proofs.Trimming.{padded_keeps, quotes-padded, trimmed_is_param, param_is_trimmed, one_trimmed, trimmed_exists, front_not_spaces}
 
 -- a piece between commas: its quotes are in pairs, and each comma is inside a pair
 pub record IsPiece (piece : List ℕ) : Type 0 where
@@ -234,15 +234,12 @@ plain_pieces : (ts : List (List ℕ)) → AllByRecursion IsParam ts → ArePiece
 plain_pieces [] h = tt
 plain_pieces (t ∷ ts) h = (record { before = 0; behind = 0; piece_is = sym (append-nil t) }, h.0, plain_pieces ts h.1)
 
--- a text whose first byte is no space isn't n spaces, whatever n
-not_spaces : (b : ℕ) (bs ts : List ℕ) (n : ℕ) → (b ≡ 32 → ⊥) → b ∷ (bs ++ ts) ≡ replicate n 32 → ⊥
-not_spaces b bs ts zero h e = cc
-not_spaces b bs ts (suc n) h e = h (let first : b ≡ 32 = cc in first)
-
 -- a text that begins with a parameter of at least one byte isn't spaces alone
 some_first : (t rest : List ℕ) → IsParam t → 0 < length t → AreSpaces (t ++ rest) → ⊥
 some_first [] rest h some s = omega arith
-some_first (b ∷ bs) rest h some s = not_spaces b bs rest s.0 (λ e. h.first bs (ap (λ x. x ∷ bs) e)) s.1
+some_first (b ∷ bs) rest h some s =
+    front_not_spaces (b ∷ (bs ++ rest)) (b ∷ (bs ++ rest))
+    (record { count = 0; text_is = refl; first = λ others e. h.first bs (let head : b ≡ 32 = cc in ap (λ x. x ∷ bs) head) }) (omega arith) s
 
 -- texts that are parameters, each of at least one byte, joined by commas, are a list of just these parameters
 pub joined_params : (ts : List (List ℕ)) → AllByRecursion IsParam ts → AllByRecursion (λ t. 0 < length t) ts → IsParams (joined ts) ts

@@ -1,14 +1,16 @@
 -- Double quotes in a text are counted, and commas are kept within quotes: each comma has an odd number of double quotes before it
 -- (`HasCommasInQuotes`).
-use Rattle.std.proofs.Common.{◌≡◌, ℕ, zero, suc, ◌+◌, ◌%◌, ◌<◌, ◌⊎◌, false, cond, eqb, List, [], ◌∷◌, ◌++◌, length, get_or, take, replicate, refl, sym, ap, ◌∙◌, subst, inl, inr, arith, zero-add}
+use Rattle.std.proofs.Common.{◌≡◌, ◌≢◌, ℕ, zero, suc, ◌+◌, ◌%◌, ◌<◌, ◌⊎◌, false, cond, eqb, List, [], ◌∷◌, ◌++◌, length, get_or, take, replicate, refl, sym, ap, ◌∙◌, subst, inl, inr, arith, zero-add}
+use Rattle.std.proofs.lemmas.Bool.{ne_eqb}
 use Rattle.std.proofs.lemmas.List.Sums.{sum_by-append, sum_by-cons, sum_by_more}
+use Rattle.std.specs.List.{AllByRecursion}
 use Rattle.gc_values.specs.Params.{quotes, HasCommasInQuotes}
 
 -- what a byte adds to the number of double quotes: 1 or 0
 abbrev quote_count : ℕ → ℕ
 quote_count b = cond (eqb b 34) 1 0
 
--- quotes in two texts add up
+-- two texts in a row have as many double quotes as both have together
 pub quotes-append : (xs ys : List ℕ) → quotes (xs ++ ys) ≡ quotes xs + quotes ys
 quotes-append xs ys = sum_by-append quote_count xs ys
 
@@ -24,22 +26,27 @@ quotes_more xs i h = sum_by_more quote_count xs i 0 h
 pub quotes_same : (b : ℕ) (bs : List ℕ) → eqb b 34 ≡ false → quotes (b ∷ bs) ≡ quotes bs
 quotes_same b bs e = quotes-cons b bs ∙ ap (λ c. cond c 1 0 + quotes bs) e ∙ zero-add (quotes bs)
 
--- spaces have no quote
+-- bytes of which none is a double quote have no double quotes
+pub quotes-none : (bs : List ℕ) → AllByRecursion (λ b. b ≢ 34) bs → quotes bs ≡ 0
+quotes-none [] h = refl
+quotes-none (b ∷ bs) h = quotes_same b bs (ne_eqb b 34 h.0) ∙ quotes-none bs h.1
+
+-- spaces have no double quotes
 pub quotes-spaces : (n : ℕ) → quotes (replicate n 32) ≡ 0
 quotes-spaces zero = refl
 quotes-spaces (suc n) = quotes_same 32 (replicate n 32) refl ∙ quotes-spaces n
 
--- the empty list has no comma
-no_cut : (fs rest : List ℕ) → [] ≡ fs ++ 44 ∷ rest → ⊥
-no_cut [] rest e = cc
-no_cut (f ∷ fs) rest e = cc
+-- the empty list is no list with an element in it
+pub empty_has_none : (front rest : List ℕ) (b : ℕ) → [] ≡ front ++ b ∷ rest → ⊥
+empty_has_none [] rest b e = cc
+empty_has_none (f ∷ fs) rest b e = cc
 
 -- where xs and then b are cut at a comma into `front` and `rest`, b is that comma, and `front` is xs, or xs has a comma after
 -- `front`
 pub push_cut : (xs front rest : List ℕ) (b : ℕ) → xs ++ b ∷ [] ≡ front ++ 44 ∷ rest
     → ((b ≡ 44) × (front ≡ xs)) ⊎ ((r : List ℕ) × (xs ≡ front ++ 44 ∷ r))
 push_cut [] [] rest b e = let h : b ≡ 44 = cc in inl (h, refl)
-push_cut [] (f ∷ fs) rest b e = let t : [] ≡ fs ++ 44 ∷ rest = cc in absurd (no_cut fs rest t)
+push_cut [] (f ∷ fs) rest b e = let t : [] ≡ fs ++ 44 ∷ rest = cc in absurd (empty_has_none fs rest 44 t)
 push_cut (x ∷ xs) [] rest b e = let h : x ∷ xs ≡ 44 ∷ xs = cc in inr (xs, h)
 push_cut (x ∷ xs) (f ∷ fs) rest b e =
     let head : x ≡ f = cc in
@@ -51,7 +58,7 @@ push_cut (x ∷ xs) (f ∷ fs) rest b e =
 
 -- the empty list keeps its commas within quotes
 pub HasCommasInQuotes-nil : HasCommasInQuotes []
-HasCommasInQuotes-nil front rest e = absurd (no_cut front rest e)
+HasCommasInQuotes-nil front rest e = absurd (empty_has_none front rest 44 e)
 
 -- one byte more, which is no comma outside quotes, keeps the commas within quotes
 pub HasCommasInQuotes-push : (xs : List ℕ) (b : ℕ) → HasCommasInQuotes xs → (b ≡ 44 → quotes xs % 2 ≡ 1) → HasCommasInQuotes (xs ++ b ∷ [])

@@ -2,8 +2,8 @@
 -- and after it (`fraction`), and how often the exponent multiplies (`up`) and divides (`down`) by ten.
 use Rattle.std.proofs.Common.{◌≡◌, ℕ, ◌+◌, ◌-◌, ◌*◌, ◌^◌, ◌<◌, ◌≤◌, Bool, List, ◌++◌, length, ℤ, unsigned_abs, sym, ap, ◌∙◌, subst, arith}
 use Rattle.std.proofs.Math.Nat.{mul-lt-mul_of_pos_left, lt_of_mul-lt-mul_left}
-use Rattle.std.proofs.lemmas.Nat.{pow-add}
 use Rattle.gc_values.specs.Cut.{ReadsNumeral}
+use Rattle.gc_values.specs.DecimalOrder.{zeros_at_last}
 use Rattle.gc_values.specs.Digits.{number}
 use Rattle.gc_values.specs.Fraction.{Fraction, signed, IsRounded, IsInRange}
 use Rattle.gc_values.specs.Nearest.{RoundsHalfUp, IsRoundedWithCap, MadeOf}
@@ -34,30 +34,30 @@ pub reads_names : (text : List ℕ) (negative : Bool) (whole fraction : List ℕ
     → Names text (fraction_of negative whole fraction up down)
 reads_names text negative whole fraction up down r = (r.parts, r.form, r.text_is, same_fraction text negative whole fraction up down r)
 
--- where n / 10^s is m / 10^p without the zeros at its end, it is m * 10^(24 - p) over 10^24 without the zeros at its end, too
-zeros_at_last : (m p n s : ℕ) → p ≤ 24 → WithoutZeros m p n s → WithoutZeros (m * 10 ^ (24 - p)) 24 n s
-zeros_at_last m p n s places w =
-    let back : p + (24 - p) ≡ 24 = omega arith in
-    let power : 10 ^ p * 10 ^ (24 - p) ≡ 10 ^ 24 = sym (pow-add 10 p (24 - p)) ∙ ap (λ e. 10 ^ e) back in
-    record {
-      same = omega (arith, ap (λ x. x * 10 ^ (24 - p)) w.same, ap (λ x. n * x) power);
-      fewer = let f = w.fewer in omega (arith, f);
-      canonical = w.canonical;
-    }
+-- the text is a number's, with a minus where `negative`, and `units` over 10^p is its magnitude, rounded to 24 places and cut off
+-- at the cap 10^37 + 1
+pub record ReadsUnits (text : List ℕ) (negative : Bool) (units p : ℕ) : Type 0 where
+  pub whole : List ℕ
+  pub fraction : List ℕ
+  pub up : ℕ
+  pub down : ℕ
+  pub numeral : ReadsNumeral text negative whole fraction up down
+  pub rounded : IsRoundedWithCap (number (whole ++ fraction) * 10 ^ up) (length fraction + down) (10 ^ 37 + 1) units p
 
--- Where a text reads as these parts, `units` over 10^p is their value, rounded to 24 places and cut off at the cap 10^37 + 1, and
--- is in range, and m / 10^s is made of it, the text spells m / 10^s.
-pub reads_value : (text : List ℕ) (negative : Bool) (whole fraction : List ℕ) (up down units p : ℕ) (m : ℤ) (s : ℕ)
-    → ReadsNumeral text negative whole fraction up down →
-    IsRoundedWithCap (number (whole ++ fraction) * 10 ^ up) (length fraction + down) (10 ^ 37 + 1) units p → units ≤ 10 ^ 13 * 10 ^ p
+-- where a text reads as `units` over 10^p (`ReadsUnits`), this is in range, and m / 10^s is made of it (`MadeOf`), the text
+-- spells m / 10^s
+pub reads_value : (text : List ℕ) (negative : Bool) (units p : ℕ) (m : ℤ) (s : ℕ) → ReadsUnits text negative units p → units ≤ 10 ^ 13 * 10 ^ p
     → MadeOf negative units p m s → Spells text m s
-reads_value text negative whole fraction up down units p m s r c within made =
+reads_value text negative units p m s r within made =
+    let a : ℕ = number (r.whole ++ r.fraction) * 10 ^ r.up in
+    let k : ℕ = length r.fraction + r.down in
+    let c = r.rounded in
     let same : c.m ≡ units = let e = c.capped in omega (arith, bound_fits p c.places) in (
-      fraction_of negative whole fraction up down,
-      reads_names text negative whole fraction up down r,
-      subst (λ z. IsRounded (fraction_of negative whole fraction up down) 24 z s) (sym made.m_is)
-          (rounded_from negative (number (whole ++ fraction) * 10 ^ up) (length fraction + down) 24 (units * 10 ^ (24 - p)) made.n s
-          (subst (λ u. RoundsHalfUp (number (whole ++ fraction) * 10 ^ up * 10 ^ 24) (10 ^ (length fraction + down)) (u * 10 ^ (24 - p))) same c.rounds)
+      fraction_of negative r.whole r.fraction r.up r.down,
+      reads_names text negative r.whole r.fraction r.up r.down r.numeral,
+      subst (λ z. IsRounded (fraction_of negative r.whole r.fraction r.up r.down) 24 z s) (sym made.m_is)
+          (rounded_from negative a k 24 (units * 10 ^ (24 - p)) made.n s
+          (subst (λ u. RoundsHalfUp (a * 10 ^ 24) (10 ^ k) (u * 10 ^ (24 - p))) same c.rounds)
           (zeros_at_last units p made.n s c.places made.zeros)),
     )
 
@@ -67,21 +67,20 @@ beyond_bound m p n s large w =
     let same = w.same in
     lt_of_mul-lt-mul_left (10 ^ p) (omega (arith, same, mul-lt-mul_of_pos_left {m = 10 ^ 13 * 10 ^ p} {n = m} {k = 10 ^ s} large (ten_pow_pos s)))
 
--- where a text reads as these parts, `units` over 10^p is their value, rounded to 24 places and cut off at the cap 10^37 + 1, and
--- is above the bound 10^13, the text spells a number out of range
-pub reads_beyond : (text : List ℕ) (negative : Bool) (whole fraction : List ℕ) (up down units p : ℕ)
-    → ReadsNumeral text negative whole fraction up down →
-    IsRoundedWithCap (number (whole ++ fraction) * 10 ^ up) (length fraction + down) (10 ^ 37 + 1) units p → 10 ^ 13 * 10 ^ p < units
-    → SpellsBeyond text
-reads_beyond text negative whole fraction up down units p r c above =
+-- where a text reads as `units` over 10^p (`ReadsUnits`), and this is above the bound, 10^13, the text spells a number out of
+-- range
+pub reads_beyond : (text : List ℕ) (negative : Bool) (units p : ℕ) → ReadsUnits text negative units p → 10 ^ 13 * 10 ^ p < units → SpellsBeyond text
+reads_beyond text negative units p r above =
+    let a : ℕ = number (r.whole ++ r.fraction) * 10 ^ r.up in
+    let c = r.rounded in
     let large : 10 ^ 13 * 10 ^ p < c.m = let e = c.capped in omega arith in
     let z = zeros_off c.m p in (
       signed negative z.0,
       z.1,
       (
-        fraction_of negative whole fraction up down,
-        reads_names text negative whole fraction up down r,
-        rounded_from negative (number (whole ++ fraction) * 10 ^ up) (length fraction + down) 24 (c.m * 10 ^ (24 - p)) z.0 z.1 c.rounds (zeros_at_last c.m p z.0 z.1 c.places z.2),
+        fraction_of negative r.whole r.fraction r.up r.down,
+        reads_names text negative r.whole r.fraction r.up r.down r.numeral,
+        rounded_from negative a (length r.fraction + r.down) 24 (c.m * 10 ^ (24 - p)) z.0 z.1 c.rounds (zeros_at_last c.m p z.0 z.1 c.places z.2),
       ),
       subst (λ n. 10 ^ 13 * 10 ^ z.1 < n) (sym (unsigned_abs-signed negative z.0)) (beyond_bound c.m p z.0 z.1 large z.2),
     )

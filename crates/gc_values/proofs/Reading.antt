@@ -1,16 +1,14 @@
 -- What `Decimal::read` answers for a text, as `IsDecimalRead` has it.
-use Rattle.std.proofs.Common.{◌≡◌, ◌↔◌, inl, ℕ, ◌+◌, ◌*◌, ◌^◌, ◌<◌, ◌≤◌, Bool, List, ◌++◌, length, Result, Ok, Err, IfOk, IfErr, MatchResult, refl, ap}
-use Rattle.gc_values.specs.Cut.{ReadsNumeral}
+use Rattle.std.proofs.Common.{◌≡◌, ◌↔◌, inl, ℕ, ◌*◌, ◌^◌, ◌<◌, ◌≤◌, Bool, List, Result, Ok, Err, IfOk, IfErr, MatchResult, refl, ap}
 use Rattle.gc_values.specs.Decimals.{GivesSpelled}
-use Rattle.gc_values.specs.Digits.{number}
-use Rattle.gc_values.specs.Nearest.{IsRoundedWithCap, MadeOf}
+use Rattle.gc_values.specs.Nearest.{MadeOf}
 use Rattle.gc_values.specs.Spelling.{Spells, SpellsBeyond, SpellsNothing}
 use Rattle.gc_values.specs.ValueFault.{IsEither}
 use Rattle.gc_values.specs.declared.decimal.Decimal.{Decimal}
 use Rattle.gc_values.specs.declared.fault.ValueFault.{ValueFault}
 use Rattle.gc_values.specs.declared.fault.ValueFault.TheVariants.{Spelling, Range}
 use Rattle.gc_values.proofs.DecimalLaws.{spells_unique, spelled_not_beyond}
-use Rattle.gc_values.proofs.ReadLemmas.{reads_value, reads_beyond}
+use Rattle.gc_values.proofs.ReadLemmas.{ReadsUnits, reads_value, reads_beyond}
 
 -- the clauses of `Decimal::read` but `again`, which follows from `only`: r is the decimal that the text spells, or the fault of a
 -- text that spells none
@@ -25,11 +23,11 @@ pub record IsDecimalRead (text : List ℕ) (r : Result Decimal ValueFault) : Typ
 not_ok : (d : Decimal) (e : ValueFault) (r : Result Decimal ValueFault) → r ≡ Ok d → r ≡ Err e → ⊥
 not_ok d e r h k = absurd (cc)
 
--- a result isn't both faults
+-- a result isn't both the fault `Range` and the fault `Spelling`
 range_is_other : (r : Result Decimal ValueFault) → r ≡ Err Range → r ≡ Err Spelling → ⊥
 range_is_other r h k = absurd (cc)
 
--- `IsDecimalRead` is true of a text that spells a decimal, and that decimal
+-- a text that spells a decimal is read as that decimal (`IsDecimalRead`)
 pub reads_ok : (text : List ℕ) (d : Decimal) → Spells text d.digits d.scale → IsDecimalRead text (Ok d)
 reads_ok text d spelled = record {
   value = spelled;
@@ -39,7 +37,7 @@ reads_ok text d spelled = record {
   faults = tt;
 }
 
--- `IsDecimalRead` is true of a text that spells a number out of range, and the fault `Range`
+-- a text that spells a number out of range is read as the fault `Range` (`IsDecimalRead`)
 pub reads_range : (text : List ℕ) (e : ValueFault) → e ≡ Range → SpellsBeyond text → IsDecimalRead text (Err e)
 reads_range text e is beyond = record {
   value = tt;
@@ -49,14 +47,10 @@ reads_range text e is beyond = record {
   faults = inl is;
 }
 
--- `IsDecimalRead` is true where the text reads as these parts, `units` over 10^p is their value, rounded to 24 places and cut off
--- at the cap 10^37 + 1, and r is the decimal made of it, or `Range` where it is out of range
-pub reads_parts : (text : List ℕ) (negative : Bool) (whole fraction : List ℕ) (up down units p : ℕ) (r : Result Decimal ValueFault)
-    → ReadsNumeral text negative whole fraction up down →
-    IsRoundedWithCap (number (whole ++ fraction) * 10 ^ up) (length fraction + down) (10 ^ 37 + 1) units p →
-    IfOk r (λ d. MadeOf negative units p d.digits d.scale) →
-    MatchResult r (λ _. units ≤ 10 ^ 13 * 10 ^ p) (λ e. (e ≡ Range) × (10 ^ 13 * 10 ^ p < units)) → IsDecimalRead text r
-reads_parts text negative whole fraction up down units p (Ok d) n c made within =
-    reads_ok text d (reads_value text negative whole fraction up down units p d.digits d.scale n c within made)
-reads_parts text negative whole fraction up down units p (Err e) n c made above =
-    reads_range text e above.0 (reads_beyond text negative whole fraction up down units p n c above.1)
+-- where a text reads as `units` over 10^p (`ReadsUnits`), and r is the decimal that is made of it (`MadeOf`), or `Range` where it
+-- is out of range, the text is read as r (`IsDecimalRead`)
+pub reads_units : (text : List ℕ) (negative : Bool) (units p : ℕ) (r : Result Decimal ValueFault) → ReadsUnits text negative units p
+    → IfOk r (λ d. MadeOf negative units p d.digits d.scale)
+    → MatchResult r (λ _. units ≤ 10 ^ 13 * 10 ^ p) (λ e. (e ≡ Range) × (10 ^ 13 * 10 ^ p < units)) → IsDecimalRead text r
+reads_units text negative units p (Ok d) reads made within = reads_ok text d (reads_value text negative units p d.digits d.scale reads within made)
+reads_units text negative units p (Err e) reads made above = reads_range text e above.0 (reads_beyond text negative units p reads above.1)

@@ -1,32 +1,26 @@
 -- A fraction has one rounding to p places, and how it is found: by the nearest whole number of units of 10^-p, without the zeros
 -- at its end.
-use Rattle.std.proofs.Common.{◌≡◌, ℕ, zero, suc, ◌+◌, ◌-◌, ◌*◌, ◌%◌, ◌^◌, ◌<◌, ◌≤◌, Bool, true, false, ℤ, pos, negsuc, neg_ℤ, ◌*ℤ◌, ◌-ℤ◌, unsigned_abs, refl, sym, ap, ◌∙◌, subst, arith}
-use Rattle.std.proofs.Math.Nat.{mul-le-mul_right, le_of_mul-le-mul_right, lt_of_mul-lt-mul_left, eq_of_mul-eq-mul_left, mul-lt-mul_of_pos_left}
-use Rattle.std.proofs.lemmas.Nat.{pow-add}
+use Rattle.std.proofs.Common.{◌≡◌, ℕ, zero, suc, ◌+◌, ◌-◌, ◌*◌, ◌%◌, ◌^◌, ◌<◌, ◌≤◌, Bool, true, false, ℤ, pos, negsuc, ◌*ℤ◌, ◌-ℤ◌, unsigned_abs, refl, sym, ap, ◌∙◌, subst, arith}
+use Rattle.std.proofs.Math.Nat.{mul-pos, mul-le-mul_right, le_of_mul-le-mul_right, lt_of_mul-lt-mul_left, eq_of_mul-eq-mul_left, mul-lt-mul_of_pos_left}
 use Rattle.std.proofs.lemmas.Int.{ints}
 use Rattle.gc_values.specs.Fraction.{Fraction, signed, distance, IsCanonical, IsRounded}
 use Rattle.gc_values.specs.Nearest.{MadeOf}
 use Rattle.gc_values.specs.Zeros.{WithoutZeros, stripped}
 pub use Rattle.gc_values.specs.RoundedFacts.{places_in_range, stripped_is}
+use Rattle.gc_values.specs.RoundedFacts.{ten_pow_cut}
 pub use Rattle.gc_values.specs.DecimalOrder.{zeros_once}
 use Rattle.gc_values.proofs.Powers.{ten_pow_pos, ten_pow_le}
-use Rattle.gc_values.proofs.Rounding.{gap, gap-mul, RoundsHalfUp, rounds_once, rounds_same_value}
-use Rattle.gc_values.proofs.Signs.{signed-mul, gap_signed, unsigned_abs-signed}
+use Rattle.gc_values.proofs.Rounding.{gap, gap_comm, gap-mul, RoundsHalfUp, rounds_once, rounds_same_value}
+use Rattle.gc_values.proofs.Signs.{scaled_distance_signed, unsigned_abs-signed}
 
 -- m / 10^s has a form without the zeros at its end
 pub zeros_off : (m s : ℕ) → (n : ℕ) × (t : ℕ) × WithoutZeros m s n t
 zeros_off m s = ((stripped m s).digits, (stripped m s).places, stripped_is m s)
 
--- a gap is the same from either side
-gap_comm : (a b : ℕ) → gap a b ≡ gap b a
-gap_comm a b = omega arith
-
 -- the distance of n / 10^s and a / 10^k, both with the same sign, is that of the magnitudes, multiplied out
 distance_signed : (neg : Bool) (n s a k : ℕ) → distance (signed neg n) s (signed neg a) k ≡ gap (n * 10 ^ k) (a * 10 ^ s)
-distance_signed neg n s a k =
-    ap (λ x. unsigned_abs (x -ℤ signed neg a *ℤ pos (10 ^ s))) (signed-mul neg n (10 ^ k))
-    ∙ ap (λ x. unsigned_abs (signed neg (n * 10 ^ k) -ℤ x)) (signed-mul neg a (10 ^ s))
-    ∙ gap_signed neg (n * 10 ^ k) (a * 10 ^ s)
+distance_signed false n s a k = scaled_distance_signed false n (10 ^ k) false a (10 ^ s)
+distance_signed true n s a k = scaled_distance_signed true n (10 ^ k) true a (10 ^ s)
 
 -- where n / 10^s and m / 10^p are one value, the distance of a / 10^k from the one is its distance from the other, multiplied out
 gap_at_other_scale : (a k p m n s : ℕ) → m * 10 ^ s ≡ n * 10 ^ p → gap (n * 10 ^ k) (a * 10 ^ s) * 10 ^ p ≡ gap (a * 10 ^ p) (m * 10 ^ k) * 10 ^ s
@@ -60,38 +54,16 @@ rounded_from neg a k p m n s r w =
 far_apart : (x k p a s : ℕ) → s ≤ p → 2 * ((suc x) * 10 ^ k + a * 10 ^ s) * 10 ^ p ≤ 10 ^ s * 10 ^ k → ⊥
 far_apart x k p a s places near =
     let wide : 10 ^ s * 10 ^ k ≤ 10 ^ p * 10 ^ k = mul-le-mul_right {m = 10 ^ s} {n = 10 ^ p} (10 ^ k) (ten_pow_le s p places) in
-    let pos : 0 < 10 ^ p * 10 ^ k = omega (arith, pow-add 10 p k, ten_pow_pos (p + k)) in
+    let some : 0 < 10 ^ p * 10 ^ k = mul-pos (ten_pow_pos p) (ten_pow_pos k) in
     omega arith
-
--- a number from 0 up and one from 0 down are as far apart as the sum of their magnitudes
-pub abs_pos_neg : (x y : ℕ) → unsigned_abs (pos x -ℤ neg_ℤ (pos y)) ≡ x + y
-abs_pos_neg x y = omega (arith, ints)
-
--- a number from 0 down and one from 0 up are as far apart as the sum of their magnitudes
-pub abs_neg_pos : (x y : ℕ) → unsigned_abs (neg_ℤ (pos x) -ℤ pos y) ≡ x + y
-abs_neg_pos x y = omega (arith, ints)
-
--- a negative number over 10^s and one from 0 on over 10^k: their distance is the sum of their magnitudes, multiplied out
-opposite_false : (x s a k : ℕ) → distance (negsuc x) s (pos a) k ≡ suc x * 10 ^ k + a * 10 ^ s
-opposite_false x s a k =
-    ap (λ z. unsigned_abs (z -ℤ pos a *ℤ pos (10 ^ s))) (signed-mul true (suc x) (10 ^ k))
-    ∙ ap (λ z. unsigned_abs (signed true (suc x * 10 ^ k) -ℤ z)) (signed-mul false a (10 ^ s))
-    ∙ abs_neg_pos (suc x * 10 ^ k) (a * 10 ^ s)
-
--- a positive number over 10^s and one from 0 down over 10^k: their distance is the sum of their magnitudes, multiplied out
-opposite_true : (x s a k : ℕ) → distance (pos (suc x)) s (signed true a) k ≡ suc x * 10 ^ k + a * 10 ^ s
-opposite_true x s a k =
-    ap (λ z. unsigned_abs (z -ℤ signed true a *ℤ pos (10 ^ s))) (signed-mul false (suc x) (10 ^ k))
-    ∙ ap (λ z. unsigned_abs (pos (suc x * 10 ^ k) -ℤ z)) (signed-mul true a (10 ^ s))
-    ∙ abs_pos_neg (suc x * 10 ^ k) (a * 10 ^ s)
 
 -- the digits of a rounding are a magnitude with the sign of the fraction
 pub keeps_sign : (neg : Bool) (a k p : ℕ) (m : ℤ) (s : ℕ) → IsRounded (record { n = signed neg a; k = k }) p m s → (n : ℕ) × (m ≡ signed neg n)
 keeps_sign false a k p (pos n) s r = (n, refl)
-keeps_sign false a k p (negsuc x) s r = absurd (far_apart x k p a s r.places (subst (λ d. 2 * d * 10 ^ p ≤ 10 ^ s * 10 ^ k) (opposite_false x s a k) r.near))
+keeps_sign false a k p (negsuc x) s r = absurd (far_apart x k p a s r.places (subst (λ d. 2 * d * 10 ^ p ≤ 10 ^ s * 10 ^ k) (scaled_distance_signed true (suc x) (10 ^ k) false a (10 ^ s)) r.near))
 keeps_sign true a k p (negsuc x) s r = (suc x, refl)
 keeps_sign true a k p (pos zero) s r = (0, refl)
-keeps_sign true a k p (pos (suc x)) s r = absurd (far_apart x k p a s r.places (subst (λ d. 2 * d * 10 ^ p ≤ 10 ^ s * 10 ^ k) (opposite_true x s a k) r.near))
+keeps_sign true a k p (pos (suc x)) s r = absurd (far_apart x k p a s r.places (subst (λ d. 2 * d * 10 ^ p ≤ 10 ^ s * 10 ^ k) (scaled_distance_signed false (suc x) (10 ^ k) true a (10 ^ s)) r.near))
 
 -- u is the whole number of units of 10^-p that is nearest to a / 10^k, and m / 10^s is made of u / 10^p and the sign, as `MadeOf`
 -- has it
@@ -106,9 +78,7 @@ with_sign_known : (neg : Bool) (a k p n s : ℕ) → IsRounded (record { n = sig
 with_sign_known neg a k p n s r =
     let u : ℕ = n * 10 ^ (p - s) in
     let places : s ≤ p = r.places in
-    let back : p - s + s ≡ p = omega arith in
-    let power : 10 ^ (p - s) * 10 ^ s ≡ 10 ^ p = sym (pow-add 10 (p - s) s) ∙ ap (λ e. 10 ^ e) back in
-    let same : u * 10 ^ s ≡ n * 10 ^ p = omega (arith, ap (λ x. n * x) power) in
+    let same : u * 10 ^ s ≡ n * 10 ^ p = omega (arith, ap (λ x. n * x) (ten_pow_cut s p places)) in
     let far = distance_signed neg n s a k in
     let move = gap_at_other_scale a k p u n s same in
     record {
@@ -136,7 +106,7 @@ rounding_is_nearest_units neg a k p m s r =
     let there : IsRounded (record { n = signed neg a; k = k }) p (signed neg sign.0) s = subst (λ z. IsRounded (record { n = signed neg a; k = k }) p z s) sign.1 r in
     subst (λ z. IsNearestUnits neg a k p z s) (sym sign.1) (with_sign_known neg a k p sign.0 s there)
 
--- as `rounds_to_one`, of a fraction that is given by its sign and its magnitude
+-- a fraction that is given by its sign and its magnitude rounds to at most one m / 10^s
 pub rounded_once : (neg : Bool) (a k p : ℕ) (m : ℤ) (s : ℕ) (n : ℤ) (t : ℕ) → IsRounded (record { n = signed neg a; k = k }) p m s
     → IsRounded (record { n = signed neg a; k = k }) p n t → (m ≡ n) × (s ≡ t)
 rounded_once neg a k p m s n t r q =
@@ -159,8 +129,8 @@ rounds_to_one q p m s n t r r' =
     rounded_once z.0 z.1 q.k p m s n t (subst (λ f. IsRounded f p m s) same r) (subst (λ f. IsRounded f p n t) same r')
 
 -- a number is 0 away from itself
-same_place : (x : ℤ) → unsigned_abs (x -ℤ x) ≡ 0
-same_place x = omega (arith, ints)
+no_distance : (x : ℤ) → unsigned_abs (x -ℤ x) ≡ 0
+no_distance x = omega (arith, ints)
 
 -- twice 0 times anything is 0
 twice_zero : (x : ℕ) → 2 * 0 * x ≡ 0
@@ -169,9 +139,9 @@ twice_zero x = omega arith
 -- where m / 10^s has the value of q, needs all its places and has at most p, it is q rounded to p places
 pub exact_rounds : (q : Fraction) (p : ℕ) (m : ℤ) (s : ℕ) → IsCanonical m s → s ≤ p → m *ℤ pos (10 ^ q.k) ≡ q.n *ℤ pos (10 ^ s) → IsRounded q p m s
 exact_rounds q p m s canonical places same =
-    let near : distance m s q.n q.k ≡ 0 = ap (λ x. unsigned_abs (x -ℤ q.n *ℤ pos (10 ^ s))) same ∙ same_place (q.n *ℤ pos (10 ^ s)) in
+    let near : distance m s q.n q.k ≡ 0 = ap (λ x. unsigned_abs (x -ℤ q.n *ℤ pos (10 ^ s))) same ∙ no_distance (q.n *ℤ pos (10 ^ s)) in
     let none : 2 * distance m s q.n q.k * 10 ^ p ≡ 0 = ap (λ d. 2 * d * 10 ^ p) near ∙ twice_zero (10 ^ p) in
-    let some : 0 < 10 ^ s * 10 ^ q.k = let e = pow-add 10 s q.k in let h = ten_pow_pos (s + q.k) in omega arith in
+    let some : 0 < 10 ^ s * 10 ^ q.k = mul-pos (ten_pow_pos s) (ten_pow_pos q.k) in
     record {
       canonical = canonical;
       places = places;
@@ -182,14 +152,10 @@ exact_rounds q p m s canonical places same =
 -- for p at most s: where a over 10^(s - p) rounds to m, so does a * 10^p over 10^s, which is a / 10^s in units of 10^-p
 pub rounds_places : (a s p m : ℕ) → p ≤ s → RoundsHalfUp a (10 ^ (s - p)) m → RoundsHalfUp (a * 10 ^ p) (10 ^ s) m
 rounds_places a s p m places r =
-    let back : s - p + p ≡ s = omega arith in
-    let power : 10 ^ (s - p) * 10 ^ p ≡ 10 ^ s = sym (pow-add 10 (s - p) p) ∙ ap (λ e. 10 ^ e) back in
-    let same : a * 10 ^ s ≡ a * 10 ^ p * 10 ^ (s - p) = omega (arith, ap (λ x. a * x) power) in
+    let same : a * 10 ^ s ≡ a * 10 ^ p * 10 ^ (s - p) = omega (arith, ap (λ x. a * x) (ten_pow_cut p s places)) in
     rounds_same_value a (10 ^ (s - p)) (a * 10 ^ p) (10 ^ s) m (ten_pow_pos (s - p)) (ten_pow_pos s) same r
 
 -- a value in range with at most 24 places has at most 10^37 units of 10^-24
 pub units_in_range : (a s : ℕ) → s ≤ 24 → a ≤ 10 ^ 13 * 10 ^ s → a * 10 ^ (24 - s) ≤ 10 ^ 37
 units_in_range a s places h =
-    let back : s + (24 - s) ≡ 24 = omega arith in
-    let power : 10 ^ s * 10 ^ (24 - s) ≡ 10 ^ 24 = sym (pow-add 10 s (24 - s)) ∙ ap (λ e. 10 ^ e) back in
-    omega (arith, power, mul-le-mul_right {m = a} {n = 10 ^ 13 * 10 ^ s} (10 ^ (24 - s)) h)
+    omega (arith, ten_pow_cut s 24 places, mul-le-mul_right {m = a} {n = 10 ^ 13 * 10 ^ s} (10 ^ (24 - s)) h)

@@ -15,9 +15,12 @@ use Rattle.gc_values.proofs.Signs.{signed-mul}
 half_up-one : (m : ℕ) → half_up m 1 ≡ m
 half_up-one m = omega arith
 
--- where p is s or more, what `rounded_to` gives, with a sign, is m / 10^s with that sign, rounded to p places
-rounded_at_enough_places : (b : Bool) (m s p : ℕ) → s ≤ p
-    → IsRounded (record { n = signed b m; k = s }) p (signed b (rounded_to m s p).digits) (rounded_to m s p).places
+-- what `rounded_to` gives, with the sign b, is m / 10^s with that sign, rounded to p places
+abbrev pub RoundsWithSign : (b : Bool) (m s p : ℕ) → Type 0
+RoundsWithSign b m s p = IsRounded (record { n = signed b m; k = s }) p (signed b (rounded_to m s p).digits) (rounded_to m s p).places
+
+-- where p is s or more, `RoundsWithSign` is true
+rounded_at_enough_places : (b : Bool) (m s p : ℕ) → s ≤ p → RoundsWithSign b m s p
 rounded_at_enough_places b m s p h =
     let r = rounded_to m s p in
     let zeros = rounded_to_zeros m s p in
@@ -28,9 +31,8 @@ rounded_at_enough_places b m s p h =
     exact_rounds (record { n = signed b m; k = s }) p (signed b r.digits) r.places (rounded_canonical b m s p) (let f = zeros.fewer in omega (arith, f))
     (signed-mul b r.digits (10 ^ s) ∙ ap (signed b) same ∙ sym (signed-mul b m (10 ^ r.places)))
 
--- where p is less than s, what `rounded_to` gives, with a sign, is m / 10^s with that sign, rounded to p places
-rounded_at_fewer_places : (b : Bool) (m s p : ℕ) → p < s
-    → IsRounded (record { n = signed b m; k = s }) p (signed b (rounded_to m s p).digits) (rounded_to m s p).places
+-- where p is less than s, `RoundsWithSign` is true
+rounded_at_fewer_places : (b : Bool) (m s p : ℕ) → p < s → RoundsWithSign b m s p
 rounded_at_fewer_places b m s p h =
     let r = rounded_to m s p in
     let few : min s p ≡ p = omega arith in
@@ -39,8 +41,7 @@ rounded_at_fewer_places b m s p h =
     (rounds_places m s p (half_up m (10 ^ (s - p))) (omega arith) (half_up_rounds m (10 ^ (s - p)) (ten_pow_pos (s - p)))) zeros
 
 -- what `rounded_to` gives, with a sign, is m / 10^s with that sign, rounded to p places
-pub rounded_to_rounds : (b : Bool) (m s p : ℕ)
-    → IsRounded (record { n = signed b m; k = s }) p (signed b (rounded_to m s p).digits) (rounded_to m s p).places
+pub rounded_to_rounds : (b : Bool) (m s p : ℕ) → RoundsWithSign b m s p
 rounded_to_rounds b m s p = elim (cases_lt p s) [ inl fewer ↦ rounded_at_fewer_places b m s p fewer | inr own ↦ rounded_at_enough_places b m s p own ]
 
 -- a number is its magnitude with its sign

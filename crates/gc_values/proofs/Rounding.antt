@@ -9,15 +9,17 @@ use Rattle.std.proofs.lemmas.Bool.{cases_lt, cases_order}
 gap-mul_up : (a t c : ℕ) → gap (a * c) ((a + t) * c) ≡ gap a (a + t) * c
 gap-mul_up a t c = let l : gap (a * c) ((a + t) * c) ≡ t * c = omega arith in let r : gap a (a + t) ≡ t = omega arith in l ∙ ap (λ x. x * c) (sym r)
 
--- the gap of multiples is the multiple of the gap, where the first is at least the second
-gap-mul_down : (a t c : ℕ) → gap ((a + t) * c) (a * c) ≡ gap (a + t) a * c
-gap-mul_down a t c = let l : gap ((a + t) * c) (a * c) ≡ t * c = omega arith in let r : gap (a + t) a ≡ t = omega arith in l ∙ ap (λ x. x * c) (sym r)
+-- a gap is the same from either side
+pub gap_comm : (a b : ℕ) → gap a b ≡ gap b a
+gap_comm a b = omega arith
 
 -- the gap of multiples is the multiple of the gap
 pub gap-mul : (a b c : ℕ) → gap (a * c) (b * c) ≡ gap a b * c
 gap-mul a b c = elim (cases_lt a b) [
   | inl lt ↦ let e : a + (b - a) ≡ b = omega arith in subst (λ x. gap (a * c) (x * c) ≡ gap a x * c) e (gap-mul_up a (b - a) c)
-  | inr ge ↦ let e : b + (a - b) ≡ a = omega arith in subst (λ x. gap (x * c) (b * c) ≡ gap x b * c) e (gap-mul_down b (a - b) c)
+  | inr ge ↦
+      let e : b + (a - b) ≡ a = omega arith in
+      gap_comm (a * c) (b * c) ∙ subst (λ x. gap (b * c) (x * c) ≡ gap b x * c) e (gap-mul_up b (a - b) c) ∙ ap (λ x. x * c) (gap_comm b a)
 ]
 
 -- where a / b and c / d are one value, and b and d are above 0, what a / b rounds to, c / d rounds to

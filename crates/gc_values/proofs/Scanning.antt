@@ -19,15 +19,15 @@ parity_after b quoted = cond (eqb b 34) (not quoted) quoted
 pub scanned_none : (text : List ℕ) → Scanned text 0 false
 scanned_none text = record { keeps = HasCommasInQuotes-nil; parity = refl }
 
--- where `quoted` says whether the number n of double quotes is odd, and `same` whether the next byte is one, `not quoted`, if it
--- is, and else `quoted`, says whether the number of double quotes with that byte is odd
+-- one byte after n double quotes: `quoted` says whether n is odd, and `same` whether the byte is a double quote. Then the number
+-- with that byte is odd exactly where `same` is true and `quoted` is false, or `same` is false and `quoted` is true
 parity_step : (n : ℕ) (quoted same : Bool) → n % 2 ≡ cond quoted 1 0 → (n + cond same 1 0) % 2 ≡ cond (cond same (not quoted) quoted) 1 0
 parity_step n true true h = omega arith
 parity_step n true false h = omega arith
 parity_step n false true h = omega arith
 parity_step n false false h = omega arith
 
--- inside quotes the number of quotes is odd
+-- where `quoted` says whether the number n of double quotes is odd, and is true, n is odd
 odd_inside : (n : ℕ) (quoted : Bool) → quoted ≡ true → n % 2 ≡ cond quoted 1 0 → n % 2 ≡ 1
 odd_inside n quoted e h = h ∙ ap (λ b. cond b 1 0) e
 

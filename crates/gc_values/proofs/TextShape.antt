@@ -1,17 +1,17 @@
--- The written texts of values are parameters, short and without CR and LF. Bare bytes are those of numbers and byte parameters.
+-- The written texts of values are parameters, short and without CR and LF. A bare byte is no space, double quote, comma, CR or
+-- LF; the texts of numbers and byte parameters have bare bytes alone.
 use Rattle.std.proofs.Common.{◌≡◌, ◌≢◌, ℕ, ◌+◌, ◌/◌, ◌%◌, ◌<◌, ◌≤◌, ◌^◌, Bool, true, false, ltb, ℤ, pos, negsuc, unsigned_abs, List, [], ◌∷◌, ◌++◌, length, map, refl, sym, ap, ◌∙◌, inl, inr, arith, lit<, lit≤, length-append}
-use Rattle.std.proofs.lemmas.Bool.{ne_eqb, ltb-true, agree_below_at}
+use Rattle.std.proofs.lemmas.Bool.{ltb-true, agree_below_at}
 use Rattle.std.proofs.lemmas.List.Elements.{All-from_recursion}
 use Rattle.std.proofs.lemmas.List.{same_from_push}
 use Rattle.std.proofs.lemmas.Nat.{div_below}
 use Rattle.std.specs.List.{All, AllByRecursion}
 use Rattle.std.specs.Prelude.{slice_index}
-use Rattle.std.proofs.Permutation.{every_append}
 use Rattle.hex.specs.Hex.{lower_digits}
-use Rattle.gc_values.specs.Digits.{AreDigits}
+use Rattle.gc_values.specs.Digits.{IsDigit, AreDigits}
 use Rattle.gc_values.specs.Item.{IsValue, text}
 use Rattle.gc_values.specs.Params.{quotes, IsParam, joined, IsParams}
-use Rattle.gc_values.specs.Text.{AreStringBytes, quoted}
+use Rattle.gc_values.specs.Text.{IsStringByte, AreStringBytes, quoted}
 use Rattle.gc_values.specs.Whole.{signed_text}
 use Rattle.gc_values.specs.Boolean.{boolean_text}
 use Rattle.gc_values.specs.Byte.{byte_text}
@@ -19,14 +19,15 @@ use Rattle.gc_values.specs.Fraction.{IsInRange}
 use Rattle.gc_values.specs.Written.{minus_text, whole_text, behind_text, written}
 use Rattle.gc_values.specs.declared.value.Value.{Value}
 use Rattle.gc_values.specs.declared.value.Value.TheVariants as value
-use Rattle.gc_values.proofs.Quotes.{quotes-append, quotes-cons, quotes_same, push_cut}
+use Rattle.gc_values.proofs.Every.{every_weaker, every_append}
+use Rattle.gc_values.proofs.Quotes.{quotes-append, quotes-cons, quotes-none, push_cut}
 use Rattle.gc_values.proofs.Powers.{ten_pow_pos}
 use Rattle.gc_values.proofs.WholeText.{length-whole_text, length-minus_text, length-long, length-short}
 use Rattle.gc_values.proofs.WrittenLemmas.{length-behind_text}
 use Rattle.gc_values.proofs.ParamLists.{joined_params}
 use Rattle.gc_values.proofs.WrittenSpells.{writes_whole, is_fraction_text}
 
--- a byte of a number or of a byte parameter: no space, double quote, comma, CR or LF
+-- a byte that is no space, double quote, comma, CR or LF
 pub record IsBare (b : ℕ) : Type 0 where
   pub space : b ≢ 32
   pub quote : b ≢ 34
@@ -48,13 +49,11 @@ bare_quote = record { space = λ e. omega (arith, e); quote = λ e. omega (arith
 
 -- digits are bare
 pub bare_digits : (ds : List ℕ) → AreDigits ds → AreBare ds
-bare_digits [] h = tt
-bare_digits (d ∷ ds) h = (bare_above d (let low = h.0.0 in omega (arith, low)), bare_digits ds h.1)
+bare_digits ds h = every_weaker IsDigit IsBare ds (λ d digit. bare_above d (let low = digit.0 in omega (arith, low))) h
 
 -- bare bytes have no double quote
 quotes-bare : (xs : List ℕ) → AreBare xs → quotes xs ≡ 0
-quotes-bare [] h = refl
-quotes-bare (x ∷ xs) h = quotes_same x xs (ne_eqb x 34 h.0.quote) ∙ quotes-bare xs h.1
+quotes-bare xs h = quotes-none xs (every_weaker IsBare (λ b. b ≢ 34) xs (λ b bare. bare.quote) h)
 
 -- bare bytes have no comma
 bare_comma : (xs front rest : List ℕ) → AreBare xs → xs ≡ front ++ 44 ∷ rest → ⊥
@@ -90,8 +89,7 @@ EndsNoLine b = (b ≢ 10) × (b ≢ 13)
 
 -- bare bytes end no line
 bare_plain : (xs : List ℕ) → AreBare xs → AllByRecursion EndsNoLine xs
-bare_plain [] h = tt
-bare_plain (x ∷ xs) h = ((h.0.lf, h.0.cr), bare_plain xs h.1)
+bare_plain xs h = every_weaker IsBare EndsNoLine xs (λ b bare. (bare.lf, bare.cr)) h
 
 -- a minus, or none, is bare
 bare_minus : (z : ℤ) → AreBare (minus_text z)
@@ -133,10 +131,9 @@ bare_boolean : (b : Bool) → AreBare (boolean_text b)
 bare_boolean false = (bare_above 48 (lit< tt), tt)
 bare_boolean true = (bare_above 49 (lit< tt), tt)
 
--- a string's bytes hold no quote
+-- a string's bytes hold no double quote
 quotes-string : (bytes : List ℕ) → AreStringBytes bytes → quotes bytes ≡ 0
-quotes-string [] h = refl
-quotes-string (b ∷ bs) h = quotes_same b bs (ne_eqb b 34 h.0.0) ∙ quotes-string bs h.1
+quotes-string bytes h = quotes-none bytes (every_weaker IsStringByte (λ b. b ≢ 34) bytes (λ b allowed. allowed.0) h)
 
 -- a comma in a quoted string is inside the quotes
 quoted_commas : (bytes front rest : List ℕ) → AreStringBytes bytes → quoted bytes ≡ front ++ 44 ∷ rest → quotes front % 2 ≡ 1
@@ -164,8 +161,9 @@ quoted_param bytes h = record {
 
 -- a string's bytes, and the quote after them, end no line
 string_plain : (bytes : List ℕ) → AreStringBytes bytes → AllByRecursion EndsNoLine (bytes ++ 34 ∷ [])
-string_plain [] h = ((λ e. omega (arith, e), λ e. omega (arith, e)), tt)
-string_plain (b ∷ bs) h = ((h.0.2, h.0.1), string_plain bs h.1)
+string_plain bytes h =
+    every_append EndsNoLine bytes (34 ∷ []) (every_weaker IsStringByte EndsNoLine bytes (λ b allowed. (allowed.2, allowed.1)) h)
+    ((λ e. omega (arith, e), λ e. omega (arith, e)), tt)
 
 -- the text of a value in its kind's range is a parameter
 pub text_is_param : (v : Value) → IsValue v → IsParam (text v)

@@ -1,10 +1,10 @@
 -- A piece of a parameter list without the spaces at its ends, which is its item.
-use Rattle.std.proofs.Common.{◌≡◌, ℕ, zero, suc, ◌+◌, ◌-◌, ◌<◌, ◌≤◌, ◌%◌, ◌⊎◌, length, get_or, take, drop, cond, eqb, List, [], ◌∷◌, ◌++◌, replicate, refl, sym, ap, ◌∙◌, subst, inl, inr, arith, append_assoc}
+use Rattle.std.proofs.Common.{◌≡◌, ℕ, zero, suc, ◌+◌, ◌-◌, ◌<◌, ◌≤◌, ◌%◌, ◌⊎◌, length, get_or, take, drop, cond, List, [], ◌∷◌, ◌++◌, replicate, refl, sym, ap, ◌∙◌, subst, inl, inr, arith, append_assoc}
 use Rattle.std.proofs.lemmas.List.{append-nil, same_from_push, take-append-drop, take_all, take_more, drop_more}
 use Rattle.std.proofs.lemmas.Bool.{cases_eq, eq-eqb, ne_eqb}
 use Rattle.gc_values.specs.Params.{quotes, HasCommasInQuotes, StartsNoSpace, EndsNoSpace, IsPadded, IsParam, AreSpaces}
 use Rattle.gc_values.specs.Pieces.{without_front_spaces, put_before, without_end_spaces, TrimsFront, TrimsBack, IsTrimmed}
-use Rattle.gc_values.proofs.Quotes.{quotes-append, quotes_same, quotes-spaces, HasCommasInQuotes-push}
+use Rattle.gc_values.proofs.Quotes.{empty_has_none, quotes-append, quotes_same, quotes-spaces, HasCommasInQuotes-push}
 
 -- spaces before a text leave its commas within quotes
 front_spaces : (n : ℕ) (xs : List ℕ) → HasCommasInQuotes xs → HasCommasInQuotes (replicate n 32 ++ xs)
@@ -130,16 +130,6 @@ trims_front (b ∷ bs) = elim (cases_eq b 32) [
       subst (λ ys. TrimsFront (b ∷ bs) ys) (sym off) (record { count = 0; text_is = refl; first = λ rest e. h (let head : b ≡ 32 = cc in head) })
 ]
 
--- the empty list doesn't end in a byte
-empty_has_no_last : (front : List ℕ) (b : ℕ) → [] ≡ front ++ b ∷ [] → ⊥
-empty_has_no_last [] b e = cc
-empty_has_no_last (f ∷ fs) b e = cc
-
--- a text of one byte that ends in a space is that space
-one_last : (b : ℕ) (front : List ℕ) → b ∷ [] ≡ front ++ 32 ∷ [] → b ≡ 32
-one_last b [] e = cc
-one_last b (f ∷ fs) e = let t : [] ≡ fs ++ 32 ∷ [] = cc in absurd (empty_has_no_last fs 32 t)
-
 -- a text of at least one byte that doesn't end in a space still doesn't with a byte before it
 longer_last : (b : ℕ) (xs front : List ℕ) (x : ℕ) → EndsNoSpace (x ∷ xs) → b ∷ x ∷ xs ≡ front ++ 32 ∷ [] → ⊥
 longer_last b xs [] x h e = cc
@@ -150,10 +140,10 @@ back_step : (b : ℕ) (bs item : List ℕ) → TrimsBack bs item → TrimsBack (
 back_step b bs [] r = elim (cases_eq b 32) [
   | inl h ↦
       let off : put_before b [] ≡ [] = ap (λ c. cond c [] (b ∷ [])) (eq-eqb b 32 h) in
-      subst (λ ys. TrimsBack (b ∷ bs) ys) (sym off) (record { count = suc r.count; text_is = let t = r.text_is in cc; last = λ front e. empty_has_no_last front 32 e })
+      subst (λ ys. TrimsBack (b ∷ bs) ys) (sym off) (record { count = suc r.count; text_is = let t = r.text_is in cc; last = λ front e. empty_has_none front [] 32 e })
   | inr h ↦
       let off : put_before b [] ≡ b ∷ [] = ap (λ c. cond c [] (b ∷ [])) (ne_eqb b 32 h) in
-      subst (λ ys. TrimsBack (b ∷ bs) ys) (sym off) (record { count = r.count; text_is = let t = r.text_is in cc; last = λ front e. h (one_last b front e) })
+      subst (λ ys. TrimsBack (b ∷ bs) ys) (sym off) (record { count = r.count; text_is = let t = r.text_is in cc; last = λ front e. h (same_from_push [] front b 32 e).1 })
 ]
 back_step b bs (x ∷ xs) r = record {
   count = r.count;
@@ -163,7 +153,7 @@ back_step b bs (x ∷ xs) r = record {
 
 -- `without_end_spaces` trims every text at its end
 trims_back : (xs : List ℕ) → TrimsBack xs (without_end_spaces xs)
-trims_back [] = record { count = 0; text_is = refl; last = λ front e. empty_has_no_last front 32 e }
+trims_back [] = record { count = 0; text_is = refl; last = λ front e. empty_has_none front [] 32 e }
 trims_back (b ∷ bs) = back_step b bs (without_end_spaces bs) (trims_back bs)
 
 -- trimming the front and then the end trims both
@@ -212,7 +202,7 @@ back_at text end within spaces stop = record {
   count = length text - end;
   text_is = sym (take-append-drop end text) ∙ ap (λ xs. take end text ++ xs) spaces;
   last = λ front e. elim stop [
-    | inl none ↦ empty_has_no_last front 32 (sym (ap (λ i. take i text) none) ∙ e)
+    | inl none ↦ empty_has_none front [] 32 (sym (ap (λ i. take i text) none) ∙ e)
     | inr some ↦
         let back : end - 1 + 1 ≡ end = let h = some.0 in omega arith in
         let more : take end text ≡ take (end - 1) text ++ get_or text (end - 1) 0 ∷ [] = ap (λ i. take i text) (sym back) ∙ take_more text (end - 1) 0 (let h = some.0 in omega arith) in

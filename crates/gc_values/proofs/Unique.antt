@@ -1,9 +1,8 @@
 -- A number's text is cut into its sign, digits, fraction and exponent in one way, and so names one fraction.
-use Rattle.std.proofs.Common.{◌≡◌, ◌≢◌, ℕ, ◌+◌, ◌<◌, Bool, true, false, cond, List, [], ◌∷◌, ◌++◌, length, Option, None, Some, refl, sym, ap, ◌∙◌, subst, arith}
-use Rattle.std.proofs.Common.{ℤ, ◌*◌, ◌^◌}
+use Rattle.std.proofs.Common.{◌≡◌, ◌≢◌, ℕ, ℤ, ◌+◌, ◌*◌, ◌^◌, ◌<◌, Bool, true, false, cond, List, [], ◌∷◌, ◌++◌, length, Option, None, Some, refl, sym, ap, ◌∙◌, subst, arith}
 use Rattle.gc_values.specs.Fraction.{Fraction, signed}
 use Rattle.gc_values.specs.Digits.{IsDigit, AreDigits, number}
-use Rattle.gc_values.specs.Cut.{StartsNoDigit, StartsNoSign, StartsNoPoint, CutsDigits, CutsSign, CutsFraction}
+use Rattle.gc_values.specs.Cut.{StartsNoDigit, StartsNoSign, StartsNoPoint, CutsDigits, CutsSign, CutsFraction, ReadsExponent, ReadsNumeral}
 use Rattle.gc_values.specs.Spelling.{Sign, Absent, Plus, Minus, sign_text, is_minus, Exponent, IsExponent, exponent_text, mark, ups, downs, fraction_text, fraction_digits, Parts, IsNumeral, spelling, value, Names}
 
 -- a text is cut in at most one way into digits and a rest that doesn't begin with a digit
@@ -64,16 +63,50 @@ number_no_sign [] None rest digits some = absurd (omega arith)
 number_no_sign [] (Some ds) rest digits some = (λ h. omega (arith, h), λ h. omega (arith, h))
 number_no_sign (b ∷ bs) f rest digits some = (λ h. let d = digits.0 in omega (arith, h, d.0), λ h. let d = digits.0 in omega (arith, h, d.0))
 
--- two ways to cut a text into a fraction, or none, and a rest agree on the digits and on the rest, where neither rest begins with
--- a digit, and the second not with a point, nor the first where no fraction was cut off before it
-pub fraction_once : (f g : Option (List ℕ)) (us vs : List ℕ) → (digits_f : AreDigits (fraction_digits f)) → (digits_g : AreDigits (fraction_digits g))
-    → (no_point_us : f ≡ None → StartsNoPoint us) → (no_point_vs : StartsNoPoint vs)
-    → (no_digit_us : StartsNoDigit us) → (no_digit_vs : StartsNoDigit vs) → (same : fraction_text f ++ us ≡ fraction_text g ++ vs)
-    → (fraction_digits f ≡ fraction_digits g) × (us ≡ vs)
-fraction_once None None us vs df dg pu pv nu nv e = (refl, e)
-fraction_once None (Some ds) us vs df dg pu pv nu nv e = absurd (subst StartsNoPoint e (pu refl) refl)
-fraction_once (Some cs) None us vs df dg pu pv nu nv e = absurd (subst StartsNoPoint (sym e) pv refl)
-fraction_once (Some cs) (Some ds) us vs df dg pu pv nu nv e = let r : cs ++ us ≡ ds ++ vs = cc in run_once cs ds us vs df dg nu nv r
+-- a text is cut in at most one way into a fraction, or none, and a rest, as `CutsFraction` has it
+pub fraction_once : (text xs ys us vs : List ℕ) → CutsFraction text xs us → CutsFraction text ys vs → (xs ≡ ys) × (us ≡ vs)
+fraction_once text xs ys us vs c d = by c.fraction refl d.fraction refl where
+  -- by whether the text begins with a point in each of the two cuts
+  by : (f : Option (List ℕ)) → c.fraction ≡ f → (g : Option (List ℕ)) → d.fraction ≡ g → (xs ≡ ys) × (us ≡ vs)
+  by f p g q =
+      let first : text ≡ fraction_text f ++ us = c.text_is ∙ ap (λ o. fraction_text o ++ us) p in
+      let second : text ≡ fraction_text g ++ vs = d.text_is ∙ ap (λ o. fraction_text o ++ vs) q in
+      let xs_are : xs ≡ fraction_digits f = c.run_is ∙ ap fraction_digits p in
+      let ys_are : ys ≡ fraction_digits g = d.run_is ∙ ap fraction_digits q in
+      let same = once f g (sym first ∙ second) (λ none. c.no_point (p ∙ none)) (λ none. d.no_point (q ∙ none)) (subst AreDigits xs_are c.digits) (subst AreDigits ys_are d.digits) in
+      (xs_are ∙ same.0 ∙ sym ys_are, same.1)
+    where
+      -- the digits and the rests of both cuts are the same
+      once : (f g : Option (List ℕ)) → fraction_text f ++ us ≡ fraction_text g ++ vs → (f ≡ None → StartsNoPoint us) → (g ≡ None → StartsNoPoint vs)
+          → AreDigits (fraction_digits f) → AreDigits (fraction_digits g) → (fraction_digits f ≡ fraction_digits g) × (us ≡ vs)
+      once None None e pu pv df dg = (refl, e)
+      once None (Some ds) e pu pv df dg = absurd (subst StartsNoPoint e (pu refl) refl)
+      once (Some cs) None e pu pv df dg = absurd (subst StartsNoPoint (sym e) (pv refl) refl)
+      once (Some cs) (Some ds) e pu pv df dg = let r : cs ++ us ≡ ds ++ vs = cc in run_once cs ds us vs df dg c.longest d.longest r
+
+-- after its sign and its digits a numeral's text is cut into its fraction, or none, and its exponent
+numeral_fraction : (p : Parts) → IsNumeral p
+    → CutsFraction (fraction_text p.fraction ++ exponent_text p.exponent) (fraction_digits p.fraction) (exponent_text p.exponent)
+numeral_fraction p n = record {
+  fraction = p.fraction;
+  text_is = refl;
+  run_is = refl;
+  digits = n.fraction;
+  no_point = λ _. exponent_no_point p.exponent;
+  longest = exponent_no_digit p.exponent;
+}
+
+-- a text that was cut from the left: into a sign, digits, a fraction and a rest
+pub record Cut (text : List ℕ) : Type 0 where
+  pub negative : Bool
+  pub behind_sign : List ℕ
+  pub whole : List ℕ
+  pub behind_whole : List ℕ
+  pub fraction : List ℕ
+  pub rest : List ℕ
+  pub sign : CutsSign text negative behind_sign
+  pub digits : CutsDigits behind_sign whole behind_whole
+  pub point : CutsFraction behind_whole fraction rest
 
 -- the parts that were cut off are those of this numeral
 pub record SameParts (negative : Bool) (whole fraction rest : List ℕ) (p : Parts) : Type 0 where
@@ -82,17 +115,40 @@ pub record SameParts (negative : Bool) (whole fraction rest : List ℕ) (p : Par
   pub fraction_is : fraction ≡ fraction_digits p.fraction
   pub rest_is : rest ≡ exponent_text p.exponent
 
--- the parts that were cut off are those of every numeral with this text
-pub same_parts : (text : List ℕ) (negative : Bool) (r1 whole r2 fraction r3 : List ℕ) → (sign : CutsSign text negative r1)
-    → (digits : CutsDigits r1 whole r2) → (point : CutsFraction r2 fraction r3) → (p : Parts) → (numeral : IsNumeral p) → (same : text ≡ spelling p)
-    → SameParts negative whole fraction r3 p
-same_parts text negative r1 whole r2 fraction r3 s d f p n e =
-    let signs = sign_once s.sign p.sign r1 (p.whole ++ (fraction_text p.fraction ++ exponent_text p.exponent)) s.first
+-- where a text was cut, as `Cut` has it, the parts that were cut off are those of each numeral with this text
+pub same_parts : (text : List ℕ) (c : Cut text) (p : Parts) → IsNumeral p → text ≡ spelling p → SameParts c.negative c.whole c.fraction c.rest p
+same_parts text c p n e =
+    let s = c.sign in
+    let d = c.digits in
+    let signs = sign_once s.sign p.sign c.behind_sign (p.whole ++ (fraction_text p.fraction ++ exponent_text p.exponent)) s.first
     (number_no_sign p.whole p.fraction (exponent_text p.exponent) n.whole n.some) (sym s.text_is ∙ e) in
-    let runs = run_once whole p.whole r2 (fraction_text p.fraction ++ exponent_text p.exponent) d.digits n.whole d.longest (fraction_no_digit p.fraction p.exponent) (sym d.text_is ∙ signs.1) in
-    let fractions = fraction_once f.fraction p.fraction r3 (exponent_text p.exponent) (subst AreDigits f.run_is f.digits) n.fraction f.no_point
-    (exponent_no_point p.exponent) f.longest (exponent_no_digit p.exponent) (sym f.text_is ∙ runs.1) in
-    record { sign = s.negative_is ∙ signs.0; whole_is = runs.0; fraction_is = f.run_is ∙ fractions.0; rest_is = fractions.1 }
+    let runs = run_once c.whole p.whole c.behind_whole (fraction_text p.fraction ++ exponent_text p.exponent) d.digits n.whole d.longest (fraction_no_digit p.fraction p.exponent)
+    (sym d.text_is ∙ signs.1) in
+    let fractions = fraction_once (fraction_text p.fraction ++ exponent_text p.exponent) c.fraction (fraction_digits p.fraction) c.rest (exponent_text p.exponent)
+    (subst (λ t. CutsFraction t c.fraction c.rest) runs.1 c.point) (numeral_fraction p n) in
+    record { sign = s.negative_is ∙ signs.0; whole_is = runs.0; fraction_is = fractions.0; rest_is = fractions.1 }
+
+-- where a text was cut, as `Cut` has it, into at least one digit in all, and a rest that is an exponent or empty, the text is a
+-- number with the parts that were cut off, as `ReadsNumeral` has it
+pub cut_is_numeral : (text : List ℕ) (c : Cut text) (up down : ℕ) → 0 < length c.whole + length c.fraction → ReadsExponent c.rest up down
+    → ReadsNumeral text c.negative c.whole c.fraction up down
+cut_is_numeral text c up down some x = record {
+  parts = record { sign = c.sign.sign; whole = c.whole; fraction = c.point.fraction; exponent = x.exponent };
+  form = record {
+    whole = c.digits.digits;
+    fraction = subst AreDigits c.point.run_is c.point.digits;
+    some = subst (λ run. 0 < length c.whole + length run) c.point.run_is some;
+    exponent = x.form;
+  };
+  text_is = c.sign.text_is
+      ∙ ap (λ xs. sign_text c.sign.sign ++ xs) (c.digits.text_is
+      ∙ ap (λ xs. c.whole ++ xs) (c.point.text_is ∙ ap (λ xs. fraction_text c.point.fraction ++ xs) x.text_is));
+  negative_is = c.sign.negative_is;
+  whole_is = refl;
+  fraction_is = c.point.run_is;
+  up_is = x.up_is;
+  down_is = x.down_is;
+}
 
 -- digits begin with no sign
 pub digits_no_sign : (ds : List ℕ) → AreDigits ds → StartsNoSign ds
@@ -113,36 +169,30 @@ exponent_once (Some e) (Some f) he hf same =
       ap (λ b. cond b (number e.digits) 0) r.0 ∙ ap (λ ds. cond (is_minus f.sign) (number ds) 0) r.1,
     )
 
--- a numeral's text is cut into its sign and the rest
-numeral_sign : (p : Parts) → IsNumeral p → CutsSign (spelling p) (is_minus p.sign) (p.whole ++ (fraction_text p.fraction ++ exponent_text p.exponent))
-numeral_sign p n = record {
-  sign = p.sign;
-  text_is = refl;
-  negative_is = refl;
-  first = λ _. number_no_sign p.whole p.fraction (exponent_text p.exponent) n.whole n.some;
-}
-
--- after the sign a numeral's text is cut into its digits and the rest
-numeral_digits : (p : Parts) → IsNumeral p
-    → CutsDigits (p.whole ++ (fraction_text p.fraction ++ exponent_text p.exponent)) p.whole (fraction_text p.fraction ++ exponent_text p.exponent)
-numeral_digits p n = record { text_is = refl; digits = n.whole; longest = fraction_no_digit p.fraction p.exponent }
-
--- after the digits a numeral's text is cut into its fraction and its exponent
-numeral_fraction : (p : Parts) → IsNumeral p
-    → CutsFraction (fraction_text p.fraction ++ exponent_text p.exponent) (fraction_digits p.fraction) (exponent_text p.exponent)
-numeral_fraction p n = record {
-  fraction = p.fraction;
-  text_is = refl;
-  run_is = refl;
-  digits = n.fraction;
-  no_point = λ _. exponent_no_point p.exponent;
-  longest = exponent_no_digit p.exponent;
+-- a numeral's text is cut into its sign, its digits, its fraction and its exponent, as `Cut` has it
+numeral_cut : (p : Parts) → IsNumeral p → Cut (spelling p)
+numeral_cut p n = record {
+  negative = is_minus p.sign;
+  behind_sign = p.whole ++ (fraction_text p.fraction ++ exponent_text p.exponent);
+  whole = p.whole;
+  behind_whole = fraction_text p.fraction ++ exponent_text p.exponent;
+  fraction = fraction_digits p.fraction;
+  rest = exponent_text p.exponent;
+  sign = record {
+    sign = p.sign;
+    text_is = refl;
+    negative_is = refl;
+    first = λ _. number_no_sign p.whole p.fraction (exponent_text p.exponent) n.whole n.some;
+  };
+  digits = record { text_is = refl; digits = n.whole; longest = fraction_no_digit p.fraction p.exponent };
+  point = numeral_fraction p n;
 }
 
 -- numerals of one text have one value
 pub same_value : (p r : Parts) → IsNumeral p → IsNumeral r → spelling p ≡ spelling r → value p ≡ value r
+unfolding numeral_cut
 same_value p r np nr e =
-    let same = same_parts (spelling p) _ _ _ _ _ _ (numeral_sign p np) (numeral_digits p np) (numeral_fraction p np) r nr e in
+    let same = same_parts (spelling p) (numeral_cut p np) r nr e in
     let power = exponent_once p.exponent r.exponent np.exponent nr.exponent same.rest_is in
     let digits : p.whole ++ fraction_digits p.fraction ≡ r.whole ++ fraction_digits r.fraction =
     ap (λ ds. ds ++ fraction_digits p.fraction) same.whole_is ∙ ap (λ ds. r.whole ++ ds) same.fraction_is in

@@ -7,6 +7,7 @@ use Rattle.std.proofs.lemmas.Nat.{pow-add}
 use Rattle.gc_values.specs.Digits.{AreDigits, number}
 use Rattle.gc_values.specs.KeptDigits.{kept, kept_and_rounded}
 use Rattle.gc_values.specs.Nearest.{IsRoundedWithCap}
+use Rattle.gc_values.specs.RoundedFacts.{ten_pow_cut}
 use Rattle.gc_values.proofs.Kept.{number-lt, rounds_digits, kept_behind, min_mul}
 use Rattle.gc_values.proofs.Powers.{ten_pow_pos, ten_pow_le}
 use Rattle.gc_values.proofs.Rounding.{RoundsHalfUp, rounds_same_value, rounds_whole, rounds_to_zero}
@@ -50,69 +51,70 @@ pub record HasPlaces (ds : List ℕ) (w f up down k size : ℕ) : Type 0 where
   pub sum : size ≡ w + f
   pub places : k + down ≡ w + up + 24
 
--- the number of the first k digits, with the next one rounded in, at most the cap, is the number in units of 10^-24, rounded to a
--- whole number
-pub capped_few : (ds : List ℕ) (w f up down cap k size units : ℕ) → HasPlaces ds w f up down k size → units ≡ min cap (kept_and_rounded ds k) →
-    IsRoundedWithCap (number ds * 10 ^ up) (f + down) cap units 24
-capped_few ds w f up down cap k size units has e = record {
-  m = kept_and_rounded ds k;
-  rounds = subst (λ n. RoundsHalfUp (number ds * 10 ^ up * 10 ^ 24) (10 ^ (f + down)) n) (times_one (kept_and_rounded ds k))
-      (units_kept ds w f up down 24 k has.digits (has.is_size ∙ has.sum) has.places);
-  capped = e;
-  places = lit≤ tt;
-}
+-- a number's text with these digits and places (`HasPlaces`), and a cap
+module _ (ds : List ℕ) (w f up down cap k size : ℕ) (has : HasPlaces ds w f up down k size) where
+  -- in units of 10^-24, the text's number rounds to what the first k digits write, with the next one rounded in
+  rounds_kept : (n : ℕ) → kept_and_rounded ds k ≡ n → RoundsHalfUp (number ds * 10 ^ up * 10 ^ 24) (10 ^ (f + down)) n
+  rounds_kept n e =
+      subst (λ n. RoundsHalfUp (number ds * 10 ^ up * 10 ^ 24) (10 ^ (f + down)) n) e
+      (units_kept ds w f up down 24 k has.digits (has.is_size ∙ has.sum) has.places)
 
--- where the last digit is at place p after the point, p at most 24, the number is that of all digits, at most the cap, over
--- 10^p
-pub capped_zeros : (ds : List ℕ) (w f up down cap k size more units p : ℕ) → HasPlaces ds w f up down k size
-    → size + more ≡ k → more + p ≡ 24 → units ≡ min cap (kept ds size) →
-    IsRoundedWithCap (number ds * 10 ^ up) (f + down) cap units p
-capped_zeros ds w f up down cap k size more units p has behind all e =
-    let is_size : length ds ≡ size = has.is_size in
-    let own : k - length ds ≡ 24 - p = omega arith in
-    let value : kept_and_rounded ds k ≡ kept ds size * 10 ^ (24 - p) =
-    kept_behind ds k (omega arith) ∙ ap (λ n. kept ds n * 10 ^ (k - length ds)) is_size ∙ ap (λ z. kept ds size * 10 ^ z) own in
-    record {
-      m = kept ds size;
-      rounds = subst (λ n. RoundsHalfUp (number ds * 10 ^ up * 10 ^ 24) (10 ^ (f + down)) n) value
-          (units_kept ds w f up down 24 k has.digits (is_size ∙ has.sum) has.places);
-      capped = e;
-      places = omega arith;
-    }
+  -- where k is `zeros` more than all digits, the first k digits are all of them and `zeros` zeros
+  all_kept : (zeros : ℕ) → size + zeros ≡ k → kept_and_rounded ds k ≡ kept ds size * 10 ^ zeros
+  all_kept zeros behind =
+      let is_size : length ds ≡ size = has.is_size in
+      let own : k - length ds ≡ zeros = omega arith in
+      kept_behind ds k (omega arith) ∙ ap (λ n. kept ds n * 10 ^ (k - length ds)) is_size ∙ ap (λ z. kept ds size * 10 ^ z) own
 
--- where the last digit is `more` places before the last one before the point, the number is that of all digits with
--- `more` zeros after them, at most the cap
-pub capped_many : (ds : List ℕ) (w f up down cap k size more x units : ℕ) → HasPlaces ds w f up down k size
-    → size + (24 + more) ≡ k → x ≡ min cap (kept ds size) → units ≡ min cap (x * 10 ^ more) →
-    IsRoundedWithCap (number ds * 10 ^ up) (f + down) cap units 0
-capped_many ds w f up down cap k size more x units has behind all e =
-    let is_size : length ds ≡ size = has.is_size in
-    let own : k - length ds ≡ more + 24 = omega arith in
-    let power : 10 ^ (more + 24) ≡ 10 ^ more * 10 ^ 24 = pow-add 10 more 24 in
-    let value : kept_and_rounded ds k ≡ kept ds size * 10 ^ (more + 24) =
-    kept_behind ds k (omega arith) ∙ ap (λ n. kept ds n * 10 ^ (k - length ds)) is_size ∙ ap (λ z. kept ds size * 10 ^ z) own in
-    let whole : kept_and_rounded ds k ≡ kept ds size * 10 ^ more * 10 ^ 24 = value ∙ product_regrouped (kept ds size) (10 ^ more) (10 ^ (more + 24)) (10 ^ 24) power in
-    record {
-      m = kept ds size * 10 ^ more;
-      rounds = subst (λ n. RoundsHalfUp (number ds * 10 ^ up * 10 ^ 24) (10 ^ (f + down)) n) whole
-          (units_kept ds w f up down 24 k has.digits (is_size ∙ has.sum) has.places);
-      capped = e ∙ ap (λ y. min cap (y * 10 ^ more)) all ∙ min_mul cap (kept ds size) (10 ^ more) (ten_pow_pos more);
-      places = lit≤ tt;
-    }
+  -- the text's number, rounded to 24 places and cut off at the cap (`IsRoundedWithCap`), has as many units of 10^-24 as the first
+  -- k digits write, with the next one rounded in, or as the cap says where that is less
+  pub capped_few : (units : ℕ) → units ≡ min cap (kept_and_rounded ds k) → IsRoundedWithCap (number ds * 10 ^ up) (f + down) cap units 24
+  capped_few units e = record {
+    m = kept_and_rounded ds k;
+    rounds = rounds_kept _ (times_one (kept_and_rounded ds k));
+    capped = e;
+    places = lit≤ tt;
+  }
 
--- where the exponent moves all digits more than a place after the last of 24 places, the number in units of 10^-24 rounds to 0
+  -- where the last digit is at place p after the point, for p up to 24, the text's number, cut off at the cap
+  -- (`IsRoundedWithCap`), is what all digits write, or the cap where that is less, over 10^p
+  pub capped_zeros : (more units p : ℕ) → size + more ≡ k → more + p ≡ 24 → units ≡ min cap (kept ds size)
+      → IsRoundedWithCap (number ds * 10 ^ up) (f + down) cap units p
+  capped_zeros more units p behind all e = record {
+    m = kept ds size;
+    rounds = rounds_kept (kept ds size * 10 ^ (24 - p)) (all_kept (24 - p) (omega (arith, behind, all)));
+    capped = e;
+    places = omega (arith, all);
+  }
+
+  -- where the last digit is `more` places before the last place before the point, the text's number, cut off at the cap
+  -- (`IsRoundedWithCap`), is what all digits and `more` zeros after them write, or the cap where that is less
+  pub capped_many : (more x units : ℕ) → size + (24 + more) ≡ k → x ≡ min cap (kept ds size) → units ≡ min cap (x * 10 ^ more)
+      → IsRoundedWithCap (number ds * 10 ^ up) (f + down) cap units 0
+  capped_many more x units behind all e =
+      let power : 10 ^ (more + 24) ≡ 10 ^ more * 10 ^ 24 = pow-add 10 more 24 in
+      let whole : kept_and_rounded ds k ≡ kept ds size * 10 ^ more * 10 ^ 24 =
+      all_kept (more + 24) (omega (arith, behind)) ∙ product_regrouped (kept ds size) (10 ^ more) (10 ^ (more + 24)) (10 ^ 24) power in
+      record {
+        m = kept ds size * 10 ^ more;
+        rounds = rounds_kept (kept ds size * 10 ^ more * 10 ^ 24) whole;
+        capped = e ∙ ap (λ y. min cap (y * 10 ^ more)) all ∙ min_mul cap (kept ds size) (10 ^ more) (ten_pow_pos more);
+        places = lit≤ tt;
+      }
+
+-- where the exponent moves all digits more than a place after the last of 24 places, the text's number, rounded to 24 places, is
+-- 0
 pub capped_none : (ds : List ℕ) (w f up down cap : ℕ) → AreDigits ds → length ds ≡ w + f → w + up + 24 < down
     → IsRoundedWithCap (number ds * 10 ^ up) (f + down) cap 0 24
 capped_none ds w f up down cap digits size places = record { m = 0; rounds = units_none ds w f up down 24 digits size places; capped = omega arith; places = lit≤ tt }
 
--- at most 18 digits without an exponent, f of them after the point: the number is that of all digits over 10^f, and no cap from
--- 10^18 on changes it
+-- at most 18 digits without an exponent, f of them after the point: the text's number is what all digits write, over 10^f, and a
+-- cap from 10^18 on changes nothing
 pub capped_short : (ds : List ℕ) (f up down cap units : ℕ) → (digits : AreDigits ds) → (part : f ≤ length ds) → (few : length ds ≤ 18)
     → (no_up : up ≡ 0) → (no_down : down ≡ 0) → (room : 10 ^ 18 ≤ cap) → (units_are : units ≡ number ds)
     → IsRoundedWithCap (number ds * 10 ^ up) (f + down) cap units f
 capped_short ds f up down cap units digits part few no_up no_down room e =
-    let power : 10 ^ (24 - f) * 10 ^ f ≡ 10 ^ 24 = sym (pow-add 10 (24 - f) f) ∙ ap (λ k. 10 ^ k) (let back : 24 - f + f ≡ 24 = omega arith in back) in
-    let same : number ds * 10 ^ (24 - f) * 10 ^ f ≡ number ds * 10 ^ 0 * 10 ^ 24 = omega (arith, ap (λ p. number ds * p) power) in
+    let same : number ds * 10 ^ (24 - f) * 10 ^ f ≡ number ds * 10 ^ 0 * 10 ^ 24 = omega (arith, ap (λ p. number ds * p) (ten_pow_cut f 24 (omega arith))) in
     let exact : RoundsHalfUp (number ds * 10 ^ 0 * 10 ^ 24) (10 ^ f) (number ds * 10 ^ (24 - f)) =
     subst (λ a. RoundsHalfUp a (10 ^ f) (number ds * 10 ^ (24 - f))) same (rounds_whole (number ds * 10 ^ (24 - f)) (10 ^ f) (ten_pow_pos f)) in
     record {

@@ -1,6 +1,6 @@
 -- Whole numbers that are read digit by digit. The number that is counted is cut off at a cap: it is `min cap` of the number
 -- itself.
-use Rattle.std.proofs.Common.{◌≡◌, ℕ, ◌+◌, ◌-◌, ◌*◌, ◌<◌, ◌≤◌, min, Bool, true, false, cond, ℤ, List, [], length, get_or, take, refl, sym, ap, ◌∙◌, subst, inl, inr, arith}
+use Rattle.std.proofs.Common.{◌≡◌, ℕ, ◌+◌, ◌-◌, ◌*◌, ◌<◌, ◌≤◌, min, Bool, true, false, cond, ℤ, List, length, get_or, take, refl, sym, ap, ◌∙◌, subst, inl, inr, arith}
 use Rattle.std.proofs.lemmas.Int.{ints}
 use Rattle.gc_values.specs.Cut.{CutsSign}
 use Rattle.gc_values.specs.Digits.{IsDigit, AreDigits, number}
@@ -8,7 +8,8 @@ use Rattle.gc_values.specs.Fraction.{signed}
 use Rattle.gc_values.specs.Spelling.{is_minus}
 use Rattle.gc_values.specs.Whole.{NamesNumber, IsNumberFault, NamesWhole, IsBetween, IsWholeFault}
 use Rattle.gc_values.specs.declared.fault.ValueFault.{ValueFault}
-use Rattle.gc_values.proofs.Kept.{AreDigits-at, AreDigits-take_more, number-take_more}
+use Rattle.gc_values.proofs.Every.{every_at, every_more}
+use Rattle.gc_values.proofs.Kept.{number-take_more}
 use Rattle.gc_values.proofs.Unique.{sign_once, digits_no_sign}
 
 -- the first i bytes are digits, and the value is the number that they write, at most the cap
@@ -24,13 +25,13 @@ capped_step n d cap value more whole e f g = omega arith
 pub counted_more : (text : List ℕ) (i cap value more : ℕ) → CountedSoFar text i cap value → i < length text → IsDigit (get_or text i 0)
     → more ≡ min (value * 10 + (get_or text i 0 - 48)) cap → CountedSoFar text (i + 1) cap more
 counted_more text i cap value more c within here e = record {
-  digits = AreDigits-take_more text i c.digits within here;
+  digits = every_more IsDigit text i 0 within c.digits here;
   value_is = capped_step (number (take i text)) (get_or text i 0 - 48) cap value more (number (take (i + 1) text)) c.value_is (number-take_more text i within) e;
 }
 
 -- a text with a byte that is no digit writes no number
 pub not_number : (text : List ℕ) (i n : ℕ) → i < length text → (IsDigit (get_or text i 0) → ⊥) → NamesNumber text n → ⊥
-not_number text i n within other names = other (AreDigits-at text i 0 names.digits within)
+not_number text i n within other names = other (every_at IsDigit text i 0 within names.digits)
 
 -- a text writes at most one number
 pub one_number : (text : List ℕ) (m n : ℕ) → NamesNumber text m → NamesNumber text n → m ≡ n
@@ -66,13 +67,13 @@ one_whole text y z v w =
     v.value ∙ ap (signed (is_minus v.sign)) (one_number v.digits v.n r.0 v.number_is r.1) ∙ sym r.2
 
 -- where n with a sign is from -below to above, n is at most `below` with a minus, and else at most `above`
-pub size_from : (negative : Bool) (n below above : ℕ) → IsBetween below above (signed negative n) → n ≤ cond negative below above
-size_from false n below above h = let u = h.1 in omega (arith, ints, u)
-size_from true n below above h = let l = h.0 in omega (arith, ints, l)
+pub magnitude_within : (negative : Bool) (n below above : ℕ) → IsBetween below above (signed negative n) → n ≤ cond negative below above
+magnitude_within false n below above h = let u = h.1 in omega (arith, ints, u)
+magnitude_within true n below above h = let l = h.0 in omega (arith, ints, l)
 
 -- a number n with a sign is out of range where n is above `most`, which is `below` with a minus, and else `above`
-beyond_size : (negative : Bool) (n most below above : ℕ) → most ≡ cond negative below above → most < n → IsBetween below above (signed negative n) → ⊥
-beyond_size negative n most below above e far between = let few = size_from negative n below above between in omega (arith, e, few)
+magnitude_beyond : (negative : Bool) (n most below above : ℕ) → most ≡ cond negative below above → most < n → IsBetween below above (signed negative n) → ⊥
+magnitude_beyond negative n most below above e far between = let few = magnitude_within negative n below above between in omega (arith, e, few)
 
 -- where a text is cut into a sign and a rest, and `most` is `below` with a minus, and else `above`, the rest's fault as a number
 -- of at most `most` is the text's fault as a whole number
@@ -80,4 +81,4 @@ pub whole_fault : (text rest : List ℕ) (negative : Bool) (most below above : �
     → most ≡ cond negative below above → IsNumberFault most rest e → IsWholeFault below above text e
 whole_fault text rest negative most below above e cut size (inl none) = inl (none.0, λ z w. let r = names_cut text rest negative z cut w in none.1 r.0 r.1)
 whole_fault text rest negative most below above e cut size (inr far) =
-    inr (far.0, (signed negative far.1.0, cut_names text rest negative far.1.0 cut far.1.1, beyond_size negative far.1.0 most below above size far.1.2))
+    inr (far.0, (signed negative far.1.0, cut_names text rest negative far.1.0 cut far.1.1, magnitude_beyond negative far.1.0 most below above size far.1.2))

@@ -1,52 +1,19 @@
 -- Whether two values are at most an area apart, in two forms that say the same. In units of 1 / p, where p is 10^24, as the code
 -- compares them: a distance of x units and an area of n * c' units. And multiplied out, as the definition has it: a distance of y
 -- over ab and an area of n over c, where ab and c are powers of ten.
-use Rattle.std.proofs.Common.{◌≡◌, ℕ, ◌+◌, ◌-◌, ◌*◌, ◌^◌, ◌<◌, ◌≤◌, ◌↔◌, IsTrue, T, Bool, true, false, ℤ, pos, negsuc, neg_ℤ, ◌*ℤ◌, ◌-ℤ◌, ◌≤ℤ◌, suc, int_le, unsigned_abs, refl, sym, ap, ◌∙◌, subst, arith}
+use Rattle.std.proofs.Common.{◌≡◌, ℕ, ◌-◌, ◌*◌, ◌^◌, ◌<◌, ◌≤◌, ◌↔◌, IsTrue, Bool, ℤ, pos, negsuc, neg_ℤ, ◌*ℤ◌, ◌-ℤ◌, ◌≤ℤ◌, suc, int_le, unsigned_abs, sym, ap, ◌∙◌, subst, arith}
 use Rattle.std.proofs.Math.IntN.{pos-*ℤ-pos, negsuc-*ℤ-pos}
-use Rattle.std.proofs.Math.Nat.{mul-le-mul_right, le_of_mul-le-mul_right}
+use Rattle.std.proofs.Math.Nat.{mul-pos, mul-le-mul_right, le_of_mul-le-mul_right}
+use Rattle.std.proofs.lemmas.Bool.{true_from_ne_false}
 use Rattle.std.proofs.lemmas.Int.{ints}
-use Rattle.std.proofs.lemmas.Nat.{pow-add}
 use Rattle.std.specs.Cmp.{both_ways}
 use Rattle.gc_values.specs.Decimals.{fraction, units, is_within}
 use Rattle.gc_values.specs.Fraction.{signed, distance, IsWithin}
+use Rattle.gc_values.specs.RoundedFacts.{ten_pow_cut}
 use Rattle.gc_values.specs.declared.decimal.Decimal.{Decimal}
 use Rattle.gc_values.proofs.Powers.{ten_pow_pos}
-use Rattle.gc_values.proofs.Rounded.{has_sign, abs_pos_neg, abs_neg_pos}
-use Rattle.gc_values.proofs.Rounding.{gap, gap-mul}
-use Rattle.gc_values.proofs.Signs.{signed-mul, gap_signed}
-
--- how far the number of sign b and magnitude m is from the one of sign c and magnitude n, where `true` is a minus
-abbrev signed_distance : (b : Bool) (m : ℕ) (c : Bool) (n : ℕ) → ℕ
-signed_distance false m false n = gap m n
-signed_distance false m true n = m + n
-signed_distance true m false n = m + n
-signed_distance true m true n = gap m n
-
--- two numbers that are both multiplied by k are k times as far apart
-signed_distance-mul : (b : Bool) (m : ℕ) (c : Bool) (n k : ℕ) → signed_distance b (m * k) c (n * k) ≡ signed_distance b m c n * k
-signed_distance-mul false m false n k = gap-mul m n k
-signed_distance-mul false m true n k = omega arith
-signed_distance-mul true m false n k = omega arith
-signed_distance-mul true m true n k = gap-mul m n k
-
--- the distance of two numbers with signs is their `signed_distance`
-abs_is_signed_distance : (b : Bool) (m : ℕ) (c : Bool) (n : ℕ) → unsigned_abs (signed b m -ℤ signed c n) ≡ signed_distance b m c n
-abs_is_signed_distance false m false n = gap_signed false m n
-abs_is_signed_distance false m true n = abs_pos_neg m n
-abs_is_signed_distance true m false n = abs_neg_pos m n
-abs_is_signed_distance true m true n = gap_signed true m n
-
--- how far z * k and w * l are apart
-abbrev scaled_distance : (z : ℤ) (k : ℕ) (w : ℤ) (l : ℕ) → ℕ
-scaled_distance z k w l = unsigned_abs (z *ℤ pos k -ℤ w *ℤ pos l)
-
--- multiples of numbers with signs are as far apart as the `signed_distance` of the products
-scaled_distance_signed : (b : Bool) (m k : ℕ) (c : Bool) (n l : ℕ)
-    → scaled_distance (signed b m) k (signed c n) l ≡ signed_distance b (m * k) c (n * l)
-scaled_distance_signed b m k c n l =
-    ap (λ x. unsigned_abs (x -ℤ signed c n *ℤ pos l)) (signed-mul b m k)
-    ∙ ap (λ x. unsigned_abs (signed b (m * k) -ℤ x)) (signed-mul c n l)
-    ∙ abs_is_signed_distance b (m * k) c (n * l)
+use Rattle.gc_values.proofs.Rounded.{has_sign}
+use Rattle.gc_values.proofs.Signs.{signed_distance, signed_distance-mul, scaled_distance, scaled_distance_signed}
 
 -- where k and l are both multiplied by p, the two products are p times as far apart; the numbers are given as signs and
 -- magnitudes
@@ -74,17 +41,19 @@ in_units z a a' w b b' p e f =
     let right : b' * (a * b) ≡ a * p = omega (arith, ap (λ x. x * a) f) in
     scaled_distance-mul z a' w b' (a * b) ∙ ap (λ x. scaled_distance z x w (b' * (a * b))) left ∙ ap (λ x. scaled_distance z (b * p) w x) right ∙ sym (scaled_distance-mul z b w a p)
 
--- where the distance is at most the area, both in units, it is at most the area multiplied out, too
-within_to : (x y ab n c c' p : ℕ) → 0 < p → x * ab ≡ y * p → c * c' ≡ p → x ≤ n * c' → y * c ≤ n * ab
-within_to x y ab n c c' p some e f h =
-    le_of_mul-le-mul_right {m = y * c} {n = n * ab} {k = p}
-    (omega (arith, ap (λ u. u * c) e, ap (λ u. u * (n * ab)) f, mul-le-mul_right {m = x} {n = n * c'} (ab * c) h)) some
+-- a distance is y over ab, which is x units of 1 / p, and an area is n over c, which is n * c' units
+module _ (x y ab n c c' p : ℕ) (e : x * ab ≡ y * p) (f : c * c' ≡ p) where
+  -- where the distance is at most the area, both in units, it is at most the area multiplied out, too
+  within_to : 0 < p → x ≤ n * c' → y * c ≤ n * ab
+  within_to some h =
+      le_of_mul-le-mul_right {m = y * c} {n = n * ab} {k = p}
+      (omega (arith, ap (λ u. u * c) e, ap (λ u. u * (n * ab)) f, mul-le-mul_right {m = x} {n = n * c'} (ab * c) h)) some
 
--- where the distance is at most the area, both multiplied out, it is at most the area in units, too
-within_from : (x y ab n c c' p : ℕ) → 0 < ab * c → x * ab ≡ y * p → c * c' ≡ p → y * c ≤ n * ab → x ≤ n * c'
-within_from x y ab n c c' p some e f h =
-    le_of_mul-le-mul_right {m = x} {n = n * c'} {k = ab * c}
-    (omega (arith, ap (λ u. u * c) e, ap (λ u. u * (n * ab)) f, mul-le-mul_right {m = y * c} {n = n * ab} p h)) some
+  -- where the distance is at most the area, both multiplied out, it is at most the area in units, too
+  within_from : 0 < ab * c → y * c ≤ n * ab → x ≤ n * c'
+  within_from some h =
+      le_of_mul-le-mul_right {m = x} {n = n * c'} {k = ab * c}
+      (omega (arith, ap (λ u. u * c) e, ap (λ u. u * (n * ab)) f, mul-le-mul_right {m = y * c} {n = n * ab} p h)) some
 
 -- no distance is at most a negative area
 below_zero : (x n k : ℕ) → 0 < k → pos x ≤ℤ (negsuc n *ℤ pos k) → ⊥
@@ -105,45 +74,24 @@ le_pos x y h = omega (arith, ints, h)
 within_scaled : (x y ab : ℕ) (z : ℤ) (c c' p : ℕ) → (p_pos : 0 < p) → (c'_pos : 0 < c') → (abc_pos : 0 < ab * c) → (ab_pos : 0 < ab)
     → (distance_is : x * ab ≡ y * p) → (units_are : c * c' ≡ p) → (pos x ≤ℤ (z *ℤ pos c')) ↔ (pos (y * c) ≤ℤ (z *ℤ pos ab))
 within_scaled x y ab (pos n) c c' p p_pos c'_pos abc_pos ab_pos e f = (
-  λ h. subst (λ w. pos (y * c) ≤ℤ w) (sym (pos-*ℤ-pos n ab)) (pos_le (y * c) (n * ab) (within_to x y ab n c c' p p_pos e f (le_pos x (n * c') (subst (λ w. pos x ≤ℤ w) (pos-*ℤ-pos n c') h)))),
-  λ h. subst (λ w. pos x ≤ℤ w) (sym (pos-*ℤ-pos n c')) (pos_le x (n * c') (within_from x y ab n c c' p abc_pos e f (le_pos (y * c) (n * ab) (subst (λ w. pos (y * c) ≤ℤ w) (pos-*ℤ-pos n ab) h)))),
+  λ h. subst (λ w. pos (y * c) ≤ℤ w) (sym (pos-*ℤ-pos n ab)) (pos_le (y * c) (n * ab) (within_to x y ab n c c' p e f p_pos (le_pos x (n * c') (subst (λ w. pos x ≤ℤ w) (pos-*ℤ-pos n c') h)))),
+  λ h. subst (λ w. pos x ≤ℤ w) (sym (pos-*ℤ-pos n c')) (pos_le x (n * c') (within_from x y ab n c c' p e f abc_pos (le_pos (y * c) (n * ab) (subst (λ w. pos (y * c) ≤ℤ w) (pos-*ℤ-pos n ab) h)))),
 )
 within_scaled x y ab (negsuc n) c c' p p_pos c'_pos abc_pos ab_pos e f = (λ h. absurd (below_zero x n c' c'_pos h), λ h. absurd (below_zero (y * c) n ab ab_pos h))
-
--- 10^s times the power of ten that it lacks is 10^24
-pub whole_place : (s : ℕ) → s ≤ 24 → 10 ^ s * 10 ^ (24 - s) ≡ 10 ^ 24
-whole_place s h = let back : s + (24 - s) ≡ 24 = omega arith in sym (pow-add 10 s (24 - s)) ∙ ap (λ e. 10 ^ e) back
-
--- two powers of ten have a product above 0
-pub product_pos : (s t : ℕ) → 0 < 10 ^ s * 10 ^ t
-product_pos s t = omega (arith, pow-add 10 s t, ten_pow_pos (s + t))
-
--- three powers of ten have a product above 0
-triple_pos : (s t u : ℕ) → 0 < 10 ^ s * 10 ^ t * 10 ^ u
-triple_pos s t u = omega (arith, ap (λ x. x * 10 ^ u) (pow-add 10 s t), pow-add 10 (s + t) u, ten_pow_pos (s + t + u))
 
 -- two values are at most the area apart in units of 10^-24 exactly where their fractions are
 pub within_units : (a b area : Decimal) → (pos (unsigned_abs (units a -ℤ units b)) ≤ℤ units area) ↔ IsWithin (fraction a) (fraction b) (fraction area)
 within_units a b area =
+    let both : 0 < 10 ^ a.scale * 10 ^ b.scale = mul-pos (ten_pow_pos a.scale) (ten_pow_pos b.scale) in
     within_scaled (scaled_distance a.digits (10 ^ (24 - a.scale)) b.digits (10 ^ (24 - b.scale))) (distance a.digits a.scale b.digits b.scale)
     (10 ^ a.scale * 10 ^ b.scale) area.digits (10 ^ area.scale) (10 ^ (24 - area.scale)) (10 ^ 24)
-    (ten_pow_pos 24) (ten_pow_pos (24 - area.scale)) (triple_pos a.scale b.scale area.scale) (product_pos a.scale b.scale)
-    (in_units a.digits (10 ^ a.scale) (10 ^ (24 - a.scale)) b.digits (10 ^ b.scale) (10 ^ (24 - b.scale)) (10 ^ 24) (whole_place a.scale a.has_few_places) (whole_place b.scale b.has_few_places))
-    (whole_place area.scale area.has_few_places)
-
--- `T b` follows from `IsTrue b`: both say that the test b is true
-test_passes : (b : Bool) → IsTrue b → T b
-test_passes true h = tt
-test_passes false h = absurd (cc)
-
--- `IsTrue b` follows from `T b`: both say that the test b is true
-passes_test : (b : Bool) → T b → IsTrue b
-passes_test true h = refl
-passes_test false h = absurd h
+    (ten_pow_pos 24) (ten_pow_pos (24 - area.scale)) (mul-pos both (ten_pow_pos area.scale)) both
+    (in_units a.digits (10 ^ a.scale) (10 ^ (24 - a.scale)) b.digits (10 ^ b.scale) (10 ^ (24 - b.scale)) (10 ^ 24) (ten_pow_cut a.scale 24 a.has_few_places) (ten_pow_cut b.scale 24 b.has_few_places))
+    (ten_pow_cut area.scale 24 area.has_few_places)
 
 -- the test of an order of whole numbers holds exactly where they are in order
 pub int_le_is : (x y : ℤ) → IsTrue (int_le x y) ↔ (x ≤ℤ y)
-int_le_is x y = (λ h. record { le = test_passes (int_le x y) h }, λ h. passes_test (int_le x y) h.le)
+int_le_is x y = (λ h. omega (arith, ints, h), λ h. true_from_ne_false (int_le x y) (λ e. omega (arith, ints, h, e)))
 
 -- `is_within` holds exactly where the values are at most the area apart
 pub is_within_is : (a b area : Decimal) → IsTrue (is_within a b area) ↔ IsWithin (fraction a) (fraction b) (fraction area)

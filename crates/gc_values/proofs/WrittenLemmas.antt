@@ -22,19 +22,19 @@ pub length-last_digits : (k n : ℕ) → length (last_digits k n) ≡ k
 length-last_digits zero n = refl
 length-last_digits (suc k) n = omega (arith, length-append (last_digits k (n / 10)) ((48 + n % 10) ∷ []), length-last_digits k (n / 10))
 
--- the last k + 1 digits of a number are its last one, and before it the last k of the others
+-- the remainder of n by 10^(k + 1) is ten times that of n / 10 by 10^k, plus the last digit of n
 mod_over : (n k : ℕ) → n % 10 ^ suc k ≡ n / 10 % 10 ^ k * 10 + n % 10
 mod_over n k = ap (λ p. n % p) (pow-suc 10 k) ∙ mod-mul n {m = 10 ^ k} {c = 10} (ten_pow_pos k) (lit< tt)
 
--- the last of the last k + 1 digits is the number's last
+-- the remainder of n by 10^(k + 1) ends in the last digit of n
 pub last_over : (n k : ℕ) → n % 10 ^ suc k % 10 ≡ n % 10
 last_over n k = omega (arith, mod_over n k)
 
--- the last k + 1 digits without the last of them are the last k digits of the number without its last
+-- the remainder of n by 10^(k + 1), without its last digit, is the remainder of n / 10 by 10^k
 others_over : (n k : ℕ) → n % 10 ^ suc k / 10 ≡ n / 10 % 10 ^ k
 others_over n k = omega (arith, mod_over n k)
 
--- taking one digit off a number, and then k, is taking off k + 1
+-- n divided by ten, and then by 10^k, is n divided by 10^(k + 1)
 div_over : (n k : ℕ) → n / 10 / 10 ^ k ≡ n / 10 ^ suc k
 div_over n k = div-div-eq-div-mul n 10 (10 ^ k) ∙ ap (λ p. n / p) (mul_comm 10 (10 ^ k) ∙ sym (pow-suc 10 k))
 
@@ -53,8 +53,8 @@ last_digits-split j (suc k) n =
     ∙ append_assoc (last_digits j (n / 10 ^ suc k)) (last_digits k (n % 10 ^ suc k / 10)) ((48 + n % 10) ∷ [])
     ∙ ap (λ d. last_digits j (n / 10 ^ suc k) ++ (last_digits k (n % 10 ^ suc k / 10) ++ (48 + d) ∷ [])) (sym (last_over n k))
 
--- where k is at most `count`, the last k digits of n put in front of `old`, and then the `count - k` digits before them put in
--- front of these, make the last `count` digits of n in front of `old`
+-- where k is at most `count`, the last k digits of n are put in front of `old`, and then the `count - k` digits before them in
+-- front of these, what comes out is the last `count` digits of n and then `old`
 pub two_runs : (old back out : List ℕ) (n count k : ℕ) → k ≤ count → back ≡ last_digits k (n - n / 10 ^ k * 10 ^ k) ++ old
     → out ≡ last_digits (count - k) (n / 10 ^ k) ++ back → out ≡ last_digits count n ++ old
 two_runs old back out n count k within e f =
@@ -69,13 +69,13 @@ two_runs old back out n count k within e f =
 pub last_digits-below : (k n : ℕ) → last_digits k (n % 10 ^ k) ≡ last_digits k n
 last_digits-below k n = let none : 0 + k ≡ k = omega arith in sym (last_digits-split 0 k n) ∙ ap (λ c. last_digits c n) none
 
--- the last k + 1 digits are the digit before the last k, and the last k
+-- the last k + 1 digits of a number are the digit before the last k, and then the last k
 pub last_digits-front : (k n : ℕ) → last_digits (k + 1) n ≡ (48 + n / 10 ^ k % 10) ∷ last_digits k n
 last_digits-front k n =
     let more : k + 1 ≡ 1 + k = omega arith in
     ap (λ c. last_digits c n) more ∙ last_digits-split 1 k n ∙ ap (λ ds. (48 + n / 10 ^ k % 10) ∷ ds) (last_digits-below k n)
 
--- taking k digits off a number, and then one, is taking off k + 1
+-- n divided by 10^k, and then by ten, is n divided by 10^(k + 1)
 pub div_more : (n k : ℕ) → n / 10 ^ k / 10 ≡ n / 10 ^ (k + 1)
 div_more n k =
     let power : 10 ^ (k + 1) ≡ 10 ^ k * 10 = ap (λ e. 10 ^ e) (let e : k + 1 ≡ suc k = omega arith in e) ∙ pow-suc 10 k in

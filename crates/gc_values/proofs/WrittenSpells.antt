@@ -11,7 +11,8 @@ use Rattle.gc_values.specs.Fraction.{signed, IsCanonical}
 use Rattle.gc_values.specs.Spelling.{Sign, Absent, Minus, sign_text, is_minus, Parts, value, Spells}
 use Rattle.gc_values.specs.Whole.{NamesNumber}
 use Rattle.gc_values.specs.Written.{digits_text, whole_text, last_digits, behind_text, written}
-use Rattle.gc_values.proofs.Kept.{number-append, AreDigits-append}
+use Rattle.gc_values.proofs.Every.{every_append}
+use Rattle.gc_values.proofs.Kept.{number-append}
 use Rattle.gc_values.proofs.Powers.{ten_pow_pos}
 use Rattle.gc_values.proofs.Rounded.{exact_rounds}
 use Rattle.gc_values.proofs.Signs.{signed-mul}
@@ -24,7 +25,7 @@ a_digit d h = (omega arith, omega arith)
 -- the last k digits are digits
 pub AreDigits-last_digits : (k n : ℕ) → AreDigits (last_digits k n)
 AreDigits-last_digits zero n = tt
-AreDigits-last_digits (suc k) n = AreDigits-append (last_digits k (n / 10)) _ (AreDigits-last_digits k (n / 10)) (a_digit (n % 10) (mod-lt n (lit< tt)), tt)
+AreDigits-last_digits (suc k) n = every_append IsDigit (last_digits k (n / 10)) _ (AreDigits-last_digits k (n / 10)) (a_digit (n % 10) (mod-lt n (lit< tt)), tt)
 
 -- the last k digits of a number below 10^k write it
 pub number-last_digits : (k n : ℕ) → n < 10 ^ k → number (last_digits k n) ≡ n

@@ -3,7 +3,7 @@ use Rattle.std.proofs.Common.{◌≡◌, ℕ, suc, ◌-◌, ◌*◌, ◌/◌, �
 use Rattle.std.proofs.Math.Nat.{pow-suc, eq_of_mul-eq-mul_left}
 pub use Rattle.gc_values.specs.RoundedFacts.{zeros_in_range}
 
--- where n / 10^t is the value m / 10^s, and n ends in a zero, (n / 10) / 10^(t - 1) is that value, too
+-- for t above 0: where n / 10^t is the value m / 10^s, and n ends in a zero, (n / 10) / 10^(t - 1) is that value, too
 pub zero_off : (m t n s : ℕ) → 0 < t → n % 10 ≡ 0 → m * 10 ^ t ≡ n * 10 ^ s → m * 10 ^ (t - 1) ≡ (n / 10) * 10 ^ s
 zero_off m t n s some zero_behind same =
     let back : suc (t - 1) ≡ t = omega arith in

@@ -1,7 +1,7 @@
 -- No part of a promise: two decimals of one value are one decimal, which the comparison of decimals rests on.
-use Rattle.std.proofs.Common.{◌≡◌, ℕ, suc, ◌+◌, ◌-◌, ◌*◌, ◌%◌, ◌^◌, ◌<◌, ◌≤◌, ◌==◌, ◌&&◌, Bool, ℤ, pos, negsuc, neg_ℤ, ◌*ℤ◌, unsigned_abs, refl, sym, ap, ◌∙◌, subst, inl, inr, arith}
+use Rattle.std.proofs.Common.{◌≡◌, ◌≢◌, ℕ, suc, ◌+◌, ◌-◌, ◌*◌, ◌%◌, ◌^◌, ◌<◌, ◌≤◌, ◌==◌, ◌&&◌, Bool, ℤ, pos, negsuc, neg_ℤ, ◌*ℤ◌, unsigned_abs, refl, sym, ap, ◌∙◌, subst, inl, inr, arith}
 use Rattle.std.proofs.Math.IntN.{pos-*ℤ-pos, negsuc-*ℤ-pos}
-use Rattle.std.proofs.Math.Nat.{eq_of_mul-eq-mul_left, mul-mod_left, pow-suc}
+use Rattle.std.proofs.Math.Nat.{mul-pos, eq_of_mul-eq-mul_left, mul-mod_left, pow-suc}
 use Rattle.std.proofs.lemmas.Bool.{cases_order}
 use Rattle.std.proofs.lemmas.Cmp.{int_cmp_total, on_total}
 use Rattle.std.proofs.lemmas.Int.{ints, unsigned_abs-mul}
@@ -11,7 +11,7 @@ use Rattle.std.specs.Cmp.{IsTotalOrder, IsPartialOrder, partial_order_from_agree
 use Rattle.std.specs.Ordering.{int_eq, eq_by_cmp, as_partial_cmp}
 use Rattle.gc_values.specs.Decimals.{units, decimal_eq, decimal_cmp}
 use Rattle.gc_values.specs.Fraction.{units_of}
-use Rattle.gc_values.specs.RoundedFacts.{ten_pow_pos}
+use Rattle.gc_values.specs.RoundedFacts.{ten_pow_pos, ten_pow_cut}
 use Rattle.gc_values.specs.Zeros.{WithoutZeros}
 use Rattle.gc_values.specs.declared.decimal.Decimal.{Decimal}
 
@@ -21,7 +21,7 @@ fewer_zeros m p n s k t v w lt =
     let back : s + suc (t - suc s) ≡ t = omega arith in
     let power : 10 ^ t ≡ 10 ^ s * (10 ^ (t - suc s) * 10) = ap (λ e. 10 ^ e) (sym back) ∙ pow-add 10 s (suc (t - suc s)) ∙ ap (λ x. 10 ^ s * x) (pow-suc 10 (t - suc s)) in
     let more : n * 10 ^ (t - suc s) * 10 ≡ k =
-    eq_of_mul-eq-mul_left (10 ^ p * 10 ^ s) (let both : 0 < 10 ^ p * 10 ^ s = omega (arith, pow-add 10 p s, ten_pow_pos (p + s)) in both) _ _
+    eq_of_mul-eq-mul_left (10 ^ p * 10 ^ s) (mul-pos (ten_pow_pos p) (ten_pow_pos s)) _ _
     (omega (arith, ap (λ x. x * (10 ^ (t - suc s) * 10 * 10 ^ s)) v.same, ap (λ x. x * 10 ^ s) w.same, ap (λ x. m * 10 ^ s * x) power)) in
     w.canonical (omega arith) (ap (λ x. x % 10) (sym more) ∙ mul-mod_left (n * 10 ^ (t - suc s)) 10)
 
@@ -35,21 +35,27 @@ zeros_once m p n s k t v w = elim (cases_order s t) [
   ]
 ]
 
+-- where n / 10^s is m / 10^p without the zeros at its end, it is m * 10^(24 - p) over 10^24 without the zeros at its end, too,
+-- for p up to 24
+pub zeros_at_last : (m p n s : ℕ) → p ≤ 24 → WithoutZeros m p n s → WithoutZeros (m * 10 ^ (24 - p)) 24 n s
+zeros_at_last m p n s places w = record {
+  same = omega (arith, ap (λ x. x * 10 ^ (24 - p)) w.same, ap (λ x. n * x) (ten_pow_cut p 24 places));
+  fewer = let f = w.fewer in omega (arith, f);
+  canonical = w.canonical;
+}
+
 -- where m / 10^s has at most 24 places and needs them all, it is m * 10^(24 - s) over 10^24 without the zeros at its end
-units_without_zeros : (m s : ℕ) → s ≤ 24 → (0 < s → m % 10 ≡ 0 → ⊥) → WithoutZeros (m * 10 ^ (24 - s)) 24 m s
-units_without_zeros m s places canonical =
-    let back : 24 - s + s ≡ 24 = omega arith in
-    let power : 10 ^ (24 - s) * 10 ^ s ≡ 10 ^ 24 = sym (pow-add 10 (24 - s) s) ∙ ap (λ e. 10 ^ e) back in
-    record { same = omega (arith, ap (λ x. m * x) power); fewer = places; canonical = canonical }
+units_without_zeros : (m s : ℕ) → s ≤ 24 → (0 < s → m % 10 ≢ 0) → WithoutZeros (m * 10 ^ (24 - s)) 24 m s
+units_without_zeros m s places canonical = zeros_at_last m s m s places (record { same = refl; fewer = omega arith; canonical = canonical })
 
 -- integers z and w of one magnitude are equal where z * p and w * p are, for p above 0
-cancel : (z w : ℤ) (p : ℕ) → 0 < p → unsigned_abs z ≡ unsigned_abs w → z *ℤ pos p ≡ w *ℤ pos p → z ≡ w
-cancel (pos a) (pos b) p some size e = ap pos size
-cancel (negsuc a) (negsuc b) p some size e = let same : a ≡ b = omega arith in ap negsuc same
-cancel (pos a) (negsuc b) p some size e =
+factor_cancels : (z w : ℤ) (p : ℕ) → 0 < p → unsigned_abs z ≡ unsigned_abs w → z *ℤ pos p ≡ w *ℤ pos p → z ≡ w
+factor_cancels (pos a) (pos b) p some size e = ap pos size
+factor_cancels (negsuc a) (negsuc b) p some size e = let same : a ≡ b = omega arith in ap negsuc same
+factor_cancels (pos a) (negsuc b) p some size e =
     let there : pos (a * p) ≡ neg_ℤ (pos (suc b * p)) = sym (pos-*ℤ-pos a p) ∙ e ∙ negsuc-*ℤ-pos b p in
     absurd (omega (arith, ints, there))
-cancel (negsuc a) (pos b) p some size e =
+factor_cancels (negsuc a) (pos b) p some size e =
     let there : neg_ℤ (pos (suc a * p)) ≡ pos (b * p) = sym (negsuc-*ℤ-pos a p) ∙ e ∙ pos-*ℤ-pos b p in
     absurd (omega (arith, ints, there))
 
@@ -62,7 +68,7 @@ units_once a b e =
     let zb = units_without_zeros (unsigned_abs b.digits) b.scale b.has_few_places b.is_canonical in
     let one = zeros_once (unsigned_abs a.digits * 10 ^ (24 - a.scale)) 24 (unsigned_abs a.digits) a.scale (unsigned_abs b.digits) b.scale za
     (subst (λ u. WithoutZeros u 24 (unsigned_abs b.digits) b.scale) (sym size) zb) in (
-      cancel a.digits b.digits (10 ^ (24 - b.scale)) (ten_pow_pos (24 - b.scale)) one.0 (ap (λ s. a.digits *ℤ pos (10 ^ (24 - s))) (sym one.1) ∙ e),
+      factor_cancels a.digits b.digits (10 ^ (24 - b.scale)) (ten_pow_pos (24 - b.scale)) one.0 (ap (λ s. a.digits *ℤ pos (10 ^ (24 - s))) (sym one.1) ∙ e),
       one.1,
     )
 

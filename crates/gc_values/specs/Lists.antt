@@ -33,8 +33,8 @@ FirstFault (k ∷ ks) [] e = ⊥
 FirstFault (k ∷ ks) (item ∷ items) e =
     IsItemFault k item e ⊎ ((v : Value) × (kind_of v ≡ k) × IsItem item v × FirstFault ks items e)
 
--- why the items aren't values of the kinds, one for one: there are more than 16, else not as many as kinds, else the first item with a
--- fault has this one
+-- why the items aren't values of the kinds, one for one: there are more than 16, else not as many as kinds, else the first item
+-- with a fault has this one
 pub data IsItemsFault (kinds : List Kind) (items : List (List ℕ)) (e : ValueFault) : Type 0 where
   too_many : e ≡ TooMany → 16 < length items → IsItemsFault kinds items e
   wrong_count : e ≡ Count → length items ≤ 16 → length items ≢ length kinds → IsItemsFault kinds items e

@@ -1,4 +1,5 @@
--- No part of a promise: parameters in the common spelling, cut from the left: each has at least one byte, and no spaces are round it.
+-- No part of a promise: parameters in the common spelling, cut from the left: each has at least one byte, and no spaces are round
+-- it.
 use Rattle.std.specs.Prelude.{◌≡◌, ◌+◌, ◌*◌, ◌^◌, ◌<◌, ◌≤◌, ℕ, Bool, true, List, [], ◌∷◌, ◌++◌, length, take, Option, Some, None, pos}
 use Rattle.std.specs.List.{AllByRecursion}
 use Rattle.gc_values.specs.Digits.{AreDigits, number}

@@ -17,8 +17,8 @@ zero_back m s n t whole same =
     omega (arith, same, pow-suc 10 s, ap (λ x. n * x) (pow-suc 10 s), ap (λ x. x * 10 ^ t) ten)
 
 -- for m that ends in a zero: where n / 10^t is (m / 10) / 10^s without the zeros at its end, it is m / 10^(s+1) without them, too
-one_more : (m s n t : ℕ) → m % 10 ≡ 0 → WithoutZeros (m / 10) s n t → WithoutZeros m (suc s) n t
-one_more m s n t whole w = record { same = zero_back m s n t whole w.same; fewer = let f = w.fewer in omega (arith, f); canonical = w.canonical }
+zeros_one_more : (m s n t : ℕ) → m % 10 ≡ 0 → WithoutZeros (m / 10) s n t → WithoutZeros m (suc s) n t
+zeros_one_more m s n t whole w = record { same = zero_back m s n t whole w.same; fewer = let f = w.fewer in omega (arith, f); canonical = w.canonical }
 
 -- r is m / 10^s without the zeros at its end
 abbrev Stripped : (m s : ℕ) → (r : Placed) → Type 0
@@ -30,19 +30,19 @@ stripped_is m zero = record { same = refl; fewer = omega arith; canonical = λ h
 stripped_is m (suc s) = elim (eqb_tells (m % 10) 0) [
   | inl whole ↦
       subst (Stripped m (suc s)) (ap (λ b. cond b (stripped (m / 10) s) (record { digits = m; places = suc s })) (sym whole.0))
-      (one_more m s (stripped (m / 10) s).digits (stripped (m / 10) s).places whole.1 (stripped_is (m / 10) s))
+      (zeros_one_more m s (stripped (m / 10) s).digits (stripped (m / 10) s).places whole.1 (stripped_is (m / 10) s))
   | inr part ↦
       subst (Stripped m (suc s)) (ap (λ b. cond b (stripped (m / 10) s) (record { digits = m; places = suc s })) (sym part.0))
       (record { same = refl; fewer = omega arith; canonical = λ _. part.1 })
 ]
 
--- the quotient m of 2a + b by 2b, with remainder r, is the whole number nearest to a / b
-near_from : (a b m r : ℕ) → 0 < b → m * (2 * b) + r ≡ 2 * a + b → r < 2 * b → RoundsHalfUp a b m
-near_from a b m r some whole rest = record { near = omega arith; tie = λ h. omega arith }
+-- for b above 0: where 2a + b is m times 2b and a remainder r, m is the whole number nearest to a / b, as `RoundsHalfUp` has it
+quotient_rounds : (a b m r : ℕ) → 0 < b → m * (2 * b) + r ≡ 2 * a + b → r < 2 * b → RoundsHalfUp a b m
+quotient_rounds a b m r some whole rest = record { near = omega arith; tie = λ h. omega arith }
 
 -- `half_up a b` is the whole number nearest to a / b, for b above 0, as `RoundsHalfUp` has it
 pub half_up_rounds : (a b : ℕ) → 0 < b → RoundsHalfUp a b (half_up a b)
-half_up_rounds a b some = near_from a b (half_up a b) ((2 * a + b) % (2 * b)) some (div-add-mod' (2 * a + b) (2 * b)) (mod-lt (2 * a + b) (omega arith))
+half_up_rounds a b some = quotient_rounds a b (half_up a b) ((2 * a + b) % (2 * b)) some (div-add-mod' (2 * a + b) (2 * b)) (mod-lt (2 * a + b) (omega arith))
 
 -- for b above 0: where a is at most n times b, a / b rounds to at most n
 pub rounds_bound : (a b m n : ℕ) → 0 < b → RoundsHalfUp a b m → a ≤ n * b → m ≤ n
@@ -71,14 +71,17 @@ pub zeros_in_range : (m s n t : ℕ) → WithoutZeros m s n t → m ≤ 10 ^ 13 
 zeros_in_range m s n t w h =
     le_of_mul-le-mul_right {m = n} {n = 10 ^ 13 * 10 ^ t} {k = 10 ^ s} (omega (arith, w.same, mul-le-mul_right {m = m} {n = 10 ^ 13 * 10 ^ s} (10 ^ t) h)) (ten_pow_pos s)
 
+-- 10^s is cut in two factors at p, for p at most s
+pub ten_pow_cut : (p s : ℕ) → p ≤ s → 10 ^ p * 10 ^ (s - p) ≡ 10 ^ s
+ten_pow_cut p s within = let back : p + (s - p) ≡ s = omega arith in sym (pow-add 10 p (s - p)) ∙ ap (λ e. 10 ^ e) back
+
 -- where a / 10^s is in range and p is at most s, a is at most 10^13 * 10^p * 10^(s - p): the bound, with 10^s cut in two at p
 pub places_in_range : (a s p : ℕ) → p ≤ s → a ≤ 10 ^ 13 * 10 ^ s → a ≤ 10 ^ 13 * 10 ^ p * 10 ^ (s - p)
 places_in_range a s p places h =
-    let back : p + (s - p) ≡ s = omega arith in
-    let power : 10 ^ p * 10 ^ (s - p) ≡ 10 ^ s = sym (pow-add 10 p (s - p)) ∙ ap (λ e. 10 ^ e) back in
-    omega (arith, h, power)
+    omega (arith, h, ten_pow_cut p s places)
 
--- the digits of `rounded_to` are those of the nearest whole number, without the zeros at their end
+-- `rounded_to` gives the nearest whole number to m / 10^(s - p), over 10^s or 10^p, whichever is less, without the zeros at its
+-- end
 pub rounded_to_zeros : (m s p : ℕ) → WithoutZeros (half_up m (10 ^ (s - p))) (min s p) (rounded_to m s p).digits (rounded_to m s p).places
 rounded_to_zeros m s p = stripped_is (half_up m (10 ^ (s - p))) (min s p)
 

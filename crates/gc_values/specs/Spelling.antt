@@ -29,8 +29,8 @@ pub record Exponent : Type 0 where
   pub sign : Sign
   pub digits : List ℕ
 
--- the parts of a number's text: a sign, the digits before the point, those after it, where there is a point, and an exponent, where there
--- is one
+-- the parts of a number's text: a sign, the digits before the point, those after it, where there is a point, and an exponent,
+-- where there is one
 pub record Parts : Type 0 where
   pub sign : Sign
   pub whole : List ℕ

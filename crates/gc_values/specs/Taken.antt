@@ -1,5 +1,5 @@
--- No part of a promise: what the slow reader of parameters, `Listed`, and the quick one, `Quick`, say of a call that takes the next one.
--- `old` is the reader before the call and `new` the one after it.
+-- No part of a promise: what the slow reader of parameters, `Listed`, and the quick one, `Quick`, say of a call that takes the
+-- next one. `old` is the reader before the call and `new` the one after it.
 use Rattle.std.specs.Prelude.{◌≡◌, ◌∷◌, List, Option, MatchOption}
 use Rattle.std.specs.Option.{option_copied}
 use Rattle.gc_values.specs.Asked.{FailsFrom, ReadsFrom}
@@ -18,8 +18,8 @@ TakesValue kind old new result =
     (vs : List Value) → ReadsFrom new.items new.place new.fault vs
     → MatchOption result ⊥ (λ v. (kind_of v ≡ kind) × ReadsFrom old.items old.place old.fault (v ∷ vs))
 
--- the slow reader took an item of the kind: a fault of what is left, for some kinds, is the fault of what was there, for this kind and
--- then those
+-- the slow reader took an item of the kind: a fault of what is left, for some kinds, is the fault of what was there, for this
+-- kind and then those
 abbrev pub TakesKind : Kind → (old new : Listed) → Type 0
 TakesKind kind old new =
     (ks : List Kind) (e : ValueFault) → FailsFrom new.items new.place new.fault ks e

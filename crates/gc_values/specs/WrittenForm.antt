@@ -17,7 +17,7 @@ pub record IsFractionPart (digits : List ℕ) : Type 0 where
   pub few : length digits ≤ 24
   pub no_zero_at_the_end : (front : List ℕ) → digits ≡ front ++ 48 ∷ [] → front ≡ []
 
--- the text has a whole number's form: a minus or nothing, and digits; no minus is before zero
+-- the text has a whole number's form: a minus or nothing, and digits (`IsWholePart`); no minus is before zero
 pub record HasWholeForm (text : List ℕ) : Type 0 where
   pub negative : Bool
   pub digits : List ℕ
@@ -25,7 +25,8 @@ pub record HasWholeForm (text : List ℕ) : Type 0 where
   pub digits_are : IsWholePart digits
   pub no_minus_on_zero : negative ≡ true → 0 < number digits
 
--- the text has a decimal's form: a minus or nothing, digits, a point and digits, and no exponent; no minus is before zero
+-- the text has a decimal's form: a minus or nothing, digits (`IsWholePart`), a point and digits (`IsFractionPart`), and no
+-- exponent; no minus is before zero
 pub record HasDecimalForm (text : List ℕ) : Type 0 where
   pub negative : Bool
   pub whole : List ℕ

@@ -2,7 +2,7 @@
 //! no byte below `-` but single quotes: no spaces, no double quotes, no plus. Anything else is left to `Listed`. A list is called good
 //! while each parameter that was asked for was there in the common spelling, and was read.
 
-ghost use Rattle.std.specs.Prelude.{◌≡◌, ◌∷◌, [], ℕ, pos, List, IfSome, IfNone, IsTrue, true};
+ghost use Rattle.std.specs.Prelude.{◌≡◌, ◌∷◌, [], ℕ, pos, List, IfSome, IfNone, IsTrue, false, true};
 ghost use Rattle.std.specs.Option.{option_copied};
 ghost use Rattle.gc_values.specs.Item.{IsItem};
 ghost use Rattle.gc_values.specs.Lists.{AreParams};
@@ -57,6 +57,16 @@ impl<'a> Quick<'a> {
         self.good && self.rest.is_none()
     }
 
+    // Notes that what was asked for couldn't be read: the list isn't good any more, and the call gives this value in its place.
+    #[inline]
+    fn fail_with<T>(&mut self, value: T) -> T
+        ensures value { result ≡ value }
+        ensures good { self.new.good ≡ false }
+    {
+        self.good = false;
+        value
+    }
+
     // Takes the next item. Where none in the common spelling follows, the result is empty, and the list isn't good any more.
     #[inline]
     fn item(&mut self) -> &'a [u8]
@@ -69,8 +79,7 @@ impl<'a> Quick<'a> {
                 return cut.0;
             }
         }
-        self.good = false;
-        &[]
+        self.fail_with(&[])
     }
 
     // Takes the next parameter, if it is a whole number of 1 to 18 digits without a sign. `None`: something else follows, or the
@@ -98,10 +107,7 @@ impl<'a> Quick<'a> {
     {
         match Decimal::read(self.item()) {
             Ok(d) => d,
-            Err(_) => {
-                self.good = false;
-                Decimal::zero()
-            }
+            Err(_) => self.fail_with(Decimal::zero()),
         }
     }
 
@@ -113,10 +119,7 @@ impl<'a> Quick<'a> {
     {
         match read_long(self.item()) {
             Ok(n) => n,
-            Err(_) => {
-                self.good = false;
-                0
-            }
+            Err(_) => self.fail_with(0),
         }
     }
 
@@ -128,10 +131,7 @@ impl<'a> Quick<'a> {
     {
         match read_short(self.item()) {
             Ok(n) => n,
-            Err(_) => {
-                self.good = false;
-                0
-            }
+            Err(_) => self.fail_with(0),
         }
     }
 
@@ -143,10 +143,7 @@ impl<'a> Quick<'a> {
     {
         match read_bool(self.item()) {
             Ok(n) => n,
-            Err(_) => {
-                self.good = false;
-                false
-            }
+            Err(_) => self.fail_with(false),
         }
     }
 }
@@ -177,10 +174,7 @@ impl<'a> Parameters for Quick<'a> {
         };
         match i32::try_from(number) {
             Ok(n) => n,
-            Err(_) => {
-                self.good = false;
-                0
-            }
+            Err(_) => self.fail_with(0),
         }
     }
 
@@ -191,10 +185,7 @@ impl<'a> Parameters for Quick<'a> {
         };
         match i16::try_from(number) {
             Ok(n) => n,
-            Err(_) => {
-                self.good = false;
-                0
-            }
+            Err(_) => self.fail_with(0),
         }
     }
 
@@ -202,10 +193,7 @@ impl<'a> Parameters for Quick<'a> {
     fn byte(&mut self) -> u8 {
         match read_byte(self.item()) {
             Ok(n) => n,
-            Err(_) => {
-                self.good = false;
-                0
-            }
+            Err(_) => self.fail_with(0),
         }
     }
 
@@ -217,18 +205,14 @@ impl<'a> Parameters for Quick<'a> {
         match number {
             0 => false,
             1 => true,
-            _ => {
-                self.good = false;
-                false
-            }
+            _ => self.fail_with(false),
         }
     }
 
     // A string has double quotes, and so is never in the common spelling.
     #[inline]
     fn text(&mut self) -> Text {
-        self.good = false;
-        Text::empty()
+        self.fail_with(Text::empty())
     }
 }
 

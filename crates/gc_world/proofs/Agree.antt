@@ -1,6 +1,7 @@
 -- The client that knows ids does what the oracle client does. `Sound` is the invariant of the run by numbers: what always
 -- holds of its wire and its client.
 use Rattle.std.proofs.Common.{◌≡◌, ℕ, zero, suc, ◌+◌, ◌-◌, ◌%◌, ◌<◌, ◌≤◌, Bool, true, false, List, [], ◌∷◌, ◌++◌, length, map, take, drop, Option, Some, None, refl, sym, ◌∙◌, ap, subst, arith, length-drop, ltb, eqb}
+use Rattle.std.specs.List.{AllByRecursion}
 use mathlib.Core.Path.{ap₂}
 use Rattle.std.proofs.lemmas.List.{drop-drop, drop-append-le, length_push, drop_all}
 use Rattle.std.proofs.lemmas.Bool.{ltb-true, ltb-false, lt-ltb, le-ltb}
@@ -12,7 +13,7 @@ use Rattle.gc_world.specs.World.{call_line}
 use Rattle.gc_world.specs.Worlds.{Request, Numbered, Ends, Step, Send, Up_deliver, Up_lose, Up_repeat, Down_deliver, Down_lose, Down_repeat, Expire, Restart_client, Restart_instrument, Nothing, Wire, World, without, doubled, idle, up_delivered, with_up, with_down, started, instrument_restarted, on_wire, requested, with_settled, down_delivered, client_restarted, happens, run}
 use Rattle.gc_world.specs.Clients.{ByNumber, by_ids, ids_open, number_send, number_reply, by_numbers, numbers_open, run_by_ids, run_by_numbers}
 use Rattle.gc_world.specs.Exchange.{IsExchange}
-use Rattle.gc_world.specs.Order.{Each, Rising, numbers, in_flight, IsOrderly}
+use Rattle.gc_world.specs.Order.{Rising, numbers, in_flight, IsOrderly}
 use Rattle.gc_world.proofs.Ids.{place_within, place_before}
 use Rattle.gc_world.proofs.Sound.{IsComing, Sound, length_expired, all_sent, sound_step, sound_all, sound_open}
 
@@ -134,7 +135,7 @@ module _ {Q State : Type 0} (width : ℕ) (narrow : width ≤ 7) (ends : Ends Q 
   agree_down a b [] e s h = record { wire = ap idle h.wire; client = h.client }
   agree_down a b (x ∷ rest) e s h =
       let c = b.client in
-      let coming = (subst (λ q. Each (IsComing width ends Good c.since (length c.requests)) q) e s.coming).0 in
+      let coming = (subst (λ q. AllByRecursion (IsComing width ends Good c.since (length c.requests)) q) e s.coming).0 in
       let order = (subst (λ q. Rising c.count (numbers q ++ numbers b.wire.up)) e s.order).0 in
       same_booked _ _ _ _ (ap (λ (w : Wire Q State). record w { down = rest }) h.wire)
       (subst (λ o. SameSettled (hears a.client x.line o) (number_reply c x (ltb x.number c.count))) (sym coming.id)
@@ -210,7 +211,7 @@ module _ {Q State : Type 0} (width : ℕ) (narrow : width ≤ 7) (ends : Ends Q 
         settled = omega (arith, s.booked, s.counted, s.within);
         few = omega (arith, s.booked, s.counted, s.few);
         order = subst (λ n. Rising n (in_flight w.wire)) (sym s.booked) s.order;
-        sent = subst (λ n. Each (λ m. m < n) (in_flight w.wire)) s.counted (all_sent width ends Good w.client.since (length w.client.requests) w.wire.down w.wire.up s.coming s.going);
+        sent = subst (λ n. AllByRecursion (λ m. m < n) (in_flight w.wire)) s.counted (all_sent width ends Good w.client.since (length w.client.requests) w.wire.down w.wire.up s.coming s.going);
       }
 
 module _ {State : Type 0} (width : ℕ) (narrow : width ≤ 7) (ends : calls.Ends State) (Good : State → Type 0) where

@@ -1,17 +1,18 @@
 -- An answer that is booked is a line that was made for the very request that it settles. Replies and answers are *backed* where
 -- each is among the replies made, with the number of its request.
 use Rattle.std.proofs.Common.{◌≡◌, ℕ, zero, suc, ◌+◌, ◌-◌, ◌≤◌, inl, inr, Bool, true, false, List, [], ◌∷◌, ◌++◌, length, map, drop, Some, refl, sym, ap, subst, arith, ltb, ◌⊎◌}
+use Rattle.std.specs.List.{AllByRecursion}
 use Rattle.std.specs.Prelude.{slice_get}
 use Rattle.std.proofs.lemmas.Bool.{ltb-false}
 use Rattle.std.proofs.lemmas.Option.{none-some, same_Some}
+use Rattle.gc_lines.proofs.Lists.{all_append, all_on}
 use Rattle.gc_client.specs.declared.pending.Pending.{Pending}
 use Rattle.gc_client.specs.Rule.{Outcome, Answered, Late, Lost, Settlement, lost, settled_by_line, settle}
 use Rattle.gc_instrument.specs.Replying.{Handed}
 use Rattle.gc_world.specs.Worlds.{Request, Numbered, Ends, Step, World, Wire, replied, started, with_settled, run}
 use Rattle.gc_world.specs.Clients.{ByNumber, number_reply, by_numbers, numbers_open}
 use Rattle.gc_world.specs.Exchange.{IsExchange}
-use Rattle.gc_world.specs.Order.{Each}
-use Rattle.gc_world.proofs.Rows.{each_append, each_more, each_without, each_doubled}
+use Rattle.gc_world.proofs.Rows.{each_without, each_doubled}
 use Rattle.gc_world.proofs.Sound.{Sound, keeps, sound_open}
 use Rattle.gc_world.proofs.Stable.{IsStable, stable_all}
 
@@ -113,7 +114,7 @@ all_made_settle made n m (suc k) line (p ∷ ps) e h = (tt, all_made_settle made
 
 -- each reply in flight and each answer that was booked was made for its request
 pub record IsBacked {Q : Type 0} (made down : List (Numbered (List ℕ))) (settled : List (Settlement Q)) : Type 0 where
-  pub in_flight : Each (λ x. Has x made) down
+  pub in_flight : AllByRecursion (λ x. Has x made) down
   pub booked : AllMade made 0 settled
 
 module _ {Q State : Type 0} (width : ℕ) (ends : Ends Q State) (Good : State → Type 0) where
@@ -129,8 +130,8 @@ module _ {Q State : Type 0} (width : ℕ) (ends : Ends Q State) (Good : State �
       let x : Numbered (List ℕ) = record { number = n; line = hd.reply } in
       record {
         in_flight =
-            each_append _ w.down _
-            (each_more (λ y. Has y w.made) (λ y. Has y (w.made ++ x ∷ [])) (λ y p. has_more y w.made (x ∷ []) p) w.down h.in_flight)
+            all_append _ w.down _
+            (all_on (λ y. Has y w.made) (λ y. Has y (w.made ++ x ∷ [])) w.down (λ y p. has_more y w.made (x ∷ []) p) h.in_flight)
             (has_push x w.made, tt);
         booked = all_made_more w.made _ 0 w.settled h.booked;
       }
@@ -141,10 +142,10 @@ module _ {Q State : Type 0} (width : ℕ) (ends : Ends Q State) (Good : State �
       → w.wire.down ≡ x ∷ rest → length w.wire.settled ≡ w.client.count → IsBacked w.wire.made w.wire.down w.wire.settled
       → IsBacked w.wire.made rest (w.wire.settled ++ (number_reply w.client x old).settlements)
   backed_reply w x rest true t e s h =
-      let g = subst (λ q. Each (λ y. Has y w.wire.made) q) e h.in_flight in
+      let g = subst (λ q. AllByRecursion (λ y. Has y w.wire.made) q) e h.in_flight in
       record { in_flight = g.1; booked = all_made_append w.wire.made 0 w.client.count w.wire.settled [] (omega (arith, s)) h.booked tt }
   backed_reply w x rest false t e s h =
-      let g = subst (λ q. Each (λ y. Has y w.wire.made) q) e h.in_flight in
+      let g = subst (λ q. AllByRecursion (λ y. Has y w.wire.made) q) e h.in_flight in
       let ge : w.client.count ≤ x.number = ltb-false _ _ t in
       record {
         in_flight = g.1;

@@ -1,15 +1,13 @@
 -- The executions of a run are as `IsExecution` has them, and each booked answer was made for its request. Both are drawn from a
 -- replay (`Replays`): the executions of requests ns, one after the other, with replies ms, from the state s to the state t; j
 -- executions came before.
-use Rattle.std.proofs.Common.{◌≡◌, ℕ, zero, suc, ◌+◌, ◌-◌, ◌<◌, Bool, true, false, inl, inr, List, [], ◌∷◌, length, Option, Some, refl, sym, ◌∙◌, ap, subst, arith, eqb}
+use Rattle.std.proofs.Common.{◌≡◌, ℕ, zero, suc, ◌+◌, ◌-◌, Bool, true, false, List, [], ◌∷◌, length, Option, Some, refl, sym, ◌∙◌, ap, subst, arith}
+use Rattle.std.specs.List.{AllByRecursion}
 use Rattle.std.specs.Prelude.{slice_get}
 use Rattle.gc_client.specs.Rule.{Settlement}
-use Rattle.gc_client.specs.Rule.{Sending}
 use Rattle.gc_world.specs.World.{Sent, Numbered, Ends, Wire}
 use Rattle.gc_world.specs.Worlds
-use Rattle.gc_world.specs.Clients.{ByNumber, number_send, by_numbers}
 use Rattle.gc_world.specs.Exchange.{IsExchange}
-use Rattle.gc_world.specs.Order.{Each}
 use Rattle.gc_world.specs.Faithful.{has_number, begun}
 use Rattle.gc_world.specs.Record.{Increasing, IsOneForOne, IsReplyTo, IsBooked, IsExecutedIn, IsExecuted, IsReplyAt, IsExecution}
 use Rattle.gc_world.proofs.Booked.{Has, has_at, AllMade, answer_made}
@@ -18,19 +16,8 @@ use Rattle.std.proofs.lemmas.Option.{same_Some, none-some, slice_get_within}
 use Rattle.gc_world.proofs.Places.{all_at, in_range}
 
 -- a property that each element of a list has holds of any element that is in the list
-pub each_has : {A : Type 0} (P : A → Type 0) (xs : List A) (x : A) → Each P xs → Has x xs → P x
-each_has P [] x h e = absurd e
-each_has P (y ∷ xs) x h (inl e) = subst P e h.0
-each_has P (y ∷ xs) x h (inr e) = each_has P xs x h.1 e
-
--- the oracle client sends each request with an id below 8
-pub digits : {Q : Type 0} (width : ℕ) (c : ByNumber Q) (target : ℕ) (call : Q) (deadline : ℕ) (x : Sending (ByNumber Q))
-    → (by_numbers width).send c target call deadline ≡ Some x → x.id < 8
-digits {Q} width c target call deadline x e = digit (eqb (length c.requests - c.count) width) e
-  where
-    digit : (full : Bool) → number_send c target call deadline full ≡ Some x → x.id < 8
-    digit true e = absurd (none-some x e)
-    digit false e = subst (λ (y : Sending (ByNumber Q)). y.id < 8) (same_Some _ x e) (omega arith)
+pub each_has : {A : Type 0} (P : A → Type 0) (xs : List A) (x : A) → AllByRecursion P xs → Has x xs → P x
+each_has P xs x h has = let at = has_at x xs has in all_at P xs at.0 x h at.1
 
 module _ {State : Type 0} (ends : Ends State) where
   -- the state before execution k of a replay, counted from 0; where there is no execution k, the state that the replay ends with
@@ -117,7 +104,7 @@ module _ {State : Type 0} (ends : Ends State) where
   -- each of those be one of its replies.
   module _ (opening : State) (w : Wire State) (replies : List (Numbered (List ℕ)))
       (h : Replays ends w.sent w.starts 0 (ends.restarted opening) w.executed replies w.state)
-      (each : Each (λ m. Has m w.made) replies) (among : Each (λ m. Has m replies) w.made) where
+      (each : AllByRecursion (λ m. Has m w.made) replies) (among : AllByRecursion (λ m. Has m replies) w.made) where
     -- the state before execution j, by the replay
     state_before : ℕ → State
     state_before = before_in w.sent w.starts 0 (ends.restarted opening) w.executed replies w.state h
@@ -179,7 +166,7 @@ module _ {Q State : Type 0} (ends : Worlds.Ends Q State) (Good : State → Type 
   -- where `IsOneForOne` holds of requests and settlements, each answer was made for its request, and each reply made is one to
   -- its request's call, settlement m, if it is an answer, is booked for request m (`IsBooked`)
   pub booked : (sent : List (Worlds.Sent Q)) (made : List (Numbered (List ℕ))) (settled : List (Settlement Q)) → IsOneForOne sent settled → AllMade made 0 settled
-      → Each (IsAnswerAt sent) made → (m : ℕ) (s : Settlement Q) → slice_get settled m ≡ Some s → IsBooked ends Good made m s
+      → AllByRecursion (IsAnswerAt sent) made → (m : ℕ) (s : Settlement Q) → slice_get settled m ≡ Some s → IsBooked ends Good made m s
   booked sent made settled one all at m s e bytes answered =
       let has = answer_made made settled m s bytes all e answered in
       let a = each_has (IsAnswerAt sent) made (record { number = m; line = bytes }) at has in
@@ -206,7 +193,7 @@ module _ {State : Type 0} (ends : Ends State) (Good : State → Type 0) (ex : Is
 
   -- each reply of a replay from a good state on is a reply to the call of the request whose number it has
   pub answers_at : (sent : List Sent) (starts : List ℕ) (j : ℕ) (s : State) (ns : List ℕ) (ms : List (Numbered (List ℕ))) (t : State) → Good s
-      → Replays ends sent starts j s ns ms t → Each (IsAnswerAt ends Good sent) ms
+      → Replays ends sent starts j s ns ms t → AllByRecursion (IsAnswerAt ends Good sent) ms
   answers_at sent starts j s [] [] t good h = tt
   answers_at sent starts j s (n ∷ ns) (m ∷ ms) t good h = (
     answer_at sent s n m h.0 good h.1,

@@ -12,15 +12,15 @@ use Rattle.gc_world.specs.Clients.{ends, played, played_by_numbers, run_by_ids, 
 use Rattle.gc_world.specs.Stages.{AreOfWorld}
 use Rattle.gc_world.specs.World.{World}
 use Rattle.gc_world.proofs.Flow.{AreLevel, level_at, level_wire}
-use Rattle.gc_world.proofs.Handing.{KeptFits, reads, exchange, kept_of, keeper, fine}
+use Rattle.gc_world.proofs.Handing.{KeptFits, kept_exchange, exchange, kept_of, keeper}
 use Rattle.gc_world.proofs.Reporting.{one_for_one, books_answers, records_execution, acts_once, agrees_with, no_longer}
 use Rattle.gc_world.proofs.Turns.{played_within}
 use Rattle.gc_world.proofs.Runs.{one_for_one_at, execution_at, booked_at}
 
 module _ (width : ℕ) (narrow : width ≤ 7) (opening : State) (events : List Event) where
   -- the two runs of these events are level
-  level : AreLevel width narrow ends KeptFits reads (restarted opening) tt (streams_by_ids width ends events (restarted opening)) (streams_by_numbers width ends events (restarted opening))
-  level = level_at width narrow ends KeptFits reads (restarted opening) tt events
+  level : AreLevel width narrow ends KeptFits kept_exchange (restarted opening) tt (streams_by_ids width ends events (restarted opening)) (streams_by_numbers width ends events (restarted opening))
+  level = level_at width narrow ends KeptFits kept_exchange (restarted opening) tt events
 
   -- a report of the run by ids is faithful, if the restarted opening state is fitting
   pub faithful : (r : Report) (up down : List ℕ) (client : Windowed Call) → IsFittingState (restarted opening)
@@ -33,11 +33,11 @@ module _ (width : ℕ) (narrow : width ≤ 7) (opening : State) (events : List E
       let one = one_for_one r w h (one_for_one_at width ends es (restarted opening)) in
       record {
         one_for_one = one;
-        booked = books_answers r w h IsFittingState fine shows.calls one (booked_at width narrow ends IsFittingState exchange kept_of keeper refl es opening good);
+        booked = books_answers r w h shows.calls (booked_at width narrow ends IsFittingState exchange kept_of keeper refl es opening good) one;
         executed = records_execution r w h opening (execution_at width narrow ends IsFittingState exchange kept_of keeper refl es opening good);
         agrees =
             agrees_with r (played width opening events).wire shows.reports (played_by_numbers width opening events).wire
-            (level_wire width narrow ends KeptFits reads (restarted opening) tt (streams_by_ids width ends events (restarted opening))
+            (level_wire width narrow ends KeptFits kept_exchange (restarted opening) tt (streams_by_ids width ends events (restarted opening))
             (streams_by_numbers width ends events (restarted opening)) level);
       }
 

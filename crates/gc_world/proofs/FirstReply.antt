@@ -13,7 +13,7 @@ use Rattle.gc_client.specs.Rule.{ById, Settlement, Outcome, Answered, Late, Lost
 use Rattle.gc_client.specs.OneForOne.{Wanted, of_settled, of_pending}
 use Rattle.gc_instrument.specs.State.{State, restarted}
 use Rattle.gc_world.specs.declared.event.Event.{Event}
-use Rattle.gc_world.specs.declared.event.Event.TheVariants.{DownDeliver, DownBytes}
+use Rattle.gc_world.specs.declared.event.Event.TheVariants.{DownDeliver}
 use Rattle.gc_world.specs.declared.event.Event.TheVariants as event
 use Rattle.gc_world.specs.Clients.{ByNumber, number_send, number_reply, by_ids, by_numbers, ids_open, numbers_open, run_by_ids, streams_by_ids, streams_by_numbers}
 use Rattle.gc_world.specs.FirstReply.{IsDelivery, IsSentBefore, IsInTime, IsTooLate, IsSettledAs, ended, between, DeliverySettles}
@@ -24,7 +24,7 @@ use Rattle.gc_world.specs.World.{Sent, Numbered, Wire, World, Send, Down_deliver
 use Rattle.gc_world.proofs.Agree.{Agree, agree_at, sound_at}
 use Rattle.gc_world.proofs.Flow.{taken, flow_run, flow_append, AreLevel, level_at, level_wire}
 use Rattle.gc_world.proofs.Delivering.{delivery_is}
-use Rattle.gc_world.proofs.Handing.{KeptFits, reads}
+use Rattle.gc_world.proofs.Handing.{KeptFits, kept_exchange}
 use Rattle.gc_world.proofs.Marks.{entry_all}
 use Rattle.gc_world.proofs.Moments.{marked_all, in_time, too_late}
 use Rattle.std.proofs.lemmas.Option.{same_Some, none-some}
@@ -146,16 +146,16 @@ module _ (width : ℕ) (narrow : width ≤ WINDOW) (opening : State) where
   numbers_after events = streams_by_numbers width ends events (restarted opening)
 
   -- the two runs of these events are level
-  level : (events : List Event) → AreLevel width narrow ends KeptFits reads (restarted opening) tt (ids_after events) (numbers_after events)
-  level events = level_at width narrow ends KeptFits reads (restarted opening) tt events
+  level : (events : List Event) → AreLevel width narrow ends KeptFits kept_exchange (restarted opening) tt (ids_after events) (numbers_after events)
+  level events = level_at width narrow ends KeptFits kept_exchange (restarted opening) tt events
 
   -- the run by numbers of these events ends in a sound world
   sound_in : (events : List Event) → Sound width ends KeptFits (numbers_after events).world
-  sound_in events = subst (Sound width ends KeptFits) (sym (level events).numbers) (sound_at width narrow ends KeptFits reads (level events).steps (restarted opening) tt)
+  sound_in events = subst (Sound width ends KeptFits) (sym (level events).numbers) (sound_at width narrow ends KeptFits kept_exchange (level events).steps (restarted opening) tt)
 
   -- the two runs of these events leave the same wire
   wire_in : (events : List Event) → left_by_ids width opening events ≡ (numbers_after events).world.wire
-  wire_in events = level_wire width narrow ends KeptFits reads (restarted opening) tt (ids_after events) (numbers_after events) (level events)
+  wire_in events = level_wire width narrow ends KeptFits kept_exchange (restarted opening) tt (ids_after events) (numbers_after events) (level events)
 
   -- the run by numbers of one more event is the run of the others, and then that event
   numbers_more : (events : List Event) (e : Event) → numbers_after (events ++ e ∷ []) ≡ flows ends (by_numbers width) (numbers_after events) e
@@ -192,8 +192,9 @@ module _ (width : ℕ) (narrow : width ≤ WINDOW) (opening : State) where
       ∙ flow_run ends (by_numbers width) later b in
       let unsettled : (numbers_after events).world.client.count ≤ n = omega (arith, (sound_in events).booked, ap (λ (u : Wire State). length u.settled) (wire_in events), le) in
       subst (λ (u : World (ByNumber Call) State). slice_get u.client.requests n ≡ Some (mark_of s.earlier s.target s.call deadline later)) (sym whole)
-      (entry_all width ends KeptFits reads steps w n (pending_of s.target s.call deadline)
-      (sound_step width ends KeptFits call_line reads v (Send s.target s.call deadline) (sound_in s.earlier)) at (subst (λ (u : World (ByNumber Call) State). u.client.count ≤ n) whole unsettled))
+      (entry_all width ends KeptFits kept_exchange steps w n (pending_of s.target s.call deadline)
+      (sound_step width ends KeptFits call_line kept_exchange v (Send s.target s.call deadline) (sound_in s.earlier)) at
+      (subst (λ (u : World (ByNumber Call) State). u.client.count ≤ n) whole unsettled))
 
   -- an event that delivers the front reply, if there is one, leaves in the run by ids the settlements that the step
   -- `Down_deliver` leaves in the run by numbers
@@ -216,7 +217,7 @@ module _ (width : ℕ) (narrow : width ≤ WINDOW) (opening : State) where
       let a = run_by_ids width ends l.steps (restarted opening) in
       let same : (ids_after events).world ≡ a = l.ids in
       let b = (numbers_after events).world in
-      let agree = subst (Agree width narrow ends KeptFits a) (sym l.numbers) (agree_at width narrow ends KeptFits reads l.steps (restarted opening) tt) in
+      let agree = subst (Agree width narrow ends KeptFits a) (sym l.numbers) (agree_at width narrow ends KeptFits kept_exchange l.steps (restarted opening) tt) in
       let front : a.wire.down ≡ record { number = n; line = line } ∷ next.behind = ap (λ (u : World (ById Call) State). u.wire.down) (sym same) ∙ next.front in
       let unsettled : length a.wire.settled ≤ n = subst (λ (u : World (ById Call) State). length u.wire.settled ≤ n) same next.unsettled in
       let count : b.client.count ≡ length a.wire.settled = sym (sound_in events).booked ∙ ap (λ (u : Wire State). length u.settled) (sym agree.wire) in

@@ -19,7 +19,6 @@ use Rattle.gc_world.specs.Stages.{Seen, after_step, after_event, AreStreamsOf, a
 use Rattle.gc_world.specs.Streams.{Streams, Cut, one_more, cut, down_lines, remaining, flows}
 use Rattle.gc_world.specs.World.{Numbered, Ends, Rule, Down_deliver, down_delivered, happens, run}
 use Rattle.gc_world.proofs.Directions.{gone_reached, reaches_again, unmoved, delivered, passing, bytes_pass, one_less, not_idle}
-use Rattle.gc_world.proofs.Queues.{not_below}
 use Rattle.gc_world.proofs.Shown.{part}
 
 -- where n bytes complete the front line, the cut at n bytes is the cut of the lines after that line at the bytes that are
@@ -186,4 +185,4 @@ module _ (width : ℕ) (d : Direction) (s : Seen) (v : Streams (ById Call) State
 -- b tests whether a line has r bytes left, at least one, and l bytes complete it: where b is false, and l isn't below r, r is 0
 pub runs_out : (b : Bool) (r l : ℕ) → IsTrue b ↔ ((0 < r) × (r ≤ l)) → b ≡ false → (l < r → ⊥) → r ≡ 0
 runs_out b zero l iff e le = refl
-runs_out b (suc r) l iff e le = absurd (both_ways b e (iff.1 (omega arith, not_below l (suc r) le)))
+runs_out b (suc r) l iff e le = absurd (both_ways b e (iff.1 (omega arith, omega (arith, le))))

@@ -10,12 +10,10 @@ use Rattle.gc_catalogue.specs.declared.answer.Reading.{Reading}
 use Rattle.gc_catalogue.specs.declared.answer.Reading.TheVariants.{Value, Refused}
 use Rattle.gc_catalogue.specs.declared.call.Call.{Call}
 use Rattle.gc_catalogue.specs.Answers.{rounded_answer}
-use Rattle.gc_catalogue.specs.Calls.{IsFitting}
 use Rattle.gc_catalogue.specs.Readings.{IsReading}
 use Rattle.gc_catalogue.specs.Texts.{reply_of}
 use Rattle.gc_catalogue.proofs.AnswerLaws.{one_reading}
 use Rattle.gc_client.specs.Rule.{id_in, heard}
-use Rattle.gc_client.specs.Settlements.{ReadsAs}
 use Rattle.gc_instrument.specs.State.{State, KeptReply, IsFittingState, IsFittingKept, IsFittingReply, restarted}
 use Rattle.gc_instrument.specs.Execution.{Executed, exec}
 use Rattle.gc_instrument.specs.Replying.{Handed, handed, kept_line, kept_after, without_kept, executed_line, reading_of}
@@ -25,7 +23,7 @@ use Rattle.gc_instrument.proofs.Keeping.{executes_apart, fits_kept}
 use Rattle.gc_instrument.proofs.Executions.{exec_outcome, restarted_fits}
 use Rattle.gc_world.specs.Exchange.{IsExchange, IsKeeper, ReadsWithItsId}
 use Rattle.gc_world.specs.Faithful.{IsValueOrRefusal, begun}
-use Rattle.gc_world.specs.Record.{IsReplyTo}
+use Rattle.gc_world.specs.Laws.{RepliesAreFine}
 use Rattle.gc_world.specs.Clients.{ends}
 use Rattle.std.proofs.lemmas.Option.{cond_some, none-some, same_Some}
 
@@ -59,8 +57,8 @@ new_kept s id call digit =
 
 -- `IsExchange` holds with those states as the good ones whose kept reply, if any, reads as one with the id
 -- that it is kept with (`KeptFits`)
-pub reads : IsExchange ends KeptFits
-reads =
+pub kept_exchange : IsExchange ends KeptFits
+kept_exchange =
     record {
       reads = λ s id call good digit. elim (some_line_or_none (kept_line s.kept (Some id))) [
         | inl h ↦ ap (λ (x : Handed State). heard x.reply) (handed_again s id call h.0 h.1) ∙ kept_heard s.kept id h.0 h.1 good
@@ -78,7 +76,7 @@ reads =
 pub exchange : IsExchange ends IsFittingState
 exchange =
     record {
-      reads = λ s id call good digit. reads.reads s id call good.kept digit;
+      reads = λ s id call good digit. kept_exchange.reads s id call good.kept digit;
       stays_good = λ s id call good digit. elim (some_line_or_none (kept_line s.kept (Some id))) [
         | inl h ↦ subst (λ (x : Handed State). IsFittingState x.state) (sym (handed_again s id call h.0 h.1)) good
         | inr e ↦ subst (λ (x : Handed State). IsFittingState x.state) (sym (handed_new s id call e)) (fits_kept (exec s call).state _ ((exec_outcome s call).fits good) (new_kept s id call digit))
@@ -151,13 +149,6 @@ pub kept_reads : (b : Bool) (id : ℕ) (line : List ℕ) (k : Option KeptReply) 
 kept_reads true id line k h = h
 kept_reads false id line k h = tt
 
--- where a request changed the kept id, it was executed
-pub executed_by_id : (s : State) (id : ℕ) (call : Call) → (kept_id s.kept ≡ kept_id (handed s id call).state.kept → ⊥) → (handed s id call).executed ≡ true
-executed_by_id s id call other = elim (some_line_or_none (kept_line s.kept (Some id))) [
-  | inl h ↦ absurd (other (sym (ap (λ (x : Handed State). kept_id x.state.kept) (handed_again s id call h.0 h.1))))
-  | inr e ↦ ap (λ (x : Handed State). x.executed) (handed_new s id call e)
-]
-
 -- where no line is kept for an id (`kept_line`), no reply is kept with that id
 pub other_id : (k : Option KeptReply) (id : ℕ) → kept_line k (Some id) ≡ None → kept_id k ≡ Some id → ⊥
 other_id None id e is = cc
@@ -165,13 +156,6 @@ other_id (Some k) id e is =
     let same : k.id ≡ id = same_Some k.id id is in
     let yes : eqb k.id id ≡ true = eq-eqb k.id id same in
     none-some k.line (sym e ∙ ap (λ b. cond b (Some k.line) None) yes)
-
--- where a request left the kept id as it was before, it wasn't executed
-pub repeated_by_id : (s : State) (id : ℕ) (call : Call) → kept_id s.kept ≡ kept_id (handed s id call).state.kept → (handed s id call).executed ≡ false
-repeated_by_id s id call same = elim (some_line_or_none (kept_line s.kept (Some id))) [
-  | inl h ↦ ap (λ (x : Handed State). x.executed) (handed_again s id call h.0 h.1)
-  | inr e ↦ absurd (other_id s.kept id e (same ∙ ap (λ (x : Handed State). kept_id x.state.kept) (handed_new s id call e)))
-]
 
 -- where two readings are each a value or a refusal, so is the one that b chooses
 fine_if : (b : Bool) (value refusal : Reading) → IsValueOrRefusal value → IsValueOrRefusal refusal → IsValueOrRefusal (cond b value refusal)
@@ -183,8 +167,7 @@ fine_reading : (x : Executed) → IsValueOrRefusal (reading_of x)
 fine_reading x = fine_if (eqb x.rc 0) (Value (rounded_answer x.state.precision x.answer)) (Refused x.rc) tt tt
 
 -- a reply that was made on executing a call that fits, in a fitting state, reads as a value or a refusal
-pub fine : (call : Call) (bytes : List ℕ) (reading : Reading) → IsReplyTo ends IsFittingState call bytes → IsFitting call
-    → ReadsAs call bytes reading → IsValueOrRefusal reading
+pub fine : RepliesAreFine
 fine call bytes reading made fits read =
     let a = handed_answered made.state made.id call made.good made.small fits (new_id made.state made.id call made.executed) in
     let same : a.fields ≡ read.reply = one_reply bytes a.fields read.reply (subst (λ (l : List ℕ). IsReply l a.fields) (sym made.reply) a.is_reply) read.is_reply in

@@ -17,6 +17,7 @@ pub mod Pieces
 pub mod Streaming
 pub mod Directions
 pub mod Sides
+pub mod Contracts
 pub mod Showing
 pub mod Shown
 pub mod Handed

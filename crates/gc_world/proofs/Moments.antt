@@ -1,7 +1,7 @@
 -- A request that waits has timed out exactly if there was a moment at or past its deadline.
-use Rattle.std.proofs.Common.{◌≡◌, ℕ, zero, suc, ◌+◌, ◌<◌, ◌≤◌, ◌||◌, Bool, true, false, cond, List, [], ◌∷◌, ◌++◌, ◌⊎◌, inl, inr, Contains, refl, sym, ◌∙◌, ap, subst, arith, leb}
+use Rattle.std.proofs.Common.{◌≡◌, ℕ, zero, suc, ◌+◌, ◌<◌, ◌≤◌, Bool, true, false, cond, List, [], ◌∷◌, ◌++◌, ◌⊎◌, inl, inr, Contains, refl, sym, ◌∙◌, ap, subst, arith, leb}
 use Rattle.std.specs.Prelude.{replicate}
-use Rattle.std.proofs.lemmas.Bool.{le-leb, lt-leb, leb-true, leb-false, or_right}
+use Rattle.std.proofs.lemmas.Bool.{le-leb, lt-leb, leb-true, leb-false, or_from, or_left, or_right}
 use Rattle.gc_catalogue.specs.declared.call.Call.{Call}
 use Rattle.gc_client.specs.declared.pending.Pending.{Pending}
 use Rattle.gc_world.specs.declared.event.Event.{Event}
@@ -12,12 +12,20 @@ use Rattle.gc_world.specs.World.{Ends, Rule, Step, Up_deliver, Up_lose, Up_repea
 use Rattle.gc_world.proofs.Flow.{taken}
 use Rattle.gc_world.proofs.Marks.{touched, touched_all}
 
+-- an event is no moment at or past the deadline
+abbrev IsEarly : ℕ → Event → Type 0
+IsEarly deadline e = (now : ℕ) → e ≡ Expire now → now < deadline
+
+-- each moment among the events lies before the deadline
+abbrev pub AllEarly : ℕ → List Event → Type 0
+AllEarly deadline es = (now : ℕ) → Contains es (Expire now) → now < deadline
+
 -- an event makes q of a request p that waits: the deadline stays; q has timed out if p had, or if the event is a moment at
 -- or past the deadline; and else it hasn't
 pub record IsTouched (e : Event) (p q : Pending Call) : Type 0 where
   pub deadline : q.deadline ≡ p.deadline
   pub stays : p.given_up ≡ true → q.given_up ≡ true
-  pub early : p.given_up ≡ false → ((now : ℕ) → e ≡ Expire now → now < p.deadline) → q.given_up ≡ false
+  pub early : p.given_up ≡ false → IsEarly p.deadline e → q.given_up ≡ false
   pub reached : (now : ℕ) → e ≡ Expire now → p.deadline ≤ now → q.given_up ≡ true
 
 -- where an event is no moment, `IsTouched` holds of it and a request that stays as it is
@@ -27,11 +35,6 @@ untouched_by e p none = record { deadline = refl; stays = λ g. g; early = λ g 
 -- equal `Expire` events have the same moment
 moment_is : (a b : ℕ) → Expire a ≡ Expire b → a ≡ b
 moment_is a b e = cc
-
--- `b || false` is b
-or_false : (b : Bool) → b || false ≡ b
-or_false true = refl
-or_false false = refl
 
 -- a step leaves every request that waits as it is
 abbrev IsQuiet : Step → Type 0
@@ -72,9 +75,9 @@ module _ {Client State : Type 0} (ends : Ends State) (rule : Rule Client) where
   touch v (Expire now) p =
       record {
         deadline = refl;
-        stays = λ g. ap (λ b. b || leb p.deadline now) g;
-        early = λ g h. ap (λ b. p.given_up || b) (lt-leb _ _ (h now refl)) ∙ or_false p.given_up ∙ g;
-        reached = λ m is le. ap (λ b. p.given_up || b) (le-leb p.deadline now (omega (arith, moment_is now m is, le))) ∙ or_right p.given_up true refl;
+        stays = λ g. or_left p.given_up (leb p.deadline now) g;
+        early = λ g h. or_from p.given_up (leb p.deadline now) g (lt-leb _ _ (h now refl));
+        reached = λ m is le. or_right p.given_up (leb p.deadline now) (le-leb p.deadline now (omega (arith, moment_is now m is, le)));
       }
   touch v (Send target call deadline) p = untouched_by (Send target call deadline) p (λ now is. cc)
   touch v UpDeliver p = untouched_by UpDeliver p (λ now is. cc)
@@ -123,8 +126,8 @@ module _ {Client State : Type 0} (ends : Ends State) (rule : Rule Client) where
 
   -- a request that hadn't timed out before some events still hasn't after them, where each moment
   -- among them lies before its deadline
-  pub in_time : (es : List Event) (v : Streams Client State) (p : Pending Call) → p.given_up ≡ false
-      → ((now : ℕ) → Contains es (Expire now) → now < p.deadline) → (marked_all es v p).given_up ≡ false
+  pub in_time : (es : List Event) (v : Streams Client State) (p : Pending Call) → p.given_up ≡ false → AllEarly p.deadline es
+      → (marked_all es v p).given_up ≡ false
   in_time [] v p g h = g
   in_time (e ∷ es) v p g h =
       let t = touch ends rule v e p in
@@ -150,10 +153,6 @@ module _ {Client State : Type 0} (ends : Ends State) (rule : Rule Client) where
       (λ more. too_late es (flows ends rule v e) (marked ends rule v e p) now more (subst (λ d. d ≤ now) (sym (touch ends rule v e p).deadline) le))
       (head_or_tail e (Expire now) es has)
 
--- an event is no moment at or past the deadline
-abbrev IsEarly : ℕ → Event → Type 0
-IsEarly deadline e = (now : ℕ) → e ≡ Expire now → now < deadline
-
 -- an event is a moment at or past the deadline
 abbrev Reaches : ℕ → Event → Type 0
 Reaches deadline e = (now : ℕ) × (e ≡ Expire now) × (deadline ≤ now)
@@ -177,10 +176,6 @@ event_early_or_reaching deadline (DownLose k) = inl (λ now is. cc)
 event_early_or_reaching deadline (DownRepeat k) = inl (λ now is. cc)
 event_early_or_reaching deadline RestartClient = inl (λ now is. cc)
 event_early_or_reaching deadline RestartInstrument = inl (λ now is. cc)
-
--- each moment among the events lies before the deadline
-abbrev pub AllEarly : ℕ → List Event → Type 0
-AllEarly deadline es = (now : ℕ) → Contains es (Expire now) → now < deadline
 
 -- a moment among the events is at or past the deadline
 abbrev pub OneReaches : ℕ → List Event → Type 0

@@ -2,8 +2,10 @@
 -- `total` are how many requests had been sent at the client's last start, are settled, and were sent; `top` is one above the
 -- number executed last, or 0 if none was.
 use Rattle.std.proofs.Common.{◌≡◌, ℕ, ◌+◌, ◌-◌, ◌%◌, ◌<◌, ◌≤◌, inl, inr, Bool, true, false, List, [], ◌∷◌, ◌++◌, length, Option, Some, None, cond, refl, sym, ◌∙◌, ap, subst, arith, ltb, eqb}
+use Rattle.std.specs.List.{AllByRecursion}
 use Rattle.std.proofs.lemmas.List.{length_push}
 use Rattle.std.proofs.lemmas.Bool.{eqb-true, eqb-false, cases_eq}
+use Rattle.gc_lines.proofs.Lists.{all_append, all_on}
 use Rattle.gc_catalogue.specs.declared.call.Call.{Call}
 use Rattle.gc_catalogue.specs.Texts.{request_line}
 use Rattle.gc_client.specs.Rule.{Sending, pending_of}
@@ -11,66 +13,46 @@ use Rattle.gc_instrument.specs.Replying.{Handed, kept_line}
 use Rattle.gc_instrument.specs.State.{KeptReply}
 use Rattle.gc_world.specs.Clients.{ByNumber, number_send, number_reply, by_numbers, numbers_open}
 use Rattle.gc_world.specs.Exchange.{IsExchange, IsKeeper}
-use Rattle.gc_world.specs.Order.{Each, Rising, IsRecent, numbers}
+use Rattle.gc_world.specs.Order.{Rising, IsRecent, numbers}
 use Rattle.gc_world.specs.Record.{Increasing}
 use Rattle.gc_world.specs.World.{Request, Sent, Numbered, Ends, Step, World, Wire, without, doubled, replied, started, requested, with_settled, run, call_line}
 use Rattle.gc_world.proofs.Booked.{Has, has_more, has_push}
 use Rattle.std.proofs.lemmas.Option.{cond_some, same_Some}
 use Rattle.gc_world.proofs.Places.{get_push}
 use Rattle.gc_world.proofs.Replay.{IsOf, of_more, Replays, replays_more, replays_push, replays_started, no_number}
-use Rattle.gc_world.proofs.Rows.{each_append, each_more, each_number, each_without, each_doubled}
+use Rattle.gc_world.proofs.Rows.{each_number, each_without, each_doubled, rising_each, rising_tail}
 use Rattle.gc_world.proofs.Sound.{IsGoing, Sound, keeps, sound_open, length_expired}
 use Rattle.gc_world.proofs.Stable.{IsStable, stable_all}
 
 -- numbers that increase, none below `low`, still do once a number is appended that is above them all, and at least `low`
-increasing_push : (low n : ℕ) (xs : List ℕ) → low ≤ n → Each (λ x. x < n) xs → Increasing low xs → Increasing low (xs ++ n ∷ [])
+increasing_push : (low n : ℕ) (xs : List ℕ) → low ≤ n → AllByRecursion (λ x. x < n) xs → Increasing low xs → Increasing low (xs ++ n ∷ [])
 increasing_push low n [] le b h = (le, tt)
 increasing_push low n (x ∷ xs) le b h = (h.0, increasing_push (x + 1) n xs (omega (arith, b.0)) b.1 h.1)
-
--- where `Rising low` holds of the numbers of a queue, each of them is at least low - 1
-pub rising_each : {Line : Type 0} (low : ℕ) (xs : List (Numbered Line)) → Rising low (numbers xs) → Each (λ x. low ≤ x.number + 1) xs
-rising_each low [] h = tt
-rising_each low (x ∷ xs) h = (h.0, each_more (λ y. x.number + 1 ≤ y.number + 1) (λ y. low ≤ y.number + 1) (λ y k. omega (arith, k, h.0)) xs (rising_each (x.number + 1) xs h.1))
-
--- where `Rising low` holds of numbers, n among them is at least low - 1, and `Rising (n + 1)` holds of those after it
-pub rising_tail : (low n : ℕ) (xs ys : List ℕ) → Rising low (xs ++ n ∷ ys) → (low ≤ n + 1) × Rising (n + 1) ys
-rising_tail low n [] ys h = h
-rising_tail low n (x ∷ xs) ys h = let r = rising_tail (x + 1) n xs ys h.1 in (omega (arith, h.0, r.0), r.1)
 
 -- how the requests in flight upward relate to those executed. Where nothing is kept, each has number `top` or a higher one. Where
 -- a reply is kept, request top - 1 was sent since the client's last start, the reply has its id, no request from `top` on is
 -- settled, and each request in flight is request top - 1 or a later one
 abbrev IsAboveExecuted : Option KeptReply → (since count top : ℕ) → List (Numbered Request) → Type 0
-IsAboveExecuted None since count top up = Each (λ x. top ≤ x.number) up
-IsAboveExecuted (Some k) since count top up = (since < top) × (k.id ≡ (top - 1 - since) % 8) × (count ≤ top) × Each (λ x. top ≤ x.number + 1) up
+IsAboveExecuted None since count top up = AllByRecursion (λ x. top ≤ x.number) up
+IsAboveExecuted (Some k) since count top up = (since < top) × (k.id ≡ (top - 1 - since) % 8) × (count ≤ top) × AllByRecursion (λ x. top ≤ x.number + 1) up
 
 -- `IsAboveExecuted` holds where no request is in flight and nothing is kept
 above_none : (since count top : ℕ) (up : List (Numbered Request)) (kept : Option KeptReply) → up ≡ [] → kept ≡ None → IsAboveExecuted kept since count top up
-above_none since count top up kept e none = subst (λ k. IsAboveExecuted k since count top up) (sym none) (subst (λ q. Each (λ x. top ≤ x.number) q) (sym e) tt)
+above_none since count top up kept e none = subst (λ k. IsAboveExecuted k since count top up) (sym none) (subst (λ q. AllByRecursion (λ x. top ≤ x.number) q) (sym e) tt)
 
 -- `IsAboveExecuted` holds also with a request at the back whose number is the top or more
 above_push : (kept : Option KeptReply) (since count top : ℕ) (up : List (Numbered Request)) (x : Numbered Request) → top ≤ x.number
     → IsAboveExecuted kept since count top up → IsAboveExecuted kept since count top (up ++ x ∷ [])
-above_push None since count top up x le h = each_append _ up (x ∷ []) h (le, tt)
-above_push (Some k) since count top up x le h = (h.0, h.1, h.2, each_append _ up (x ∷ []) h.3 (omega arith, tt))
+above_push None since count top up x le h = all_append _ up (x ∷ []) h (le, tt)
+above_push (Some k) since count top up x le h = (h.0, h.1, h.2, all_append _ up (x ∷ []) h.3 (omega arith, tt))
 
--- `IsAboveExecuted` holds also once line k of the upward queue, if there is one, is lost
-above_without : (kept : Option KeptReply) (since count top k : ℕ) (up : List (Numbered Request)) → IsAboveExecuted kept since count top up
-    → IsAboveExecuted kept since count top (without k up)
-above_without None since count top k up h = each_without _ k up h
-above_without (Some q) since count top k up h = (h.0, h.1, h.2, each_without _ k up h.3)
-
--- `IsAboveExecuted` holds also once line k of the upward queue, if there is one, is repeated
-above_doubled : (kept : Option KeptReply) (since count top k : ℕ) (up : List (Numbered Request)) → IsAboveExecuted kept since count top up
-    → IsAboveExecuted kept since count top (doubled k up)
-above_doubled None since count top k up h = each_doubled _ k up h
-above_doubled (Some q) since count top k up h = (h.0, h.1, h.2, each_doubled _ k up h.3)
-
--- `IsAboveExecuted` holds also once the request in front is handed over
-above_tail : (kept : Option KeptReply) (since count top : ℕ) (x : Numbered Request) (up : List (Numbered Request)) → IsAboveExecuted kept since count top (x ∷ up)
-    → IsAboveExecuted kept since count top up
-above_tail None since count top x up h = h.1
-above_tail (Some q) since count top x up h = (h.0, h.1, h.2, h.3.1)
+-- where each property that all requests of `up` have is one that all of `others` have, `IsAboveExecuted` of `up` gives that of
+-- `others`
+above_others : (kept : Option KeptReply) (since count top : ℕ) (up others : List (Numbered Request))
+    → ((P : Numbered Request → Type 0) → AllByRecursion P up → AllByRecursion P others)
+    → IsAboveExecuted kept since count top up → IsAboveExecuted kept since count top others
+above_others None since count top up others all h = all _ h
+above_others (Some q) since count top up others all h = (h.0, h.1, h.2, all _ h.3)
 
 -- `IsAboveExecuted` holds also with another count that is at most the top
 above_count : (kept : Option KeptReply) (since count count' top : ℕ) (up : List (Numbered Request)) → count' ≤ top
@@ -95,15 +77,14 @@ is_new (Some k) since count top x up e h =
     ]
 
 -- where `IsAboveExecuted` holds, at most seven requests aren't settled, and a line is kept for the id of the front request, which
--- was sent since the client's last start, this request is number top - 1
-is_last : (width : ℕ) (kept : Option KeptReply) (since count top total : ℕ) (x : Numbered Request) (up : List (Numbered Request)) (line : List ℕ) (narrow : width ≤ 7)
-    (is : kept_line kept (Some ((x.number - since) % 8)) ≡ Some line) (recent : since ≤ x.number) (sent : x.number < total) (few : total ≤ count + width)
-    (above : IsAboveExecuted kept since count top (x ∷ up)) → x.number + 1 ≡ top
-is_last width None since count top total x up line narrow e h1 h2 h3 h = cc
-is_last width (Some k) since count top total x up line narrow e h1 h2 h3 h =
-    let c = cond_some (eqb k.id ((x.number - since) % 8)) k.line line e in
-    let same = eqb-true k.id ((x.number - since) % 8) c.0 in
-    omega (arith, same, h.0, h.1, h.2, h.3.0)
+-- is as `IsGoing` says, this request is number top - 1
+is_last : {line : List ℕ} (kept : Option KeptReply) (since count top total : ℕ) (x : Numbered Request) (up : List (Numbered Request))
+    → kept_line kept (Some x.line.id) ≡ Some line → IsGoing since total x → total ≤ count + 7
+    → IsAboveExecuted kept since count top (x ∷ up) → x.number + 1 ≡ top
+is_last {line} None since count top total x up is going few h = cc
+is_last {line} (Some k) since count top total x up is going few h =
+    let same = eqb-true k.id x.line.id (cond_some (eqb k.id x.line.id) k.line line is).0 in
+    omega (arith, same, going.id, going.recent, going.sent, few, h.0, h.1, h.2, h.3.0)
 
 -- if a reply is kept, it is among these replies, as the one to the last request that was executed, number top - 1
 abbrev IsKeptAmong : Option KeptReply → (top : ℕ) → List (Numbered (List ℕ)) → Type 0
@@ -132,23 +113,18 @@ IsLast (Some k) top executed = (earlier : List ℕ) × (executed ≡ earlier ++ 
 last_none : (top : ℕ) (executed : List ℕ) (kept : Option KeptReply) → kept ≡ None → IsLast kept top executed
 last_none top executed kept none = subst (λ k. IsLast k top executed) (sym none) tt
 
--- `IsRecent` holds where the reply k is kept: `recent_of` with the parts of `IsAboveExecuted` and `IsLast` that this case needs
-recent_row : (width since count top total : ℕ) (k : KeptReply) (executed earlier : List ℕ) (up : List (Numbered Request)) (is : executed ≡ earlier ++ (top - 1) ∷ [])
-    (some : since < top) (counted : count ≤ top) (few : total ≤ count + width) (above : Each (λ x. top ≤ x.number + 1) up) (going : Each (IsGoing since total) up)
-    → IsRecent width (Some k) executed (numbers up)
-recent_row width since count top total k executed earlier up is some counted few above going =
-    (earlier, top - 1, is, each_number (λ n. (top - 1 ≤ n) × (n ≤ top - 1 + width)) up (both up above going))
-  where
-    both : (up : List (Numbered Request)) → Each (λ x. top ≤ x.number + 1) up → Each (IsGoing since total) up → Each (λ x. (top - 1 ≤ x.number) × (x.number ≤ top - 1 + width)) up
-    both [] a g = tt
-    both (x ∷ xs) a g = ((omega (arith, a.0), omega (arith, g.0.sent, some, counted, few)), both xs a.1 g.1)
-
 -- `IsRecent` holds where `IsAboveExecuted` and `IsLast` do, at most `width` requests aren't settled, and those in flight upward
 -- are as `IsGoing` says, whether a reply is kept or not
 recent_of : (width since count top total : ℕ) (kept : Option KeptReply) (executed : List ℕ) (up : List (Numbered Request)) → IsAboveExecuted kept since count top up
-    → IsLast kept top executed → total ≤ count + width → Each (IsGoing since total) up → IsRecent width kept executed (numbers up)
+    → IsLast kept top executed → total ≤ count + width → AllByRecursion (IsGoing since total) up → IsRecent width kept executed (numbers up)
 recent_of width since count top total None executed up above last few going = tt
-recent_of width since count top total (Some k) executed up above last few going = recent_row width since count top total k executed last.0 up last.1 above.0 above.2 few above.3 going
+recent_of width since count top total (Some k) executed up above last few going =
+    (last.0, top - 1, last.1, each_number (λ n. (top - 1 ≤ n) × (n ≤ top - 1 + width)) up (both up above.3 going))
+  where
+    both : (up : List (Numbered Request)) → AllByRecursion (λ x. top ≤ x.number + 1) up → AllByRecursion (IsGoing since total) up
+        → AllByRecursion (λ x. (top - 1 ≤ x.number) × (x.number ≤ top - 1 + width)) up
+    both [] a g = tt
+    both (x ∷ xs) a g = ((omega (arith, a.0), omega (arith, g.0.sent, above.0, above.2, few)), both xs a.1 g.1)
 
 module _ {State : Type 0} (width : ℕ) (narrow : width ≤ 7) (ends : Ends State) (Good : State → Type 0) (ex : IsExchange ends Good)
     (kept : State → Option KeptReply) (keeper : IsKeeper ends kept) (opening : State) where
@@ -158,20 +134,20 @@ module _ {State : Type 0} (width : ℕ) (narrow : width ≤ 7) (ends : Ends Stat
   pub record IsReplayed (w : Wire State) (top : ℕ) : Type 0 where
     pub replies : List (Numbered (List ℕ))
     pub replays : Replays ends w.sent w.starts 0 (ends.restarted opening) w.executed replies w.state
-    pub among : Each (λ m. Has m replies) w.made
-    pub each : Each (λ m. Has m w.made) replies
-    pub begins : Each (λ x. x < length w.executed + 1) w.starts
+    pub among : AllByRecursion (λ m. Has m replies) w.made
+    pub each : AllByRecursion (λ m. Has m w.made) replies
+    pub begins : AllByRecursion (λ x. x < length w.executed + 1) w.starts
     pub held : IsKeptAmong (kept w.state) top replies
-    pub lines : Each (IsOf call_line w.sent) w.up
+    pub lines : AllByRecursion (IsOf call_line w.sent) w.up
 
   -- each request was executed at most once: the executed numbers increase, they and those of the replies in flight are below
   -- `top`, which is at most the count of requests, and `IsAboveExecuted`, `IsLast` and `IsReplayed` hold of the wire with it
   pub record IsOnce (c : ByNumber Call) (w : Wire State) : Type 0 where
     pub top : ℕ
     pub climbs : Increasing 0 w.executed
-    pub below : Each (λ n. n < top) w.executed
+    pub below : AllByRecursion (λ n. n < top) w.executed
     pub sent : top ≤ length c.requests
-    pub made : Each (λ x. x.number < top) w.down
+    pub made : AllByRecursion (λ x. x.number < top) w.down
     pub above : IsAboveExecuted (kept w.state) c.since c.count top w.up
     pub last : IsLast (kept w.state) top w.executed
     pub replayed : IsReplayed w top
@@ -186,7 +162,7 @@ module _ {State : Type 0} (width : ℕ) (narrow : width ≤ 7) (ends : Ends Stat
       (handed_is : ends.handed w.state x.line.id x.line.call ≡ hd) (none : kept_line (kept w.state) (Some x.line.id) ≡ None) (replayed : IsReplayed w top)
       (executed_is : hd.executed ≡ true) → IsReplayed (replied w x.number rest (record hd { executed = true })) (x.number + 1)
   replayed_new w x rest top q hd is none h exe =
-      let of = subst (λ l. Each (IsOf call_line w.sent) l) q h.lines in
+      let of = subst (λ l. AllByRecursion (IsOf call_line w.sent) l) q h.lines in
       let y : Numbered (List ℕ) = record { number = x.number; line = hd.reply } in
       let same_call = of.0.call in
       let m : x.number ≡ x.number + 1 - 1 = omega arith in
@@ -211,9 +187,9 @@ module _ {State : Type 0} (width : ℕ) (narrow : width ≤ 7) (ends : Ends Stat
               leads = ap (λ c. (ends.handed w.state x.line.id c).state) same_call ∙ ap (λ (k : Handed State). k.state) is;
             })
             h.replays;
-        among = each_append _ w.made _ (each_more (λ m. Has m h.replies) (λ m. Has m (h.replies ++ y ∷ [])) (λ m p. has_more m h.replies _ p) w.made h.among) (has_push y h.replies, tt);
-        each = each_append _ h.replies _ (each_more (λ m. Has m w.made) (λ m. Has m (w.made ++ y ∷ [])) (λ m p. has_more m w.made _ p) h.replies h.each) (has_push y w.made, tt);
-        begins = each_more (λ n. n < length w.executed + 1) (λ n. n < length (w.executed ++ x.number ∷ []) + 1) (λ n l. omega (arith, l, length_push w.executed x.number)) w.starts h.begins;
+        among = all_append _ w.made _ (all_on (λ m. Has m h.replies) (λ m. Has m (h.replies ++ y ∷ [])) w.made (λ m p. has_more m h.replies _ p) h.among) (has_push y h.replies, tt);
+        each = all_append _ h.replies _ (all_on (λ m. Has m w.made) (λ m. Has m (w.made ++ y ∷ [])) h.replies (λ m p. has_more m w.made _ p) h.each) (has_push y w.made, tt);
+        begins = all_on (λ n. n < length w.executed + 1) (λ n. n < length (w.executed ++ x.number ∷ []) + 1) w.starts (λ n l. omega (arith, l, length_push w.executed x.number)) h.begins;
         held = subst (λ k. IsKeptAmong k (x.number + 1) (h.replies ++ y ∷ [])) (sym keeps_it) (subst (λ i. Has (record { number = i; line = hd.reply }) (h.replies
             ++ y ∷ [])) m (has_push y h.replies));
         lines = of.1;
@@ -225,7 +201,7 @@ module _ {State : Type 0} (width : ℕ) (narrow : width ≤ 7) (ends : Ends Stat
       (sound : Sound width ends Good w) (once : IsOnce w.client w.wire) → IsOnce w.client (replied w.wire x.number rest (record hd { executed = true }))
   once_new w x rest hd q is none exe s h =
       let c = w.client in
-      let g = subst (λ l. Each (IsGoing c.since (length c.requests)) l) q s.going in
+      let g = subst (λ l. AllByRecursion (IsGoing c.since (length c.requests)) l) q s.going in
       let a = subst (λ l. IsAboveExecuted (kept w.wire.state) c.since c.count h.top l) q h.above in
       let new = is_new (kept w.wire.state) c.since c.count h.top x rest (subst (λ i. kept_line (kept w.wire.state) (Some i) ≡ None) g.0.id none) a in
       let order = rising_tail c.count x.number (numbers w.wire.down) (numbers rest) (subst (λ l. Rising c.count (numbers w.wire.down ++ numbers l)) q s.order) in
@@ -234,10 +210,10 @@ module _ {State : Type 0} (width : ℕ) (narrow : width ≤ 7) (ends : Ends Stat
       let m : x.number ≡ x.number + 1 - 1 = omega arith in
       record {
         top = x.number + 1;
-        climbs = increasing_push 0 x.number w.wire.executed (omega arith) (each_more (λ n. n < h.top) (λ n. n < x.number) (λ n l. omega (arith, l, new)) w.wire.executed h.below) h.climbs;
-        below = each_append _ w.wire.executed _ (each_more (λ n. n < h.top) (λ n. n < x.number + 1) (λ n l. omega (arith, l, new)) w.wire.executed h.below) (omega arith, tt);
+        climbs = increasing_push 0 x.number w.wire.executed (omega arith) (all_on (λ n. n < h.top) (λ n. n < x.number) w.wire.executed (λ n l. omega (arith, l, new)) h.below) h.climbs;
+        below = all_append _ w.wire.executed _ (all_on (λ n. n < h.top) (λ n. n < x.number + 1) w.wire.executed (λ n l. omega (arith, l, new)) h.below) (omega arith, tt);
         sent = omega (arith, g.0.sent);
-        made = each_append _ w.wire.down _ (each_more (λ (y : Numbered (List ℕ)). y.number < h.top) (λ y. y.number < x.number + 1) (λ y l. omega (arith, l, new)) w.wire.down h.made) (omega arith, tt);
+        made = all_append _ w.wire.down _ (all_on (λ (y : Numbered (List ℕ)). y.number < h.top) (λ y. y.number < x.number + 1) w.wire.down (λ y l. omega (arith, l, new)) h.made) (omega arith, tt);
         above = subst (λ k. IsAboveExecuted k c.since c.count (x.number + 1) rest) (sym keeps_it)
             (omega (arith, g.0.recent), g.0.id ∙ ap (λ n. (n - c.since) % 8) m, order.0, rising_each (x.number + 1) rest order.1);
         last = subst (λ k. IsLast k (x.number + 1) (w.wire.executed ++ x.number ∷ [])) (sym keeps_it) (w.wire.executed, ap (λ n. w.wire.executed ++ n ∷ []) m);
@@ -251,27 +227,26 @@ module _ {State : Type 0} (width : ℕ) (narrow : width ≤ 7) (ends : Ends Stat
   once_again w x rest line q is s h =
       let c = w.client in
       let r = h.replayed in
-      let g = subst (λ l. Each (IsGoing c.since (length c.requests)) l) q s.going in
+      let g = subst (λ l. AllByRecursion (IsGoing c.since (length c.requests)) l) q s.going in
       let a = subst (λ l. IsAboveExecuted (kept w.wire.state) c.since c.count h.top l) q h.above in
-      let last = is_last width (kept w.wire.state) c.since c.count h.top (length c.requests) x rest line narrow
-      (subst (λ i. kept_line (kept w.wire.state) (Some i) ≡ Some line) g.0.id is) g.0.recent g.0.sent s.few a in
+      let last = is_last (kept w.wire.state) w.client.since w.client.count h.top (length w.client.requests) x rest is g.0 (omega (arith, narrow, s.few)) a in
       let y : Numbered (List ℕ) = record { number = x.number; line = line } in
       record {
         top = h.top;
         climbs = h.climbs;
         below = h.below;
         sent = h.sent;
-        made = each_append _ w.wire.down _ h.made (omega (arith, last), tt);
-        above = above_tail (kept w.wire.state) c.since c.count h.top x rest a;
+        made = all_append _ w.wire.down _ h.made (omega (arith, last), tt);
+        above = above_others (kept w.wire.state) c.since c.count h.top (x ∷ rest) rest (λ P all. all.1) a;
         last = h.last;
         replayed = record {
           replies = r.replies;
           replays = r.replays;
-          among = each_append _ w.wire.made _ r.among (held_line (kept w.wire.state) x.line.id x.number h.top line r.replies is last r.held, tt);
-          each = each_more (λ m. Has m w.wire.made) (λ m. Has m (w.wire.made ++ y ∷ [])) (λ m p. has_more m w.wire.made _ p) r.replies r.each;
+          among = all_append _ w.wire.made _ r.among (held_line (kept w.wire.state) x.line.id x.number h.top line r.replies is last r.held, tt);
+          each = all_on (λ m. Has m w.wire.made) (λ m. Has m (w.wire.made ++ y ∷ [])) r.replies (λ m p. has_more m w.wire.made _ p) r.each;
           begins = r.begins;
           held = r.held;
-          lines = (subst (λ l. Each (IsOf call_line w.wire.sent) l) q r.lines).1;
+          lines = (subst (λ l. AllByRecursion (IsOf call_line w.wire.sent) l) q r.lines).1;
         };
       }
 
@@ -312,7 +287,7 @@ module _ {State : Type 0} (width : ℕ) (narrow : width ≤ 7) (ends : Ends Stat
           begins = t.begins;
           held = t.held;
           lines =
-              each_append _ w.wire.up _ (each_more _ _ (of_more call_line w.wire.sent (r ∷ [])) w.wire.up t.lines)
+              all_append _ w.wire.up _ (all_on _ _ w.wire.up (of_more call_line w.wire.sent (r ∷ [])) t.lines)
               (record { request = r; found = get_push w.wire.sent r; small = digit; call = refl; text = refl }, tt);
         };
       }
@@ -332,13 +307,13 @@ module _ {State : Type 0} (width : ℕ) (narrow : width ≤ 7) (ends : Ends Stat
       (once_sent w target call y (omega arith) (length_push c.requests (pending_of target call deadline)) refl refl s h)
 
   -- `IsReplayed` holds also with other queues, where each upward request is the one that was sent with its number
-  replayed_up : (w : Wire State) (top : ℕ) (up : List (Numbered Request)) (down : List (Numbered (List ℕ))) → Each (IsOf call_line w.sent) up → IsReplayed w top
+  replayed_up : (w : Wire State) (top : ℕ) (up : List (Numbered Request)) (down : List (Numbered (List ℕ))) → AllByRecursion (IsOf call_line w.sent) up → IsReplayed w top
       → IsReplayed (record w { up = up; down = down }) top
   replayed_up w top up down u t = record { replies = t.replies; replays = t.replays; among = t.among; each = t.each; begins = t.begins; held = t.held; lines = u }
 
   -- `IsOnce` holds also with other queues, of which its clauses hold
   once_queues : (c : ByNumber Call) (w : Wire State) (up : List (Numbered Request)) (down : List (Numbered (List ℕ))) (h : IsOnce c w)
-      → Each (λ x. x.number < h.top) down → IsAboveExecuted (kept w.state) c.since c.count h.top up → Each (IsOf call_line w.sent) up
+      → AllByRecursion (λ x. x.number < h.top) down → IsAboveExecuted (kept w.state) c.since c.count h.top up → AllByRecursion (IsOf call_line w.sent) up
       → IsOnce c (record w { up = up; down = down })
   once_queues c w up down h d u l = record { top = h.top; last = h.last; climbs = h.climbs; below = h.below; sent = h.sent; made = d; above = u; replayed = replayed_up w h.top up down l h.replayed }
 
@@ -372,7 +347,7 @@ module _ {State : Type 0} (width : ℕ) (narrow : width ≤ 7) (ends : Ends Stat
         climbs = h.climbs;
         below = h.below;
         sent = h.sent;
-        made = (subst (λ q. Each (λ y. y.number < h.top) q) e h.made).1;
+        made = (subst (λ q. AllByRecursion (λ y. y.number < h.top) q) e h.made).1;
         above = above;
         replayed = replayed_else w.wire h.top settled rest w.wire.refused w.wire.idle h.replayed;
       }
@@ -382,7 +357,7 @@ module _ {State : Type 0} (width : ℕ) (narrow : width ≤ 7) (ends : Ends Stat
       → IsOnce w.client w.wire → IsOnce (number_reply w.client x old).client (with_settled (record w.wire { down = rest }) (number_reply w.client x old)).wire
   once_reply w x rest true e h = once_settled w x rest w.client.count (w.wire.settled ++ []) e h h.above
   once_reply w x rest false e h =
-      let m = subst (λ q. Each (λ y. y.number < h.top) q) e h.made in
+      let m = subst (λ q. AllByRecursion (λ y. y.number < h.top) q) e h.made in
       once_settled w x rest (x.number + 1) (w.wire.settled ++ (number_reply w.client x false).settlements) e h
       (above_count (kept w.wire.state) w.client.since w.client.count (x.number + 1) h.top w.wire.up (omega (arith, m.0)) h.above)
 
@@ -404,7 +379,7 @@ module _ {State : Type 0} (width : ℕ) (narrow : width ≤ 7) (ends : Ends Stat
           replays = replays_started ends keeper.twice w.sent w.starts opening w.executed t.replies w.state t.replays;
           among = t.among;
           each = t.each;
-          begins = each_append _ w.starts _ t.begins (omega arith, tt);
+          begins = all_append _ w.starts _ t.begins (omega arith, tt);
           held = held_none h.top t.replies (kept (ends.restarted w.state)) (keeper.forgets w.state);
           lines = t.lines;
         };
@@ -452,13 +427,13 @@ module _ {State : Type 0} (width : ℕ) (narrow : width ≤ 7) (ends : Ends Stat
         loses_up = λ w n h. record {
           sound = k.loses_up w n h.sound;
           once = once_queues w.client w.wire (without n w.wire.up) w.wire.down h.once h.once.made
-              (above_without (kept w.wire.state) w.client.since w.client.count h.once.top n w.wire.up h.once.above)
+              (above_others (kept w.wire.state) w.client.since w.client.count h.once.top w.wire.up (without n w.wire.up) (λ P. each_without P n w.wire.up) h.once.above)
               (each_without _ n w.wire.up h.once.replayed.lines);
         };
         repeats_up = λ w n h. record {
           sound = k.repeats_up w n h.sound;
           once = once_queues w.client w.wire (doubled n w.wire.up) w.wire.down h.once h.once.made
-              (above_doubled (kept w.wire.state) w.client.since w.client.count h.once.top n w.wire.up h.once.above)
+              (above_others (kept w.wire.state) w.client.since w.client.count h.once.top w.wire.up (doubled n w.wire.up) (λ P. each_doubled P n w.wire.up) h.once.above)
               (each_doubled _ n w.wire.up h.once.replayed.lines);
         };
         loses_down = λ w n h. record {

@@ -15,10 +15,11 @@ use Rattle.gc_lines.specs.Frames.{is_line_feed, frame_of}
 use Rattle.gc_lines.specs.Lines.{IsPlain, with_end}
 use Rattle.gc_lines.proofs.Keeping.{line_frame, last-append}
 use Rattle.gc_lines.proofs.Plain.{IsPlainByte}
+use Rattle.gc_world.specs.Sides.{StandsForPart}
 
 -- Plain bytes have no line feed.
 
--- the bytes before the first line feed are all of them, where they are plain
+-- where bytes are plain, `prefix_len` of those that are no line feed is the length of all
 plain_prefix : (bs : List ℕ) → AllByRecursion IsPlainByte bs → prefix_len (λ b. not (is_line_feed b)) bs ≡ length bs
 plain_prefix [] h = refl
 plain_prefix (b ∷ bs) h =
@@ -60,16 +61,18 @@ fed_end line fits =
     let items : line ≡ take (length (line ++ 13 ∷ []) - 1) (line ++ 13 ∷ []) = sym (ap (λ n. take n (line ++ 13 ∷ [])) one ∙ take_at line (13 ∷ []) (length line) refl) in
     sym (line_frame (line ++ 13 ∷ []) (record { items = line }) (omega (arith, long)) last (omega (arith, long)) items)
 
--- What an assembler stands for once it was fed a piece of a line: the bytes of a line that it has taken so far. `old` is the
--- assembler before, and `new` after. The premise `next` is what the contract of the call that fed the piece says of a piece
--- without a line feed.
+-- What an assembler stands for, the bytes of a line that it has taken so far, once it was fed a piece of the line: `old` is the
+-- assembler before, and `new` after.
+
+-- what the contract of the call that fed the piece says of a piece without a line feed: P and Q, and that the assembler stands
+-- for the piece too, after the bytes for which it stood before
+abbrev Feeds : (P Q : Type 0) → (old new : Kept) → (piece : List ℕ) → Type 0
+Feeds P Q old new piece = position is_line_feed piece ≡ None → P × Q × ((rest : List ℕ) → StandsFor old rest → StandsFor new (rest ++ piece))
 
 module _ {P Q : Type 0} (old new : Kept) (line : List ℕ) (plain : IsPlain line) where
   -- where an assembler stood (`old`) for the first g bytes of the line, and was fed those from there to place m, within the line,
   -- it then stands (`new`) for the first m bytes
-  pub fed_within : (g m : ℕ) → g ≤ m → m ≤ length line
-      → (position is_line_feed (take (m - g) (drop g line)) ≡ None → P × Q × ((rest : List ℕ) → StandsFor old rest → StandsFor new (rest ++ take (m - g) (drop g line))))
-      → StandsFor old (take g (with_end line)) → StandsFor new (take m (with_end line))
+  pub fed_within : (g m : ℕ) → g ≤ m → m ≤ length line → Feeds P Q old new (take (m - g) (drop g line)) → StandsForPart old g line → StandsForPart new m line
   fed_within g m le within next stands =
       let fed = (next (no_feed (take (m - g) (drop g line)) (All-take IsPlainByte (m - g) (drop g line) (All-drop IsPlainByte g line plain)))).2 (take g line)
       (subst (StandsFor old) (take-append-le g line (13 ∷ 10 ∷ []) (omega (arith, le, within))) stands) in
@@ -77,15 +80,12 @@ module _ {P Q : Type 0} (old new : Kept) (line : List ℕ) (plain : IsPlain line
 
   -- where an assembler stood (`old`) for the first g bytes of the line, and was fed its other bytes, without CR LF, it then
   -- stands (`new`) for the line
-  pub fed_line : (g : ℕ) → g ≤ length line
-      → (position is_line_feed (take (length line - g) (drop g line)) ≡ None → P × Q × ((rest : List ℕ) → StandsFor old rest → StandsFor new (rest ++ take (length line - g) (drop g line))))
-      → StandsFor old (take g (with_end line)) → StandsFor new line
+  pub fed_line : (g : ℕ) → g ≤ length line → Feeds P Q old new (take (length line - g) (drop g line)) → StandsForPart old g line → StandsFor new line
   fed_line g le next stands = subst (StandsFor new) (take_at line (13 ∷ 10 ∷ []) (length line) refl) (fed_within g (length line) le (omega arith) next stands)
 
 -- where an assembler stood (`old`) for a line, and was fed a CR, it then stands (`new`) for the line and the CR
-pub fed_return : {P Q : Type 0} (old new : Kept) (line : List ℕ) (m : ℕ) → m ≡ length line + 1
-    → (position is_line_feed (13 ∷ []) ≡ None → P × Q × ((rest : List ℕ) → StandsFor old rest → StandsFor new (rest ++ 13 ∷ [])))
-    → StandsFor old line → StandsFor new (take m (with_end line))
+pub fed_return : {P Q : Type 0} (old new : Kept) (line : List ℕ) (m : ℕ) → m ≡ length line + 1 → Feeds P Q old new (13 ∷ []) → StandsFor old line
+    → StandsForPart new m line
 fed_return old new line m e next stands = subst (StandsFor new) (sym (with_return line m e)) ((next refl).2 line stands)
 
 -- where an assembler stands for all bytes of a line of at most 512 bytes and its CR LF but the line feed, the frame that a line

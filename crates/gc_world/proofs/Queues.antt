@@ -1,9 +1,8 @@
 -- What a loss (`without`) and a repeat (`doubled`) leave of a queue. It is what std's `remove` and `insert` leave, and it
 -- doesn't matter whether a function is mapped over the queue before or after.
-use Rattle.std.proofs.Common.{◌≡◌, ℕ, zero, suc, ◌<◌, ◌≤◌, true, false, List, [], ◌∷◌, length, map, get_or, Option, Some, None, refl, sym, ◌∙◌, ap, arith, inl, inr}
-use Rattle.std.specs.Prelude.{IsSome, OnSome, IfNone, ◌↔◌, ◌⊎◌}
+use Rattle.std.proofs.Common.{◌≡◌, ℕ, zero, suc, ◌<◌, ◌≤◌, true, false, List, [], ◌∷◌, length, map, get_or, Option, Some, None, refl, sym, ◌∙◌, ap, arith}
+use Rattle.std.specs.Prelude.{IsSome, OnSome, IfNone, ◌↔◌}
 use Rattle.std.specs.List.{remove, insert}
-use Rattle.std.proofs.lemmas.Bool.{cases_lt}
 use Rattle.gc_world.specs.World.{without, doubled}
 
 -- where a list has an element k, std's `remove` of it leaves the list without it (`without`)
@@ -48,17 +47,11 @@ pub if_none : {A P Q : Type 0} (o : Option A) → (P → Q) → IfNone o P → I
 if_none (Some x) f h = tt
 if_none None f h = f h
 
--- a number that isn't below n is at least n
-pub not_below : (k n : ℕ) → (k < n → ⊥) → n ≤ k
-not_below k n h = by_cases (cases_lt k n)
-  where
-    by_cases : (k < n) ⊎ (n ≤ k) → n ≤ k
-    by_cases (inl lt) = absurd (h lt)
-    by_cases (inr ge) = ge
-
 -- where o is `Some` exactly if `old` has an element k, and `new` is what std's `remove` of element k leaves of `old` if o is
 -- `Some`, and is `old` if o is `None`, `new` is `old` without element k (`without`)
 pub lose_left : {A : Type 0} (o : Option A) (k : ℕ) (old new : List A) → (IsSome o ↔ (k < length old)) → OnSome o (new ≡ remove old k)
     → IfNone o (new ≡ old) → new ≡ without k old
 lose_left (Some x) k old new v some none = some ∙ without_is old k (v.0 refl)
-lose_left None k old new v some none = none ∙ sym (without_past k old (not_below k (length old) (λ lt. let h : false ≡ true = v.1 lt in cc)))
+lose_left None k old new v some none =
+    let past : k < length old → ⊥ = λ lt. let h : false ≡ true = v.1 lt in cc in
+    none ∙ sym (without_past k old (omega (arith, past)))

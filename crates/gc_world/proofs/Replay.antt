@@ -1,16 +1,16 @@
 -- A replay: the executions of a run, one after the other, with the instrument's state before each and the reply to each.
 use Rattle.std.proofs.Common.{◌≡◌, ℕ, ◌+◌, ◌<◌, ◌||◌, Bool, true, false, List, [], ◌∷◌, ◌++◌, length, Some, refl, sym, ◌∙◌, ap, subst, arith, eqb}
+use Rattle.std.specs.List.{AllByRecursion}
 use Rattle.std.specs.Prelude.{slice_get}
 use Rattle.std.proofs.lemmas.Bool.{ne_eqb, eq-eqb, or_right}
 use Rattle.gc_world.specs.World.{Sent, Numbered, Ends}
 use Rattle.gc_world.specs.Worlds
-use Rattle.gc_world.specs.Order.{Each}
 use Rattle.gc_world.specs.Faithful.{has_number, begun}
 use Rattle.gc_world.specs.Record.{IsExecutedIn}
 use Rattle.gc_world.proofs.Places.{get_more}
 
 -- a number above all of these isn't among them
-pub no_number : (n : ℕ) (xs : List ℕ) → Each (λ x. x < n) xs → has_number n xs ≡ false
+pub no_number : (n : ℕ) (xs : List ℕ) → AllByRecursion (λ x. x < n) xs → has_number n xs ≡ false
 no_number n [] h = refl
 no_number n (x ∷ xs) h = ap (λ b. b || has_number n xs) (ne_eqb x n (λ e. omega (arith, h.0, e))) ∙ no_number n xs h.1
 

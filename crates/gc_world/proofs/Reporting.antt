@@ -1,25 +1,24 @@
 -- What holds of a run's wire holds of a report that has its lists and counts (`IsReport`).
 use Rattle.std.proofs.Common.{◌≡◌, ℕ, zero, suc, ◌+◌, ◌<◌, ◌≤◌, inl, inr, List, [], ◌∷◌, length, Some, refl, sym, ◌∙◌, ap, subst, arith}
+use Rattle.std.specs.List.{AllByRecursion}
 use Rattle.std.specs.Prelude.{slice_get}
 use Rattle.std.proofs.lemmas.Bool.{cases_lt}
 use Rattle.std.proofs.lemmas.List.{length-map}
 use Rattle.std.proofs.lemmas.List.Elements.{recursion_from_All}
 use Rattle.gc_catalogue.specs.Calls.{IsFitting}
-use Rattle.gc_catalogue.specs.declared.answer.Reading.{Reading}
 use Rattle.gc_catalogue.specs.declared.call.Call.{Call}
 use Rattle.gc_catalogue.specs.Texts.{request_line}
 use Rattle.gc_client.specs.declared.settlement.Settlement.{Settlement}
 use Rattle.gc_client.specs.declared.settlement.Outcome.{Outcome}
 use Rattle.gc_client.specs.declared.settlement.Outcome.TheVariants.{Answered, Late, Lost}
 use Rattle.gc_client.specs.Rule
-use Rattle.gc_client.specs.Settlements.{ReadsAs, IsReadForCall, settlement_seen, outcome_seen}
-use Rattle.gc_instrument.specs.State.{State, restarted}
+use Rattle.gc_client.specs.Settlements.{IsReadForCall, settlement_seen, outcome_seen}
+use Rattle.gc_instrument.specs.State.{State, IsFittingState, restarted}
 use Rattle.gc_world.specs.declared.report.Made.{Made}
 use Rattle.gc_world.specs.declared.report.Report.{Report}
 use Rattle.gc_world.specs.declared.report.Sent.{Sent}
-use Rattle.gc_world.specs.Faithful.{OneForOne, IsValueOrRefusal, IsBookedAnswer, BooksAnswers, has_number, begun, AreBefore, IsReplyOf, RecordsExecution, ActsOnce, sent_seen, AgreesWith}
-use Rattle.gc_world.specs.Order.{Each}
-use Rattle.gc_world.specs.Record.{Increasing, IsOneForOne, IsReplyTo, IsBooked, IsExecutedIn, IsExecution}
+use Rattle.gc_world.specs.Faithful.{OneForOne, IsBookedAnswer, BooksAnswers, has_number, begun, AreBefore, IsReplyOf, RecordsExecution, ActsOnce, sent_seen, AgreesWith}
+use Rattle.gc_world.specs.Record.{Increasing, IsOneForOne, IsBooked, IsExecutedIn, IsExecution}
 use Rattle.gc_world.specs.Reports.{made_seen, IsReport, IsNoLongerThan}
 use Rattle.gc_world.specs.Clients.{ends}
 use Rattle.gc_instrument.specs.Execution.{exec}
@@ -27,7 +26,7 @@ use Rattle.gc_instrument.specs.Replying.{executed_line, without_kept}
 use Rattle.gc_world.specs.World
 use Rattle.gc_world.specs.World.{Numbered, Wire}
 use Rattle.gc_world.proofs.Counts.{IsWithin}
-use Rattle.gc_world.proofs.Handing.{bare_after, bare_line, bare_begun}
+use Rattle.gc_world.proofs.Handing.{bare_after, bare_line, bare_begun, fine}
 use Rattle.std.proofs.lemmas.Option.{same_Some, none-some, slice_get_within}
 use Rattle.gc_world.proofs.Places.{get_map, get_seen, in_range, all_at}
 
@@ -70,16 +69,16 @@ module _ (r : Report) (w : Wire State) (h : IsReport r w) where
             one.same m (settlement_seen s) (sent_seen q) (settled_at m s e) (ap (λ l. slice_get l m) (sym h.sent) ∙ get_map sent_seen r.sent m q f);
       }
 
-  -- Premises: a reply made in a good state to a call that fits reads as a value or a refusal, and the calls of the report fit.
-  module _ (Good : State → Type 0) (fine : (call : Call) (bytes : List ℕ) (reading : Reading) → IsReplyTo ends Good call bytes → IsFitting call
-      → ReadsAs call bytes reading → IsValueOrRefusal reading) (fits : Each (λ (q : Sent). IsFitting q.call) r.sent) where
-    -- where the report is one for one, and the run's answers are booked, settlement m of the report, with the outcome o, is
-    -- booked for request m if it is an answer whose reading is that of its line
-    booked_at : (one : OneForOne r) → ((m : ℕ) (s : Rule.Settlement Call) → slice_get w.settled m ≡ Some s → IsBooked ends Good w.made m s)
+  -- Premises: the calls of the report fit, and the run's answers are booked, for fitting states.
+  module _ (fits : AllByRecursion (λ (q : Sent). IsFitting q.call) r.sent)
+      (booked : (m : ℕ) (s : Rule.Settlement Call) → slice_get w.settled m ≡ Some s → IsBooked ends IsFittingState w.made m s) where
+    -- where the report is one for one, settlement m of the report, with the outcome o, is booked for request m if it is an answer
+    -- whose reading is that of its line
+    booked_at : (one : OneForOne r)
         → (m : ℕ) (s : Settlement Call) (o : Outcome) → s.outcome ≡ o → slice_get r.settled m ≡ Some s → IsReadForCall s.call o → IsBookedAnswer r m s.call o
-    booked_at one booked m s Late o e read = tt
-    booked_at one booked m s Lost o e read = tt
-    booked_at one booked m s (Answered reading line) o e read =
+    booked_at one m s Late o e read = tt
+    booked_at one m s Lost o e read = tt
+    booked_at one m s (Answered reading line) o e read =
         let b = booked m (settlement_seen s) (settled_at m s e) line.items (ap outcome_seen o) in
         let at = b.0.0 in
         let entry = get_seen made_seen r.made at (record { number = m; line = line.items }) (ap (λ l. slice_get l at) h.made ∙ b.0.1) in
@@ -95,10 +94,10 @@ module _ (r : Report) (w : Wire State) (h : IsReport r w) where
           fine = fine s.call line.items reading b.1 (subst IsFitting (sym same) (all_at (λ (p : Sent). IsFitting p.call) r.sent m q.0 fits q.1)) read;
         }
 
-    -- where the report is one for one, and the run's answers are booked, those of the report are
-    pub books_answers : OneForOne r → ((m : ℕ) (s : Rule.Settlement Call) → slice_get w.settled m ≡ Some s → IsBooked ends Good w.made m s) → BooksAnswers r
-    books_answers one booked m s e =
-        booked_at one booked m s s.outcome refl e
+    -- where the report is one for one, its answers are booked
+    pub books_answers : OneForOne r → BooksAnswers r
+    books_answers one m s e =
+        booked_at one m s s.outcome refl e
         (all_at (λ (x : Settlement Call). IsReadForCall x.call x.outcome) r.settled m s
         (recursion_from_All (λ (x : Settlement Call). IsReadForCall x.call x.outcome) r.settled h.settled.read) e)
 

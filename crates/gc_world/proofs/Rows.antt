@@ -1,33 +1,26 @@
 -- Numbers in a queue: what holds of each, and that they never fall. Where a comment says that numbers never fall, `Rising low`
 -- holds of them: none is below low - 1 either.
 use Rattle.std.proofs.Common.{ℕ, zero, suc, ◌+◌, ◌<◌, ◌≤◌, List, [], ◌∷◌, ◌++◌, arith}
-use Rattle.gc_lines.proofs.Lists.{all_append, all_on}
+use Rattle.std.specs.List.{AllByRecursion}
+use Rattle.gc_lines.proofs.Lists.{all_on}
 use Rattle.gc_world.specs.Worlds.{without, doubled, Numbered}
-use Rattle.gc_world.specs.Order.{Each, Rising, numbers}
+use Rattle.gc_world.specs.Order.{Rising, numbers}
 
 module _ {A : Type 0} where
-  -- a property that each element of xs and of ys has holds of each element of xs followed by ys: `all_append`, said of `Each`
-  pub each_append : (P : A → Type 0) (xs ys : List A) → Each P xs → Each P ys → Each P (xs ++ ys)
-  each_append P xs ys h g = all_append P xs ys h g
-
-  -- where each element has P, and P gives Q, each element has Q: `all_on`, said of `Each`
-  pub each_more : (P Q : A → Type 0) → ((x : A) → P x → Q x) → (xs : List A) → Each P xs → Each Q xs
-  each_more P Q f xs h = all_on P Q xs f h
-
   -- a property that each element has holds of each element of the list without element k
-  pub each_without : (P : A → Type 0) (k : ℕ) (xs : List A) → Each P xs → Each P (without k xs)
+  pub each_without : (P : A → Type 0) (k : ℕ) (xs : List A) → AllByRecursion P xs → AllByRecursion P (without k xs)
   each_without P k [] h = tt
   each_without P zero (x ∷ xs) h = h.1
   each_without P (suc k) (x ∷ xs) h = (h.0, each_without P k xs h.1)
 
   -- a property that each element has holds of each element of the list with element k twice
-  pub each_doubled : (P : A → Type 0) (k : ℕ) (xs : List A) → Each P xs → Each P (doubled k xs)
+  pub each_doubled : (P : A → Type 0) (k : ℕ) (xs : List A) → AllByRecursion P xs → AllByRecursion P (doubled k xs)
   each_doubled P k [] h = tt
   each_doubled P zero (x ∷ xs) h = (h.0, (h.0, h.1))
   each_doubled P (suc k) (x ∷ xs) h = (h.0, each_doubled P k xs h.1)
 
 -- what holds of the number of each line holds of each number of the queue
-pub each_number : {Line : Type 0} (P : ℕ → Type 0) (xs : List (Numbered Line)) → Each (λ x. P x.number) xs → Each P (numbers xs)
+pub each_number : {Line : Type 0} (P : ℕ → Type 0) (xs : List (Numbered Line)) → AllByRecursion (λ x. P x.number) xs → AllByRecursion P (numbers xs)
 each_number P [] h = tt
 each_number P (x ∷ xs) h = (h.0, each_number P xs h.1)
 
@@ -77,7 +70,17 @@ module _ {Line : Type 0} where
   -- where ns, and the numbers of a queue after them, never fall, and n is above all of them, and at least low - 1, they still
   -- don't once a line with the number n goes to the queue's back
   pub rising_push : (low n : ℕ) (line : Line) (ns : List ℕ) (xs : List (Numbered Line)) → low ≤ n + 1
-      → Each (λ m. m < n) (ns ++ numbers xs) → Rising low (ns ++ numbers xs) → Rising low (ns ++ numbers (xs ++ record { number = n; line = line } ∷ []))
+      → AllByRecursion (λ m. m < n) (ns ++ numbers xs) → Rising low (ns ++ numbers xs) → Rising low (ns ++ numbers (xs ++ record { number = n; line = line } ∷ []))
   rising_push low n line [] [] le below h = (le, tt)
   rising_push low n line [] (x ∷ xs) le below h = (h.0, rising_push (x.number + 1) n line [] xs (omega (arith, below.0)) below.1 h.1)
   rising_push low n line (m ∷ ns) xs le below h = (h.0, rising_push (m + 1) n line ns xs (omega (arith, below.0)) below.1 h.1)
+
+-- where `Rising low` holds of the numbers of a queue, each of them is at least low - 1
+pub rising_each : {Line : Type 0} (low : ℕ) (xs : List (Numbered Line)) → Rising low (numbers xs) → AllByRecursion (λ x. low ≤ x.number + 1) xs
+rising_each low [] h = tt
+rising_each low (x ∷ xs) h = (h.0, all_on (λ y. x.number + 1 ≤ y.number + 1) (λ y. low ≤ y.number + 1) xs (λ y k. omega (arith, k, h.0)) (rising_each (x.number + 1) xs h.1))
+
+-- where `Rising low` holds of numbers, n among them is at least low - 1, and `Rising (n + 1)` holds of those after it
+pub rising_tail : (low n : ℕ) (xs ys : List ℕ) → Rising low (xs ++ n ∷ ys) → (low ≤ n + 1) × Rising (n + 1) ys
+rising_tail low n [] ys h = h
+rising_tail low n (x ∷ xs) ys h = let r = rising_tail (x + 1) n xs ys h.1 in (omega (arith, h.0, r.0), r.1)

@@ -1,7 +1,9 @@
 -- What every run by ids has at its end.
 use Rattle.std.proofs.Common.{◌≡◌, ℕ, ◌≤◌, List, Option, Some, true, sym, subst}
+use Rattle.std.specs.List.{AllByRecursion}
+use Rattle.gc_lines.proofs.Lists.{all_on}
 use Rattle.gc_instrument.specs.State.{KeptReply}
-use Rattle.gc_world.specs.Order.{Each, IsRecent, numbers}
+use Rattle.gc_world.specs.Order.{IsRecent, numbers}
 use Rattle.std.specs.Prelude.{slice_get}
 use Rattle.gc_catalogue.specs.declared.call.Call.{Call}
 use Rattle.gc_client.specs.Rule.{Settlement}
@@ -12,7 +14,6 @@ use Rattle.gc_world.specs.Record.{IsOneForOne, IsBooked, IsExecution}
 use Rattle.gc_world.proofs.Agree.{same_wire}
 use Rattle.gc_world.proofs.Booked.{Has, AllMade, backed_at}
 use Rattle.gc_world.proofs.Once.{Once, once_at, recent}
-use Rattle.gc_world.proofs.Rows.{each_more}
 use Rattle.gc_world.proofs.Settled.{one_for_one, whole_at}
 use Rattle.gc_world.proofs.Execution.{IsAnswerAt, each_has, execution, answers_at, booked}
 
@@ -58,14 +59,14 @@ module _ {State : Type 0} (width : ℕ) (narrow : width ≤ 7) (ends : Ends Stat
   all_made = subst (λ (w : Wire State). AllMade w.made 0 w.settled) (sym same) (backed_at width ends Good call_line ex es (ends.restarted opening) good).backed.booked
 
   -- each reply of the run by ids is one to the call of its request
-  answered : Each (IsAnswerAt ends Good wire.sent) wire.made
+  answered : AllByRecursion (IsAnswerAt ends Good wire.sent) wire.made
   answered =
       let t = once.once.replayed in
       let w = by_number.wire in
-      subst (λ (w : Wire State). Each (IsAnswerAt ends Good w.sent) w.made) (sym same)
-      (each_more (λ m. Has m t.replies) (IsAnswerAt ends Good w.sent)
-      (λ m has. each_has (IsAnswerAt ends Good w.sent) t.replies m
-      (answers_at ends Good ex w.sent w.starts 0 (ends.restarted opening) w.executed t.replies w.state good t.replays) has) w.made t.among)
+      subst (λ (w : Wire State). AllByRecursion (IsAnswerAt ends Good w.sent) w.made) (sym same)
+      (all_on (λ m. Has m t.replies) (IsAnswerAt ends Good w.sent)
+      w.made (λ m has. each_has (IsAnswerAt ends Good w.sent) t.replies m
+      (answers_at ends Good ex w.sent w.starts 0 (ends.restarted opening) w.executed t.replies w.state good t.replays) has) t.among)
 
   -- an answer that the run by ids booked for request m was made for it, and replies to its call
   pub booked_at : (m : ℕ) (s : Settlement Call) → slice_get wire.settled m ≡ Some s → IsBooked ends Good wire.made m s

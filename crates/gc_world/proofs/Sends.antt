@@ -24,17 +24,15 @@ use Rattle.gc_world.proofs.Moments.{AllEarly, OneReaches, early_or_reached}
 abbrev IsSend : Event → Type 0
 IsSend e = (target : ℕ) × (call : Call) × (deadline : ℕ) × (e ≡ Send target call deadline)
 
-module _ {Client S : Type 0} (ends : Ends S) (rule : Rule Client) where
-  -- the event sends no request on these streams; or it is a send, and sends one
-  abbrev SendsOne : Streams Client S → Event → Type 0
-  SendsOne v e =
-      (length (flows ends rule v e).world.wire.sent ≡ length v.world.wire.sent)
-      ⊎ (IsSend e × (length (flows ends rule v e).world.wire.sent ≡ length v.world.wire.sent + 1))
+-- `before` and `after` are counts of requests sent before and after the event e: they are equal, or e is a send and `after` is
+-- one more
+abbrev SendsAtMostOne : (e : Event) → (before after : ℕ) → Type 0
+SendsAtMostOne e before after = (after ≡ before) ⊎ (IsSend e × (after ≡ before + 1))
 
+module _ {Client S : Type 0} (ends : Ends S) (rule : Rule Client) where
   -- a send adds one request to those sent, or none where it is refused
   at_send : (w : World Client S) (target : ℕ) (call : Call) (deadline : ℕ) (o : Option (Sending Client))
-      → (length (requested w target call o).wire.sent ≡ length w.wire.sent)
-      ⊎ (IsSend (Send target call deadline) × (length (requested w target call o).wire.sent ≡ length w.wire.sent + 1))
+      → SendsAtMostOne (Send target call deadline) (length w.wire.sent) (length (requested w target call o).wire.sent)
   at_send w target call deadline None = inl refl
   at_send w target call deadline (Some x) = inr ((target, call, deadline, refl), length_push w.wire.sent (record { target = target; call = call; line = request_line (Some x.id) call }))
 
@@ -81,37 +79,31 @@ module _ {Client S : Type 0} (ends : Ends S) (rule : Rule Client) where
   at_begun w step true e = refl
   at_begun w step false e = e
 
-  -- deliveries to the instrument send nothing
-  up_all : (k : ℕ) (w : World Client S) → (run ends rule (replicate k Up_deliver) w).wire.sent ≡ w.wire.sent
-  up_all zero w = refl
-  up_all (suc k) w = up_all k (happens ends rule w Up_deliver) ∙ at_up w.wire w.wire.up
+  -- the step sends nothing, in whatever world
+  abbrev SendsNone : Step → Type 0
+  SendsNone step = (w : World Client S) → (happens ends rule w step).wire.sent ≡ w.wire.sent
 
-  -- deliveries to the client send nothing
-  down_all : (k : ℕ) (w : World Client S) → (run ends rule (replicate k Down_deliver) w).wire.sent ≡ w.wire.sent
-  down_all zero w = refl
-  down_all (suc k) w = down_all k (happens ends rule w Down_deliver) ∙ at_down w w.wire.down
+  -- a step that sends nothing, made k times, sends nothing
+  none_by_all : (step : Step) (k : ℕ) (w : World Client S) → SendsNone step → (run ends rule (replicate k step) w).wire.sent ≡ w.wire.sent
+  none_by_all step zero w none = refl
+  none_by_all step (suc k) w none = none_by_all step k (happens ends rule w step) none ∙ none w
 
-  -- bytes upward send nothing
-  up_passed : (lines : List (List ℕ)) (gone k : ℕ) (w : World Client S) → (run ends rule (passed Up_deliver lines gone k) w).wire.sent ≡ w.wire.sent
-  up_passed [] gone k w = refl
-  up_passed (line ∷ lines) gone zero w = refl
-  up_passed (line ∷ lines) gone (suc k) w = up_all (cut (line ∷ lines) (gone + suc k)).lines w
-
-  -- bytes downward send nothing
-  down_passed : (lines : List (List ℕ)) (gone k : ℕ) (w : World Client S) → (run ends rule (passed Down_deliver lines gone k) w).wire.sent ≡ w.wire.sent
-  down_passed [] gone k w = refl
-  down_passed (line ∷ lines) gone zero w = refl
-  down_passed (line ∷ lines) gone (suc k) w = down_all (cut (line ∷ lines) (gone + suc k)).lines w
+  -- where a step sends nothing, the steps that k bytes make of it (`passed`) send nothing
+  none_by_bytes : (step : Step) (lines : List (List ℕ)) (gone k : ℕ) (w : World Client S) → SendsNone step
+      → (run ends rule (passed step lines gone k) w).wire.sent ≡ w.wire.sent
+  none_by_bytes step [] gone k w none = refl
+  none_by_bytes step (line ∷ lines) gone zero w none = refl
+  none_by_bytes step (line ∷ lines) gone (suc k) w none = none_by_all step (cut (line ∷ lines) (gone + suc k)).lines w none
 
   -- an event sends at most one request, and does so only where it is a send
-  sends_one : (v : Streams Client S) (e : Event) → SendsOne v e
+  sends_one : (v : Streams Client S) (e : Event) → SendsAtMostOne e (length v.world.wire.sent) (length (flows ends rule v e).world.wire.sent)
   sends_one v (Send target call deadline) = at_send v.world target call deadline (rule.send v.world.client target call deadline)
   sends_one v UpDeliver = inl (ap length (at_up v.world.wire v.world.wire.up))
-  sends_one v (UpBytes k) = inl (ap length (up_passed (up_lines v.world.wire) v.up_gone k v.world))
+  sends_one v (UpBytes k) = inl (ap length (none_by_bytes Up_deliver (up_lines v.world.wire) v.up_gone k v.world (λ w. at_up w.wire w.wire.up)))
   sends_one v (UpLose k) = inl (ap length (at_begun v.world (World.Up_lose k) (is_begun k v.up_gone) (at_with_up v.world.wire _ (ltb k (length v.world.wire.up)))))
   sends_one v (UpRepeat k) = inl (ap length (at_begun v.world (World.Up_repeat k) (is_begun k v.up_gone) (at_with_up v.world.wire _ (ltb k (length v.world.wire.up)))))
   sends_one v DownDeliver = inl (ap length (at_down v.world v.world.wire.down))
-  sends_one v (DownBytes k) = inl (ap length (down_passed (down_lines v.world.wire) v.down_gone k v.world))
+  sends_one v (DownBytes k) = inl (ap length (none_by_bytes Down_deliver (down_lines v.world.wire) v.down_gone k v.world (λ w. at_down w w.wire.down)))
   sends_one v (DownLose k) = inl (ap length (at_begun v.world (World.Down_lose k) (is_begun k v.down_gone) (at_with_down v.world.wire _ (ltb k (length v.world.wire.down)))))
   sends_one v (DownRepeat k) = inl (ap length (at_begun v.world (World.Down_repeat k) (is_begun k v.down_gone) (at_with_down v.world.wire _ (ltb k (length v.world.wire.down)))))
   sends_one v (Expire now) = inl refl
@@ -152,19 +144,18 @@ module _ (width : ℕ) (opening : State) (n : ℕ) where
       )
   found_at earlier e rest false t le send more again = again (omega (arith, eqb-false _ _ t, le, more))
 
-  -- where at most n requests were sent before the event e, and e sends nothing or is a send of one request, the list has the send
-  -- of request n: it is e, or the last premise gives it
+  -- where at most n requests were sent before the event e (`SendsAtMostOne`), the list has the send of request n: it is e, or the
+  -- last premise gives it
   found_by : (earlier : List Event) (e : Event) (rest : List Event) → sent_in earlier ≤ n
-      → (sent_in (earlier ++ e ∷ []) ≡ sent_in earlier) ⊎ (IsSend e × (sent_in (earlier ++ e ∷ []) ≡ sent_in earlier + 1))
+      → SendsAtMostOne e (sent_in earlier) (sent_in (earlier ++ e ∷ []))
       → (sent_in (earlier ++ e ∷ []) ≤ n → HasSend (earlier ++ e ∷ rest)) → HasSend (earlier ++ e ∷ rest)
   found_by earlier e rest le (inl same) again = again (omega (arith, same, le))
   found_by earlier e rest le (inr (send, more)) again = found_at earlier e rest (eqb (sent_in earlier) n) refl le send more again
 
   -- an event after others sends nothing, or is a send of one request
-  sends_one_in : (earlier : List Event) (e : Event)
-      → (sent_in (earlier ++ e ∷ []) ≡ sent_in earlier) ⊎ (IsSend e × (sent_in (earlier ++ e ∷ []) ≡ sent_in earlier + 1))
+  sends_one_in : (earlier : List Event) (e : Event) → SendsAtMostOne e (sent_in earlier) (sent_in (earlier ++ e ∷ []))
   sends_one_in earlier e =
-      subst (λ (w : Wire State). (length w.sent ≡ sent_in earlier) ⊎ (IsSend e × (length w.sent ≡ sent_in earlier + 1))) (sym (left_more earlier e))
+      subst (λ (w : Wire State). SendsAtMostOne e (sent_in earlier) (length w.sent)) (sym (left_more earlier e))
       (sends_one ends (by_ids width ends) (streams_by_ids width ends earlier (restarted opening)) e)
 
   -- where the events `earlier` send at most n requests, and `earlier` and `later` together more than n, the send of request n
@@ -201,7 +192,8 @@ module _ (rule : Rule (ById Call)) (n : ℕ) where
   runs es v = flow ends rule es v
 
   -- an event leaves no fewer requests sent
-  no_fewer : (w : Streams (ById Call) State) (e : Event) → SendsOne ends rule w e → length w.world.wire.sent ≤ length (flows ends rule w e).world.wire.sent
+  no_fewer : (w : Streams (ById Call) State) (e : Event) → SendsAtMostOne e (length w.world.wire.sent) (length (flows ends rule w e).world.wire.sent)
+      → length w.world.wire.sent ≤ length (flows ends rule w e).world.wire.sent
   no_fewer w e (inl same) = omega (arith, same)
   no_fewer w e (inr (send, more)) = omega (arith, more)
 

@@ -1,16 +1,15 @@
 -- For the proofs of `stage.rt`. A report, two queues and a client *show* a world where they are those of the world
--- (`AreOfWorld`). Each lemma says: where they show a world, and a function has done to them what its contract says, they show the
--- world after that step. Variables such as `executed` and `made` are the values that the function left; the premises are what its
--- contract says of them.
-use Rattle.std.proofs.Common.{◌≡◌, ℕ, ◌+◌, ◌<◌, ◌≤◌, Bool, true, false, cond, List, [], ◌∷◌, ◌++◌, length, map, Option, Some, None, ◌⊎◌, inl, inr, refl, sym, ◌∙◌, ap, subst, ltb, eqb, arith}
+-- (`AreOfWorld`). Each lemma says: where they show a world, and a function has done to them what its contract says
+-- (`Contracts.antt`), they show the world after that step.
+use Rattle.std.proofs.Common.{◌≡◌, ℕ, ◌+◌, ◌<◌, ◌≤◌, Bool, true, false, cond, List, [], ◌∷◌, ◌++◌, length, map, Option, Some, None, inl, inr, refl, sym, ◌∙◌, ap, subst, ltb, eqb, arith}
+use Rattle.std.specs.List.{AllByRecursion}
 use mathlib.Core.Path.{ap₂}
 use Rattle.std.specs.Prelude.{slice_get}
 use Rattle.std.proofs.lemmas.List.{map-append, length-map, append-nil}
 use Rattle.std.proofs.lemmas.List.Elements.{All-append}
-use Rattle.std.proofs.lemmas.Bool.{ltb-false, cases_eq}
+use Rattle.std.proofs.lemmas.Bool.{ltb-false}
+use Rattle.gc_lines.proofs.Lists.{all_append, all_on}
 use Rattle.gc_catalogue.specs.declared.call.Call.{Call}
-use Rattle.gc_catalogue.specs.Calls.{IsFitting}
-use Rattle.gc_catalogue.specs.Texts.{request_line}
 use Rattle.gc_client.specs.declared.window.TheConstants.{IDS}
 use Rattle.gc_client.specs.declared.heard.Hearing.{Hearing}
 use Rattle.gc_client.specs.declared.heard.Hearing.TheVariants.{Settled, Stray, Unread}
@@ -20,7 +19,8 @@ use Rattle.gc_client.specs.Rule.{ById, Windowed, Sending, heard, hears, place_in
 use Rattle.gc_client.specs.Rule
 use Rattle.gc_client.specs.Settlements.{AreSettlements, settlement_seen, IsReadForCall}
 use Rattle.gc_instrument.specs.State.{State, restarted}
-use Rattle.gc_instrument.specs.Replying.{handed, IsExchanged, AppendsExchange}
+use Rattle.gc_instrument.specs.Replying.{Handed, handed, kept_line, IsExchanged, AppendsExchange}
+use Rattle.gc_instrument.proofs.Answering.{handed_again, handed_new, some_line_or_none}
 use Rattle.gc_world.specs.declared.report.Made.{Made}
 use Rattle.gc_world.specs.declared.report.Report.{Report}
 use Rattle.gc_world.specs.declared.report.Sent.{Sent}
@@ -29,19 +29,15 @@ use Rattle.gc_world.specs.World.{Request, Numbered, Wire, World, Send, Up_delive
 use Rattle.gc_world.specs.Clients.{by_ids, ends}
 use Rattle.gc_world.specs.Faithful.{sent_seen}
 use Rattle.gc_world.specs.Memory.{IsBusy}
-use Rattle.gc_world.specs.Order.{Each, numbers}
+use Rattle.gc_world.specs.Order.{numbers}
 use Rattle.gc_world.specs.Reports.{made_seen, IsReport}
 use Rattle.gc_world.specs.Stages.{after_step, bytes_of, IsSentIn, named, AreOfWorld}
-use Rattle.gc_world.proofs.Handing.{kept_id, executed_by_id, repeated_by_id}
+use Rattle.gc_world.proofs.Contracts.{ExchangesAny, Notes, Sends, HandsToInstrument, HandsToClient, RestartsBoth}
+use Rattle.gc_world.proofs.Handing.{kept_id, other_id}
 use Rattle.gc_world.proofs.Queues.{without_map, doubled_map, without_past, doubled_past}
-use Rattle.gc_world.proofs.Rows.{each_append, each_more, each_without, each_doubled}
+use Rattle.gc_world.proofs.Rows.{each_without, each_doubled}
 use Rattle.std.proofs.lemmas.Option.{same_Some, none-some}
 use Rattle.gc_world.proofs.Places.{get_map, get_more, get_push}
-
--- where the line is the request line of a call that fits, with whatever id below 8, the instrument got from `before` to `after`,
--- and gave this reply, as `IsExchanged` has it
-abbrev pub ExchangesAny : (before : State) → (line : List ℕ) → (after : State) → (reply : Option (List ℕ)) → Type 0
-ExchangesAny before line after reply = (id : ℕ) (call : Call) → id < 8 → IsFitting call → line ≡ request_line (Some id) call → IsExchanged before id call after reply
 
 -- where the reply to the line, if there is one (b true), was appended to the empty text `old`, and gave `new`, `ExchangesAny`
 -- holds with `new` as the reply, or with no reply where b is false
@@ -52,30 +48,20 @@ exchanges_any before bytes line after old new true is none h id call digit fits 
     subst (λ (t : List ℕ). IsExchanged before id call after (Some t)) (sym (a.2 ∙ ap (λ l. l ++ a.0) none)) a.1
 exchanges_any before bytes line after old new false is none h id call digit fits e = (h id call digit fits (is ∙ e)).0
 
--- the number n was appended to `old`, which gave `new`, where the kept id changed from `before` to `after`; else `new` is `old`
-pub record Notes (before after : State) (n : ℕ) (old new : List ℕ) : Type 0 where
-  pub new_is : (kept_id before.kept ≡ kept_id after.kept → ⊥) → new ≡ old ++ n ∷ []
-  pub same_is : kept_id before.kept ≡ kept_id after.kept → new ≡ old
-
--- two ids are the same, or aren't
-either_id : (a b : Option ℕ) → (a ≡ b) ⊎ (a ≡ b → ⊥)
-either_id None None = inl refl
-either_id None (Some y) = inr (λ e. cc)
-either_id (Some x) None = inr (λ e. cc)
-either_id (Some x) (Some y) = elim (cases_eq x y) [
-  | inl e ↦ inl (ap Some e)
-  | inr ne ↦ inr (λ e. ne (same_Some x y e))
-]
-
 -- where `after` is the state after a request was handed to the instrument, and n was appended to `old` exactly if the kept id
 -- changed by that (`Notes`), n was appended exactly if the request was executed
 noted : (s : State) (id : ℕ) (call : Call) (after : State) (n : ℕ) (old new : List ℕ) → after ≡ (handed s id call).state → Notes s after n old new
     → new ≡ cond (handed s id call).executed (old ++ n ∷ []) old
 noted s id call after n old new is h =
-    let same_id = λ (e : kept_id s.kept ≡ kept_id after.kept). e ∙ ap (λ (t : State). kept_id t.kept) is in
-    elim (either_id (kept_id s.kept) (kept_id after.kept)) [
-      | inl e ↦ h.same_is e ∙ ap (λ b. cond b (old ++ n ∷ []) old) (sym (repeated_by_id s id call (same_id e)))
-      | inr ne ↦ h.new_is ne ∙ ap (λ b. cond b (old ++ n ∷ []) old) (sym (executed_by_id s id call (λ e. ne (e ∙ sym (ap (λ (t : State). kept_id t.kept) is)))))
+    let same : kept_id after.kept ≡ kept_id (handed s id call).state.kept = ap (λ (t : State). kept_id t.kept) is in
+    elim (some_line_or_none (kept_line s.kept (Some id))) [
+      | inl again ↦
+          let did = handed_again s id call again.0 again.1 in
+          h.same_is (sym (same ∙ ap (λ (x : Handed State). kept_id x.state.kept) did)) ∙ ap (λ (x : Handed State). cond x.executed (old ++ n ∷ []) old) (sym did)
+      | inr none ↦
+          let did = handed_new s id call none in
+          h.new_is (λ e. other_id s.kept id none (e ∙ same ∙ ap (λ (x : Handed State). kept_id x.state.kept) did))
+          ∙ ap (λ (x : Handed State). cond x.executed (old ++ n ∷ []) old) (sym did)
     ]
 
 -- the report after an event: as it is if the event was possible (`possible`), else with one more event that wasn't
@@ -190,7 +176,7 @@ module _ (width : ℕ) (r : Report) (up down : List ℕ) (c : Windowed Call) (w 
   -- once the upward queue was replaced by `places`, the numbers of the sent requests `us`, if there is a line k (b true), or else
   -- stayed, and the event was counted as idle, report and queues show the world in which the same was done with `us`
   up_changed : (k : ℕ) (b : Bool) (places : List ℕ) (us : List (Numbered Request)) → b ≡ ltb k (length up) → (length up ≤ k → places ≡ up)
-      → places ≡ numbers us → Each (IsSentIn r.sent) us → AreOfWorld width (counted b r) places down c (on_wire w (with_up w.wire us (ltb k (length w.wire.up))))
+      → places ≡ numbers us → AllByRecursion (IsSentIn r.sent) us → AreOfWorld width (counted b r) places down c (on_wire w (with_up w.wire us (ltb k (length w.wire.up))))
   up_changed k true places us e past is each =
       let e1 : ltb k (length w.wire.up) ≡ true = ap (λ n. ltb k n) (sym same_up) ∙ sym e in
       subst (λ v. AreOfWorld width r places down c (on_wire w (with_up w.wire us v))) (sym e1)
@@ -267,21 +253,19 @@ module _ (width : ℕ) (r : Report) (up down : List ℕ) (c : Windowed Call) (w 
   pub down_line : (p : ℕ) (rest : List ℕ) (m : Made) (e : down ≡ p ∷ rest) → slice_get r.made p ≡ Some m → made_seen m ≡ (down_front p rest e).0
   down_line p rest m e found = let f = down_front p rest e in same_Some (made_seen m) f.0 (sym (get_map made_seen r.made p m found) ∙ f.3)
 
-  -- once the client sent a request, and its number was put at the back of the upward queue, the world after that step is shown
-  pub shows_send : (entry : Sent) (deadline : ℕ) (client : Windowed Call) (sent : List Sent) (up' : List ℕ)
-      (sends_is : sends c.width c.ids entry.target entry.call deadline ≡ Some (record { id = c.ids.next; client = client.ids })) (wide : client.width ≡ c.width)
-      (line_is : entry.line.items ≡ request_line (Some c.ids.next) entry.call) (fits : IsFitting entry.call) (sent_is : sent ≡ r.sent ++ entry ∷ [])
-      (up_is : up' ≡ up ++ length r.sent ∷ []) → AreOfWorld width (record r { sent = sent }) up' down client (after_step width w (Send entry.target entry.call deadline))
-  shows_send entry deadline client sent up' sends_is wide line fits sent_is up_is =
-      let x : Sending (ById Call) = record { id = c.ids.next; client = client.ids } in
-      let ruled : sends width w.client entry.target entry.call deadline ≡ Some x = ap (λ (k : Windowed Call). sends k.width k.ids entry.target entry.call deadline) (sym h.client_is) ∙ sends_is in
+  -- once the client sent a request, the world after that step is shown
+  pub shows_send : (entry : Sent) (deadline : ℕ) (left : Sends r up c entry deadline)
+      → AreOfWorld width (record r { sent = left.sent }) left.queue down left.client (after_step width w (Send entry.target entry.call deadline))
+  shows_send entry deadline left =
+      let x : Sending (ById Call) = record { id = c.ids.next; client = left.client.ids } in
+      let ruled : sends width w.client entry.target entry.call deadline ≡ Some x = ap (λ (k : Windowed Call). sends k.width k.ids entry.target entry.call deadline) (sym h.client_is) ∙ left.sends_is in
       let total : length r.sent ≡ length w.wire.sent = sym (length-map r.sent sent_seen) ∙ ap length h.reports.sent in
       let number : slice_get (r.sent ++ entry ∷ []) (length w.wire.sent) ≡ Some entry = subst (λ n. slice_get (r.sent ++ entry ∷ []) n ≡ Some entry) total (get_push r.sent entry) in
       let digit : c.ids.next < IDS = subst (λ (k : Windowed Call). k.ids.next < IDS) (sym h.client_is) h.next in
-      subst (λ l. AreOfWorld width (record r { sent = l }) up' down client (after_step width w (Send entry.target entry.call deadline))) (sym sent_is)
-      (subst (λ o. AreOfWorld width (record r { sent = r.sent ++ entry ∷ [] }) up' down client (requested w entry.target entry.call o)) (sym ruled) (record {
+      subst (λ l. AreOfWorld width (record r { sent = l }) left.queue down left.client (after_step width w (Send entry.target entry.call deadline))) (sym left.sent_is)
+      (subst (λ o. AreOfWorld width (record r { sent = r.sent ++ entry ∷ [] }) left.queue down left.client (requested w entry.target entry.call o)) (sym ruled) (record {
         reports = record {
-          sent = map-append sent_seen r.sent (entry ∷ []) ∙ ap₂ (λ (l : List World.Sent) t. l ++ record { target = entry.target; call = entry.call; line = t } ∷ []) h.reports.sent line;
+          sent = map-append sent_seen r.sent (entry ∷ []) ∙ ap₂ (λ (l : List World.Sent) t. l ++ record { target = entry.target; call = entry.call; line = t } ∷ []) h.reports.sent left.line_is;
           executed = h.reports.executed;
           made = h.reports.made;
           settled = h.reports.settled;
@@ -290,49 +274,46 @@ module _ (width : ℕ) (r : Report) (up down : List ℕ) (c : Windowed Call) (w 
           refused = h.reports.refused;
           idle = h.reports.idle;
         };
-        up_is = up_is ∙ ap₂ (λ (l : List ℕ) n. l ++ n ∷ []) h.up_is total ∙ sym (map-append (λ (y : Numbered Request). y.number) w.wire.up _);
+        up_is = left.queue_is ∙ ap₂ (λ (l : List ℕ) n. l ++ n ∷ []) h.up_is total ∙ sym (map-append (λ (y : Numbered Request). y.number) w.wire.up _);
         down_is = h.down_is;
-        client_is = ap (λ n. record { width = n; ids = client.ids }) (wide ∙ ap (λ (k : Windowed Call). k.width) h.client_is);
-        next = sends_next c.width c.ids entry.target entry.call deadline x sends_is;
+        client_is = ap (λ n. record { width = n; ids = left.client.ids }) (left.wide ∙ ap (λ (k : Windowed Call). k.width) h.client_is);
+        next = sends_next c.width c.ids entry.target entry.call deadline x left.sends_is;
         requests =
-            each_append _ w.wire.up _ (each_more _ _ (λ y s. record {
+            all_append _ w.wire.up _ (all_on _ _ w.wire.up (λ y s. record {
               request = s.request;
               found =
                   get_more r.sent (entry ∷ []) y.number s.request s.found;
               line = s.line;
               digit = s.digit;
               fits = s.fits;
-            }) w.wire.up h.requests)
-            (record { request = entry; found = number; line = line; digit = digit; fits = fits }, tt);
-        calls = each_append _ r.sent (entry ∷ []) h.calls (fits, tt);
+            }) h.requests)
+            (record { request = entry; found = number; line = left.line_is; digit = digit; fits = left.fits }, tt);
+        calls = all_append _ r.sent (entry ∷ []) h.calls (left.fits, tt);
       }))
 
-  -- once the front request was handed to the instrument, and its reply noted, the world after that step is shown
-  pub shows_up_deliver : (n : ℕ) (rest down' : List ℕ) (request : Sent) (entry : Made) (executed : List ℕ) (made : List Made) (state : State) (o : Option (List ℕ))
-      (front : up ≡ n ∷ rest) (found : slice_get r.sent n ≡ Some request) (replied : ExchangesAny r.instrument request.line.items state o) (told : o ≡ Some entry.line.items)
-      (same : entry.number ≡ n) (executed_is : Notes r.instrument state n r.executed executed) (made_is : made ≡ r.made ++ entry ∷ [])
-      (down_is : down' ≡ down ++ length r.made ∷ [])
-      → AreOfWorld width (record r { executed = executed; made = made; instrument = state }) rest down' c (after_step width w Up_deliver)
-  shows_up_deliver n rest down' request entry executed made state o e found replied told same executed_is made_is down'_is =
-      let f = up_front n rest e in
+  -- once the front request was handed to the instrument, the world after that step is shown
+  pub shows_up_deliver : (rest : List ℕ) (left : HandsToInstrument r up down rest)
+      → AreOfWorld width (record r { executed = left.executed; made = left.made; instrument = left.state }) rest left.queue c (after_step width w Up_deliver)
+  shows_up_deliver rest left =
+      let f = up_front left.number rest left.front in
       let y = f.0 in
       let ys = f.1 in
-      let sound = subst (λ q. Each (IsSentIn r.sent) q) f.2 h.requests in
-      let this : request ≡ sound.0.request = same_Some request sound.0.request (sym found ∙ ap (λ k. slice_get r.sent k) (sym f.3) ∙ sound.0.found) in
-      let line : request.line.items ≡ bytes_of y.line = ap (λ (q : Sent). q.line.items) this ∙ sound.0.line in
-      let did = replied y.line.id y.line.call sound.0.digit sound.0.fits line in
-      let reply : entry.line.items ≡ (handed w.wire.state y.line.id y.line.call).reply =
-      same_Some _ _ (sym told ∙ did.line) ∙ ap (λ s. (handed s y.line.id y.line.call).reply) h.reports.instrument in
-      let entry_is : made_seen entry ≡ record { number = y.number; line = (handed w.wire.state y.line.id y.line.call).reply } =
-      ap₂ (λ k (l : List ℕ). record { number = k; line = l }) (same ∙ sym f.3) reply in
-      subst (λ q. AreOfWorld width (record r { executed = executed; made = made; instrument = state }) rest down' c (on_wire w (up_delivered ends w.wire q))) (sym f.2) (record {
+      let sound = subst (λ q. AllByRecursion (IsSentIn r.sent) q) f.2 h.requests in
+      let this : left.request ≡ sound.0.request = same_Some left.request sound.0.request (sym left.found ∙ ap (λ k. slice_get r.sent k) (sym f.3) ∙ sound.0.found) in
+      let line : left.request.line.items ≡ bytes_of y.line = ap (λ (q : Sent). q.line.items) this ∙ sound.0.line in
+      let did = left.replied y.line.id y.line.call sound.0.digit sound.0.fits line in
+      let reply : left.entry.line.items ≡ (handed w.wire.state y.line.id y.line.call).reply =
+      same_Some _ _ (sym left.told ∙ did.line) ∙ ap (λ s. (handed s y.line.id y.line.call).reply) h.reports.instrument in
+      let entry_is : made_seen left.entry ≡ record { number = y.number; line = (handed w.wire.state y.line.id y.line.call).reply } =
+      ap₂ (λ k (l : List ℕ). record { number = k; line = l }) (left.same ∙ sym f.3) reply in
+      subst (λ q. AreOfWorld width (record r { executed = left.executed; made = left.made; instrument = left.state }) rest left.queue c (on_wire w (up_delivered ends w.wire q))) (sym f.2) (record {
         reports = record {
           sent = h.reports.sent;
           executed =
-              noted r.instrument y.line.id y.line.call state n r.executed executed did.state executed_is
-              ∙ ap (λ (s : State). cond (handed s y.line.id y.line.call).executed (r.executed ++ n ∷ []) r.executed) h.reports.instrument
+              noted r.instrument y.line.id y.line.call left.state left.number r.executed left.executed did.state left.executed_is
+              ∙ ap (λ (s : State). cond (handed s y.line.id y.line.call).executed (r.executed ++ left.number ∷ []) r.executed) h.reports.instrument
               ∙ ap₂ (λ l k. cond (handed w.wire.state y.line.id y.line.call).executed (l ++ k ∷ []) l) h.reports.executed (sym f.3);
-          made = ap (map made_seen) made_is ∙ map-append made_seen r.made (entry ∷ []) ∙ ap₂ (λ l m. l ++ m ∷ []) h.reports.made entry_is;
+          made = ap (map made_seen) left.made_is ∙ map-append made_seen r.made (left.entry ∷ []) ∙ ap₂ (λ l m. l ++ m ∷ []) h.reports.made entry_is;
           settled = h.reports.settled;
           starts = h.reports.starts;
           instrument = did.state ∙ ap (λ s. (handed s y.line.id y.line.call).state) h.reports.instrument;
@@ -341,7 +322,7 @@ module _ (width : ℕ) (r : Report) (up down : List ℕ) (c : Windowed Call) (w 
         };
         up_is = f.4;
         down_is =
-            ap₂ named made_is down'_is ∙ named_push r.made entry down w.wire.down h.down_is
+            ap₂ named left.made_is left.queue_is ∙ named_push r.made left.entry down w.wire.down h.down_is
             ∙ ap (λ m. map Some (w.wire.down ++ m ∷ [])) entry_is;
         client_is = h.client_is;
         next = h.next;
@@ -354,30 +335,29 @@ module _ (width : ℕ) (r : Report) (up down : List ℕ) (c : Windowed Call) (w 
       → ExchangesAny r.instrument request.line.items state o → o ≡ None → ⊥
   up_answered n rest request state o e found replied told =
       let f = up_front n rest e in
-      let sound = subst (λ q. Each (IsSentIn r.sent) q) f.2 h.requests in
+      let sound = subst (λ q. AllByRecursion (IsSentIn r.sent) q) f.2 h.requests in
       let this : request ≡ sound.0.request = same_Some request sound.0.request (sym found ∙ ap (λ k. slice_get r.sent k) (sym f.3) ∙ sound.0.found) in
       let line : request.line.items ≡ bytes_of f.0.line = ap (λ (q : Sent). q.line.items) this ∙ sound.0.line in
       let did = replied f.0.line.id f.0.line.call sound.0.digit sound.0.fits line in
       none-some _ (sym told ∙ did.line)
 
-  -- once the front reply was handed to the client, and what it settles noted, the world after that step is shown
-  pub shows_down_deliver : (p : ℕ) (rest : List ℕ) (m : Made) (bytes : List ℕ) (more settled : List (Settlement Call)) (client : Windowed Call) (front : down ≡ p ∷ rest)
-      (found : slice_get r.made p ≡ Some m) (same_bytes : bytes ≡ m.line.items) (more_are : AreSettlements more (hears c.ids bytes (heard bytes)).settlements)
-      (client_is : client ≡ record c { ids = (hears c.ids bytes (heard bytes)).client }) (settled_is : settled ≡ r.settled ++ more)
-      → AreOfWorld width (record r { settled = settled }) up rest client (after_step width w Down_deliver)
-  shows_down_deliver p rest m bytes more settled client e found same_bytes more_are client_is settled_is =
-      let f = down_front p rest e in
+  -- once the front reply was handed to the client, the world after that step is shown
+  pub shows_down_deliver : (rest : List ℕ) (left : HandsToClient r down rest c)
+      → AreOfWorld width (record r { settled = left.settled }) up rest left.client (after_step width w Down_deliver)
+  shows_down_deliver rest left =
+      let f = down_front left.place rest left.front in
       let x = f.0 in
-      let line : bytes ≡ x.line = same_bytes ∙ ap (λ (y : Numbered (List ℕ)). y.line) (down_line p rest m e found) in
-      let same : hears c.ids bytes (heard bytes) ≡ hears w.client x.line (heard x.line) = ap₂ (λ (k : Windowed Call) l. hears k.ids l (heard l)) h.client_is line in
-      let are : AreSettlements more (hears w.client x.line (heard x.line)).settlements = subst (λ (s : Rule.Settled Call (ById Call)). AreSettlements more s.settlements) same more_are in
-      subst (λ q. AreOfWorld width (record r { settled = settled }) up rest client (down_delivered (by_ids width ends) w q)) (sym f.2) (record {
+      let line : left.line ≡ x.line = left.line_is ∙ ap (λ (y : Numbered (List ℕ)). y.line) (down_line left.place rest left.reply left.front left.found) in
+      let same : hears c.ids left.line (heard left.line) ≡ hears w.client x.line (heard x.line) = ap₂ (λ (k : Windowed Call) l. hears k.ids l (heard l)) h.client_is line in
+      let are : AreSettlements left.more (hears w.client x.line (heard x.line)).settlements =
+      subst (λ (s : Rule.Settled Call (ById Call)). AreSettlements left.more s.settlements) same left.more_are in
+      subst (λ q. AreOfWorld width (record r { settled = left.settled }) up rest left.client (down_delivered (by_ids width ends) w q)) (sym f.2) (record {
         reports = record {
           sent = h.reports.sent;
           executed = h.reports.executed;
           made = h.reports.made;
-          settled = subst (λ l. AreSettlements l (w.wire.settled ++ (hears w.client x.line (heard x.line)).settlements)) (sym settled_is)
-              (are_more r.settled more w.wire.settled (hears w.client x.line (heard x.line)).settlements h.reports.settled are);
+          settled = subst (λ l. AreSettlements l (w.wire.settled ++ (hears w.client x.line (heard x.line)).settlements)) (sym left.settled_is)
+              (are_more r.settled left.more w.wire.settled (hears w.client x.line (heard x.line)).settlements h.reports.settled are);
           starts = h.reports.starts;
           instrument = h.reports.instrument;
           refused = h.reports.refused;
@@ -385,37 +365,36 @@ module _ (width : ℕ) (r : Report) (up down : List ℕ) (c : Windowed Call) (w 
         };
         up_is = h.up_is;
         down_is = f.4;
-        client_is = client_is ∙ ap₂ (λ n (s : Rule.Settled Call (ById Call)). let d : Windowed Call = record { width = n; ids = s.client } in d) (ap (λ (k : Windowed Call). k.width) h.client_is) same;
+        client_is = left.client_is
+            ∙ ap₂ (λ n (s : Rule.Settled Call (ById Call)). let d : Windowed Call = record { width = n; ids = s.client } in d) (ap (λ (k : Windowed Call). k.width) h.client_is) same;
         next = subst (λ n. n < IDS) (sym (hears_next w.client x.line (heard x.line))) h.next;
         requests = h.requests;
         calls = h.calls;
       })
 
-  -- once the client was restarted, and the instrument with it, while no line is in flight, the world after that step is
-  -- shown
-  pub shows_restart_client : (more settled : List (Settlement Call)) (client : Windowed Call) (starts : List ℕ) (state : State) (up_empty : up ≡ []) (down_empty : down ≡ [])
-      (more_are : AreSettlements more (restarts c.ids).settlements) (client_is : client ≡ record c { ids = (restarts c.ids).client }) (settled_is : settled ≡ r.settled ++ more)
-      (starts_is : starts ≡ r.starts ++ length r.executed ∷ []) (state_is : state ≡ restarted r.instrument)
-      → AreOfWorld width (record r { settled = settled; starts = starts; instrument = state }) up down client (after_step width w Restart_client)
-  shows_restart_client more settled client starts state eu ed more_are client_is settled_is starts_is state_is =
-      let are : AreSettlements more (restarts w.client).settlements = subst (λ (k : Windowed Call). AreSettlements more (restarts k.ids).settlements) h.client_is more_are in
-      subst (λ u. AreOfWorld width (record r { settled = settled; starts = starts; instrument = state }) up down client (client_restarted ends (by_ids width ends) w u w.wire.down)) (sym (no_up eu))
-      (subst (λ d. AreOfWorld width (record r { settled = settled; starts = starts; instrument = state }) up down client (client_restarted ends (by_ids width ends) w [] d))
-      (sym (no_down ed)) (record {
+  -- once both ends were restarted, while no line is in flight, the world after that step is shown
+  pub shows_restart_client : (left : RestartsBoth r up down c)
+      → AreOfWorld width (record r { settled = left.settled; starts = left.starts; instrument = left.state }) up down left.client (after_step width w Restart_client)
+  shows_restart_client left =
+      let are : AreSettlements left.more (restarts w.client).settlements = subst (λ (k : Windowed Call). AreSettlements left.more (restarts k.ids).settlements) h.client_is left.more_are in
+      let r' : Report = record r { settled = left.settled; starts = left.starts; instrument = left.state } in
+      subst (λ u. AreOfWorld width r' up down left.client (client_restarted ends (by_ids width ends) w u w.wire.down)) (sym (no_up left.up_empty))
+      (subst (λ d. AreOfWorld width r' up down left.client (client_restarted ends (by_ids width ends) w [] d))
+      (sym (no_down left.down_empty)) (record {
         reports = record {
           sent = h.reports.sent;
           executed = h.reports.executed;
           made = h.reports.made;
-          settled = subst (λ l. AreSettlements l (w.wire.settled ++ (restarts w.client).settlements)) (sym settled_is)
-              (are_more r.settled more w.wire.settled (restarts w.client).settlements h.reports.settled are);
-          starts = starts_is ∙ ap₂ (λ (l m : List ℕ). l ++ length m ∷ []) h.reports.starts h.reports.executed;
-          instrument = state_is ∙ ap restarted h.reports.instrument;
+          settled = subst (λ l. AreSettlements l (w.wire.settled ++ (restarts w.client).settlements)) (sym left.settled_is)
+              (are_more r.settled left.more w.wire.settled (restarts w.client).settlements h.reports.settled are);
+          starts = left.starts_is ∙ ap₂ (λ (l m : List ℕ). l ++ length m ∷ []) h.reports.starts h.reports.executed;
+          instrument = left.state_is ∙ ap restarted h.reports.instrument;
           refused = h.reports.refused;
           idle = h.reports.idle;
         };
         up_is = h.up_is;
         down_is = h.down_is;
-        client_is = client_is ∙ ap (λ (k : Windowed Call). record k { ids = (restarts k.ids).client }) h.client_is;
+        client_is = left.client_is ∙ ap (λ (k : Windowed Call). record k { ids = (restarts k.ids).client }) h.client_is;
         next = omega arith;
         requests = h.requests;
         calls = h.calls;

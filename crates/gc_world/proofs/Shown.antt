@@ -1,19 +1,16 @@
 -- For the proofs of `stage.rt`, as `Showing`, but with the assemblers and the bytes that have gone: where a stage shows streams
 -- (`AreStreamsOf`), and a function has done to its parts what its contract says, the stage shows the streams after the event.
-use Rattle.std.proofs.Common.{◌≡◌, ℕ, ◌+◌, ◌<◌, ◌⊎◌, Bool, true, false, cond, List, [], ◌∷◌, ◌++◌, length, map, Option, Some, refl, sym, ◌∙◌, ap, subst, ltb}
+use Rattle.std.proofs.Common.{◌≡◌, ℕ, ◌+◌, ◌<◌, ◌⊎◌, Bool, true, false, cond, List, [], ◌∷◌, length, map, Option, Some, refl, sym, ◌∙◌, ap, subst, ltb}
+use Rattle.std.specs.List.{AllByRecursion}
 use mathlib.Core.Path.{ap₂}
 use Rattle.std.specs.Option.{option_map}
-use Rattle.std.specs.Prelude.{slice_get, IsTrue, ◌↔◌}
+use Rattle.std.specs.Prelude.{slice_get}
 use Rattle.std.proofs.lemmas.List.{map-append}
 use Rattle.gc_lines.specs.Assembler.{StandsFor}
 use Rattle.gc_lines.specs.Lines.{IsPlain, with_end}
-use Rattle.gc_catalogue.specs.Calls.{IsFitting}
-use Rattle.gc_catalogue.specs.Texts.{request_line}
 use Rattle.gc_catalogue.specs.declared.call.Call.{Call}
-use Rattle.gc_client.specs.declared.settlement.Settlement.{Settlement}
-use Rattle.gc_client.specs.Rule.{ById, Windowed, Sending, heard, hears, sends, restarts}
-use Rattle.gc_client.specs.Settlements.{AreSettlements}
-use Rattle.gc_instrument.specs.State.{State, restarted}
+use Rattle.gc_client.specs.Rule.{ById, Windowed, Sending, sends}
+use Rattle.gc_instrument.specs.State.{State}
 use Rattle.gc_instrument.specs.Replying.{handed}
 use Rattle.gc_world.specs.declared.direction.Direction.{Direction}
 use Rattle.gc_world.specs.declared.direction.Direction.TheVariants.{Up, Down}
@@ -25,7 +22,7 @@ use Rattle.gc_world.specs.declared.side.Side.{Side}
 use Rattle.gc_world.specs.Clients.{by_ids, ends}
 use Rattle.gc_world.specs.Directions.{pick, bytes, texts, lines, gone, with_front_gone, after_cut}
 use Rattle.gc_world.specs.Memory.{IsBusy}
-use Rattle.gc_world.specs.Order.{Each, numbers}
+use Rattle.gc_world.specs.Order.{numbers}
 use Rattle.gc_world.specs.Reports.{made_seen}
 use Rattle.gc_world.specs.Sides.{written, IsPart, IsFlow, Carries, Changes}
 use Rattle.gc_world.specs.Stages
@@ -36,7 +33,8 @@ use Rattle.gc_world.proofs.Directions.{bytes_pass, idle_bytes}
 use Rattle.std.proofs.lemmas.Option.{same_Some}
 use Rattle.gc_world.proofs.Places.{get_seen}
 use Rattle.gc_world.proofs.Queues.{without_map, doubled_map}
-use Rattle.gc_world.proofs.Showing.{Notes, ExchangesAny, counted, shows_idle, shows_up_lose, shows_up_repeat, shows_down_lose, shows_down_repeat, shows_send, shows_up_deliver, shows_down_deliver, shows_restart_client, busy_client, busy_instrument, up_front, down_front}
+use Rattle.gc_world.proofs.Contracts.{Sends, HandsToInstrument, HandsToClient, RestartsBoth}
+use Rattle.gc_world.proofs.Showing.{counted, shows_idle, shows_up_lose, shows_up_repeat, shows_down_lose, shows_down_repeat, shows_send, shows_up_deliver, shows_down_deliver, shows_restart_client, busy_client, busy_instrument, up_front, down_front}
 use Rattle.gc_world.proofs.Streaming.{flow_start, flow_push, flow_without, flow_doubled, cut_short}
 
 -- The queues after a step.
@@ -81,7 +79,7 @@ of_start w (u ∷ us) ds = (refl, refl)
 
 -- where each request of the upward queue q is the one that was sent with its number (`IsSentIn`), the numbers of q name the
 -- requests' texts in the report
-names_up : (r : Report) (q : List (Numbered Request)) → Each (IsSentIn r.sent) q → map (written Up r) (numbers q) ≡ map Some (map (λ x. bytes_of x.line) q)
+names_up : (r : Report) (q : List (Numbered Request)) → AllByRecursion (IsSentIn r.sent) q → map (written Up r) (numbers q) ≡ map Some (map (λ x. bytes_of x.line) q)
 names_up r [] h = refl
 names_up r (x ∷ xs) h =
     ap₂ (λ (o : Option (List ℕ)) l. o ∷ l) (ap (option_map (λ (q : Sent). q.line.items)) h.0.found ∙ ap Some h.0.line) (names_up r xs h.1)
@@ -99,7 +97,7 @@ names_down r (p ∷ ps) (x ∷ xs) h =
     ap₂ (λ (o : Option (List ℕ)) l. o ∷ l) (ap (option_map (λ (e : Made). e.line.items)) m.1 ∙ ap (λ (y : Numbered (List ℕ)). Some y.line) m.2) (names_down r ps xs others)
 
 -- a side of whose front line no byte has gone, with an assembler at the start of a line, carries any plain texts (`IsFlow`)
-from_start : (s : Side) (texts : List (List ℕ)) → s.gone ≡ 0 → StandsFor s.assembler [] → Each IsPlain texts → IsFlow s.assembler s.gone texts
+from_start : (s : Side) (texts : List (List ℕ)) → s.gone ≡ 0 → StandsFor s.assembler [] → AllByRecursion IsPlain texts → IsFlow s.assembler s.gone texts
 from_start s texts none stands plain = subst (λ g. IsFlow s.assembler g texts) (sym none) (flow_start s.assembler texts stands plain)
 
 -- what `counted` gives, written as one record for both truth values
@@ -108,6 +106,22 @@ counted_is true r = refl
 counted_is false r = refl
 
 module _ (width : ℕ) (s : Seen) (v : Streams (ById Call) State) (h : AreStreamsOf width s v) where
+  -- the streams with this world, of whose front lines as much has gone as before
+  abbrev with_world : World (ById Call) State → Streams (ById Call) State
+  with_world w = record { world = w; up_gone = v.up_gone; down_gone = v.down_gone }
+
+  -- the stage with this upward side, and n idle events
+  abbrev with_up_side : Side → (n : ℕ) → Seen
+  with_up_side x n = record s { report = record s.report { idle_events = n }; up = x }
+
+  -- the stage with this downward side, and n idle events
+  abbrev with_down_side : Side → (n : ℕ) → Seen
+  with_down_side x n = record s { report = record s.report { idle_events = n }; down = x }
+
+  -- the count of idle events after an event: as it was if the event was possible (`possible`), else one more
+  abbrev idle_after : (possible : Bool) → ℕ
+  idle_after b = cond b s.report.idle_events (s.report.idle_events + 1)
+
   -- how many bytes of a side's front line have gone is how many have gone in its direction
   pub gone_is : (d : Direction) → (pick d s.up s.down).gone ≡ gone d v
   gone_is Up = h.up_is
@@ -136,7 +150,7 @@ module _ (width : ℕ) (s : Seen) (v : Streams (ById Call) State) (h : AreStream
   pub front_request : (n : ℕ) (rest : List ℕ) → s.up.queue ≡ n ∷ rest → (request : Sent) × (slice_get s.report.sent n ≡ Some request)
   front_request n rest e =
       let f = up_front width s.report s.up.queue s.down.queue s.client v.world h.lines n rest e in
-      let sound = subst (λ q. Each (IsSentIn s.report.sent) q) f.2 h.lines.requests in
+      let sound = subst (λ q. AllByRecursion (IsSentIn s.report.sent) q) f.2 h.lines.requests in
       (sound.0.request, ap (slice_get s.report.sent) (sym f.3) ∙ sound.0.found)
 
   -- the place at the front of the downward queue is that of a reply in the report
@@ -150,7 +164,7 @@ module _ (width : ℕ) (s : Seen) (v : Streams (ById Call) State) (h : AreStream
   -- lines in flight as before, the stage with r' and c' shows the streams of w, with as much gone
   kept : (r' : Report) (c' : Windowed Call) (w : World (ById Call) State) → AreOfWorld width r' s.up.queue s.down.queue c' w
       → (w.wire.up ≡ v.world.wire.up) × (w.wire.down ≡ v.world.wire.down)
-      → AreStreamsOf width (record s { report = r'; client = c' }) (record { world = w; up_gone = v.up_gone; down_gone = v.down_gone })
+      → AreStreamsOf width (record s { report = r'; client = c' }) (with_world w)
   kept r' c' w lines same =
       record {
         lines = lines;
@@ -161,18 +175,24 @@ module _ (width : ℕ) (s : Seen) (v : Streams (ById Call) State) (h : AreStream
       }
 
   -- an event that is not possible is only counted, in the stage as in the streams
-  pub nothing : AreStreamsOf width (record s { report = counted false s.report }) (record { world = on_wire v.world (idle v.world.wire); up_gone = v.up_gone; down_gone = v.down_gone })
+  pub nothing : AreStreamsOf width (record s { report = counted false s.report }) (with_world (on_wire v.world (idle v.world.wire)))
   nothing = kept (counted false s.report) s.client (on_wire v.world (idle v.world.wire)) (shows_idle width s.report s.up.queue s.down.queue s.client v.world h.lines) (refl, refl)
 
   -- Losses and repeats.
 
-  -- where report and queues show the world in which the upward queue was replaced by `us`, if there is a line k, and the upward
-  -- assembler carries the texts of `us` (`IsFlow`), the stage shows the streams of that world, with as much gone
+  -- the world with `us` as the upward queue, if there is a line k; else the event is counted in it as not possible
+  abbrev up_replaced : List (Numbered Request) → (k : ℕ) → World (ById Call) State
+  up_replaced us k = on_wire v.world (with_up v.world.wire us (ltb k (length v.world.wire.up)))
+
+  -- the world with `ds` as the downward queue, if there is a line k; else the event is counted in it as not possible
+  abbrev down_replaced : List (Numbered (List ℕ)) → (k : ℕ) → World (ById Call) State
+  down_replaced ds k = on_wire v.world (with_down v.world.wire ds (ltb k (length v.world.wire.down)))
+
+  -- where report and queues show the world `up_replaced us k`, and the upward assembler carries the texts of `us` (`IsFlow`), the
+  -- stage shows the streams of that world, with as much gone
   up_queue : (b : Bool) (queue : List ℕ) (us : List (Numbered Request)) (k : ℕ)
-      → AreOfWorld width (counted b s.report) queue s.down.queue s.client (on_wire v.world (with_up v.world.wire us (ltb k (length v.world.wire.up))))
-      → IsFlow s.up.assembler s.up.gone (map (λ x. bytes_of x.line) us)
-      → AreStreamsOf width (record s { report = record s.report { idle_events = cond b s.report.idle_events (s.report.idle_events + 1) }; up = record s.up { queue = queue } })
-      (record { world = on_wire v.world (with_up v.world.wire us (ltb k (length v.world.wire.up))); up_gone = v.up_gone; down_gone = v.down_gone })
+      → AreOfWorld width (counted b s.report) queue s.down.queue s.client (up_replaced us k) → IsFlow s.up.assembler s.up.gone (map (λ x. bytes_of x.line) us)
+      → AreStreamsOf width (with_up_side (record s.up { queue = queue }) (idle_after b)) (with_world (up_replaced us k))
   up_queue b queue us k lines flow =
       let t = ltb k (length v.world.wire.up) in
       record {
@@ -183,13 +203,11 @@ module _ (width : ℕ) (s : Seen) (v : Streams (ById Call) State) (h : AreStream
         down_flow = subst (λ q. IsFlow s.down.assembler s.down.gone (map (λ x. x.line) q)) (sym (down_of_up v.world.wire us t)) h.down_flow;
       }
 
-  -- where report and queues show the world in which the downward queue was replaced by `ds`, if there is a line k, and the
-  -- downward assembler carries the texts of `ds` (`IsFlow`), the stage shows the streams of that world, with as much gone
+  -- where report and queues show the world `down_replaced ds k`, and the downward assembler carries the texts of `ds` (`IsFlow`),
+  -- the stage shows the streams of that world, with as much gone
   down_queue : (b : Bool) (queue : List ℕ) (ds : List (Numbered (List ℕ))) (k : ℕ)
-      → AreOfWorld width (counted b s.report) s.up.queue queue s.client (on_wire v.world (with_down v.world.wire ds (ltb k (length v.world.wire.down))))
-      → IsFlow s.down.assembler s.down.gone (map (λ x. x.line) ds)
-      → AreStreamsOf width (record s { report = record s.report { idle_events = cond b s.report.idle_events (s.report.idle_events + 1) }; down = record s.down { queue = queue } })
-      (record { world = on_wire v.world (with_down v.world.wire ds (ltb k (length v.world.wire.down))); up_gone = v.up_gone; down_gone = v.down_gone })
+      → AreOfWorld width (counted b s.report) s.up.queue queue s.client (down_replaced ds k) → IsFlow s.down.assembler s.down.gone (map (λ x. x.line) ds)
+      → AreStreamsOf width (with_down_side (record s.down { queue = queue }) (idle_after b)) (with_world (down_replaced ds k))
   down_queue b queue ds k lines flow =
       let t = ltb k (length v.world.wire.down) in
       record {
@@ -202,15 +220,14 @@ module _ (width : ℕ) (s : Seen) (v : Streams (ById Call) State) (h : AreStream
 
   -- the streams after a step at which no byte goes over
   abbrev stepped : Step → Streams (ById Call) State
-  stepped step = record { world = after_step width v.world step; up_gone = v.up_gone; down_gone = v.down_gone }
+  stepped step = with_world (after_step width v.world step)
 
   -- a loss or a repeat of line k, possible only before its first byte has gone, shows the streams after that step. `old` is
   -- the side before it and `side` after it, `g` is how many bytes of its front line have gone, and `put` sets a side and a
   -- count of idle events in the stage. The last premise is the case in which line k hasn't begun to go
   changes : (old : Side) (g : ℕ) (put : Side → ℕ → Seen) (k : ℕ) (queue : List ℕ) (step : Step) (side : Side) (count : ℕ) → old.gone ≡ g
-      → put old (s.report.idle_events + 1) ≡ record s { report = counted false s.report } → Changes k queue old side s.report.idle_events count
-      → (is_begun k old.gone ≡ false → (b : Bool) → b ≡ ltb k (length old.queue)
-      → AreStreamsOf width (put (record old { queue = queue }) (cond b s.report.idle_events (s.report.idle_events + 1))) (stepped step))
+      → put old (idle_after false) ≡ record s { report = counted false s.report } → Changes k queue old side s.report.idle_events count
+      → (is_begun k old.gone ≡ false → (b : Bool) → b ≡ ltb k (length old.queue) → AreStreamsOf width (put (record old { queue = queue }) (idle_after b)) (stepped step))
       → AreStreamsOf width (put side count) (stepped (cond (is_begun k g) Nothing step))
   changes old g put k queue step side count gone_is same c done = by_begun (is_begun k g) (ap (is_begun k) gone_is)
     where
@@ -219,14 +236,6 @@ module _ (width : ℕ) (s : Seen) (v : Streams (ById Call) State) (h : AreStream
       by_begun false e = let was = c.done e in subst (λ t. AreStreamsOf width t (stepped step)) (sym (ap₂ put was.0 was.1)) (done e (ltb k (length old.queue)) refl)
 
   module _ (k : ℕ) (side : Side) (count : ℕ) where
-    -- the stage with this upward side, and n idle events
-    abbrev with_up_side : Side → ℕ → Seen
-    with_up_side x n = record s { report = record s.report { idle_events = n }; up = x }
-
-    -- the stage with this downward side, and n idle events
-    abbrev with_down_side : Side → ℕ → Seen
-    with_down_side x n = record s { report = record s.report { idle_events = n }; down = x }
-
     -- once line k of the upward side was lost, or the event counted as idle where that isn't possible (`Changes`), the streams
     -- after that event are shown
     pub up_lost : Changes k (without k s.up.queue) s.up side s.report.idle_events count
@@ -265,45 +274,37 @@ module _ (width : ℕ) (s : Seen) (v : Streams (ById Call) State) (h : AreStream
 
   -- A send.
 
-  -- once a request was sent, the streams after that event are shown
-  pub streams_send : (entry : Sent) (deadline : ℕ) (client : Windowed Call) (sent : List Sent) (queue : List ℕ)
-      (sends_is : sends s.client.width s.client.ids entry.target entry.call deadline ≡ Some (record { id = s.client.ids.next; client = client.ids }))
-      (wide : client.width ≡ s.client.width) (line_is : entry.line.items ≡ request_line (Some s.client.ids.next) entry.call) (plain : IsPlain entry.line.items)
-      (fits : IsFitting entry.call) (sent_is : sent ≡ s.report.sent ++ entry ∷ []) (queue_is : queue ≡ s.up.queue ++ length s.report.sent ∷ [])
-      → AreStreamsOf width (record s { report = record s.report { sent = sent }; up = record s.up { queue = queue }; client = client })
+  -- once a request was sent, whose line is plain, the streams after that event are shown
+  pub streams_send : (entry : Sent) (deadline : ℕ) (left : Sends s.report s.up.queue s.client entry deadline) → IsPlain entry.line.items
+      → AreStreamsOf width (record s { report = record s.report { sent = left.sent }; up = record s.up { queue = left.queue }; client = left.client })
       (after_event width v (event.Send entry.target entry.call deadline))
-  streams_send entry deadline client sent queue sends_is wide line plain fits sent_is queue_is =
+  streams_send entry deadline left plain =
       let c = s.client in
-      let x : Sending (ById Call) = record { id = c.ids.next; client = client.ids } in
+      let x : Sending (ById Call) = record { id = c.ids.next; client = left.client.ids } in
       let request : Numbered Request = record { number = length v.world.wire.sent; line = record { id = c.ids.next; call = entry.call } } in
       let ruled : sends width v.world.client entry.target entry.call deadline ≡ Some x =
-      ap (λ (k : Windowed Call). sends k.width k.ids entry.target entry.call deadline) (sym h.lines.client_is) ∙ sends_is in
+      ap (λ (k : Windowed Call). sends k.width k.ids entry.target entry.call deadline) (sym h.lines.client_is) ∙ left.sends_is in
       let whole : after_step width v.world (Send entry.target entry.call deadline) ≡ requested v.world entry.target entry.call (Some x) = ap (requested v.world entry.target entry.call) ruled in
       record {
-        lines = shows_send width s.report s.up.queue s.down.queue c v.world h.lines entry deadline client sent queue sends_is wide line fits sent_is queue_is;
+        lines = shows_send width s.report s.up.queue s.down.queue c v.world h.lines entry deadline left;
         up_is = h.up_is;
         down_is = h.down_is;
         up_flow =
             subst (λ (w : World (ById Call) State). IsFlow s.up.assembler s.up.gone (up_texts w.wire)) (sym whole)
             (subst (IsFlow s.up.assembler s.up.gone) (sym (map-append (λ x. bytes_of x.line) v.world.wire.up (request ∷ [])))
-            (flow_push s.up.assembler s.up.gone (up_texts v.world.wire) (bytes_of request.line) (subst IsPlain line plain) h.up_flow));
+            (flow_push s.up.assembler s.up.gone (up_texts v.world.wire) (bytes_of request.line) (subst IsPlain left.line_is plain) h.up_flow));
         down_flow = subst (λ (w : World (ById Call) State). IsFlow s.down.assembler s.down.gone (down_texts w.wire)) (sym whole) h.down_flow;
       }
 
   -- Restarts.
 
-  -- once the client was restarted, and the instrument with it, while no line is in flight, the streams after that event are
-  -- shown
-  pub streams_restart_client : (more settled : List (Settlement Call)) (client : Windowed Call) (starts : List ℕ) (state : State) (up_empty : s.up.queue ≡ [])
-      (down_empty : s.down.queue ≡ []) (more_are : AreSettlements more (restarts s.client.ids).settlements)
-      (client_is : client ≡ record s.client { ids = (restarts s.client.ids).client }) (settled_is : settled ≡ s.report.settled ++ more)
-      (starts_is : starts ≡ s.report.starts ++ length s.report.executed ∷ []) (state_is : state ≡ restarted s.report.instrument)
-      → AreStreamsOf width (record s { report = record s.report { settled = settled; starts = starts; instrument = state }; client = client })
+  -- once both ends were restarted, while no line is in flight, the streams after that event are shown
+  pub streams_restart_client : (left : RestartsBoth s.report s.up.queue s.down.queue s.client)
+      → AreStreamsOf width (record s { report = record s.report { settled = left.settled; starts = left.starts; instrument = left.state }; client = left.client })
       (after_event width v event.RestartClient)
-  streams_restart_client more settled client starts state eu ed more_are client_is settled_is starts_is state_is =
-      kept (record s.report { settled = settled; starts = starts; instrument = state }) client (after_step width v.world Restart_client)
-      (shows_restart_client width s.report s.up.queue s.down.queue s.client v.world h.lines more settled client starts state eu ed more_are client_is
-      settled_is starts_is state_is)
+  streams_restart_client left =
+      kept (record s.report { settled = left.settled; starts = left.starts; instrument = left.state }) left.client (after_step width v.world Restart_client)
+      (shows_restart_client width s.report s.up.queue s.down.queue s.client v.world h.lines left)
       (of_restart width v.world v.world.wire.up v.world.wire.down)
 
   -- while a line is in flight, a restart of the client is only counted
@@ -322,27 +323,22 @@ module _ (width : ℕ) (s : Seen) (v : Streams (ById Call) State) (h : AreStream
 
   -- Deliveries.
 
-  -- once the front request was delivered, and its reply noted, the streams after that event are shown
-  pub streams_up_deliver : (n : ℕ) (side : Side) (queue : List ℕ) (request : Sent) (entry : Made) (executed : List ℕ) (made : List Made) (state : State) (o : Option (List ℕ))
-      (front : s.up.queue ≡ n ∷ side.queue) (found : slice_get s.report.sent n ≡ Some request) (replied : ExchangesAny s.report.instrument request.line.items state o)
-      (told : o ≡ Some entry.line.items) (same : entry.number ≡ n) (executed_is : Notes s.report.instrument state n s.report.executed executed)
-      (made_is : made ≡ s.report.made ++ entry ∷ []) (queue_is : queue ≡ s.down.queue ++ length s.report.made ∷ []) (stands : StandsFor side.assembler [])
-      (none_gone : side.gone ≡ 0)
-      → AreStreamsOf width (record s { report = record s.report { executed = executed; made = made; instrument = state }; up = side; down = record s.down { queue = queue } })
+  -- once the front request was delivered, and the upward side is at the start of a line, the streams after that event are shown
+  pub streams_up_deliver : (side : Side) (left : HandsToInstrument s.report s.up.queue s.down.queue side.queue) → StandsFor side.assembler [] → side.gone ≡ 0
+      → AreStreamsOf width (record s { report = record s.report { executed = left.executed; made = left.made; instrument = left.state }; up = side; down = record s.down { queue = left.queue } })
       (after_event width v event.UpDeliver)
-  streams_up_deliver n side queue request entry executed made state o e found replied told same executed_is made_is queue_is stands none =
-      let f = up_front width s.report s.up.queue s.down.queue s.client v.world h.lines n side.queue e in
+  streams_up_deliver side left stands none =
+      let f = up_front width s.report s.up.queue s.down.queue s.client v.world h.lines left.number side.queue left.front in
       let x = f.0 in
-      let sound = subst (λ q. Each (IsSentIn s.report.sent) q) f.2 h.lines.requests in
-      let this : request ≡ sound.0.request = same_Some request sound.0.request (sym found ∙ ap (λ k. slice_get s.report.sent k) (sym f.3) ∙ sound.0.found) in
-      let did = replied x.line.id x.line.call sound.0.digit sound.0.fits (ap (λ (q : Sent). q.line.items) this ∙ sound.0.line) in
+      let sound = subst (λ q. AllByRecursion (IsSentIn s.report.sent) q) f.2 h.lines.requests in
+      let this : left.request ≡ sound.0.request = same_Some left.request sound.0.request (sym left.found ∙ ap (λ k. slice_get s.report.sent k) (sym f.3) ∙ sound.0.found) in
+      let did = left.replied x.line.id x.line.call sound.0.digit sound.0.fits (ap (λ (q : Sent). q.line.items) this ∙ sound.0.line) in
       let reply = (handed v.world.wire.state x.line.id x.line.call).reply in
       let plain : IsPlain reply = subst (λ t. IsPlain (handed t x.line.id x.line.call).reply) h.lines.reports.instrument did.plain in
       let m : Numbered (List ℕ) = record { number = x.number; line = reply } in
       let whole : after_step width v.world Up_deliver ≡ on_wire v.world (up_delivered ends v.world.wire (x ∷ f.1)) = ap (λ q. on_wire v.world (up_delivered ends v.world.wire q)) f.2 in
       record {
-        lines = shows_up_deliver width s.report s.up.queue s.down.queue s.client v.world h.lines n side.queue queue request entry executed made state o e
-            found replied told same executed_is made_is queue_is;
+        lines = shows_up_deliver width s.report s.up.queue s.down.queue s.client v.world h.lines side.queue left;
         up_is = none;
         down_is = h.down_is;
         up_flow =
@@ -354,18 +350,14 @@ module _ (width : ℕ) (s : Seen) (v : Streams (ById Call) State) (h : AreStream
             (λ y. y.line) v.world.wire.down (m ∷ []))) (flow_push s.down.assembler s.down.gone (down_texts v.world.wire) reply plain h.down_flow));
       }
 
-  -- once the front reply was delivered, and what it settles noted, the streams after that event are shown
-  pub streams_down_deliver : (p : ℕ) (side : Side) (m : Made) (line : List ℕ) (more settled : List (Settlement Call)) (client : Windowed Call)
-      (front : s.down.queue ≡ p ∷ side.queue) (found : slice_get s.report.made p ≡ Some m) (line_is : line ≡ m.line.items)
-      (more_are : AreSettlements more (hears s.client.ids line (heard line)).settlements)
-      (client_is : client ≡ record s.client { ids = (hears s.client.ids line (heard line)).client }) (settled_is : settled ≡ s.report.settled ++ more)
-      (stands : StandsFor side.assembler []) (none_gone : side.gone ≡ 0)
-      → AreStreamsOf width (record s { report = record s.report { settled = settled }; down = side; client = client }) (after_event width v event.DownDeliver)
-  streams_down_deliver p side m line more settled client e found is more_are client_is settled_is stands none =
-      let f = down_front width s.report s.up.queue s.down.queue s.client v.world h.lines p side.queue e in
+  -- once the front reply was delivered, and the downward side is at the start of a line, the streams after that event are shown
+  pub streams_down_deliver : (side : Side) (left : HandsToClient s.report s.down.queue side.queue s.client) → StandsFor side.assembler [] → side.gone ≡ 0
+      → AreStreamsOf width (record s { report = record s.report { settled = left.settled }; down = side; client = left.client }) (after_event width v event.DownDeliver)
+  streams_down_deliver side left stands none =
+      let f = down_front width s.report s.up.queue s.down.queue s.client v.world h.lines left.place side.queue left.front in
       let whole : after_step width v.world Down_deliver ≡ down_delivered (by_ids width ends) v.world (f.0 ∷ f.1) = ap (λ q. down_delivered (by_ids width ends) v.world q) f.2 in
       record {
-        lines = shows_down_deliver width s.report s.up.queue s.down.queue s.client v.world h.lines p side.queue m line more settled client e found is more_are client_is settled_is;
+        lines = shows_down_deliver width s.report s.up.queue s.down.queue s.client v.world h.lines side.queue left;
         up_is = h.up_is;
         down_is = none;
         up_flow = subst (λ (w : World (ById Call) State). IsFlow s.up.assembler s.up.gone (up_texts w.wire)) (sym whole) h.up_flow;
@@ -398,7 +390,3 @@ module _ (width : ℕ) (s : Seen) (v : Streams (ById Call) State) (h : AreStream
       → AreStreamsOf width (record s { report = counted false s.report }) (after_event width v (bytes d n))
   streams_idle_bytes d n r e none = subst (λ x. AreStreamsOf width (record s { report = counted false s.report }) x)
       (sym (bytes_pass ends (by_ids width ends) d v n ∙ idle_bytes ends (by_ids width ends) d v (lines d v.world.wire) n e none (part d))) nothing
-
--- where `quiet` is the test for P, and is false, P doesn't hold
-pub is_busy : {P : Type 0} (quiet : Bool) → IsTrue quiet ↔ P → quiet ≡ false → P → ⊥
-is_busy quiet iff not p = let e : quiet ≡ true = iff.1 p in cc

@@ -25,11 +25,6 @@ named_first f queue place rest texts e h = by_texts texts (sym (ap (map f) e) �
     by_texts [] g = cc
     by_texts (t ∷ ts) g = let one : f place ≡ Some t = cc in record { text = t; behind = ts; are = refl; found = one }
 
--- a side whose queue equals `place ∷ rest` carries the same texts with its queue written so
-pub taken : (d : Direction) (r : Report) (s : Side) (texts : List (List ℕ)) (place : ℕ) (rest : List ℕ) → s.queue ≡ place ∷ rest → Carries d r s texts
-    → Carries d r (record s { queue = place ∷ rest }) texts
-taken d r s texts place rest e h = record { names = ap (map (written d r)) (sym e) ∙ h.names; flow = h.flow }
-
 module _ (d : Direction) (r : Report) (s : Side) (texts : List (List ℕ)) (h : Carries d r s texts) where
   -- where the queue has this place at its front, the report has a line at that place
   pub front_written : (place : ℕ) (rest : List ℕ) → s.queue ≡ place ∷ rest → (text : List ℕ) × (written d r place ≡ Some text)

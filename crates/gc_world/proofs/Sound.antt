@@ -1,8 +1,10 @@
 -- The invariant of the run by numbers: what holds of the client and of the line in every world of it. A world of which it holds
 -- is *sound*.
 use Rattle.std.proofs.Common.{◌≡◌, ℕ, zero, suc, ◌+◌, ◌-◌, ◌%◌, ◌<◌, ◌≤◌, Bool, true, false, List, [], ◌∷◌, ◌++◌, length, map, take, drop, Some, refl, sym, ◌∙◌, ap, subst, arith, length-append, length-drop, ltb, eqb}
+use Rattle.std.specs.List.{AllByRecursion}
 use Rattle.std.proofs.lemmas.List.{length-map}
 use Rattle.std.proofs.lemmas.Bool.{ltb-false, eqb-false}
+use Rattle.gc_lines.proofs.Lists.{all_append, all_on}
 use Rattle.gc_client.specs.declared.pending.Pending.{Pending}
 use Rattle.gc_client.specs.Rule.{pending_of, expired, lost}
 use Rattle.gc_client.specs.Rule.{Sending}
@@ -10,8 +12,8 @@ use Rattle.gc_client.proofs.OneForOne.{length-settle}
 use Rattle.gc_world.specs.Worlds.{Request, Numbered, Ends, Step, World, without, doubled, replied, started, on_wire, requested, with_settled, happens, run}
 use Rattle.gc_world.specs.Clients.{ByNumber, number_send, number_reply, by_numbers, numbers_open}
 use Rattle.gc_world.specs.Exchange.{IsExchange}
-use Rattle.gc_world.specs.Order.{Each, Rising, numbers}
-use Rattle.gc_world.proofs.Rows.{each_append, each_more, each_number, each_without, each_doubled, rising_lower, rising_without, rising_doubled, rising_without_behind, rising_doubled_behind, rising_moved, rising_push}
+use Rattle.gc_world.specs.Order.{Rising, numbers}
+use Rattle.gc_world.proofs.Rows.{each_number, each_without, each_doubled, rising_lower, rising_without, rising_doubled, rising_without_behind, rising_doubled_behind, rising_moved, rising_push}
 use Rattle.gc_world.proofs.Stable.{IsStable, stable, stable_all}
 use Rattle.std.proofs.lemmas.Option.{same_Some}
 
@@ -48,8 +50,8 @@ module _ {Q State : Type 0} (width : ℕ) (ends : Ends Q State) (Good : State �
     pub within : c.count ≤ length c.requests
     pub few : length c.requests ≤ c.count + width
     pub order : Rising c.count (numbers down ++ numbers up)
-    pub going : Each (IsGoing c.since (length c.requests)) up
-    pub coming : Each (IsComing c.since (length c.requests)) down
+    pub going : AllByRecursion (IsGoing c.since (length c.requests)) up
+    pub coming : AllByRecursion (IsComing c.since (length c.requests)) down
 
   -- `IsSound` of a world
   abbrev pub Sound : World Q (ByNumber Q) State → Type 0
@@ -64,12 +66,12 @@ module _ {Q State : Type 0} (width : ℕ) (ends : Ends Q State) (Good : State �
   coming_more since total total' le x h = record { recent = h.recent; sent = omega (arith, h.sent); id = h.id }
 
   -- the numbers in flight are those of requests that were sent
-  pub all_sent : (since total : ℕ) (down : List (Numbered (List ℕ))) (up : List (Numbered (Request Q))) → Each (IsComing since total) down
-      → Each (IsGoing since total) up → Each (λ n. n < total) (numbers down ++ numbers up)
+  pub all_sent : (since total : ℕ) (down : List (Numbered (List ℕ))) (up : List (Numbered (Request Q))) → AllByRecursion (IsComing since total) down
+      → AllByRecursion (IsGoing since total) up → AllByRecursion (λ n. n < total) (numbers down ++ numbers up)
   all_sent since total down up cs gs =
-      each_append (λ n. n < total) (numbers down) (numbers up)
-      (each_number (λ n. n < total) down (each_more (IsComing since total) (λ x. x.number < total) (λ x h. h.sent) down cs))
-      (each_number (λ n. n < total) up (each_more (IsGoing since total) (λ x. x.number < total) (λ x h. h.sent) up gs))
+      all_append (λ n. n < total) (numbers down) (numbers up)
+      (each_number (λ n. n < total) down (all_on (IsComing since total) (λ x. x.number < total) down (λ x h. h.sent) cs))
+      (each_number (λ n. n < total) up (all_on (IsGoing since total) (λ x. x.number < total) up (λ x h. h.sent) gs))
 
   -- a send that isn't refused keeps a world sound
   sound_sent : (written : ℕ → Q → List ℕ) (w : World Q (ByNumber Q) State) (target : ℕ) (call : Q) (deadline : ℕ) (full : Bool) (x : Sending (ByNumber Q))
@@ -92,9 +94,9 @@ module _ {Q State : Type 0} (width : ℕ) (ends : Ends Q State) (Good : State �
         few = omega (arith, h.few, h.within, requests1, ne);
         order =
             rising_push c.count (length w.wire.sent) _ (numbers w.wire.down) w.wire.up (omega (arith, h.within, h.counted))
-            (subst (λ n. Each (λ m. m < n) (numbers w.wire.down ++ numbers w.wire.up)) h.counted (all_sent c.since total w.wire.down w.wire.up h.coming h.going)) h.order;
+            (subst (λ n. AllByRecursion (λ m. m < n) (numbers w.wire.down ++ numbers w.wire.up)) h.counted (all_sent c.since total w.wire.down w.wire.up h.coming h.going)) h.order;
         going =
-            each_append _ w.wire.up _ (each_more _ _ (going_more c.since total _ (omega (arith, requests1))) w.wire.up h.going) (
+            all_append _ w.wire.up _ (all_on _ _ w.wire.up (going_more c.since total _ (omega (arith, requests1))) h.going) (
               record {
                 recent = omega (arith, h.begun, h.within, h.counted);
                 sent = omega (arith, requests1, h.counted);
@@ -102,7 +104,7 @@ module _ {Q State : Type 0} (width : ℕ) (ends : Ends Q State) (Good : State �
               },
               tt,
             );
-        coming = each_more _ _ (coming_more c.since total _ (omega (arith, requests1))) w.wire.down h.coming;
+        coming = all_on _ _ w.wire.down (coming_more c.since total _ (omega (arith, requests1))) h.coming;
       } in
       subst (λ z. Sound (requested written w target call (Some z))) (same_Some _ x s) done
 
@@ -112,7 +114,7 @@ module _ {Q State : Type 0} (width : ℕ) (ends : Ends Q State) (Good : State �
       → Sound (on_wire w (replied w.wire x.number rest (ends.handed w.wire.state x.line.id x.line.call)))
   sound_answer ex w x rest e h =
       let c = w.client in
-      let g = subst (λ q. Each (IsGoing c.since (length c.requests)) q) e h.going in
+      let g = subst (λ q. AllByRecursion (IsGoing c.since (length c.requests)) q) e h.going in
       let small : x.line.id < 8 = omega (arith, g.0.id) in
       record {
         good = ex.stays_good w.wire.state x.line.id x.line.call h.good small;
@@ -124,14 +126,14 @@ module _ {Q State : Type 0} (width : ℕ) (ends : Ends Q State) (Good : State �
         order = rising_moved c.count x.number _ w.wire.down (numbers rest) (subst (λ q. Rising c.count (numbers w.wire.down ++ numbers q)) e h.order);
         going = g.1;
         coming =
-            each_append _ w.wire.down _ h.coming
+            all_append _ w.wire.down _ h.coming
             (record { recent = g.0.recent; sent = g.0.sent; id = ex.reads w.wire.state x.line.id x.line.call h.good small ∙ ap Some g.0.id }, tt);
       }
 
   -- other queues, whose numbers never fall and whose lines are as `IsGoing` and `IsComing` have them, keep a world sound
   sound_queues : (w : World Q (ByNumber Q) State) (down : List (Numbered (List ℕ))) (up : List (Numbered (Request Q)))
-      → Rising w.client.count (numbers down ++ numbers up) → Each (IsGoing w.client.since (length w.client.requests)) up
-      → Each (IsComing w.client.since (length w.client.requests)) down → Sound w → Sound (on_wire w (record w.wire { down = down; up = up }))
+      → Rising w.client.count (numbers down ++ numbers up) → AllByRecursion (IsGoing w.client.since (length w.client.requests)) up
+      → AllByRecursion (IsComing w.client.since (length w.client.requests)) down → Sound w → Sound (on_wire w (record w.wire { down = down; up = up }))
   sound_queues w down up order going coming h =
       record { good = h.good; counted = h.counted; booked = h.booked; begun = h.begun; within = h.within; few = h.few; order = order; going = going; coming = coming }
 
@@ -150,13 +152,13 @@ module _ {Q State : Type 0} (width : ℕ) (ends : Ends Q State) (Good : State �
         few = h.few;
         order = rising_lower c.count (x.number + 1) (numbers rest ++ numbers w.wire.up) order.0 order.1;
         going = h.going;
-        coming = (subst (λ q. Each (IsComing c.since (length c.requests)) q) e h.coming).1;
+        coming = (subst (λ q. AllByRecursion (IsComing c.since (length c.requests)) q) e h.coming).1;
       }
   sound_reply w x rest false e t h =
       let c = w.client in
       let ge : c.count ≤ x.number = ltb-false _ _ t in
       let order = subst (λ q. Rising c.count (numbers q ++ numbers w.wire.up)) e h.order in
-      let coming = subst (λ q. Each (IsComing c.since (length c.requests)) q) e h.coming in
+      let coming = subst (λ q. AllByRecursion (IsComing c.since (length c.requests)) q) e h.coming in
       let lt : x.number < length c.requests = coming.0.sent in
       let ld : length (drop c.count c.requests) ≡ length c.requests - c.count = length-drop c.count c.requests in
       let ls = length-settle (x.number - c.count) x.line (drop c.count c.requests) (omega (arith, lt, ld, ge)) in
@@ -185,8 +187,8 @@ module _ {Q State : Type 0} (width : ℕ) (ends : Ends Q State) (Good : State �
         within = omega (arith, same, h.within);
         few = omega (arith, same, h.few);
         order = h.order;
-        going = subst (λ n. Each (IsGoing c.since n) w.wire.up) (sym same) h.going;
-        coming = subst (λ n. Each (IsComing c.since n) w.wire.down) (sym same) h.coming;
+        going = subst (λ n. AllByRecursion (IsGoing c.since n) w.wire.up) (sym same) h.going;
+        coming = subst (λ n. AllByRecursion (IsComing c.since n) w.wire.down) (sym same) h.coming;
       }
 
   -- with a start of the instrument (b true) or without one, a sound world stays sound
@@ -220,8 +222,8 @@ module _ {Q State : Type 0} (width : ℕ) (ends : Ends Q State) (Good : State �
         within = omega arith;
         few = omega arith;
         order = subst (λ q. Rising total (numbers q ++ numbers w.wire.up)) (sym ed) (subst (λ q. Rising total (numbers q)) (sym eu) tt);
-        going = subst (λ q. Each (IsGoing total total) q) (sym eu) tt;
-        coming = subst (λ q. Each (IsComing total total) q) (sym ed) tt;
+        going = subst (λ q. AllByRecursion (IsGoing total total) q) (sym eu) tt;
+        coming = subst (λ q. AllByRecursion (IsComing total total) q) (sym ed) tt;
       }
 
   -- a restart of the client, with one of the instrument (b true) or without, while no line is in flight, keeps a world sound

@@ -1,6 +1,6 @@
 -- Events that take no memory: each condition for that, which `TakesNoMemory` states of a world, holds of the stage that shows the
 -- world.
-use Rattle.std.proofs.Common.{◌≡◌, ℕ, ◌≤◌, false, List, [], ◌∷◌, length, Some, inl, inr, sym, ◌∙◌, ap, subst, arith}
+use Rattle.std.proofs.Common.{◌≡◌, ℕ, false, List, [], ◌∷◌, length, Some, inl, inr, sym, ◌∙◌, ap, subst, arith}
 use mathlib.Core.Path.{ap₂}
 use Rattle.std.specs.Prelude.{slice_get}
 use Rattle.gc_catalogue.specs.declared.call.Call.{Call}
@@ -15,6 +15,12 @@ use Rattle.gc_world.specs.Streams.{is_begun}
 use Rattle.gc_world.specs.World.{Numbered, World}
 use Rattle.gc_world.proofs.Showing.{same_up, same_down, no_up, no_down, down_front, down_line}
 
+-- where two queues are equally long, and as many bytes of both front lines have gone, a repeat of line k that isn't possible in
+-- one (`IsNoRepeat`) isn't possible in the other
+no_repeat : {A B : Type 0} (k gone gone' : ℕ) (xs : List A) (ys : List B) → length xs ≡ length ys → gone ≡ gone' → IsNoRepeat k gone' ys → IsNoRepeat k gone xs
+no_repeat k gone gone' xs ys same e (inl begun) = inl (ap (is_begun k) e ∙ begun)
+no_repeat k gone gone' xs ys same e (inr past) = inr (omega (arith, same, past))
+
 module _ (width : ℕ) (r : Report) (up down : List ℕ) (c : Windowed Call) (w : World (ById Call) State) (h : AreOfWorld width r up down c w) where
   -- where the world's client has as many requests waiting as its window is wide, the stage's client
   -- has as many as its own is wide
@@ -25,29 +31,15 @@ module _ (width : ℕ) (r : Report) (up down : List ℕ) (c : Windowed Call) (w 
   pub none_up : w.wire.up ≡ [] → up ≡ []
   none_up t = h.up_is ∙ ap numbers t
 
-  -- a place past the world's upward queue is past the stage's
-  pub past_up : (k : ℕ) → length w.wire.up ≤ k → length up ≤ k
-  past_up k t = omega (arith, same_up width r up down c w h, t)
-
-  -- a place past the world's downward queue is past the stage's
-  pub past_down : (k : ℕ) → length w.wire.down ≤ k → length down ≤ k
-  past_down k t = omega (arith, same_down width r up down c w h, t)
-
   -- where a repeat of line k of the world's upward queue isn't possible (`IsNoRepeat`), one of line k of the stage's isn't
   -- either, with as many bytes gone of its front line
   pub no_repeat_up : (k gone gone' : ℕ) → gone ≡ gone' → IsNoRepeat k gone' w.wire.up → IsNoRepeat k gone up
-  no_repeat_up k gone gone' e t = elim t [
-    | inl begun ↦ inl (ap (is_begun k) e ∙ begun)
-    | inr past ↦ inr (past_up k past)
-  ]
+  no_repeat_up k gone gone' e t = no_repeat k gone gone' up w.wire.up (same_up width r up down c w h) e t
 
   -- where a repeat of line k of the world's downward queue isn't possible (`IsNoRepeat`), one of line k of the stage's isn't
   -- either, with as many bytes gone of its front line
   pub no_repeat_down : (k gone gone' : ℕ) → gone ≡ gone' → IsNoRepeat k gone' w.wire.down → IsNoRepeat k gone down
-  no_repeat_down k gone gone' e t = elim t [
-    | inl begun ↦ inl (ap (is_begun k) e ∙ begun)
-    | inr past ↦ inr (past_down k past)
-  ]
+  no_repeat_down k gone gone' e t = no_repeat k gone gone' down w.wire.down (same_down width r up down c w h) e t
 
   -- where the world has a line in flight, the stage has
   pub busy : IsBusy w.wire.up w.wire.down → IsBusy up down

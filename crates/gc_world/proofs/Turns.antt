@@ -1,5 +1,5 @@
 -- A turn of the loop that plays events.
-use Rattle.std.proofs.Common.{◌≡◌, ℕ, ◌+◌, ◌<◌, ◌≤◌, List, length, take, get_or, sym, subst, arith, length-take}
+use Rattle.std.proofs.Common.{◌≡◌, ℕ, ◌+◌, ◌≤◌, List, length, take, sym, subst, arith, length-take}
 use Rattle.std.proofs.lemmas.List.{take_all}
 use Rattle.gc_lines.specs.Assembler.{Kept}
 use Rattle.gc_catalogue.specs.declared.call.Call.{Call}
@@ -9,15 +9,9 @@ use Rattle.gc_world.specs.declared.event.Event.{Event}
 use Rattle.gc_world.specs.declared.report.Report.{Report}
 use Rattle.gc_world.specs.Reports.{IsReport}
 use Rattle.gc_world.specs.Clients.{by_ids, ends, streamed, played}
-use Rattle.gc_world.specs.Stages.{after_event, streams_at_start, Seen, AreOfWorld, AreStreamsOf}
+use Rattle.gc_world.specs.Stages.{streams_at_start, Seen, AreOfWorld, AreStreamsOf}
 use Rattle.gc_world.specs.World.{World}
 use Rattle.gc_world.proofs.Counts.{IsWithin, within_all}
-use Rattle.gc_world.proofs.Flow.{flow_more}
-
--- the streams after the first i + 1 events are those after the first i, and then event i
-pub played_more : (width : ℕ) (opening : State) (events : List Event) (i : ℕ) (e : Event) → i < length events → e ≡ get_or events i e
-    → streamed width opening (take (i + 1) events) ≡ after_event width (streamed width opening (take i events)) e
-played_more width opening events i e lt is = flow_more ends (by_ids width ends) events i e (streams_at_start opening) lt is
 
 -- none of the lists and counts of a run that `IsWithin` speaks of is above the count of its events
 pub played_within : (width : ℕ) (opening : State) (events : List Event) → IsWithin (length events) (played width opening events).wire

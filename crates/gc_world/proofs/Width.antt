@@ -1,16 +1,15 @@
 -- With a width of eight, the repeat of the first reply has the id of the ninth request.
-use Rattle.std.proofs.Common.{◌≡◌, ◌≢◌, ℕ, List, [], ◌∷◌, ◌++◌, length, Option, Some, refl, sym, ◌∙◌, ap, lit<, arith}
+use Rattle.std.proofs.Common.{◌≡◌, ℕ, List, [], ◌∷◌, ◌++◌, length, Option, Some, refl, sym, ◌∙◌, ap, lit<, arith}
 use Rattle.gc_catalogue.specs.declared.call.Call.TheVariants.{NullProc}
 use Rattle.gc_catalogue.specs.declared.call.Call.{Call}
 use Rattle.gc_client.specs.Rule.{ById, hears}
 use Rattle.gc_instrument.specs.State.{State, restarted}
 use Rattle.gc_world.specs.Clients.{by_ids, ids_open, by_numbers, numbers_open}
 use Rattle.gc_world.specs.Exchange.{IsExchange}
-use Rattle.gc_world.specs.Laws.{left_by_ids, left_by_numbers}
 use Rattle.gc_world.specs.Clients.{ends}
-use Rattle.gc_world.specs.Width.{boundary_of_eight}
+use Rattle.gc_world.specs.Width.{EightDiffers, EightSettlesNine, NumbersSettleOne}
 use Rattle.gc_world.specs.World.{Ends, Step, Send, Up_deliver, Down_deliver, Down_repeat, World, Wire, with_settled, run}
-use Rattle.gc_world.proofs.Handing.{KeptFits, reads}
+use Rattle.gc_world.proofs.Handing.{KeptFits, kept_exchange}
 
 -- the steps before the first delivery of the first reply: its request is sent and handed over, and the reply is repeated
 abbrev pub opening_steps : List Step
@@ -57,18 +56,20 @@ module _ {State : Type 0} (ends : Ends State) (Good : State → Type 0) (ex : Is
       ap (λ o. length (run ends (by_ids 8 ends) (sends ++ Down_deliver ∷ []) (once_heard o)).wire.settled) zero_heard
       ∙ ap (λ o. length (heard_again o).wire.settled) zero_heard
 
-  -- by numbers, with a window of eight, the steps of `schedule` settle the first request alone
+  -- by numbers, with a window of eight, the steps of `schedule` settle one request
   pub settles_one : length (run ends (by_numbers 8) schedule (numbers_open s)).wire.settled ≡ 1
   settles_one = refl
 
 -- with a width of eight the run by ids of `boundary_of_eight` settles nine requests
-pub nine : (opening : State) → length (left_by_ids 8 opening boundary_of_eight).settled ≡ 9
-nine opening = settles_nine ends KeptFits reads (restarted opening) tt
+pub eight_settles_nine : EightSettlesNine
+eight_settles_nine opening = settles_nine ends KeptFits kept_exchange (restarted opening) tt
 
 -- with a width of eight the run by numbers of `boundary_of_eight` settles one request
-pub one : (opening : State) → length (left_by_numbers 8 opening boundary_of_eight).settled ≡ 1
-one opening = settles_one ends KeptFits reads (restarted opening) tt
+pub numbers_settle_one : NumbersSettleOne
+numbers_settle_one opening = settles_one ends KeptFits kept_exchange (restarted opening) tt
 
 -- with a width of eight the two runs of `boundary_of_eight` leave different wires
-pub differs : (opening : State) → left_by_ids 8 opening boundary_of_eight ≢ left_by_numbers 8 opening boundary_of_eight
-differs opening e = let h : 9 ≡ 1 = sym (nine opening) ∙ ap (λ (w : Wire State). length w.settled) e ∙ one opening in absurd (omega (arith, h))
+pub eight_differs : EightDiffers
+eight_differs opening e =
+    let h : 9 ≡ 1 = sym (eight_settles_nine opening) ∙ ap (λ (w : Wire State). length w.settled) e ∙ numbers_settle_one opening in
+    absurd (omega (arith, h))

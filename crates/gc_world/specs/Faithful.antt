@@ -121,7 +121,7 @@ pub record AgreesWith (w : Wire State) (r : Report) : Type 0 where
   pub refused : r.refused_sends ≡ w.refused
   pub idle : r.idle_events ≡ w.idle
 
--- the report of these events, from this opening state on, with a window of this width, is faithful
+-- the report of these events, from the restarted opening state on, with a window of this width, is faithful
 pub record Faithful (width : ℕ) (opening : State) (events : List Event) (r : Report) : Type 0 where
   pub one_for_one : OneForOne r
   pub booked : BooksAnswers r

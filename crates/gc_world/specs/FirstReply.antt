@@ -67,7 +67,7 @@ pub record IsSettledAs (before after : Wire State) (n : ℕ) (outcome : Outcome)
   pub found : slice_get before.sent n ≡ Some request
   pub settled : after.settled ≡ before.settled ++ map (ended Lost) (between (length before.settled) n before.sent) ++ ended outcome request ∷ []
 
--- if a line is in flight downward, the event hands over the last byte of the front one, and no byte after it
+-- the event is `DownDeliver`, or hands over as many bytes downward as are still to go of the front reply, at least one
 abbrev pub IsDelivery : Streams (ById Call) State → Event → Type 0
 IsDelivery v e = (e ≡ DownDeliver) ⊎ ((n : ℕ) × (e ≡ DownBytes (n + 1)) × (remaining v.down_gone (down_lines v.world.wire) ≡ n + 1))
 
@@ -78,8 +78,7 @@ DeliverySettles width opening events n line outcome =
     (delivery : Event) → IsDelivery (streamed width opening events) delivery → IsNextFor (left_by_ids width opening events) n line →
     IsSettledAs (left_by_ids width opening events) (left_by_ids width opening (events ++ delivery ∷ [])) n outcome
 
--- with a window of at most seven, a first reply in time is booked: its request is answered with that very line. That the answer's
--- reading in the report is what the line says of the call holds of each settlement, as `AreSettlements` has it
+-- with a window of at most seven, a first reply in time is booked: its request is answered with that very line
 abbrev pub BooksFirstReply : Type 0
 BooksFirstReply =
     (width : ℕ) → width ≤ WINDOW → (opening : State) (events : List Event) (n : ℕ) (line : List ℕ) →

@@ -5,10 +5,6 @@ use Rattle.std.specs.List.{AllByRecursion}
 use Rattle.gc_instrument.specs.State.{KeptReply}
 use Rattle.gc_world.specs.Worlds.{Numbered, Wire}
 
--- each element of a list has this property: std's `AllByRecursion` by a shorter name
-abbrev pub Each : {A : Type 0} → (A → Type 0) → List A → Type 0
-Each P xs = AllByRecursion P xs
-
 -- the numbers of a list never fall from one to the next, and none is below low - 1
 abbrev pub Rising : (low : ℕ) → List ℕ → Type 0
 Rising low [] = Unit {0}
@@ -26,7 +22,7 @@ in_flight w = numbers w.down ++ numbers w.up
 -- above it
 abbrev pub IsRecent : (width : ℕ) → Option KeptReply → (executed up : List ℕ) → Type 0
 IsRecent width None executed up = Unit {0}
-IsRecent width (Some k) executed up = (earlier : List ℕ) × (last : ℕ) × (executed ≡ earlier ++ last ∷ []) × Each (λ n. (last ≤ n) × (n ≤ last + width)) up
+IsRecent width (Some k) executed up = (earlier : List ℕ) × (last : ℕ) × (executed ≡ earlier ++ last ∷ []) × AllByRecursion (λ n. (last ≤ n) × (n ≤ last + width)) up
 
 -- the order of the line, where at most `width` requests are unsettled
 pub record IsOrderly {Q State : Type 0} (width : ℕ) (w : Wire Q State) : Type 0 where
@@ -37,4 +33,4 @@ pub record IsOrderly {Q State : Type 0} (width : ℕ) (w : Wire Q State) : Type 
   -- least the count of settlements less one
   pub order : Rising (length w.settled) (in_flight w)
   -- every number is below the count of requests sent
-  pub sent : Each (λ n. n < length w.sent) (in_flight w)
+  pub sent : AllByRecursion (λ n. n < length w.sent) (in_flight w)

@@ -36,7 +36,7 @@ pub record IsNoLongerThan (n : ℕ) (r : Report) : Type 0 where
   pub settled : length r.settled ≤ n
   pub starts : length r.starts ≤ n
 
--- What a run of these events leaves, from this opening state on, with a window of this width.
+-- What a run of these events leaves, from the restarted opening state on, with a window of this width.
 
 -- the report is that of the run by ids
 abbrev pub IsReportOf : (width : ℕ) → (opening : State) → List Event → Report → Type 0

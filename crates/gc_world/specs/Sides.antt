@@ -1,6 +1,7 @@
 -- No part of a promise: what a side carries. A side is what the code keeps of the lines in flight in one direction: their
 -- places in the report, how many bytes of the front line have gone, and the assembler of those bytes.
 use Rattle.std.specs.Prelude.{◌≡◌, ℕ, ◌+◌, ◌<◌, true, false, List, [], ◌∷◌, length, take, Option, Some, map, slice_get, if◌then◌else◌, nat_lt}
+use Rattle.std.specs.List.{AllByRecursion}
 use Rattle.std.specs.Option.{option_map}
 use Rattle.gc_lines.specs.Assembler.{Kept, StandsFor}
 use Rattle.gc_lines.specs.Lent.{lent_seen}
@@ -13,7 +14,6 @@ use Rattle.gc_world.specs.declared.report.Made.{Made}
 use Rattle.gc_world.specs.declared.report.Report.{Report}
 use Rattle.gc_world.specs.declared.report.Sent.{Sent}
 use Rattle.gc_world.specs.declared.side.Side.{Side}
-use Rattle.gc_world.specs.Order.{Each}
 use Rattle.gc_world.specs.Streams.{gone_of, is_begun, remaining}
 
 -- the text of the line at this place of a direction's list in the report, if the list is so long: `sent` upward, and `made`
@@ -32,7 +32,7 @@ IsPart gone (line ∷ lines) = gone < length line
 pub record IsFlow (kept : Kept) (gone : ℕ) (texts : List (List ℕ)) : Type 0 where
   pub part : IsPart gone (map with_end texts)
   pub stands : StandsFor kept (gone_of gone (map with_end texts))
-  pub plain : Each IsPlain texts
+  pub plain : AllByRecursion IsPlain texts
 
 -- the queue of a side names these texts in the report, in order, and the side's assembler stands for what has gone of the first
 pub record Carries (d : Direction) (r : Report) (s : Side) (texts : List (List ℕ)) : Type 0 where

@@ -1,6 +1,7 @@
 -- No part of a promise: what a stage shows of the streams of a run. A stage is what the code keeps while it plays events:
 -- the report so far, the client, and for each direction a side, with the lines in flight in it.
 use Rattle.std.specs.Prelude.{◌≡◌, ℕ, ◌<◌, List, Option, Some, Result, IsOk, map, slice_get}
+use Rattle.std.specs.List.{AllByRecursion}
 use Rattle.gc_catalogue.specs.Calls.{IsFitting}
 use Rattle.gc_catalogue.specs.Texts.{request_line}
 use Rattle.gc_catalogue.specs.declared.call.Call.{Call}
@@ -17,7 +18,7 @@ use Rattle.gc_world.specs.declared.stage.Stage.{Stage}
 use Rattle.gc_world.specs.Clients.{by_ids, ids_open, ends}
 use Rattle.gc_world.specs.Directions.{lines, gone, handed_over}
 use Rattle.gc_world.specs.Memory.{TakesNoMemory}
-use Rattle.gc_world.specs.Order.{Each, numbers}
+use Rattle.gc_world.specs.Order.{numbers}
 use Rattle.gc_world.specs.Reports.{made_seen, IsReport}
 use Rattle.gc_world.specs.Sides.{IsFlow}
 use Rattle.gc_world.specs.Streams.{Streams, up_texts, down_texts, untouched, flows, remaining}
@@ -66,8 +67,8 @@ pub record AreOfWorld (width : ℕ) (report : Report) (up down : List ℕ) (clie
   pub down_is : named report.made down ≡ map Some w.wire.down
   pub client_is : client ≡ record { width = width; ids = w.client }
   pub next : w.client.next < IDS
-  pub requests : Each (IsSentIn report.sent) w.wire.up
-  pub calls : Each (λ (q : Sent). IsFitting q.call) report.sent
+  pub requests : AllByRecursion (IsSentIn report.sent) w.wire.up
+  pub calls : AllByRecursion (λ (q : Sent). IsFitting q.call) report.sent
 
 -- the parts of a stage that show the streams
 pub record Seen : Type 0 where

@@ -29,11 +29,11 @@ boundary_of_eight =
 abbrev pub EightDiffers : Type 0
 EightDiffers = (opening : State) → left_by_ids 8 opening boundary_of_eight ≢ left_by_numbers 8 opening boundary_of_eight
 
--- over `boundary_of_eight` the client that knows ids takes the first reply, when it comes again, for the ninth request's, and
--- settles all nine
+-- with a width of eight, the run of `boundary_of_eight` by ids makes nine settlements: its client takes the first reply, when it
+-- comes again, for the ninth request's
 abbrev pub EightSettlesNine : Type 0
 EightSettlesNine = (opening : State) → length (left_by_ids 8 opening boundary_of_eight).settled ≡ 9
 
--- over `boundary_of_eight` the oracle client settles the first request alone
+-- with a width of eight, the run of `boundary_of_eight` by numbers makes one settlement
 abbrev pub NumbersSettleOne : Type 0
 NumbersSettleOne = (opening : State) → length (left_by_numbers 8 opening boundary_of_eight).settled ≡ 1

@@ -23,7 +23,7 @@ use Rattle.geocom_c.specs.declared.header.TheConstants.{WINDOW_FULL, NO_CLIENT, 
 pub same_width : (c d : Windowed Asked) → d.width ≡ c.width → d ≡ record c { ids = d.ids }
 same_width c d e = ap (λ w. let x : Windowed Asked = record { width = w; ids = d.ids } in x) e
 
--- if a fault n other than 0 can only be that of a full window, it isn't the one that the state is no client's
+-- a number n that is `WINDOW_FULL` unless it is 0 isn't `NO_CLIENT`
 pub full_alone : (n : ℕ) → (n ≢ 0 → n ≡ WINDOW_FULL) → n ≡ NO_CLIENT → ⊥
 full_alone n either e = let f : n ≡ WINDOW_FULL = either (λ z. (cc)) in cc
 
@@ -36,11 +36,11 @@ refusal_below (Parameters OpenQuote) = omega arith
 refusal_below (Parameters TooMany) = omega arith
 refusal_below (Parameters Count) = omega arith
 
--- no refusal of a call has the number of the fault that the state is no client's
+-- the number of a refusal of a call isn't `NO_CLIENT`
 pub no_refusal_astray : (e : CallFault) → refusal_number e ≡ NO_CLIENT → ⊥
 no_refusal_astray e f = absurd (omega (arith, f, refusal_below e))
 
--- no refusal of a raw request has the number of the fault that the state is no client's
+-- the number of a refusal of a raw request isn't `NO_CLIENT`
 pub no_raw_astray : (e : RawFault) → raw_number e ≡ NO_CLIENT → ⊥
 no_raw_astray raw.InTable f = absurd (omega (arith, f))
 no_raw_astray raw.NotPlain f = absurd (omega (arith, f))
@@ -63,7 +63,7 @@ as_given raw procedure params id next text is same e =
     ∙ ap (λ (p : List ℕ). with_end (request_text (record { rpc = procedure; id = Some id; params = p }))) is.1
     ∙ ap (λ i. with_end (request_text (record { rpc = procedure; id = Some i; params = params }))) (sym same)
 
--- the fault that a client hasn't synchronized has another number than the one that the state is no client's
+-- `NOT_BEGUN` isn't `NO_CLIENT`
 pub unbegun_not_astray : NOT_BEGUN ≡ NO_CLIENT → ⊥
 unbegun_not_astray e = absurd (omega (arith, e))
 

@@ -11,21 +11,19 @@ use Rattle.gc_instrument.specs.Execution.{exec}
 use Rattle.gc_instrument.specs.Replying.{handed}
 use Rattle.gc_instrument.specs.State.{IsFittingState, simulator_opening}
 use Rattle.gc_field.specs.Simulator.{ends}
-use Rattle.gc_field.specs.CountingChain as chain
 use Rattle.gc_field.specs.CountingChain.{counting, kept_by}
 use Rattle.gc_field.specs.Instrument.{AnyState, TreatsRawsAlike}
 use Rattle.gc_field.specs.Laws.{kept_of}
-use Rattle.gc_field.specs.Witness.{replies}
 use Rattle.gc_field.proofs.CountingChain.{counted}
 use Rattle.gc_field.proofs.Instruments.{simulator}
 use Rattle.gc_field.proofs.Witness.{fits, units}
-use Rattle.geocom_c.specs.FieldWitness.{AreInField, SomeCallsAreInField, moves, raw_second, table_second}
+use Rattle.geocom_c.specs.FieldWitness.{AreInField, SomeCallsAreInField, counting_exchange, moves, simulator_exchange}
 
 -- procedure 5003 without parameters is a call
 procedure_is_call : IsCall 5003 [] InstrumentNo
 procedure_is_call = record { number = refl; values = record { items = []; split = (0, refl); read = tt } }
 
--- the word isn't in flight if one reply with id 0 is, alone: the word's first id, 6, isn't 0
+-- the word's first id, 6, isn't 0: so the word isn't in flight where nothing is but one reply with id 0
 not_alone : {A : Type 0} → (◌≡◌ {A = ℕ} 6 0 × A) ⊎ ⊥ → ⊥
 not_alone (inl f) = absurd (omega (arith, f.0))
 not_alone (inr f) = f
@@ -35,8 +33,7 @@ counting_alike : TreatsRawsAlike counting AnyState kept_by
 counting_alike state id call good lt = inr (counted.keeps.always state id call good lt refl)
 
 -- the calls over an instrument that counts meet every premise of `EachAnswerIsOwn` (`AreInField`)
-over_counting : (raw : RawCall)
-    → AreInField counting AnyState kept_by (record { count = 27; keeps = None }) chain.null_replies (raw_second raw) (Raw raw) chain.first_reply chain.second_reply
+over_counting : (raw : RawCall) → AreInField counting AnyState kept_by (record { count = 27; keeps = None }) (counting_exchange raw)
 unfolding header_at reply_at digits
 over_counting raw =
     record {
@@ -104,8 +101,8 @@ over_counting raw =
       safe = ((λ m command went. inr (inl counting_alike)), ((λ m command went. inr (inl counting_alike)), tt));
       settlements = refl;
       made_on = record {
-        front = take 3 (moves (Raw raw) (codes "%R1P,0,0:0,36") (codes "%R1P,0,1:0,37"));
-        later = drop 4 (moves (Raw raw) (codes "%R1P,0,0:0,36") (codes "%R1P,0,1:0,37"));
+        front = take 3 (moves (counting_exchange raw));
+        later = drop 4 (moves (counting_exchange raw));
         split = refl;
         id = 0;
         rest = record { number = 9; line = record { id = 1; call = Raw raw } } ∷ [];
@@ -116,8 +113,7 @@ over_counting raw =
     }
 
 -- the calls over the simulator meet every premise of `EachAnswerIsOwn` (`AreInField`)
-over_simulator :
-    AreInField ends IsFittingState kept_of simulator_opening replies table_second (Table InstrumentNo) (codes "%R1P,0,0:0,123456") (codes "%R1P,0,1:0,123456")
+over_simulator : AreInField ends IsFittingState kept_of simulator_opening simulator_exchange
 unfolding header_at reply_at handed exec digits
 over_simulator =
     record {
@@ -185,8 +181,8 @@ over_simulator =
       safe = ((λ m command went. inl (refl, (refl, tt))), ((λ m command went. inl tt), tt));
       settlements = refl;
       made_on = record {
-        front = take 3 (moves (Table InstrumentNo) (codes "%R1P,0,0:0,123456") (codes "%R1P,0,1:0,123456"));
-        later = drop 4 (moves (Table InstrumentNo) (codes "%R1P,0,0:0,123456") (codes "%R1P,0,1:0,123456"));
+        front = take 3 (moves simulator_exchange);
+        later = drop 4 (moves simulator_exchange);
         split = refl;
         id = 0;
         rest = record { number = 9; line = record { id = 1; call = Table InstrumentNo } } ∷ [];

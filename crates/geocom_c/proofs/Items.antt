@@ -1,17 +1,8 @@
 -- Items, as texts of values, that stand in a text: at a place, which is an offset and a length in bytes.
 use Rattle.std.proofs.Common.{◌≡◌, ℕ, zero, suc, ◌+◌, ◌≤◌, List, [], ◌∷◌, ◌++◌, length, take, drop, refl, ap, ◌∙◌, arith, length-append}
 use Rattle.std.proofs.lemmas.List.{drop_at, take_all, take-append-le}
-use Rattle.gc_values.specs.Lists.{AreItems}
-use Rattle.gc_values.specs.declared.value.Value.{Value}
 use Rattle.geocom_c.specs.Settled.{StandsAt}
 use Rattle.geocom_c.specs.declared.listed.GeocomItem.{GeocomItem}
-
--- items that read as values (`AreItems`) are as many as these
-pub items_length : (items : List (List ℕ)) (values : List Value) → AreItems items values → length items ≡ length values
-items_length [] [] are = refl
-items_length [] (v ∷ vs) are = absurd are
-items_length (i ∷ items) [] are = absurd are
-items_length (i ∷ items) (v ∷ vs) are = omega (arith, items_length items vs are.1)
 
 -- the k bytes from place n on, if they are within t, are the same once u is appended
 take_drop_front : (n k : ℕ) (t u : List ℕ) → n + k ≤ length t → take k (drop n (t ++ u)) ≡ take k (drop n t)

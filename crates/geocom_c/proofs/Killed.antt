@@ -1,5 +1,5 @@
--- What runs leave that were killed while they synchronized: the word isn't in it, as long as they were few. The word is the ids
--- of a synchronization's eight null procedures; it is in flight if they are a subsequence of the ids of the replies and
+-- The word isn't in what runs leave in flight, as long as few of them in a row were killed while they synchronized. The word is
+-- the ids of a synchronization's eight null procedures; it is in flight if they are a subsequence of the ids of the replies and
 -- requests in flight.
 use Rattle.std.proofs.Common.{ℕ, ◌≤◌, List, [], ◌∷◌, Option, refl}
 use Rattle.gc_instrument.specs.State.{KeptReply}
@@ -20,8 +20,8 @@ module _ {State : Type 0} (ends : Ends State) (Good : State → Type 0) (kept : 
       let one = run_result ends Good kept is width narrow n u r (after_turns ends u r).left refl lines short runs.0.0 runs.0.1 few.0 in
       may_begin_after rs (killed_if (after_turns ends u r).left n) (left_by_run width ends u r) one.lines one.short runs.1 few.1
 
-  -- where what is in flight is what a run that had synchronized may leave, or nothing (`HasRisingIds`), the word isn't in flight after
-  -- further runs (`rs`), as long as few in a row are killed while they synchronize
+  -- where what is in flight is what a run that had synchronized may leave, or nothing (`HasRisingIds`), the word isn't in flight
+  -- after further runs (`rs`), as long as few in a row are killed while they synchronize
   pub may_begin : (u : UnderWay State) → IsWellFormed Good u → HasRisingIds u → (rs : List (Run State)) → AreRuns width ends Good kept u rs
       → AreFewKilled width ends 0 u rs → MayBegin (left_by_runs width ends u rs)
   may_begin u lines row rs runs few = may_begin_after rs 0 u lines (short_rising u row) runs few

@@ -1,8 +1,9 @@
--- Run after run: what calls that are runs settle, and whose the answers are. A run is the turns of a synchronization and then
--- the moves of the field, and a part is a run with what was in flight when it began. The word is the ids of a synchronization's
--- eight null procedures, and `left` those of them that aren't answered. `ends` is the instrument, `Good` the states that it may
--- be in, and `kept` the reply that it retains. `Turned` says which events a synchronization's turns are, `Begins` and `Passes`
--- that a run has synchronized cleanly, and `Holds` what the law promises of runs.
+-- Calls whose events are those of runs, one after the other: what they settle, and which request each answer is to. A run is the
+-- turns of a synchronization and then the moves of the field, and a part is a run with what was in flight when it began. The word
+-- is the ids of a synchronization's eight null procedures, and `left` those of them that aren't answered. `ends` is the
+-- instrument, `Good` the states that it may be in, and `kept` the reply that it retains. `Turned` says which events a
+-- synchronization's turns are, `Begins` and `Passes` that a run has synchronized cleanly, and `Holds` what the law promises of
+-- runs.
 use Rattle.std.proofs.Common.{◌≡◌, ℕ, ◌≤◌, List, [], ◌∷◌, ◌++◌, map, drop, Option, refl, sym, ◌∙◌, ap, subst, append_assoc}
 use Rattle.std.proofs.lemmas.List.{append-nil}
 use Rattle.std.specs.List.{AllByRecursion}
@@ -14,8 +15,8 @@ use Rattle.gc_instrument.specs.State.{KeptReply}
 use Rattle.gc_world.specs.Clients.{by_ids}
 use Rattle.gc_station.proofs.Behind.{course_append}
 use Rattle.gc_station.proofs.Lists.{all_append, all_on}
-use Rattle.gc_field.specs.World.{Ends, Request}
-use Rattle.gc_field.specs.Begin.{InFlight, IsWellFormed, AreTurns, Asks, Comes, Foreign, Reaches, Up_lose, Up_repeat, Down_lose, Down_repeat, Anew, Changes, Model, Turn, UnderWay, asks, begins, comes, leaves, reaches, turned, turns}
+use Rattle.gc_field.specs.World.{Ends}
+use Rattle.gc_field.specs.Begin.{InFlight, IsWellFormed, AreTurns, Asks, Comes, Foreign, Reaches, Up_lose, Up_repeat, Down_lose, Down_repeat, Anew, Changes, Model, Turn, UnderWay, asks, begins, comes, leaves, turned, turns}
 use Rattle.gc_field.specs.Beginnings.{IsOwnIf, Run, left_by_run, left_if, on_line, after_turns}
 use Rattle.gc_field.specs.Begun.{behind, ids_begun}
 use Rattle.gc_field.specs.Field.{Move, Sends, Tells, OnLine, Joins, ArePossible, seen}
@@ -25,9 +26,10 @@ use Rattle.gc_field.proofs.BeginJoin.{begins_cleanly, left_lines}
 use Rattle.gc_field.proofs.BeginWords.{cons_not_nil}
 use Rattle.gc_field.proofs.BegunFaithful.{faithful, prefixed_all}
 use Rattle.gc_field.proofs.BegunRuns.{clean_lines}
+use Rattle.gc_field.proofs.Shown.{left_reaches}
 use Rattle.gc_field.proofs.BegunRising.{rising_lack_the_word, runs_leave_rising_ids, runs_leave_good}
 use Rattle.geocom_c.specs.Following.{CallsReach, Stage, opened}
-use Rattle.geocom_c.specs.Laws.{AreOwn, IsOwnAnswer, IsSafeRun, MayBegin}
+use Rattle.geocom_c.specs.Laws.{AreOwn, IsOwnAnswer, IsOwnPart, IsSafeRun, MayBegin}
 use Rattle.geocom_c.specs.Runs.{Part, ArePossibleRuns, null_of, begun_at, client_if, client_over, event_of, events_of, events_over, came_of, left_over, lost_if, parts, settled_if, settled_over, world}
 use Rattle.geocom_c.specs.Steps.{Event, Stepped, AreEvents, AreInTurn, left_among, steps_among}
 use Rattle.geocom_c.specs.declared.following.Step as call
@@ -104,17 +106,12 @@ module _ {State : Type 0} (width : ℕ) (ends : Ends State) where
   turned_front s [] = turned_same s s refl
   turned_front s (x ∷ rest) = record { turns = λ es h. h; left = λ es. refl; steps = λ es. refl }
 
-  -- a request that reaches the instrument, or none, leaves the ids that aren't answered as they were
-  reached_left : (s : Model State) (up : List (InFlight Request)) → (reaches ends s up).left ≡ s.left
-  reached_left s [] = refl
-  reached_left s (x ∷ rest) = refl
-
   -- the events of one turn of a synchronization go with that turn (`Turned`)
   turned_one : (s : Model State) (t : Turn State) → Turned s (turns ends s t) (event_of s t)
   turned_one s Asks = turned_asked s s.left
   turned_one s Comes = turned_front s s.down
   turned_one s (Foreign line) = record { turns = λ es h. h; left = λ es. refl; steps = λ es. refl }
-  turned_one s Reaches = turned_same s _ (reached_left s s.up)
+  turned_one s Reaches = turned_same s _ (left_reaches ends s s.up)
   turned_one s (Up_lose k) = turned_same s _ refl
   turned_one s (Up_repeat k) = turned_same s _ refl
   turned_one s (Down_lose k) = turned_same s _ refl
@@ -164,10 +161,6 @@ module _ {State : Type 0} (width : ℕ) (ends : Ends State) where
           may = rising_lack_the_word (on_line (behind width ends (leaves s) p.run.moves).wire) (runs_leave_rising_ids ends Good kept is width narrow (leaves s) is_clean p.run.moves run.moves);
         }
 
-    -- if this run has synchronized, it has done so cleanly, and is faithful
-    abbrev OwnPart : Part State → Type 0
-    OwnPart p = IsOwnIf width ends Good kept (begun_at ends p).left (begun_at ends p) p.run.moves
-
     -- each of these answers is its own request's
     abbrev OwnAll : List (Part State) → List (Settlement Asked) → Type 0
     OwnAll ps ss = AllByRecursion (IsOwnAnswer width ends Good kept ps) ss
@@ -179,10 +172,10 @@ module _ {State : Type 0} (width : ℕ) (ends : Ends State) where
       client : (course width begun (steps_among events)).client ≡ client_over width ends ps
       left : left_among the_word events ≡ left_over width ends ps
       own : OwnAll ps (settled_over width ends ps)
-      each : AllByRecursion OwnPart ps
+      each : AllByRecursion (IsOwnPart width ends Good kept) ps
 
-    -- `Holds` is true of the last run alone, synchronized or not (`left` is the ids that it left unanswered), if it may begin and is
-    -- possible (`MayRun`), is safe, and its events come in their turn
+    -- `Holds` is true of the last run alone, synchronized or not (`left` is the ids that it left unanswered), if it may begin and
+    -- is possible (`MayRun`), is safe, and its events come in their turn
     last_holds : (p : Part State) (left : List ℕ) → (begun_at ends p).left ≡ left → MayRun p → IsSafeRun width ends Good kept p
         → AreInTurn the_word (events_of ends (begins p.before) p.run.turns ++ map Stepped (seen p.run.moves))
         → Holds (p ∷ []) (events_of ends (begins p.before) p.run.turns ++ map Stepped (seen p.run.moves))
@@ -242,8 +235,8 @@ module _ {State : Type 0} (width : ℕ) (ends : Ends State) where
         let turn = (turned_all p.run.turns (begins p.before)).turns (map Stepped (seen p.run.moves) ++ Stepped Restart ∷ rest) h in
         absurd (no_restart asked later (seen p.run.moves) rest (subst (λ l. AreInTurn l (map Stepped (seen p.run.moves) ++ Stepped Restart ∷ rest)) e turn))
 
-    -- if a safe run has synchronized and a restart follows (`Passes`), and `Holds` is true of the later runs, it is true of all of
-    -- them
+    -- if a safe run has synchronized and a restart follows (`Passes`), and `Holds` is true of the later runs, it is true of all
+    -- of them
     passed_holds : (p next : Part State) (others : List (Part State)) (rest : List Event) → IsSafeRun width ends Good kept p → Passes p rest → Holds (next ∷ others) rest
         → Holds (p ∷ next ∷ others) (events_of ends (begins p.before) p.run.turns ++ (map Stepped (seen p.run.moves) ++ Stepped Restart ∷ rest))
     passed_holds p next others rest safe pass more =

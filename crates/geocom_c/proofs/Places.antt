@@ -1,6 +1,6 @@
 -- Two lists side by side, one element further. `FirstAre Is xs ys` says that the first items of `xs` go with those of `ys`, one
 -- for one. An item of `xs` goes with one of `ys` if `Is` holds of the two.
-use Rattle.std.proofs.Common.{◌≡◌, ℕ, zero, suc, ◌<◌, ◌≤◌, List, [], ◌∷◌, ◌++◌, length, take, subst, arith}
+use Rattle.std.proofs.Common.{◌≡◌, ℕ, zero, suc, ◌<◌, List, [], ◌∷◌, ◌++◌, length, take, subst, arith}
 use Rattle.std.specs.Prelude.{Some, slice_get, slice_set}
 use Rattle.geocom_c.specs.FirstAre.{FirstAre}
 
@@ -28,12 +28,6 @@ module _ {A B : Type 0} (Is : A → B → Type 0) where
   first_written (a ∷ xs) [] k x y are lt f is = cc
   first_written (a ∷ xs) (b ∷ ys) zero x y are lt f is = let t : y ≡ b = cc in (subst (λ z. Is x z) t is, tt)
   first_written (a ∷ xs) (b ∷ ys) (suc k) x y are lt f is = (are.0, first_written xs ys k x y are.1 (omega (arith, lt)) f is)
-
-  -- where `FirstAre` holds, the second list has no more items than the first
-  pub first_fewer : (xs : List A) (ys : List B) → FirstAre Is xs ys → length ys ≤ length xs
-  first_fewer xs [] are = omega arith
-  first_fewer [] (b ∷ ys) are = absurd are
-  first_fewer (a ∷ xs) (b ∷ ys) are = omega (arith, first_fewer xs ys are.1)
 
 -- where `Is` implies `Be`, `FirstAre Is` implies `FirstAre Be`
 pub first_map : {A B : Type 0} (Is Be : A → B → Type 0) → ((x : A) (y : B) → Is x y → Be x y) → (xs : List A) (ys : List B) → FirstAre Is xs ys → FirstAre Be xs ys

@@ -1,10 +1,12 @@
 -- Records of settlements, as the library writes them for C: numbers, and places in a text.
 use Rattle.std.proofs.Common.{◌≡◌, ℕ, zero, suc, ◌≤◌, Bool, true, false, List, [], ◌∷◌, ◌++◌, length, map, Some, None, Ok, Err, Option, Result, refl, sym, subst, ap, ◌∙◌, arith, if◌then◌else◌}
 use Rattle.std.specs.Prelude.{slice_get}
-use Rattle.std.proofs.lemmas.List.{length-take, take-append-le}
+use Rattle.std.proofs.lemmas.List.{length-map, length-take, take-append-le}
+use Rattle.gc_values.specs.Item.{kind_of}
 use Rattle.gc_values.specs.Params.{IsParams}
+use Rattle.gc_values.proofs.ListLaws.{same_count}
 use Rattle.gc_lines.specs.declared.fault.LineFault.{LineFault}
-use Rattle.gc_lines.specs.Replies.{ReplyFields, IsReply}
+use Rattle.gc_lines.specs.Replies.{ReplyFields}
 use Rattle.gc_catalogue.specs.declared.answer.Answer.{Answer}
 use Rattle.gc_catalogue.specs.declared.answer.Answer.TheVariants as answer
 use Rattle.gc_catalogue.specs.declared.answer.Reading.{Reading}
@@ -17,11 +19,11 @@ use Rattle.gc_client.specs.declared.pending.Pending.{Pending}
 use Rattle.gc_client.specs.Rule.{ById, Settlement, lost, settle, place_in, id_settled, hears, id_in, fits}
 use Rattle.gc_client.specs.Rule
 use Rattle.geocom_c.specs.Feeding.{line_kind, fault_number_in}
-use Rattle.geocom_c.specs.Settled.{StandsAt, AreListed, AreReadAs, IsKind, HasReading, IsListedLine, HasOutcome, IsRecord, AnswerHasLine, AnswersHaveLine}
+use Rattle.geocom_c.specs.Settled.{StandsAt, AreListed, AreReadAs, IsKind, HasReading, ListsItems, HasOutcome, IsRecord, AnswerHasLine, AnswersHaveLine}
 use Rattle.geocom_c.specs.declared.listed.GeocomItem.{GeocomItem}
 use Rattle.geocom_c.specs.declared.settled.GeocomSettlement.{GeocomSettlement}
 use Rattle.geocom_c.proofs.Places.{first_map}
-use Rattle.geocom_c.proofs.Items.{items_length, stands_more}
+use Rattle.geocom_c.proofs.Items.{stands_more}
 use Rattle.std.proofs.lemmas.Bool.{false≢true}
 
 -- an answer has at most 16 values
@@ -39,39 +41,35 @@ few_values (answer.Angles hz v) = omega arith
 few_values (answer.Measured hz v d) = omega arith
 few_values (answer.MeasuredMode hz v d m) = omega arith
 
--- where a reply's line was written to the text (`IsListedLine`), and the items of its parameters are at most 16 and read as
--- `AreReadAs` says, they are listed, as many as the record says (`AreListed`)
-listed : (asked : Asked) (answer : Answer) (text line : List ℕ) (count items : ℕ) (places : List GeocomItem) (reply : ReplyFields) (xs : List (List ℕ))
-    (told : IsListedLine text count places line) (is : IsReply line reply) (split : IsParams reply.params xs) (few : length xs ≤ 16)
-    (read : AreReadAs asked answer xs) (same : items ≡ count) → AreListed asked answer items places text reply.params
-listed asked answer text line count items places reply xs told is split few read same =
-    let stand = told.listed reply xs is split few in
-    record { items = xs; split = split; read = read; counted = same ∙ stand.counted; stand = stand.stand }
+-- where a text lists the items of a reply's parameters if they are at most 16 (`ListsItems`), and the reply reads as an answer to
+-- what was asked, the text lists the items of this answer (`AreListed`)
+value_listed : (asked : Asked) (answer : Answer) (text : List ℕ) (count : ℕ) (places : List GeocomItem) (reply : ReplyFields)
+    → ListsItems text count places reply.params → IsAskedReading asked reply (Value answer) → AreListed asked answer count places text reply.params
+value_listed asked answer text count places reply lists reads = of_asked asked reads where
+  -- the items are listed, if they are at most 16 and read as `AreReadAs` says
+  listed : (a : Asked) (xs : List (List ℕ)) → IsParams reply.params xs → length xs ≤ 16 → AreReadAs a answer xs → AreListed a answer count places text reply.params
+  listed a xs split few read = let stand = lists xs split few in record { items = xs; split = split; read = read; counted = stand.counted; stand = stand.stand }
 
--- where a reply's line was written to the text (`IsListedLine`), and the reply reads as a value of what was asked, the items of
--- its parameters are listed, as many as the record says (`AreListed`)
-value_listed : (asked : Asked) (answer : Answer) (text line : List ℕ) (count items : ℕ) (places : List GeocomItem) (reply : ReplyFields)
-    → IsListedLine text count places line → IsReply line reply → IsAskedReading asked reply (Value answer) → items ≡ count
-    → AreListed asked answer items places text reply.params
-value_listed (Table call) answer text line count items places reply told is reads same =
-    let params = reads.2.values in
-    listed (Table call) answer text line count items places reply params.items told is params.split
-    (omega (arith, items_length params.items (answer_fields answer).values params.read, few_values answer)) params.read same
-value_listed (Raw raw) answer text line count items places reply told is reads same =
-    listed (Raw raw) answer text line count items places reply reads.2.0 told is reads.2.1 reads.2.2 tt same
+  -- the lemma above, by whether the call is one of the table
+  of_asked : (a : Asked) → IsAskedReading a reply (Value answer) → AreListed a answer count places text reply.params
+  of_asked (Table call) says =
+      let params = says.2.values in
+      let values = (answer_fields answer).values in
+      let few : length params.items ≤ 16 = omega (arith, same_count values params.items params.read, length-map values kind_of, few_values answer) in
+      listed (Table call) params.items params.split few params.read
+  of_asked (Raw raw) says = listed (Raw raw) says.2.0 says.2.1 says.2.2 tt
 
--- the record r of a reply, whose line was written to the text (`IsListedLine`), has what the reply says (`HasReading`), if its
--- reading and its code are those of the reply (`IsKind`), and it has as many items as were listed if its reading is 1 (a value),
--- and none if it is 2 or more
-pub has_reading : (r : GeocomSettlement) (text line : List ℕ) (count : ℕ) (asked : Asked) (reply : ReplyFields) (reading : Reading)
-    (told : IsListedLine text count r.places line) (is : IsReply line reply) (reads : IsAskedReading asked reply reading)
-    (kind : IsKind reading r.reading r.code) (some : r.reading ≡ 1 → r.items ≡ count)
-    (none : (n : ℕ) → r.reading ≡ suc (suc n) → r.items ≡ 0) → HasReading asked r text reply.params reading
-has_reading r text line count asked reply (Value a) told is reads kind some none =
-    (kind.0, kind.1, value_listed asked a text line count r.items r.places reply told is reads (some kind.0))
-has_reading r text line count asked reply (Refused rc) told is reads kind some none = (kind.0, kind.1, none 0 kind.0)
-has_reading r text line count asked reply (ComFault rc) told is reads kind some none = (kind.0, kind.1, none 1 kind.0)
-has_reading r text line count asked reply (Unreadable e) told is reads kind some none = (kind.0, kind.1, none 2 kind.0)
+-- where a text lists the items of a reply's parameters (`ListsItems`), the record r of the reply has what the reply says
+-- (`HasReading`), if its reading and its code are those of the reply (`IsKind`), and it has as many items as were listed if its
+-- reading is 1 (a value), and none if it is 2 or more
+pub has_reading : (r : GeocomSettlement) (text : List ℕ) (count : ℕ) (asked : Asked) (reply : ReplyFields) (reading : Reading)
+    → ListsItems text count r.places reply.params → IsAskedReading asked reply reading → IsKind reading r.reading r.code
+    → (r.reading ≡ 1 → r.items ≡ count) → ((n : ℕ) → r.reading ≡ suc (suc n) → r.items ≡ 0) → HasReading asked r text reply.params reading
+has_reading r text count asked reply (Value a) lists reads kind some none =
+    (kind.0, kind.1, subst (λ n. AreListed asked a n r.places text reply.params) (sym (some kind.0)) (value_listed asked a text count r.places reply lists reads))
+has_reading r text count asked reply (Refused rc) lists reads kind some none = (kind.0, kind.1, none 0 kind.0)
+has_reading r text count asked reply (ComFault rc) lists reads kind some none = (kind.0, kind.1, none 1 kind.0)
+has_reading r text count asked reply (Unreadable e) lists reads kind some none = (kind.0, kind.1, none 2 kind.0)
 
 -- a record still has its reading once more is appended to the text
 more_reading : (asked : Asked) (r : GeocomSettlement) (text more params : List ℕ) (reading : Reading) → HasReading asked r text params reading
@@ -135,13 +133,6 @@ chosen_have_line c line k false = tt
 pub heard_have_line : (c : ById Asked) (line : List ℕ) (id : Option ℕ) → AnswersHaveLine line (hears c line id).settlements
 heard_have_line c line None = tt
 heard_have_line c line (Some id) = chosen_have_line c line (place_in c id) _
-
--- if each of these settlements that is an answer has this line, so has the one at place k
-pub has_line_at : (line : List ℕ) (ss : List (Settlement Asked)) (k : ℕ) (s : Settlement Asked) → AnswersHaveLine line ss
-    → slice_get ss k ≡ Some s → AnswerHasLine line s.outcome
-has_line_at line [] k s are e = cc
-has_line_at line (a ∷ ss) zero s are e = let same : a ≡ s = cc in subst (λ (x : Settlement Asked). AnswerHasLine line x.outcome) same are.0
-has_line_at line (a ∷ ss) (suc k) s are e = has_line_at line ss k s are.1 e
 
 -- among the settlements of lost requests, the one at place k has the outcome `Lost`
 pub lost_at : (ps : List (Pending Asked)) (k : ℕ) (s : Settlement Asked) → slice_get (map lost ps) k ≡ Some s → s.outcome ≡ Rule.Lost

@@ -4,6 +4,7 @@
 use Rattle.std.proofs.Common.{◌≡◌, ℕ, true, List, [], ◌∷◌, ◌++◌, map, Option, Some, None, refl, sym, subst, inl, inr}
 use Rattle.std.specs.List.{AllByRecursion}
 use Rattle.gc_catalogue.specs.Asked.{is_of_table}
+use Rattle.gc_catalogue.specs.declared.asked.Asked.{Asked}
 use Rattle.gc_client.specs.Beginning.{the_word}
 use Rattle.gc_client.specs.OneForOne as one
 use Rattle.gc_instrument.specs.State.{KeptReply}
@@ -63,37 +64,32 @@ fed_in_table : (left : List ℕ) (lines : List (List ℕ)) → AreInTable (step_
 fed_in_table [] lines = heard_in_table lines
 fed_in_table (asked ∷ later) lines = tt
 
--- a moment asks for nothing
-expired_in_table : (left : List ℕ) (now : ℕ) → AreInTable (step_events left (one.Expire now ∷ []))
-expired_in_table [] now = (tt, tt)
-expired_in_table (asked ∷ later) now = tt
-
--- a restart asks for nothing
-restarted_in_table : (left : List ℕ) → AreInTable (step_events left (one.Restart ∷ []))
-restarted_in_table [] = (tt, tt)
-restarted_in_table (asked ∷ later) = tt
+-- the event of a step that asks for nothing but a call of the table does so, too, whichever ids aren't answered
+step_in_table : (left : List ℕ) (step : one.Step Asked) → IsInTable (Stepped step) → AreInTable (step_events left (step ∷ []))
+step_in_table [] step is = (is, tt)
+step_in_table (asked ∷ later) step is = tt
 
 -- calls on a state of which none sends a raw request are events that ask for calls of the table alone
 calls_in_table : (left rest : List ℕ) (calls : List Step) (events : List Event) → AreOfTheTable calls → AreEvents left rest calls events → AreInTable events
 calls_in_table left rest [] events t e = subst (λ (es : List Event). AreInTable es) (sym e) tt
 calls_in_table left rest (Send target deadline procedure params ∷ calls) events t (inl f) =
-    subst (λ (es : List Event). AreInTable es) (sym f.4) (refl, calls_in_table left rest calls f.1 t f.5)
-calls_in_table left rest (Send target deadline procedure params ∷ calls) events t (inr f) = calls_in_table left rest calls events t f.1
-calls_in_table left rest (SendRaw target deadline procedure params ∷ calls) events t f = absurd t
+    subst (λ (es : List Event). AreInTable es) (sym f.4) (refl, calls_in_table left rest calls f.1 t.1 f.5)
+calls_in_table left rest (Send target deadline procedure params ∷ calls) events t (inr f) = calls_in_table left rest calls events t.1 f.1
+calls_in_table left rest (SendRaw target deadline procedure params ∷ calls) events t f = absurd t.0
 calls_in_table left rest (Begin bytes ∷ calls) events t f =
     subst (λ (es : List Event). AreInTable es) (sym f.1)
     (all_append IsInTable (begin_events left rest bytes.now) f.0 (begin_in_table left rest bytes.now)
-    (calls_in_table (left_by_bytes left rest bytes.now) (rest_behind rest bytes.now) calls f.0 t f.2))
+    (calls_in_table (left_by_bytes left rest bytes.now) (rest_behind rest bytes.now) calls f.0 t.1 f.2))
 calls_in_table left rest (Feed bytes ∷ calls) events t f =
     subst (λ (es : List Event). AreInTable es) (sym f.1)
     (all_append IsInTable (step_events left (map one.Hear (lines_completed rest bytes.now))) f.0 (fed_in_table left (lines_completed rest bytes.now))
-    (calls_in_table left (rest_behind rest bytes.now) calls f.0 t f.2))
+    (calls_in_table left (rest_behind rest bytes.now) calls f.0 t.1 f.2))
 calls_in_table left rest (Expire now ∷ calls) events t f =
     subst (λ (es : List Event). AreInTable es) (sym f.1)
-    (all_append IsInTable (step_events left (one.Expire now ∷ [])) f.0 (expired_in_table left now) (calls_in_table left rest calls f.0 t f.2))
+    (all_append IsInTable (step_events left (one.Expire now ∷ [])) f.0 (step_in_table left (one.Expire now) tt) (calls_in_table left rest calls f.0 t.1 f.2))
 calls_in_table left rest (Restart ∷ calls) events t f =
     subst (λ (es : List Event). AreInTable es) (sym f.1)
-    (all_append IsInTable (step_events left (one.Restart ∷ [])) f.0 (restarted_in_table left) (calls_in_table (left_by_restart left) [] calls f.0 t f.2))
+    (all_append IsInTable (step_events left (one.Restart ∷ [])) f.0 (step_in_table left one.Restart tt) (calls_in_table (left_by_restart left) [] calls f.0 t.1 f.2))
 
 -- moves of the field whose events ask for calls of the table send nothing else
 table_moves : {State : Type 0} (ms : List (Move State)) → AreInTable (map Stepped (seen ms)) → AsksTheTable ms

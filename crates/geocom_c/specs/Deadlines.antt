@@ -11,8 +11,8 @@ use Rattle.geocom_c.specs.declared.state.GeocomClient.{GeocomClient}
 abbrev pub earliest_in : GeocomDeadline → Option ℕ
 earliest_in d = if nat_eq d.is_set 1 then Some d.deadline else None
 
--- the client `c`, with the bytes `rest` since the last line feed, was handed the moment `now`: the state is then the rule's, and
--- the targets of the requests that time out are at the front of `targets`, as many as `told` counts
+-- the client `c`, with the bytes `rest` since the last line feed, was handed the moment `now`: the fault is 0, the state is the
+-- rule's, and the targets of the requests that time out are at the front of `targets`, as many as `told` counts
 abbrev pub HasExpired : Windowed Asked → (rest : List ℕ) → (now : ℕ) → (state : GeocomClient) → (told : GeocomCount) → (targets : List ℕ) → Type 0
 HasExpired c rest now state told targets =
     (told.fault ≡ 0) × StandsFor state (record c { ids = expires c.ids now }) rest

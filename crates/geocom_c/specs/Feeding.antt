@@ -71,8 +71,8 @@ IsInFront Cleared count text = Unit {0}
 IsInFront Overlong count text = Unit {0}
 IsInFront More count text = Unit {0}
 
--- a frame was fed: the result has its kind, its fault and the number of its settlements, a record says of each settlement how
--- the request ended, and a line that settled is at the front of the text
+-- a frame was fed: the call has no fault; the result has the frame's kind, its line fault and the number of its settlements; a
+-- record says of each settlement how the request ended; and a line that settled is at the front of the text
 pub record IsFed (c : Windowed Asked) (frame : Frame) (r : GeocomHeard) (records : List GeocomSettlement) (text : List ℕ) : Type 0 where
   pub fault : r.fault ≡ 0
   pub kind : r.kind ≡ frame_kind c frame
@@ -85,20 +85,21 @@ pub record IsFed (c : Windowed Asked) (frame : Frame) (r : GeocomHeard) (records
 abbrev pub unended : (used : ℕ) → GeocomHeard
 unended used = record { used = used; fault = 0; count = 0; kind = MORE; line_fault = 0 }
 
--- a frame was fed to the client `c`, by `used` bytes: what was returned, the records and the text are as `IsFed` has it, and the state is
--- that of the client after the frame, with no byte of a line
+-- a frame was fed to the client `c`, by `used` bytes: what was returned, the records and the text are as `IsFed` has it, and the
+-- state is that of the client after the frame, with no byte of a line
 abbrev pub FeedsFrame : Windowed Asked → Frame → (used : ℕ) → (state : GeocomClient) → GeocomHeard
     → (records : List GeocomSettlement) → (text : List ℕ) → Type 0
 FeedsFrame c frame used state r records text = (r.used ≡ used) × IsFed c frame r records text × StandsFor state (client_past c frame) []
 
--- a client was restarted: the state is then the rule's, with no byte of a line, and each request that was outstanding has a record
+-- the client `c` was restarted: the fault is 0, the state is the rule's, with no byte of a line, each request that was
+-- outstanding has a record, and the count is that of these requests
 abbrev pub HasRestarted : Windowed Asked → (state : GeocomClient) → (told : GeocomCount) → (records : List GeocomSettlement) → Type 0
 HasRestarted c state told records =
     (told.fault ≡ 0) × StandsFor state (record c { ids = (restarts c.ids).client }) []
     × (told.count ≡ length (restarts c.ids).settlements) × FirstAre (IsRecord []) records (restarts c.ids).settlements
 
--- if these bytes have no line feed, feeding them to the client `c` uses all, as `told` says, and changes the state from `old` to `new`,
--- which keeps them
+-- if these bytes have no line feed, feeding them to the client `c` uses all, as `told` says, and changes the state from `old` to
+-- `new`, which keeps them
 abbrev pub FeedsUnended : Windowed Asked → (bytes : List ℕ) → (old new : GeocomClient) → (told : GeocomHeard) → Type 0
 FeedsUnended c bytes old new told =
     (rest : List ℕ) → StandsFor old c rest → position is_line_feed bytes ≡ None → (told ≡ unended (length bytes)) × StandsFor new c (rest ++ bytes)
@@ -111,14 +112,14 @@ FeedsFirst c bytes old new told records text =
     (rest : List ℕ) (at : ℕ) → StandsFor old c rest → position is_line_feed bytes ≡ Some at
     → FeedsFrame c (frame_of (rest ++ take at bytes)) (at + 1) new told records text
 
--- a feed that returned `told`: after a fault all other numbers are 0, and the state (`old` before the feed, `new` after it) has not
--- changed
+-- a feed that returned `told`: after a fault all other numbers are 0, and the state (`old` before the feed, `new` after it) has
+-- not changed
 abbrev pub FeedFaultLeavesState : (told : GeocomHeard) → (old new : GeocomClient) → Type 0
 FeedFaultLeavesState told old new =
     told.fault ≢ 0 → (told.used ≡ 0) × (told.count ≡ 0) × (told.kind ≡ 0) × (told.line_fault ≡ 0) × (new ≡ old)
 
--- where nothing was settled (a count of 0), nothing was written: the records and the text are after the feed (`records`, `text`) as they
--- were before (`old_records`, `old_text`)
+-- where nothing was settled (a count of 0), nothing was written: the records and the text are after the feed (`records`, `text`)
+-- as they were before (`old_records`, `old_text`)
 abbrev pub IsSilent : (count : ℕ) → (old_records records : List GeocomSettlement) → (old_text text : List ℕ) → Type 0
 IsSilent count old_records records old_text text = count ≡ 0 → (records ≡ old_records) × (text ≡ old_text)
 

@@ -48,17 +48,25 @@ abbrev pub begin_calls : List (List ℕ) → List Step → List Step
 begin_calls [] later = later
 begin_calls (reply ∷ replies) later = Begin (record { ref_ptr = (0, 0); now = with_end reply }) ∷ begin_calls replies later
 
--- the calls: a first one of the synchronization without bytes, then one with the old reply and one with each of these replies;
--- two commands, the second of which is this call; a moment; the lines `one` and `other` as the replies to the commands; a
--- restart; and a resynchronization
-abbrev pub calls : (replies : List (List ℕ)) → (second : Step) → (one other : List ℕ) → List Step
-calls replies second one other =
+-- what the calls have of each instrument: the replies to the null procedures; the call that sends the second command, and what
+-- that asks for; and the replies to the first command and to the other
+pub record Exchange : Type 0 where
+  pub nulls : List (List ℕ)
+  pub second : Step
+  pub asked : Asked
+  pub one : List ℕ
+  pub other : List ℕ
+
+-- the calls: a first one of the synchronization without bytes, then one with the old reply and one with each reply to a null
+-- procedure; the two commands; a moment; the replies to both; a restart; and a resynchronization
+abbrev pub calls : Exchange → List Step
+calls x =
     Begin (record { ref_ptr = (0, 0); now = [] })
-    ∷ begin_calls (old ∷ replies)
+    ∷ begin_calls (old ∷ x.nulls)
     (Send 7 9 5003 (record { ref_ptr = (0, 0); now = [] })
-    ∷ second
+    ∷ x.second
     ∷ Expire 5
-    ∷ Feed (record { ref_ptr = (0, 0); now = with_end one ++ with_end other })
+    ∷ Feed (record { ref_ptr = (0, 0); now = with_end x.one ++ with_end x.other })
     ∷ Restart
     ∷ Begin (record { ref_ptr = (0, 0); now = [] })
     ∷ [])
@@ -76,42 +84,46 @@ abbrev pub raw_second : RawCall → Step
 raw_second raw = SendRaw 8 9 raw.rpc (record { ref_ptr = (0, 0); now = raw_params raw })
 
 -- the moves of the field for these calls: each command reaches the instrument, and its reply comes
-abbrev pub moves : {State : Type 0} → Asked → (one other : List ℕ) → List (Move State)
-moves asked one other =
-    Sends 7 (Table InstrumentNo) 9 ∷ Sends 8 asked 9 ∷ Tells 5 ∷ OnLine Up_deliver ∷ OnLine Up_deliver ∷ field.Comes one ∷ field.Comes other ∷ []
+abbrev pub moves : {State : Type 0} → Exchange → List (Move State)
+moves x = Sends 7 (Table InstrumentNo) 9 ∷ Sends 8 x.asked 9 ∷ Tells 5 ∷ OnLine Up_deliver ∷ OnLine Up_deliver ∷ field.Comes x.one ∷ field.Comes x.other ∷ []
 
 -- the runs of the field for these calls: one with these moves, and after the restart one that has only asked
-abbrev pub runs : {State : Type 0} → Asked → (one other : List ℕ) → List (Run State)
-runs asked one other = record { turns = beginning; moves = moves asked one other } ∷ record { turns = Asks ∷ []; moves = [] } ∷ []
+abbrev pub runs : {State : Type 0} → Exchange → List (Run State)
+runs x = record { turns = beginning; moves = moves x } ∷ record { turns = Asks ∷ []; moves = [] } ∷ []
 
 -- the stage that the calls come to
-abbrev pub end_stage : {State : Type 0} → Ends State → State → Asked → (one other : List ℕ) → Stage
-end_stage ends state asked one other =
-    record { reached = course WINDOW begun (steps_among (events_over WINDOW ends (before state) (runs asked one other))); rest = []; left = the_word }
+abbrev pub end_stage : {State : Type 0} → Ends State → State → Exchange → Stage
+end_stage ends state x = record { reached = course WINDOW begun (steps_among (events_over WINDOW ends (before state) (runs x))); rest = []; left = the_word }
 
--- all premises of `EachAnswerIsOwn` hold at once of the calls with these replies, this second command, which asks for `asked`, and the
--- answers `one` and `other`, and the instrument is as `AnswersAreTheirOwn` asks besides; both commands are answered, and the first
--- answer was made on executing its request
-pub record AreInField {State : Type 0} (ends : Ends State) (Good : State → Type 0) (kept : State → Option KeptReply) (state : State)
-    (replies : List (List ℕ)) (second : Step) (asked : Asked) (one other : List ℕ) : Type 0 where
-  pub instrument : IsAnInstrument ends Good kept
-  pub width : IsWidth WINDOW
-  pub follows : CallsReach WINDOW opened (calls replies second one other) (end_stage ends state asked one other)
-  pub lines : IsWellFormed Good (before state)
-  pub may : MayBegin (before state)
-  pub are : AreEvents the_word [] (calls replies second one other) (events_over WINDOW ends (before state) (runs asked one other))
-  pub possible : ArePossibleRuns WINDOW ends Good kept (before state) (runs asked one other)
-  pub safe : AllByRecursion (IsSafeRun WINDOW ends Good kept) (parts WINDOW ends (before state) (runs asked one other))
-  pub settlements :
-      (end_stage ends state asked one other).reached.settlements
-      ≡ record { target = 7; call = Table InstrumentNo; outcome = Answered one } ∷ record { target = 8; call = asked; outcome = Answered other } ∷ []
-  pub made_on : WasMadeOn WINDOW ends (leaves (turned ends beginning (begins (before state)))) (moves asked one other) 8 (Table InstrumentNo) one
+module _ {State : Type 0} (ends : Ends State) (Good : State → Type 0) (kept : State → Option KeptReply) where
+  -- all premises of `EachAnswerIsOwn` hold at once of the calls of this exchange, from this state of the instrument on, and the
+  -- instrument is as `AnswersAreTheirOwn` asks besides; both commands are answered, and the first answer was made on executing
+  -- its request
+  pub record AreInField (state : State) (x : Exchange) : Type 0 where
+    pub instrument : IsAnInstrument ends Good kept
+    pub width : IsWidth WINDOW
+    pub follows : CallsReach WINDOW opened (calls x) (end_stage ends state x)
+    pub lines : IsWellFormed Good (before state)
+    pub may : MayBegin (before state)
+    pub are : AreEvents the_word [] (calls x) (events_over WINDOW ends (before state) (runs x))
+    pub possible : ArePossibleRuns WINDOW ends Good kept (before state) (runs x)
+    pub safe : AllByRecursion (IsSafeRun WINDOW ends Good kept) (parts WINDOW ends (before state) (runs x))
+    pub settlements :
+        (end_stage ends state x).reached.settlements
+        ≡ record { target = 7; call = Table InstrumentNo; outcome = Answered x.one } ∷ record { target = 8; call = x.asked; outcome = Answered x.other } ∷ []
+    pub made_on : WasMadeOn WINDOW ends (leaves (turned ends beginning (begins (before state)))) (moves x) 8 (Table InstrumentNo) x.one
+
+-- the exchange with the instrument that counts: the second command is for a procedure that isn't in the table
+abbrev pub counting_exchange : RawCall → Exchange
+counting_exchange raw = record { nulls = chain.null_replies; second = raw_second raw; asked = Raw raw; one = chain.first_reply; other = chain.second_reply }
+
+-- the exchange with the simulator: the second command is one of the table
+abbrev pub simulator_exchange : Exchange
+simulator_exchange =
+    record { nulls = replies; second = table_second; asked = Table InstrumentNo; one = codes "%R1P,0,0:0,123456"; other = codes "%R1P,0,1:0,123456" }
 
 -- there are such calls over the instrument that counts, with any procedure that isn't in the table, and over the simulator as it
 -- is at the start
 pub record SomeCallsAreInField : Type 0 where
-  pub any :
-      (raw : RawCall)
-      → AreInField counting AnyState kept_by (record { count = 27; keeps = None }) chain.null_replies (raw_second raw) (Raw raw) chain.first_reply chain.second_reply
-  pub simulator :
-      AreInField ends IsFittingState kept_of simulator_opening replies table_second (Table InstrumentNo) (codes "%R1P,0,0:0,123456") (codes "%R1P,0,1:0,123456")
+  pub any : (raw : RawCall) → AreInField counting AnyState kept_by (record { count = 27; keeps = None }) (counting_exchange raw)
+  pub simulator : AreInField ends IsFittingState kept_of simulator_opening simulator_exchange

@@ -17,8 +17,8 @@ use Rattle.geocom_c.specs.declared.state.GeocomClient.{GeocomClient}
 use Rattle.geocom_c.specs.declared.following.Step.{Step}
 use Rattle.geocom_c.specs.declared.following.Step.TheVariants.{Send, SendRaw, Begin, Feed, Expire, Restart}
 
--- the course of a client that hears, in order, each line that these bytes end, where `rest` came before them since the last
--- line feed
+-- the course of a client that was of the course `x`, and then hears, in order, each line that these bytes end, where `rest` came
+-- before them since the last line feed
 abbrev pub hearing : (width : ℕ) → Course Asked → (rest bytes : List ℕ) → Course Asked
 hearing width x rest bytes = course width x (map one.Hear (lines_completed rest bytes))
 

@@ -3,7 +3,7 @@
 -- many connections that keeps order, loses lines whole and repeats a line directly after it, and an instrument that may start
 -- again and change by itself at any moment. What is in flight when the client synchronizes may be anything, but for the word of
 -- a synchronization. No clock has a part in it.
-use Rattle.std.specs.Prelude.{◌≡◌, ℕ, ◌<◌, ◌≤◌, List, [], ◌∷◌, length, Option, Some, slice_get}
+use Rattle.std.specs.Prelude.{◌≡◌, ℕ, ◌<◌, ◌≤◌, List, [], length, Option, Some, slice_get}
 use Rattle.std.specs.List.{AllByRecursion}
 use Rattle.gc_catalogue.specs.declared.asked.Asked.{Asked}
 use Rattle.gc_client.specs.Beginning.{IsSubsequence, the_word}
@@ -22,7 +22,7 @@ use Rattle.geocom_c.specs.Following.{CallsReach, Stage, opened}
 use Rattle.geocom_c.specs.Runs.{Part, ArePossibleRuns, begun_at, client_over, events_over, left_over, parts, settled_over, world}
 use Rattle.geocom_c.specs.Steps.{AreEvents, IsOverEvents}
 use Rattle.geocom_c.specs.declared.following.Step.{Step}
-use Rattle.geocom_c.specs.declared.following.Step.TheVariants.{Send, SendRaw, Begin, Feed, Expire, Restart}
+use Rattle.geocom_c.specs.declared.following.Step.TheVariants.{SendRaw}
 
 -- for every width: any calls on a state are one list of events, and bring the client to where its rule brings it over these
 -- events
@@ -34,9 +34,9 @@ abbrev pub MayBegin : {State : Type 0} → UnderWay State → Type 0
 MayBegin u = IsSubsequence the_word (ids_under_way u) → ⊥
 
 module _ {State : Type 0} (width : ℕ) (ends : Ends State) (Good : State → Type 0) (kept : State → Option KeptReply) where
-  -- where the answer `line` of settlement `s` comes from, over the runs `ps`: it settled request m of run k, which was sent with the
-  -- settlement's target and call, and is none of the eight null procedures; that request was executed, and on executing it the instrument
-  -- made this line, which is a reply to its call
+  -- where the answer `line` of settlement `s` comes from, over the runs `ps`: it settled request m of run k, which was sent with
+  -- the settlement's target and call, and is none of the eight null procedures; that request was executed, and on executing it
+  -- the instrument made this line, which is a reply to its call
   pub record IsItsOwn (ps : List (Part State)) (s : Settlement Asked) (line : List ℕ) : Type 0 where
     pub k : ℕ
     pub part : Part State
@@ -64,6 +64,10 @@ module _ {State : Type 0} (width : ℕ) (ends : Ends State) (Good : State → Ty
   abbrev pub IsOwnAnswer : List (Part State) → Settlement Asked → Type 0
   IsOwnAnswer ps s = (line : List ℕ) → s.outcome ≡ Answered line → IsItsOwn ps s line
 
+  -- if this run has synchronized, it has done so cleanly, and its moves are faithful (`IsOwnIf`)
+  abbrev pub IsOwnPart : Part State → Type 0
+  IsOwnPart p = IsOwnIf width ends Good kept (begun_at ends p).left (begun_at ends p) p.run.moves
+
   -- what holds of calls that are the events of these runs, and that bring the client to the stage t
   pub record AreOwn (ps : List (Part State)) (t : Stage) : Type 0 where
     -- the library settles what the world's client settles, and its client ends in the same state; so the lines that it writes
@@ -75,9 +79,8 @@ module _ {State : Type 0} (width : ℕ) (ends : Ends State) (Good : State → Ty
     pub left : t.left ≡ left_over width ends ps
     -- each answer is its own request's
     pub own : AllByRecursion (IsOwnAnswer ps) t.reached.settlements
-    -- and each run that has synchronized has synchronized cleanly, and is faithful: one for one, in order, acts once if the
-    -- instrument retains its reply, and a first reply in time is booked
-    pub each : AllByRecursion (λ p. IsOwnIf width ends Good kept (begun_at ends p).left (begun_at ends p) p.run.moves) ps
+    -- and each run that has synchronized has done so cleanly, and is faithful
+    pub each : AllByRecursion IsOwnPart ps
 
 -- each answer is its own request's (`AreOwn`), over the ends `ends` with states of which `Good` holds, which retain the reply
 -- `kept`: for every width, all calls on a state that are safe (`IsSafeRun`), whatever is in flight and well formed
@@ -99,26 +102,26 @@ AnswersAreTheirOwn State = (ends : Ends State) (kept : State → Option KeptRepl
 abbrev pub SimulatorsAnswersAreTheirOwn : Type 0
 SimulatorsAnswersAreTheirOwn = EachAnswerIsOwn ends IsFittingState kept_of
 
--- for any instrument and every width (`IsWidth`), after a run that had synchronized, or over a line with nothing in flight
--- (`HasRisingIds`, `IsWellFormed`): as long as fewer than six runs in a row ended while they synchronized, the next one may begin
+-- for any instrument and every width (`IsWidth`): after any possible runs (`AreRuns`) of which fewer than six in a row ended
+-- while they synchronized, the next one may begin. What is in flight before the first is as a run that had synchronized leaves
+-- it, or nothing (`HasRisingIds`, `IsWellFormed`)
 abbrev pub FewKilledMayBegin : Type 0 → Type 0
 FewKilledMayBegin State =
     (ends : Ends State) (kept : State → Option KeptReply) → IsAnInstrument ends AnyState kept →
     (width : ℕ) → IsWidth width → (u : UnderWay State) → IsWellFormed AnyState u → HasRisingIds u →
     (rs : List (Run State)) → AreRuns width ends AnyState kept u rs → AreFewKilled width ends 0 u rs → MayBegin (left_by_runs width ends u rs)
 
+-- the call on a state sends no raw request
+abbrev pub IsOfTheTable : Step → Type 0
+IsOfTheTable (SendRaw target deadline procedure params) = ⊥
+IsOfTheTable call = Unit {0}
+
 -- no call on a state asks for a procedure that isn't in the table
 abbrev pub AreOfTheTable : List Step → Type 0
-AreOfTheTable [] = Unit {0}
-AreOfTheTable (Send target deadline procedure params ∷ calls) = AreOfTheTable calls
-AreOfTheTable (SendRaw target deadline procedure params ∷ calls) = ⊥
-AreOfTheTable (Begin bytes ∷ calls) = AreOfTheTable calls
-AreOfTheTable (Feed bytes ∷ calls) = AreOfTheTable calls
-AreOfTheTable (Expire now ∷ calls) = AreOfTheTable calls
-AreOfTheTable (Restart ∷ calls) = AreOfTheTable calls
+AreOfTheTable calls = AllByRecursion IsOfTheTable calls
 
--- over the ends `ends` with states of which `Good` holds, which retain the reply `kept`: each run is safe (`IsSafeRun`) if no call on the
--- state sends a raw request
+-- over the ends `ends` with states of which `Good` holds, which retain the reply `kept`: each run is safe (`IsSafeRun`) if no
+-- call on the state sends a raw request
 abbrev pub TableCallsAreSafe : {State : Type 0} → (ends : Ends State) → (Good : State → Type 0) → (kept : State → Option KeptReply) → Type 0
 TableCallsAreSafe {State = State} ends Good kept =
     (width : ℕ) (calls : List Step) → AreOfTheTable calls →
@@ -126,14 +129,15 @@ TableCallsAreSafe {State = State} ends Good kept =
     AllByRecursion (IsSafeRun width ends Good kept) (parts width ends u rs)
 
 -- each run is safe (`IsSafeRun`) over an instrument that retains its own reply, or none, after every request, as one does that
--- knows the procedures that are asked for (`alike`); and over any instrument if no call on the state sends a raw request (`table`)
+-- knows the procedures that are asked for (`alike`); and over any instrument if no call on the state sends a raw request
+-- (`table`)
 pub record CallsAreSafe (State : Type 0) : Type 0 where
   pub alike :
       (ends : Ends State) (kept : State → Option KeptReply) → TreatsRawsAlike ends AnyState kept →
       (width : ℕ) (u : UnderWay State) (rs : List (Run State)) → AllByRecursion (IsSafeRun width ends AnyState kept) (parts width ends u rs)
   pub table : (ends : Ends State) (kept : State → Option KeptReply) → TableCallsAreSafe ends AnyState kept
 
--- `table` of `CallsAreSafe` for the simulator, in any state that fits. The simulator doesn't treat raw requests as others: it
--- refuses them, and retains what it retained before
+-- over the simulator, in any state that fits, each run is safe (`IsSafeRun`) if no call on the state sends a raw request. The
+-- simulator doesn't treat raw requests as others: it refuses them, and retains what it retained before
 abbrev pub SimulatorsCallsAreSafe : Type 0
 SimulatorsCallsAreSafe = TableCallsAreSafe ends IsFittingState kept_of

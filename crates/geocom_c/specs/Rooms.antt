@@ -10,7 +10,8 @@ use Rattle.geocom_c.specs.declared.state.GeocomClient.{GeocomClient}
 abbrev pub KeepsLength : {A : Type 0} → (before after : List A) → Type 0
 KeepsLength before after = length after ≡ length before
 
--- a text is written over a list from place `at` on: `before` and `after` are the list before and after that
+-- a text is written over the list `before` from place `at` on: `after` begins with what `before` has in front of that place, and
+-- then with the text
 abbrev pub IsWritten : {A : Type 0} → (at : ℕ) → (text before after : List A) → Type 0
 IsWritten at text before after = take (at + length text) after ≡ take at before ++ text
 

@@ -1,5 +1,6 @@
 -- The records of settlements, this project's own: what a record says of a settlement.
-use Rattle.std.specs.Prelude.{◌≡◌, ◌≤◌, ◌+◌, ℕ, List, [], ◌∷◌, length, take, drop, map, None}
+use Rattle.std.specs.Prelude.{◌≡◌, ◌≤◌, ◌+◌, ℕ, List, [], length, take, drop, map, None}
+use Rattle.std.specs.List.{AllByRecursion}
 use Rattle.gc_values.specs.ValueFault.{fault_number}
 use Rattle.gc_values.specs.Params.{IsParams}
 use Rattle.gc_values.specs.Lists.{AreItems}
@@ -111,8 +112,7 @@ ListsItems text count places params = (items : List (List ℕ)) → IsParams par
 -- are in the text, as many as `count` says, and where `places` says
 pub record IsListedLine (text : List ℕ) (count : ℕ) (places : List GeocomItem) (line : List ℕ) : Type 0 where
   pub front : take (length line) text ≡ line
-  pub listed : (reply : ReplyFields) (items : List (List ℕ)) → IsReply line reply → IsParams reply.params items → length items ≤ 16
-      → AreStanding count places text items
+  pub listed : (reply : ReplyFields) → IsReply line reply → ListsItems text count places reply.params
 
 -- no part of a promise: an outcome that is an answer has this line
 abbrev pub AnswerHasLine : List ℕ → Rule.Outcome → Type 0
@@ -122,20 +122,19 @@ AnswerHasLine line Rule.Lost = Unit {0}
 
 -- no part of a promise: each of these settlements that is an answer has this line
 abbrev pub AnswersHaveLine : List ℕ → List (Rule.Settlement Asked) → Type 0
-AnswersHaveLine line [] = Unit {0}
-AnswersHaveLine line (s ∷ ss) = AnswerHasLine line s.outcome × AnswersHaveLine line ss
+AnswersHaveLine line ss = AllByRecursion (λ (s : Rule.Settlement Asked). AnswerHasLine line s.outcome) ss
 
 -- no part of a promise: what was listed is that of this line (`IsListedLine`)
-abbrev pub IsTextOf : ListedLine → (line : List ℕ) → Type 0
-IsTextOf told line = IsListedLine told.text.items told.items told.places line
+abbrev pub IsListingOf : ListedLine → (line : List ℕ) → Type 0
+IsListingOf told line = IsListedLine told.text.items told.items told.places line
 
 -- no part of a promise: what was listed is that of some line, which the settlement has if it is an answer
 abbrev pub ListsAnswer : ListedLine → Settlement Asked → Type 0
-ListsAnswer told settlement = (line : List ℕ) × IsTextOf told line × AnswerHasLine line (settlement_seen settlement).outcome
+ListsAnswer told settlement = (line : List ℕ) × IsListingOf told line × AnswerHasLine line (settlement_seen settlement).outcome
 
 -- no part of a promise: what was listed is that of some line, which each of these settlements has that is an answer
 abbrev pub ListsAnswers : ListedLine → List (Settlement Asked) → Type 0
-ListsAnswers told settled = (line : List ℕ) × IsTextOf told line × AnswersHaveLine line (map settlement_seen settled)
+ListsAnswers told settled = (line : List ℕ) × IsListingOf told line × AnswersHaveLine line (map settlement_seen settled)
 
 -- no part of a promise: these settlements are those of some requests that are lost
 abbrev pub AreLost : List (Settlement Asked) → Type 0

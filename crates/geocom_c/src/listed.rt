@@ -3,7 +3,7 @@
 ghost use Rattle.std.specs.Prelude.{◌≤◌, ◌+◌, length};
 ghost use Rattle.arrayvec.specs.ArrayVec.{array_vec_len};
 ghost use Rattle.geocom_c.specs.Rooms.{IsExtended, KeepsLength};
-ghost use Rattle.geocom_c.specs.Settled.{IsTextOf, ListsItems, StandIn};
+ghost use Rattle.geocom_c.specs.Settled.{IsListingOf, ListsItems, StandIn};
 ghost use Rattle.gc_values.specs.Params.{bytes_in};
 ghost use Rattle.geocom_c.specs.declared.header.TheConstants.{TEXT_ROOM};
 
@@ -72,7 +72,7 @@ fn list(told: &mut ListedLine, params: &[u8])
 // The text of a line: the line, and after it the items of its parameters, if it is a reply whose parameters are a list of at most 16
 // items; otherwise no items.
 pub(crate) fn list_line(line: &Line) -> ListedLine
-    ensures { IsTextOf result line.now.items }
+    ensures { IsListingOf result line.now.items }
 {
     let mut told = ListedLine {
         text: ArrayVec::new(),

@@ -4,7 +4,7 @@ ghost use Rattle.std.specs.Prelude.{◌≡◌, ◌≤◌, [], length};
 ghost use Rattle.gc_catalogue.specs.Asked.{IsAskedReading};
 ghost use Rattle.gc_client.specs.Settlements.{AreReadBy, IsReadBy, settlement_seen};
 ghost use Rattle.geocom_c.specs.Rooms.{KeepsLength, KeepsAfter};
-ghost use Rattle.geocom_c.specs.Settled.{AreLost, AreRecords, IsKind, IsProcedureOf, IsRecord, IsTextOf, IsUnanswered, ListsAnswer, ListsAnswers, RecordsReading};
+ghost use Rattle.geocom_c.specs.Settled.{AreLost, AreRecords, IsKind, IsListingOf, IsProcedureOf, IsRecord, IsUnanswered, ListsAnswer, ListsAnswers, RecordsReading};
 
 use crate::header::{ANSWERED, COM_FAULT, LATE, LOST, NONE, REFUSED, UNREADABLE, VALUE};
 use crate::listed::{GeocomItem, ListedLine, NOWHERE};
@@ -73,7 +73,7 @@ fn answered(
     line: &Line,
     told: &ListedLine,
 ) -> GeocomSettlement
-    requires { IsTextOf told.now line.now.items }
+    requires { IsListingOf told.now line.now.items }
     ensures target { result.target ≡ settlement.now.target }
     ensures procedure { IsProcedureOf result.procedure settlement.now.call }
     ensures answered { RecordsReading result told.now.text.items settlement.now.call line.now.items reading.now }

@@ -1,20 +1,20 @@
 -- What the code does in each case is what the definitions say: a feed with and without a reply, and calls of an instrument that is there.
 -- s or b is the state of the instrument before a call, and n the one after it; `old` and `new` are the text before and after the reply is
 -- appended.
-use Rattle.std.proofs.Common.{◌≡◌, ℕ, Bool, true, false, List, [], ◌∷◌, ◌++◌, Option, Some, None, refl, sym, ap, ◌∙◌, subst}
+use Rattle.std.proofs.Common.{◌≡◌, ℕ, true, false, List, [], ◌∷◌, ◌++◌, Option, Some, None, refl, sym, ap, ◌∙◌, subst}
 use Rattle.gc_lines.specs.Answering.{AppendsAnswer}
 use Rattle.gc_lines.specs.Lines.{with_end}
 use Rattle.gc_lines.specs.declared.frame.Frame.{Frame}
 use Rattle.gc_lines.specs.declared.frame.Frame.TheVariants.{Line}
-use Rattle.gc_scenes.specs.Slow.{SlowState, HearsLine, HearsFrame}
+use Rattle.gc_scenes.specs.Slow.{SlowState, HearsLine}
 use Rattle.geocom_instrument_c.specs.Bench.{BenchState}
-use Rattle.geocom_instrument_c.specs.Feeding.{Answers, IsFed, IsFedTo, IsNothing, IsSent}
+use Rattle.geocom_instrument_c.specs.Feeding.{Answers, IsFed, IsFedTo, IsSent, IsWithoutReply}
 use Rattle.geocom_instrument_c.specs.Setting.{IsBenchRestarted, IsRestarted}
 use Rattle.geocom_instrument_c.specs.declared.replied.GeocomReplied.{GeocomReplied}
 
--- if the instrument hears a line and has no reply, a result that says so (`IsNothing`) meets `Answers`
+-- if the instrument hears a line and has no reply, a result that says so (`IsWithoutReply`) meets `Answers`
 pub unanswered : (s n : SlowState) (frame : Frame) (line old new : List ℕ) (now used : ℕ) (r : GeocomReplied) → frame ≡ Line (record { items = line })
-    → AppendsAnswer (HearsLine s line now n) old new false → IsNothing used r → Answers s frame now n used r
+    → AppendsAnswer (HearsLine s line now n) old new false → IsWithoutReply used r → Answers s frame now n used r
 unanswered s n frame line old new now used r is heard nothing =
     subst (λ (f : Frame). Answers s f now n used r) (sym is) (record { text = None; hears = (None, heard.0, refl); says = nothing })
 
@@ -28,7 +28,7 @@ answered s n frame line old new sent now used r is heard empty ends told =
     subst (λ (f : Frame). Answers s f now n used r) (sym is)
     (record { text = Some (with_end heard.0); hears = (Some heard.0, heard.1, refl); says = subst (λ (x : List ℕ). IsSent x used n.free_from r) whole told })
 
--- if an instrument is there, what `IsFedTo` says of it is what `IsFed` says
+-- where an instrument is there before the call and after it, `IsFed` follows from `IsFedTo`
 pub fed : (o : Option BenchState) (b n : BenchState) (bytes : List ℕ) (now : ℕ) (r : GeocomReplied) → o ≡ Some b
     → IsFedTo b bytes now n r → IsFed o bytes now (Some n) r
 fed o b n bytes now r is so = record {
@@ -36,7 +36,7 @@ fed o b n bytes now r is so = record {
   present = λ d e. let both : Some b ≡ Some d = sym is ∙ e in let same : b ≡ d = cc in (n, refl, subst (λ (x : BenchState). IsFedTo x bytes now n r) same so);
 }
 
--- if an instrument is there, what `IsBenchRestarted` says of it is what `IsRestarted` says, with no fault
+-- where an instrument is there before the call and after it, `IsRestarted` with the fault 0 follows from `IsBenchRestarted`
 pub restarted : (o : Option BenchState) (b n : BenchState) → o ≡ Some b → IsBenchRestarted b n → IsRestarted o (Some n) 0
 restarted o b n is so = record {
   absent = λ none. let bad : Some b ≡ None = sym is ∙ none in cc;

@@ -10,7 +10,7 @@ use Rattle.geocom_instrument_c.specs.declared.header.TheConstants.{NO_INSTRUMENT
 use Rattle.geocom_instrument_c.specs.declared.replied.GeocomReplied.{GeocomReplied}
 
 -- there is no fault and no reply, and this many bytes were used
-pub record IsNothing (used : ℕ) (r : GeocomReplied) : Type 0 where
+pub record IsWithoutReply (used : ℕ) (r : GeocomReplied) : Type 0 where
   pub no_fault : r.fault ≡ 0
   pub used_bytes : r.used ≡ used
   pub none : r.count ≡ 0
@@ -33,7 +33,7 @@ pub record IsSent (text : List ℕ) (used due : ℕ) (r : GeocomReplied) : Type 
 
 -- the result of a feed that used this many bytes: the text, if there is one, is the reply, which goes out at the moment `due`
 abbrev pub CarriesReply : Option (List ℕ) → (used due : ℕ) → GeocomReplied → Type 0
-CarriesReply None used due r = IsNothing used r
+CarriesReply None used due r = IsWithoutReply used r
 CarriesReply (Some text) used due r = IsSent text used due r
 
 -- the instrument hears a frame at the moment `now`, which changes its state from `before` to `after`; and the result has its reply,
@@ -45,7 +45,7 @@ pub record Answers (before : SlowState) (frame : Frame) (now : ℕ) (after : Slo
 
 -- bytes without a line feed: they are kept, and nothing else is done
 pub record IsKept (before : BenchState) (bytes : List ℕ) (after : BenchState) (r : GeocomReplied) : Type 0 where
-  pub says : IsNothing (length bytes) r
+  pub says : IsWithoutReply (length bytes) r
   pub same : after.slow ≡ before.slow
   pub more : (rest : List ℕ) → StandsFor before.incomplete rest → StandsFor after.incomplete (rest ++ bytes)
 

@@ -26,8 +26,9 @@ abbrev pub line_of : RunFault → ℕ
 line_of (Schedule line) = line
 line_of other = 0
 
--- the scene of this text was set up: the instrument is in its opening state, at the start of a stream. Or the scene was
--- refused, with a fault of its text or because memory was refused (`TimedFault`), and there is no instrument
+-- the scene of this text was set up: the fault and the line are 0, and the instrument is in its opening state, at the start of a
+-- stream. Or the scene was refused, for a fault of its text or because memory was refused (`TimedFault`), the result has the
+-- number of that fault and the line that it names, and there is no instrument
 pub record IsSetUp (text : List ℕ) (after : Option BenchState) (r : GeocomMade) : Type 0 where
   pub present : (b : BenchState) → after ≡ Some b → (r.fault ≡ 0) × (r.line ≡ 0) × IsTimedScene text b.slow × StandsFor b.incomplete []
   pub absent : after ≡ None → (e : RunFault) × TimedFault text e × (r.fault ≡ run_fault_number e) × (r.line ≡ line_of e)

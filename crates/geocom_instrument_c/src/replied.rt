@@ -1,7 +1,7 @@
 //! What the calls for an instrument return, in plain fields.
 
 ghost use Rattle.std.specs.Prelude.{◌≡◌, ◌≤◌, length};
-ghost use Rattle.geocom_instrument_c.specs.Feeding.{IsNothing, IsSent, IsUnheard};
+ghost use Rattle.geocom_instrument_c.specs.Feeding.{IsSent, IsUnheard, IsWithoutReply};
 
 use crate::header::{NO_INSTRUMENT, REPLY_ROOM};
 
@@ -34,7 +34,7 @@ pub struct GeocomReplied {
 impl GeocomReplied {
     /// The result of a feed that used this many bytes and got no reply.
     pub(crate) fn nothing(used: usize) -> GeocomReplied
-        ensures { IsNothing used result }
+        ensures { IsWithoutReply used result }
     {
         GeocomReplied {
             used,

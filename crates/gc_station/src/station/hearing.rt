@@ -5,7 +5,7 @@ ghost use Rattle.gc_lines.specs.Lent.{IsLineWithin};
 ghost use Rattle.gc_lines.specs.Ports.{FailsWith};
 ghost use Rattle.gc_station.specs.Model.{Model, piece_came, piece_synchronizing, piece_at};
 ghost use Rattle.gc_station.specs.Progressing.{lines_synchronizing};
-ghost use Rattle.gc_station.specs.Stations.{Refines, MovesByReading, Becomes, frame_came, lines_of_frame, piece_taken};
+ghost use Rattle.gc_station.specs.Stations.{Refines, MovesByReading, seen, Becomes, frame_came, lines_of_frame, piece_taken};
 
 use super::Station;
 use crate::book::Book;
@@ -136,8 +136,9 @@ impl Station {
         plan: &Plan,
         until: Until,
     ) -> Result<(), PortFailed>
-        ensures does { MovesByReading plan.now until (B.text book.old) (L.acts link.old) (L.acts link.new)
-            (B.taken book.old) (B.taken book.new) self.old self.new result }
+        ensures does { MovesByReading plan.now until
+            (seen (L.acts link.old) (B.text book.old) (B.taken book.old) self.old)
+            (seen (L.acts link.new) (B.text book.old) (B.taken book.new) self.new) result }
         ensures fails { FailsWith result (B.failed book.old) (B.failed book.new) }
         ensures form { B.text book.new ≡ B.text book.old }
     {

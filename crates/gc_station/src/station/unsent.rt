@@ -5,7 +5,7 @@ ghost use Rattle.gc_lines.specs.Ports.{FailsWith};
 ghost use Rattle.gc_links.specs.Acts.{Told};
 ghost use Rattle.gc_station.specs.Records.{WritesMore};
 ghost use Rattle.gc_station.specs.Model.{unsent_record};
-ghost use Rattle.gc_station.specs.Stations.{DoesAlone, Moves, station_skipping};
+ghost use Rattle.gc_station.specs.Stations.{DoesAlone, Moves, seen, station_skipping};
 ghost use Rattle.gc_station.specs.declared.progress.Action.TheVariants.{Skip, Pass};
 
 use super::Station;
@@ -29,8 +29,9 @@ impl Station {
     ) -> Result<(), PortFailed>
         requires unsent { 0 < self.old.progress.unsent }
         requires within { self.old.progress.unsent ≤ length commands.now }
-        ensures does { Moves plan.now commands.now Skip (B.text book.old)
-            (L.acts link.old) (L.acts link.new) (B.taken book.old) (B.taken book.new) self.old self.new result }
+        ensures does { Moves plan.now commands.now Skip
+            (seen (L.acts link.old) (B.text book.old) (B.taken book.old) self.old)
+            (seen (L.acts link.new) (B.text book.old) (B.taken book.new) self.new) result }
         ensures fails { FailsWith result (B.failed book.old) (B.failed book.new) }
         ensures form { B.text book.new ≡ B.text book.old }
     {

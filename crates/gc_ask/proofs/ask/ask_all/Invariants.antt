@@ -1,5 +1,6 @@
 use Rattle.std.proofs.Common.{◌≡◌, ◌≤◌, ◌+◌, ◌-◌, ◌*◌, List, ℕ, length, take}
 use Rattle.std.specs.Io.KnownBytes.{Consumes}
+use Rattle.gc_ask.specs.Listening.{seen_through}
 use Rattle.gc_ask.specs.declared.unused.TheConstants.{ROOM}
 use Rattle.gc_ask.proofs.Asked.{Course}
 use Rattle.gc_ask.proofs.Ends.{Sound}
@@ -12,8 +13,14 @@ abbrev pub invariant-loop-place : goal.invariant-loop-place
 invariant-loop-place g l = record {
   course : (given : List ℕ) × Consumes (g.L.Link.client l.initial.link).remaining (g.L.Link.client l.link).remaining given
       × (length given ≤ ROOM * ((g.L.Link.client l.link).reads - (g.L.Link.client l.initial.link).reads))
-      × Course (take l.place l.commands) given l.asking.ahead l.asking.end.assembler l.asking.end.client.ids
-      (g.L.Link.client l.initial.link).taken (g.L.Link.client l.link).taken (g.K.Sink.taken l.initial.sink) (g.K.Sink.taken l.sink);
+      × Course (take l.place l.commands) (record {
+        given = given;
+        left = l.asking.ahead;
+        kept = l.asking.end.assembler;
+        client = l.asking.end.client.ids;
+        first = seen_through g.L.Link l.initial.link g.K.Sink l.initial.sink;
+        latest = seen_through g.L.Link l.link g.K.Sink l.sink;
+      });
   reads : (g.L.Link.client l.link).reads + (g.L.Link.instrument l.link).reads + l.asking.reads ≡ (g.L.Link.client l.initial.link).reads + (g.L.Link.instrument l.initial.link).reads + l.max_reads;
   client : Sound (g.L.Link.client l.initial.link) (g.L.Link.client l.link);
   instrument : Sound (g.L.Link.instrument l.initial.link) (g.L.Link.instrument l.link);

@@ -1,13 +1,15 @@
 use Rattle.std.proofs.Common.{◌≡◌, ◌++◌, ℕ, List, [], append-nil, append_assoc, ap, sym, ◌∙◌, Some, arith, lit<, length, length-append}
 use Rattle.gc_lines.specs.Replies.{reply_text}
+use Rattle.gc_lines.proofs.Plain.{reply_plain}
 use Rattle.gc_values.specs.Lists.{AreValues}
 use Rattle.gc_values.specs.declared.value.Value.{Value}
 use Rattle.gc_catalogue.specs.Answers.{answer_fields, rounded_answer}
 use Rattle.gc_catalogue.specs.Lists.{before_commas, behind_commas, params_of, shown_values}
+use Rattle.gc_catalogue.specs.Texts.{reply_of}
 use Rattle.gc_catalogue.proofs.Joining.{comma_list, params_text-params_of, reply_text-params}
 use Rattle.gc_catalogue.proofs.Lengths.{behind_short}
 use Rattle.gc_catalogue.proofs.LineLaws.{answer_again, refusal_again}
-use Rattle.gc_catalogue.proofs.Plain.{plain_reply}
+use Rattle.gc_catalogue.proofs.Plain.{plain_params}
 use Rattle.gc_catalogue.proofs.Table.{few_answer_values, values-rounded}
 use Rattle.gc_catalogue.proofs.replies.encode_answer_onto.Goals as goal
 
@@ -37,7 +39,8 @@ returns-clause-fitting g c = rw (values-rounded c.args.places c.args.answer.now)
 
 pub returns-clause-plain : goal.returns-clause-plain
 returns-clause-plain g c =
-    plain_reply 0 (Some c.args.id) c.args.rc (answer_fields (rounded_answer c.args.places c.args.answer.now)).values (lit< tt) c.ranges.rc.fits (returns-clause-fitting g c)
+    reply_plain (reply_of c.args.id c.args.rc c.args.answer.now c.args.places) (record { rc_com = lit< tt; id = c.requires.id; rc = c.ranges.rc.fits })
+    (plain_params _ (returns-clause-fitting g c))
 
 pub returns-clause-reads_back : goal.returns-clause-reads_back
 returns-clause-reads_back g c = λ call success of_call.

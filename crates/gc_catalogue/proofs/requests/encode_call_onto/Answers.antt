@@ -1,11 +1,13 @@
 use Rattle.std.proofs.Common.{◌≡◌, ◌++◌, [], sym, append-nil}
 use Rattle.gc_lines.specs.Requests.{request_text}
+use Rattle.gc_lines.proofs.Plain.{request_plain}
 use Rattle.gc_values.specs.Lists.{AreValues}
 use Rattle.gc_catalogue.specs.Calls.{call_fields}
 use Rattle.gc_catalogue.specs.Lists.{before_commas}
+use Rattle.gc_catalogue.specs.Texts.{request_of}
 use Rattle.gc_catalogue.proofs.Joining.{request_ends}
 use Rattle.gc_catalogue.proofs.LineLaws.{call_again, some_id}
-use Rattle.gc_catalogue.proofs.Plain.{plain_request}
+use Rattle.gc_catalogue.proofs.Plain.{plain_params}
 use Rattle.gc_catalogue.proofs.Table.{number_fits}
 use Rattle.gc_catalogue.proofs.requests.encode_call_onto.Goals as goal
 
@@ -18,13 +20,15 @@ begun g c = c.write_row.ensures.takes c.write_row.new.to (sym (append-nil _), tt
 pub returns-clause-line : goal.returns-clause-line
 returns-clause-line g c =
     request_ends c.args.out.now.items (call_fields c.args.call.now).number c.args.id
-    (call_fields c.args.call.now).values c.write_row.new.to.items c.end_list.new.out.items (begun g c).0 c.end_list.ensures.comma c.end_list.ensures.other
+    (call_fields c.args.call.now).values c.write_row.new.to.items c.end_list.new.out.items (begun g c).0
+    (record { comma = c.end_list.ensures.comma; other = c.end_list.ensures.other })
 
 pub returns-clause-fitting : goal.returns-clause-fitting
 returns-clause-fitting g c = (begun g c).1
 
 pub returns-clause-plain : goal.returns-clause-plain
-returns-clause-plain g c = plain_request _ c.args.id _ (number_fits c.args.call.now) (begun g c).1
+returns-clause-plain g c =
+    request_plain (request_of c.args.id c.args.call.now) (record { rpc = number_fits c.args.call.now; id = some_id c.args.id c.requires.id }) (plain_params _ (begun g c).1)
 
 pub returns-clause-reads_back : goal.returns-clause-reads_back
 returns-clause-reads_back g c = call_again c.args.id c.args.call.now (some_id c.args.id c.requires.id) (begun g c).1

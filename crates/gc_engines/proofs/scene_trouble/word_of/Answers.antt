@@ -4,5 +4,18 @@ use Rattle.gc_engines.proofs.scene_trouble.word_of.Goals as goal
 
 pub returns : goal.returns
 returns c =
-    no_word c.args.first.now (search rules) (search rules) (search rules) (search rules) (search rules) (search rules) (search rules) (search rules) (search rules) (search rules) (search rules)
-    (search rules)
+    no_word c.args.first.now
+    (record {
+      serial = search rules;
+      name = search rules;
+      target = search rules;
+      fault = search rules;
+      answer = search rules;
+      blocked = search rules;
+      drift = search rules;
+      noise = search rules;
+      repeats = search rules;
+      behave = search rules;
+      delay = search rules;
+      busy = search rules;
+    })

@@ -1,7 +1,5 @@
-use Rattle.std.proofs.Common.{rules, ◌≡◌, ◌≤◌, ◌+◌, ◌*◌, ◌<◌, ℕ, ap, sym, subst, ◌∙◌, arith, Some, None}
+use Rattle.std.proofs.Common.{rules, ℕ, ap, arith}
 use Rattle.std.specs.Option.{option_copied}
-use Rattle.gc_texts.proofs.Procedures.{one_number}
-use Rattle.gc_fates.specs.Shares.{IsShare, IsParts, IsPlaces}
 use Rattle.gc_fates.proofs.ShareForms.{parts_at, no_whole, no_thousandths, too_much}
 use Rattle.gc_fates.proofs.share.read_share.Goals as goal
 

@@ -3,4 +3,4 @@ use Rattle.gc_field.specs.Instrument.{AnyState}
 use Rattle.gc_field.proofs.laws.answers_are_their_own.Goals as goal
 
 pub returns : goal.returns
-returns g c = λ ends kept is width narrow state ms field. faithful ends is.hears AnyState kept is width narrow state tt ms field.possible field.table field.alone
+returns g c = λ ends kept is width narrow state good ms field. faithful ends AnyState kept is width narrow state good ms field.possible field.table field.alone

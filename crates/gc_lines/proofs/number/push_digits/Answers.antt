@@ -7,7 +7,7 @@ loop-left-preserved g c =
     let i = c.loop-left.invariant in
     let next = digit_written c.loop-left.digits c.loop-left.at c.loop-left.left c.args.n
     (record { room = i.room; size = i.size; text = i.text }) i.below (omega arith) c.loop-left-test.true in
-    record { room = omega (arith, i.room); size = next.1; below = next.2; text = next.3 }
+    record { room = next.1.room; size = next.1.size; below = next.0; text = next.1.text }
 
 pub returns-clause-items : goal.returns-clause-items
 returns-clause-items g c =

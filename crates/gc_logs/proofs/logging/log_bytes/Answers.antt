@@ -2,10 +2,14 @@ use Rattle.gc_logs.proofs.LogLines.{took_more, is_behind}
 use Rattle.gc_logs.proofs.logging.log_bytes.Goals as goal
 
 pub loop-b-preserved : goal.loop-b-preserved
-loop-b-preserved g c = record {
-  took = took_more _ _ _ _ _ _ c.args.utc c.args.way c.args.pending.now c.loop-b.pending c.log_byte.new.pending c.args.bytes.now c.loop-b.b-index c.loop-b-test.true
-      c.loop-b.invariant.pending c.loop-b.invariant.took c.log_byte.ensures.took;
-  pending = is_behind (g.K.Sink.taken c.args.sink.now) (g.K.Sink.taken c.args.sink.now) (g.K.Sink.taken c.args.sink.now) (g.K.Sink.failed c.args.sink.now)
-      (g.K.Sink.failed c.args.sink.now) (g.K.Sink.failed c.args.sink.now) c.args.utc c.args.way
-      c.args.pending.now c.loop-b.pending c.log_byte.new.pending c.args.bytes.now c.loop-b.b-index c.loop-b-test.true c.loop-b.invariant.pending c.log_byte.ensures.pending;
-}
+loop-b-preserved g c =
+    let p = c.args.pending.now in
+    let q = c.loop-b.pending in
+    let bs = c.args.bytes.now in
+    let i = c.loop-b.b-index in
+    let within = c.loop-b-test.true in
+    let behind = c.loop-b.invariant.pending in
+    record {
+      took = took_more p q bs i within behind _ _ _ _ _ _ c.args.utc c.args.way c.loop-b.invariant.took c.log_byte.ensures.took;
+      pending = is_behind p q bs i within behind c.log_byte.new.pending c.log_byte.ensures.pending;
+    }

@@ -1,6 +1,6 @@
 use Rattle.std.proofs.Common.{◌≡◌, subst}
 use Rattle.gc_nights.specs.Runs.{AreRuns}
-use Rattle.gc_nights.proofs.Running.{no_runs, runs_behind}
+use Rattle.gc_nights.proofs.Running.{runs_behind}
 use Rattle.gc_nights.proofs.nights.run_night.Goals as goal
 use Rattle.gc_nights.proofs.nights.run_night.Goals.{in-Killed, in-GaveUp}
 

@@ -1,10 +1,12 @@
-use Rattle.std.proofs.Common.{rules, ◌≡◌, ◌≤◌, ◌<◌, ◌+◌, ◌*◌, ◌++◌, length, get_or, drop, [], ap, arith, le_trans, ◌∙◌}
+use Rattle.std.proofs.Common.{rules, suc, ◌≡◌, ◌≤◌, ◌<◌, ◌+◌, ◌*◌, ◌++◌, length, get_or, take, drop, [], ap, arith, le_trans, ◌∙◌}
 use Rattle.std.specs.Prelude.{nat_lt}
 use Rattle.std.proofs.lemmas.Bool.{lt-ltb}
 use Rattle.arrayvec.specs.ArrayVec.{array_vec_len}
 use Rattle.gc_rows.specs.declared.json_line.TheConstants.{STRINGS_ROOM}
-use Rattle.gc_rows.specs.JsonLines.{comma_where, string_text, strings_text}
-use Rattle.gc_rows.proofs.Items.{bytes_more, bytes_below}
+use Rattle.gc_rows.specs.JsonLines.{string_text, strings_text}
+use Rattle.gc_values.specs.Params.{bytes_in}
+use Rattle.gc_values.proofs.ItemBytes.{bytes_in_next}
+use Rattle.gc_rows.proofs.Items.{bytes_below}
 use Rattle.gc_rows.proofs.JsonLines.{strings_next}
 use Rattle.gc_rows.proofs.json_line.append_strings.Goals as goal
 
@@ -36,7 +38,8 @@ loop-k-preserved g c =
     let texts = c.args.texts.now in
     let k = c.loop-k.k in
     let lt : k < length texts = search rules in
-    let more = bytes_more texts k lt in
+    let on : k + 1 ≡ suc k = omega arith in
+    let more = ap (λ n. bytes_in (take n texts)) on ∙ bytes_in_next texts k lt in
     let room = c.loop-k.invariant.room in
     let comma = c.append_comma.ensures.room in
     let string = c.append_string.ensures.room in

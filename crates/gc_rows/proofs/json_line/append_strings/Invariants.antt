@@ -1,4 +1,4 @@
-use Rattle.std.proofs.Common.{◌≡◌, ◌+◌, ◌*◌, ◌≤◌, ◌++◌, false, take, drop, length}
+use Rattle.std.proofs.Common.{◌≡◌, ◌+◌, ◌*◌, ◌≤◌, ◌++◌, false, take, drop}
 use Rattle.std.specs.Prelude.{nat_lt}
 use Rattle.arrayvec.specs.ArrayVec.{array_vec_len}
 use Rattle.gc_values.specs.Params.{bytes_in}

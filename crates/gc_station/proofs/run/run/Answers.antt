@@ -7,8 +7,8 @@ use Rattle.gc_station.specs.declared.progress.Progress.{Progress}
 use Rattle.gc_station.specs.Runs.{state_after}
 use Rattle.gc_station.specs.Scopes.{Scope}
 use Rattle.gc_station.specs.Model.{opening}
-use Rattle.gc_station.proofs.Readings.{reads_as_in_scope, are_same}
-use Rattle.gc_station.proofs.Going.{on_call, went_nothing, went_same, went_kept, went_left, went_on, went_wrong, went_nearer, has_model_on}
+use Rattle.gc_station.proofs.Readings.{reads_as_in_scope, same_readings}
+use Rattle.gc_station.proofs.Going.{on_call, went_nothing, kept_same, went_kept, went_left, went_on, went_wrong, went_nearer, has_model_on}
 use Rattle.gc_station.proofs.Noting.{noted_nothing, noted_kept, noted_same, noted_on, noted_end, noted_left, noted_wrong}
 use Rattle.gc_station.proofs.run.run.Goals as goal
 
@@ -49,10 +49,11 @@ returns-in-Err-step g c =
           let kept = went_kept plan commands scope (g.B.Book.text c.args.book.now) told (g.L.Link.acts c.loop-unsynced.link) taken
           (g.B.Book.taken c.loop-unsynced.book) (g.B.Book.taken c.sync.new.self) c.loop-unsynced.station c.sync.ensures.same
           (c.loop-unsynced.invariant.went reads are) in
-          let w = went_same plan commands scope (g.B.Book.text c.args.book.now) told (g.L.Link.acts c.loop-unsynced.link) taken (g.B.Book.taken c.sync.new.self)
-          (g.B.Book.taken c.report_health_and_overrun-reported.new.book) c.loop-unsynced.station c.report_health_and_overrun-reported.ensures.taken kept in
+          let w = went_kept plan commands scope (g.B.Book.text c.args.book.now) told (g.L.Link.acts c.loop-unsynced.link) taken (g.B.Book.taken c.sync.new.self)
+          (g.B.Book.taken c.report_health_and_overrun-reported.new.book) c.loop-unsynced.station
+          (kept_same (g.B.Book.taken c.sync.new.self) (g.B.Book.taken c.report_health_and_overrun-reported.new.book) c.report_health_and_overrun-reported.ensures.taken) kept in
           let s = state_after plan commands scope w.acts in
-          let same = are_same s.reads reads (reads_as_in_scope plan commands scope w.acts) are in
+          let same = same_readings s.reads reads (reads_as_in_scope plan commands scope w.acts) are in
           inl (went_wrong plan commands scope (g.B.Book.text c.args.book.now) told (g.L.Link.acts c.loop-unsynced.link) (g.L.Link.acts c.step.new.link)
           (g.L.Link.acts c.close-in-Err-step.new.self) taken (g.B.Book.taken c.report_health_and_overrun-reported.new.book)
           (g.B.Book.taken c.step.new.book) c.loop-unsynced.station c.action-action.result w
@@ -69,7 +70,7 @@ returns-in-Err-step g c =
           (g.B.Book.taken c.report_health_and_overrun-reported.new.book) c.loop-unsynced.station c.args.kept.now.turns c.loop-unsynced.kept.turns
           c.report_health_and_overrun-reported.ensures.taken m in
           let s = state_after plan commands scope n.went.acts in
-          let same = are_same s.reads reads (reads_as_in_scope plan commands scope n.went.acts) are in
+          let same = same_readings s.reads reads (reads_as_in_scope plan commands scope n.went.acts) are in
           noted_wrong plan commands scope text told taken (g.L.Link.acts c.loop-unsynced.link) (g.L.Link.acts c.step.new.link)
           (g.L.Link.acts c.close-in-Err-step.new.self) (g.B.Book.taken c.report_health_and_overrun-reported.new.book)
           (g.B.Book.taken c.step.new.book) (g.B.Book.is_durable c.report_health_and_overrun-reported.new.book) c.loop-unsynced.station c.action-action.result
@@ -119,10 +120,11 @@ loop-unsynced-preserved g c =
           let kept = went_kept plan commands scope (g.B.Book.text c.args.book.now) told (g.L.Link.acts c.loop-unsynced.link) taken
           (g.B.Book.taken c.loop-unsynced.book) (g.B.Book.taken c.sync.new.self) c.loop-unsynced.station c.sync.ensures.same
           (c.loop-unsynced.invariant.went reads are) in
-          let w = went_same plan commands scope (g.B.Book.text c.args.book.now) told (g.L.Link.acts c.loop-unsynced.link) taken (g.B.Book.taken c.sync.new.self)
-          (g.B.Book.taken c.report_health_and_overrun-reported.new.book) c.loop-unsynced.station c.report_health_and_overrun-reported.ensures.taken kept in
+          let w = went_kept plan commands scope (g.B.Book.text c.args.book.now) told (g.L.Link.acts c.loop-unsynced.link) taken (g.B.Book.taken c.sync.new.self)
+          (g.B.Book.taken c.report_health_and_overrun-reported.new.book) c.loop-unsynced.station
+          (kept_same (g.B.Book.taken c.sync.new.self) (g.B.Book.taken c.report_health_and_overrun-reported.new.book) c.report_health_and_overrun-reported.ensures.taken) kept in
           let s = state_after plan commands scope w.acts in
-          let same = are_same s.reads reads (reads_as_in_scope plan commands scope w.acts) are in
+          let same = same_readings s.reads reads (reads_as_in_scope plan commands scope w.acts) are in
           went_on plan commands scope (g.B.Book.text c.args.book.now) told (g.L.Link.acts c.loop-unsynced.link) (g.L.Link.acts c.step.new.link) taken
           (g.B.Book.taken c.report_health_and_overrun-reported.new.book) (g.B.Book.taken c.step.new.book) c.loop-unsynced.station c.step.new.self c.action-action.result w
           (c.action-action.ensures.action s w.stands same) makes are;
@@ -135,7 +137,7 @@ loop-unsynced-preserved g c =
           (g.B.Book.taken c.report_health_and_overrun-reported.new.book) c.loop-unsynced.station c.args.kept.now.turns c.loop-unsynced.kept.turns
           c.report_health_and_overrun-reported.ensures.taken m in
           let s = state_after plan commands scope n.went.acts in
-          let same = are_same s.reads reads (reads_as_in_scope plan commands scope n.went.acts) are in
+          let same = same_readings s.reads reads (reads_as_in_scope plan commands scope n.went.acts) are in
           noted_on plan commands scope text told taken (g.L.Link.acts c.loop-unsynced.link) (g.L.Link.acts c.step.new.link)
           (g.B.Book.taken c.report_health_and_overrun-reported.new.book) (g.B.Book.taken c.step.new.book) (g.B.Book.is_durable c.report_health_and_overrun-reported.new.book)
           c.loop-unsynced.station c.step.new.self c.action-action.result
@@ -174,7 +176,7 @@ returns-in-Stop-clause-ran g c reads are =
     (g.B.Book.taken c.args.book.now) (g.B.Book.taken c.loop-unsynced.book) (g.B.Book.taken c.sync.new.self) c.loop-unsynced.station c.sync.ensures.same
     (c.loop-unsynced.invariant.went reads are) in
     let s = state_after plan commands scope w.acts in
-    let same = are_same s.reads reads (reads_as_in_scope plan commands scope w.acts) are in
+    let same = same_readings s.reads reads (reads_as_in_scope plan commands scope w.acts) are in
     record {
       acts = w.acts;
       tells = w.tells;

@@ -6,7 +6,7 @@ use Rattle.gc_station.proofs.Records.{part_one, record_as, record_same}
 use Rattle.gc_station.proofs.writing.write_one.Goals as goal
 
 pub returns-in-Err-clause-wrote : goal.returns-in-Err-clause-wrote
-returns-in-Err-clause-wrote g c reads start before are so =
+returns-in-Err-clause-wrote g c reads are start before so =
     let w = c.in-Err.ensures.writes in
     let x = settlement_seen c.args.settlement.now in
     let end = ending_seen c.ending_of-ending.result in

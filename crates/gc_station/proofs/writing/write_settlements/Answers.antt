@@ -11,7 +11,7 @@ use Rattle.gc_station.proofs.writing.write_settlements.Goals as goal
 pub loop-settlement-init : goal.loop-settlement-init
 loop-settlement-init g c =
     record {
-      wrote = λ reads start before are so.
+      wrote = λ reads are start before so.
           let none = records-none reads c.args.now.utc c.args.marks.now.items in
           Appends-is start (g.B.Book.taken c.args.book.now) _ _ (sym (ap
           (λ rs. texts_of (g.B.Book.text c.args.book.now) (before ++ rs)) none ∙ ap (texts_of (g.B.Book.text c.args.book.now)) (append-nil before))) so;
@@ -25,7 +25,7 @@ loop-settlement-init g c =
     }
 
 pub returns-in-Err-clause-wrote : goal.returns-in-Err-clause-wrote
-returns-in-Err-clause-wrote g c reads start before are so =
+returns-in-Err-clause-wrote g c reads are start before so =
     let utc = c.args.now.utc in
     let marks = c.args.marks.now.items in
     let ss = c.args.settlements.now in
@@ -36,7 +36,7 @@ returns-in-Err-clause-wrote g c reads start before are so =
     let more = front_more reads utc marks ss i s c.take_mark-mark.result c.loop-settlement-test.true c.settlement-item.is here in
     let front = records_of reads utc marks (map settlement_seen (take i ss)) in
     part_behind (g.B.Book.text c.args.book.now) before front _ _ _ _ start (g.B.Book.taken c.write_one.new.book) more (front_left reads utc marks ss (i + 1))
-    ((rw b.form at c.in-Err.ensures.wrote) reads start (before ++ front) are (b.wrote reads start before are so))
+    ((rw b.form at c.in-Err.ensures.wrote) reads are start (before ++ front) (b.wrote reads are start before so))
 
 pub loop-settlement-preserved : goal.loop-settlement-preserved
 loop-settlement-preserved g c =
@@ -47,12 +47,12 @@ loop-settlement-preserved g c =
     let s = c.settlement-item.result in
     let b = c.loop-settlement.invariant in
     record {
-      wrote = λ reads start before are so.
+      wrote = λ reads are start before so.
           let here = ap (λ ms. records_of reads utc ms (settlement_seen s ∷ [])) (sym b.marks) ∙ c.take_mark-mark.ensures.records reads utc (settlement_seen s) in
           let more = front_more reads utc marks ss i s c.take_mark-mark.result c.loop-settlement-test.true c.settlement-item.is here in
           let front = records_of reads utc marks (map settlement_seen (take i ss)) in
           Appends-is start (g.B.Book.taken c.write_one.new.book) _ _ (sym (texts_more (g.B.Book.text c.args.book.now) before front _ _ more))
-          ((rw b.form at c.in_default.ensures.wrote) reads start (before ++ front) are (b.wrote reads start before are so));
+          ((rw b.form at c.in_default.ensures.wrote) reads are start (before ++ front) (b.wrote reads are start before so));
       tally = λ reads are.
           let here = ap (λ ms. records_of reads utc ms (settlement_seen s ∷ [])) (sym b.marks) ∙ c.take_mark-mark.ensures.records reads utc (settlement_seen s) in
           let more = front_more reads utc marks ss i s c.take_mark-mark.result c.loop-settlement-test.true c.settlement-item.is here in

@@ -15,7 +15,7 @@ use Rattle.gc_station.proofs.writing.write_settlements.Given as goal
 -- taken out
 abbrev pub invariant-loop-settlement : goal.invariant-loop-settlement
 invariant-loop-settlement g l = record {
-  wrote : (reads : Asked → List ℕ → Reading) (start : Option (List ℕ)) (before : List Record) → AreReadings reads
+  wrote : (reads : Asked → List ℕ → Reading) → AreReadings reads → (start : Option (List ℕ)) (before : List Record)
       → Appends start (g.B.Book.taken l.initial.book) (texts_of (g.B.Book.text l.initial.book) before)
       → Appends start (g.B.Book.taken l.book) (texts_of (g.B.Book.text l.initial.book)
       (before ++ records_of reads l.now.utc l.initial.marks.items (map settlement_seen (take l.settlement-index l.settlements))));

@@ -4,8 +4,8 @@ use Rattle.gc_texts.proofs.settled.write_settlements.Goals as goal
 
 pub returns-in-Err : goal.returns-in-Err
 returns-in-Err g c = (
-  took_part c.args.place c.args.settlements.now c.loop-i.i _ c.index-settlements-i.result _ _ _ _ c.loop-i-test.true c.index-settlements-i.is (c.as_slice.ensures.value ∙ c.write_line.ensures)
-      c.loop-i.invariant.took c.in-Err.ensures.err,
+  took_part c.args.place c.args.settlements.now c.loop-i.i c.index-settlements-i.result _ _ _ _ c.loop-i-test.true c.index-settlements-i.is (c.as_slice.ensures.value ∙ c.write_line.ensures)
+      c.loop-i.invariant.took _ c.in-Err.ensures.err,
   c.in-Err.ensures.failed,
 )
 

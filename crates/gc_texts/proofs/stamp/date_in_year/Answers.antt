@@ -7,10 +7,10 @@ loop-left-init c = record { passed = refl; low = omega arith; high = omega arith
 
 pub loop-left-preserved : goal.loop-left-preserved
 loop-left-preserved c =
-    let whole = subst (λ n. n ≤ c.loop-left.left) c.month_days.ensures c.loop-left-test.true in
+    let whole = subst (λ n. n ≤ c.loop-left.left) c.month_days.ensures.value c.loop-left-test.true in
     let kept = c.loop-left.invariant in
     let below = before_december c.args.year c.loop-left.month c.loop-left.left kept.high kept.part whole in
-    rw c.month_days-left.ensures (record {
+    rw c.month_days-left.ensures.value (record {
       passed = month_left c.args.year c.loop-left.month c.args.days c.loop-left.left (on c.args.year 1 1) below whole kept.passed;
       low = omega arith;
       high = omega (arith, below);
@@ -19,5 +19,5 @@ loop-left-preserved c =
 
 pub returns-clause-date : goal.returns-clause-date
 returns-clause-date c =
-    day_in_month c.args.year c.loop-left.month c.args.days c.loop-left.left (on c.args.year 1 1) (subst (λ n. c.loop-left.left < n) c.month_days.ensures c.loop-left-test.false)
+    day_in_month c.args.year c.loop-left.month c.args.days c.loop-left.left (on c.args.year 1 1) (subst (λ n. c.loop-left.left < n) c.month_days.ensures.value c.loop-left-test.false)
     c.loop-left.invariant.passed

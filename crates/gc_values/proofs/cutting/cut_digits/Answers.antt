@@ -1,8 +1,8 @@
 use Rattle.std.proofs.Common.{arith, rules, get_or}
 use Rattle.gc_values.specs.Digits.{IsDigit}
-use Rattle.gc_values.proofs.Kept.{AreDigits-take_more}
+use Rattle.gc_values.proofs.Every.{every_more}
 use Rattle.gc_values.proofs.cutting.cut_digits.Goals as goal
 
 pub loop-i-preserved : goal.loop-i-preserved
-loop-i-preserved c = AreDigits-take_more c.args.text.now c.loop-i.i c.loop-i.invariant (omega arith)
+loop-i-preserved c = every_more IsDigit c.args.text.now c.loop-i.i 0 (omega arith) c.loop-i.invariant
     (let d : IsDigit (get_or c.args.text.now c.loop-i.i 0) = search (rules, c.if-not-is_ascii_digit.ensures.cases) in d)

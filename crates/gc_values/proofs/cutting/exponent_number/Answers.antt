@@ -2,7 +2,8 @@ use Rattle.std.proofs.Common.{◌≡◌, ◌^◌, ◌+◌, ◌*◌, arith, rules
 use Rattle.std.proofs.Math.Nat.{pow-suc}
 use Rattle.std.proofs.lemmas.List.{take_all}
 use Rattle.gc_values.specs.Digits.{IsDigit, number}
-use Rattle.gc_values.proofs.Kept.{AreDigits-take_more, number-take_more}
+use Rattle.gc_values.proofs.Every.{every_more}
+use Rattle.gc_values.proofs.Kept.{number-take_more}
 use Rattle.gc_values.proofs.Powers.{ten_pow_le}
 use Rattle.gc_values.proofs.cutting.exponent_number.Goals as goal
 
@@ -13,7 +14,7 @@ loop-byte-preserved c =
     let power : 10 ^ (i + 1) ≡ 10 ^ i * 10 = rw add-one (pow-suc 10 i) in (
       omega (arith, number-take_more c.args.text.now i (omega arith)),
       omega (arith, power, here.1),
-      AreDigits-take_more c.args.text.now i c.loop-byte.invariant.2 (omega arith) here,
+      every_more IsDigit c.args.text.now i 0 (omega arith) c.loop-byte.invariant.2 here,
     )
 
 pub returns-clause-found : goal.returns-clause-found

@@ -20,5 +20,16 @@ returns c =
     let places = c.front_digits-value.result.1 in
     let point : get_or text at 0 ≡ 46 = search rules in
     let made = subst (λ v. MadeOf false v places c.from_parts-decimal.result.digits c.from_parts-decimal.result.scale) c.from.ensures c.from_parts-decimal.ensures in
-    front_found text _ _ at places _ _ _ c.from_parts-decimal.result c.front_digits-whole.ensures (omega arith) (omega arith) point
-    (take_rest text (at + 1)) c.front_digits-value.ensures (take_rest _ places) c.in_ok-rest.ensures made
+    front_found text _ _ places _ c.from_parts-decimal.result
+    (record {
+      at = at;
+      whole = _;
+      behind = _;
+      before_point = c.front_digits-whole.ensures;
+      some = omega arith;
+      inside = omega arith;
+      point = point;
+      behind_is = take_rest text (at + 1);
+      after_point = c.front_digits-value.ensures;
+      tail_is = take_rest _ places;
+    }) c.in_ok-rest.ensures made

@@ -1,5 +1,7 @@
 use Rattle.std.proofs.Common.{arith}
-use Rattle.gc_values.proofs.Kept.{AreDigits-at, followed_more, followed_small}
+use Rattle.gc_values.specs.Digits.{IsDigit}
+use Rattle.gc_values.proofs.Every.{every_at}
+use Rattle.gc_values.proofs.Kept.{followed_more, followed_small}
 use Rattle.gc_values.proofs.units.followed_by.Goals as goal
 
 pub overflow_mul-value : goal.overflow_mul-value
@@ -7,12 +9,12 @@ overflow_mul-value c = let small = followed_small c.args.front c.loop-digit.valu
     c.loop-digit-test.true c.loop-digit.invariant c.requires.small in omega (arith, small)
 
 pub overflow_sub-digit : goal.overflow_sub-digit
-overflow_sub-digit c = (AreDigits-at c.args.digits.now c.loop-digit.digit-index 0 c.requires.digits c.loop-digit-test.true).0
+overflow_sub-digit c = (every_at IsDigit c.args.digits.now c.loop-digit.digit-index 0 c.loop-digit-test.true c.requires.digits).0
 
 pub overflow_add-value : goal.overflow_add-value
 overflow_add-value c =
     let small = followed_small c.args.front c.loop-digit.value c.args.digits.now c.loop-digit.digit-index c.requires.digits c.loop-digit-test.true c.loop-digit.invariant c.requires.small in
-    let digit = (AreDigits-at c.args.digits.now c.loop-digit.digit-index 0 c.requires.digits c.loop-digit-test.true).1 in
+    let digit = (every_at IsDigit c.args.digits.now c.loop-digit.digit-index 0 c.loop-digit-test.true c.requires.digits).1 in
     omega (arith, small, digit, c.from.ensures)
 
 pub loop-digit-preserved : goal.loop-digit-preserved

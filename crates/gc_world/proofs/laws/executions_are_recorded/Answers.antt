@@ -6,11 +6,11 @@ use Rattle.gc_world.specs.Clients.{ends}
 use Rattle.gc_world.specs.Record.{IsExecution}
 use Rattle.gc_world.specs.World.{World}
 use Rattle.gc_world.proofs.Flow.{level_at}
-use Rattle.gc_world.proofs.Handing.{KeptFits, reads, kept_of, keeper}
+use Rattle.gc_world.proofs.Handing.{KeptFits, kept_exchange, kept_of, keeper}
 use Rattle.gc_world.proofs.Runs.{execution_at}
 use Rattle.gc_world.proofs.laws.executions_are_recorded.Goals as goal
 
 pub returns : goal.returns
 returns c = λ width narrow opening events.
-    let at = level_at width narrow ends KeptFits reads (restarted opening) tt events in
-    subst (λ (w : World (ById Call) State). IsExecution ends opening w.wire) (sym at.ids) (execution_at width narrow ends KeptFits reads kept_of keeper refl at.steps opening tt)
+    let at = level_at width narrow ends KeptFits kept_exchange (restarted opening) tt events in
+    subst (λ (w : World (ById Call) State). IsExecution ends opening w.wire) (sym at.ids) (execution_at width narrow ends KeptFits kept_exchange kept_of keeper refl at.steps opening tt)

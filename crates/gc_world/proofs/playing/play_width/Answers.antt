@@ -4,11 +4,12 @@ use Rattle.std.proofs.lemmas.Option.{slice_get_read}
 use Rattle.gc_catalogue.specs.declared.call.Call.{Call}
 use Rattle.gc_client.specs.Rule.{ById}
 use Rattle.gc_instrument.specs.State.{State}
-use Rattle.gc_world.specs.Clients.{streamed}
-use Rattle.gc_world.specs.Stages.{seen, AreStreamsOf}
+use Rattle.gc_world.specs.Clients.{by_ids, ends, streamed}
+use Rattle.gc_world.specs.Stages.{seen, streams_at_start, AreStreamsOf}
 use Rattle.gc_world.specs.Streams.{Streams}
 use Rattle.gc_world.proofs.Faithfulness.{faithful, once, no_longer_than}
-use Rattle.gc_world.proofs.Turns.{played_more, at_end, counts_at}
+use Rattle.gc_world.proofs.Flow.{flow_more}
+use Rattle.gc_world.proofs.Turns.{at_end, counts_at}
 use Rattle.gc_world.proofs.playing.play_width.Goals as goal
 
 pub loop-event-preserved : goal.loop-event-preserved
@@ -20,7 +21,8 @@ loop-event-preserved g c =
     let is = c.event-item.is in
     let shown = c.in_ok-happen.ensures.follows c.args.width (streamed c.args.width opening (take i events)) c.loop-event.invariant.shows in
     let shows : AreStreamsOf c.args.width s (streamed c.args.width opening (take (i + 1) events)) =
-    subst (λ (v : Streams (ById Call) State). AreStreamsOf c.args.width s v) (sym (played_more c.args.width opening events i c.event-item.result c.loop-event-test.true is)) shown in
+    subst (λ (v : Streams (ById Call) State). AreStreamsOf c.args.width s v)
+    (sym (flow_more ends (by_ids c.args.width ends) events i c.event-item.result (streams_at_start opening) c.loop-event-test.true is)) shown in
     let counts = counts_at c.args.width opening events (i + 1) s.report shows.lines.reports (omega (arith, c.loop-event-test.true)) in
     record { shows = shows; refused = counts.0; idle = counts.1 }
 

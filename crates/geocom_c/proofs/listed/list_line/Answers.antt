@@ -13,7 +13,7 @@ returns-in-Ok c =
     let first : c.append.new.to.items ≡ line = search rules in
     record {
       front = front_of line c.append.new.to.items c.list.new.told.text.items c.list.ensures.front.0 first c.list.ensures.front.1;
-      listed = λ reply items is params few.
+      listed = λ reply is items params few.
           let same = one_reply line (reply_seen c.in-Ok.reply) reply (search (rules, c.in-Ok.ensures.found)) is in
           subst (λ (r : ReplyFields). IsParams r.params items → AreStanding c.list.new.told.items c.list.new.told.places c.list.new.told.text.items items)
           same (λ params. c.list.ensures.listed items params few) params;
@@ -25,5 +25,5 @@ returns-in-Err c =
     let first : c.append.new.to.items ≡ line = search rules in
     record {
       front = front_of line c.append.new.to.items c.append.new.to.items [] first (search rules);
-      listed = λ reply items is params few. absurd (never_ok _ _ (sym c.in-Err.ensures.exact ∙ ap reply_at c.deref-2.ensures.0 ∙ reply_again line reply is));
+      listed = λ reply is items params few. absurd (never_ok _ _ (sym c.in-Err.ensures.exact ∙ ap reply_at c.deref-2.ensures.0 ∙ reply_again line reply is));
     }

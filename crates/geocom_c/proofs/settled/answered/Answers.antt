@@ -28,6 +28,6 @@ returns-clause-answered c = λ reads.
       is_reply = reads.is_reply;
       reading = c.args.reading.now;
       is_reading = reads.is_reading;
-      has_reading = has_reading r told.text.items c.args.line.now.items told.items c.args.settlement.now.call reads.reply c.args.reading.now
-          c.requires reads.is_reply reads.is_reading c.kind_of-kind.ensures some none;
+      has_reading = has_reading r told.text.items told.items c.args.settlement.now.call reads.reply c.args.reading.now
+          (c.requires.listed reads.reply reads.is_reply) reads.is_reading c.kind_of-kind.ensures some none;
     }

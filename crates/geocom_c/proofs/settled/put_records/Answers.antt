@@ -3,14 +3,15 @@ use Rattle.std.specs.Prelude.{slice_get, slice_set}
 use Rattle.std.specs.Option.{option_map}
 use Rattle.std.proofs.lemmas.List.{drop-set-lt}
 use Rattle.std.proofs.lemmas.Option.{slice_get-map, slice_get-get_or}
+use Rattle.gc_lines.proofs.Lists.{all_at}
 use Rattle.gc_catalogue.specs.declared.asked.Asked.{Asked}
 use Rattle.gc_catalogue.specs.Asked.{IsAskedReading}
+use Rattle.gc_client.specs.Rule
 use Rattle.gc_client.specs.Settlements.{IsReadBy, settlement_seen}
 use Rattle.gc_client.specs.declared.settlement.Settlement.{Settlement}
 use Rattle.geocom_c.specs.FirstAre.{FirstAre}
-use Rattle.geocom_c.specs.Settled.{IsRecord}
+use Rattle.geocom_c.specs.Settled.{IsRecord, AnswerHasLine}
 use Rattle.geocom_c.proofs.Places.{first_written}
-use Rattle.geocom_c.proofs.Records.{has_line_at}
 use Rattle.geocom_c.proofs.settled.put_records.Goals as goal
 
 pub record_of-requires : goal.record_of-requires
@@ -20,7 +21,11 @@ record_of-requires c =
     let s = c.index-settled-k.result in
     let here : slice_get (map settlement_seen settled) k ≡ Some (settlement_seen s) =
     slice_get-map settlement_seen settled k ∙ ap (option_map settlement_seen) (slice_get-get_or settled k s c.loop-k-test.true ∙ ap Some (sym c.index-settled-k.is)) in
-    (c.requires.told.0, c.requires.told.1, has_line_at c.requires.told.0 (map settlement_seen settled) k (settlement_seen s) c.requires.told.2 here)
+    let line = c.requires.told.0 in (
+      line,
+      c.requires.told.1,
+      all_at (λ (x : Rule.Settlement Asked). AnswerHasLine line x.outcome) (map settlement_seen settled) k (settlement_seen s) c.requires.told.2 here,
+    )
 
 pub loop-k-preserved : goal.loop-k-preserved
 loop-k-preserved c =

@@ -1,6 +1,6 @@
 -- The instrument at the pointer is lent to `feed`, and is there again afterwards.
-use Rattle.geocom_instrument_c.proofs.Steps.{◌≡◌, ℕ, List, [], ◌∷◌, refl, ap, w64, proved, full_share, SProp, sep, emp, ex, ex_i, id⊢, GName, ftrue, flft, flent, named, Val, vptr, WpFn, fact}
-use Rattle.geocom_instrument_c.proofs.Steps.{fact_i, tables, sem, Body, lft_new, lft_end, ‵, raw, ◌⊛◌, some, later, prop, ◌$◌, ◌∵◌, !, qed, done, move, keep, drop, use0, use1, use2, use3, split}
+use Rattle.geocom_instrument_c.proofs.Steps.{ℕ, List, [], ◌∷◌, refl, w64, proved, full_share, sep, emp, ex, ex_i, id⊢, GName, ftrue, flft, flent, named, vptr, WpFn, fact}
+use Rattle.geocom_instrument_c.proofs.Steps.{fact_i, tables, sem, Body, lft_new, lft_end, ‵, raw, ◌⊛◌, some, later, prop, ◌$◌, ◌∵◌, !, qed, done, move, keep, use0, use1, use2, use3, split}
 use Rattle.geocom_instrument_c.proofs.Steps.{join, fsplit, pick, await, regoal, suffices, group, enter, of_opd, addr, stop, no_more, and_then, returns, alloc_all, pass_all, free_all, look_at, get}
 use Rattle.geocom_instrument_c.proofs.Steps.{through, sets, lands_as, u8, u64, yes, shows, lends_ref, ref_back, mem, part_at, uint_vals, uint_Tells, Ptr, RawPtr, block_ptr, lies_at, in_a_block}
 use Rattle.geocom_instrument_c.proofs.Steps.{rawptr_vals, rawptr_Tells, MutRef, ShrSlice, shr_slice_vals, shr_slice_Tells, plain, nothing, heard, peeks, calls_at, lasts, triple_of, Stays, walk_of}

@@ -1,5 +1,5 @@
 -- A value without an instrument is written to the room at the pointer, and lent to `set_up`.
-use Rattle.geocom_instrument_c.proofs.Steps.{◌≡◌, ℕ, List, [], ◌∷◌, refl, w64, proved, full_share, sep, emp, ex, ex_i, id⊢, GName, ftrue, flft, flent, named, vptr, WpFn, fact, fact_i, tables, sem}
+use Rattle.geocom_instrument_c.proofs.Steps.{◌≡◌, ℕ, List, [], ◌∷◌, refl, proved, full_share, sep, emp, ex, ex_i, id⊢, GName, ftrue, flft, flent, named, vptr, WpFn, fact, fact_i, tables, sem}
 use Rattle.geocom_instrument_c.proofs.Steps.{Body, lft_new, lft_end, ‵, raw, ◌⊛◌, some, later, prop, ◌$◌, ◌∵◌, !, qed, done, move, keep, drop, use0, use1, use2, use3, split, join, fsplit, pick}
 use Rattle.geocom_instrument_c.proofs.Steps.{await, regoal, suffices, group, enter, of_opd, addr, stop, init, assigns, no_more, and_then, returns, alloc_all, pass_all, free_all, look_at, get}
 use Rattle.geocom_instrument_c.proofs.Steps.{through, sets, lands_as, u8, yes, shows, lends_ref, ref_back, mem, part_at, Ptr, RawPtr, block_ptr, lies_at, room_at, in_a_block, rawptr_vals}

@@ -2,9 +2,11 @@ use Rattle.std.proofs.Common.{ℕ, List, [], ◌++◌, Option, Err, sym, ap, sub
 use Rattle.std.specs.Io.KnownBytes.{Appends}
 use Rattle.gc_lines.specs.Answering.{Ports}
 use Rattle.gc_lines.specs.Assembler.{Kept, StandsFor}
+use Rattle.gc_catalogue.specs.declared.call.Call.{Call}
+use Rattle.gc_client.specs.Rule.{ById}
 use Rattle.gc_ask.specs.Asking.{request_text}
 use Rattle.gc_ask.specs.Links.{TakesRequest, source_of}
-use Rattle.gc_ask.specs.Listening.{Exchanges}
+use Rattle.gc_ask.specs.Listening.{Exchanges, Heard, HearsReply, heard_by}
 use Rattle.gc_ask.proofs.Ends.{reads_nothing, reads_then, step_both}
 use Rattle.gc_ask.proofs.Exchanging.{exchanged, unsent}
 use Rattle.gc_ask.proofs.ask.AskState.exchange.Goals as goal
@@ -20,7 +22,7 @@ returns-in-Err-clause-exchanges g c =
       omega arith,
       λ rest s.
           unsent g.L.Link.is_remote c.args.place c.args.command.now
-          (record { rest = rest; bytes = c.args.self.now.ahead ++ []; left = asking.ahead; kept = asking.end.assembler; client = asking.end.client.ids; settled = asking.end.settled.items })
+          (heard_by asking.end rest (c.args.self.now.ahead ++ []) asking.ahead)
           old.taken new.taken c.in-Err.fault
           (subst (λ (t : List ℕ). TakesRequest g.L.Link.is_remote c.args.place t old.taken new.taken (Err c.in-Err.fault)) c.request-line.ensures.text c.in-Err.ensures.takes)
           c.request-line.ensures.client,
@@ -47,21 +49,12 @@ returns-clause-exchanges g c =
       omega (arith, heard.2, ap (λ (s : Input). s.reads) c.in_default.ensures.unread),
       λ rest s.
           let same = subst (λ (k : Kept). StandsFor k rest) (sym c.request-line.ensures.same.0) s in
-          subst (λ (xs : List ℕ). Exchanges g.L.Link.is_remote c.args.place c.args.command.now
-          (record {
-            rest = rest;
-            bytes = xs ++ heard.0;
-            left = c.hear_reply.new.ahead;
-            kept = end.assembler;
-            client = end.client.ids;
-            settled =
-                end.settled.items;
-          }) old.taken new.taken c.hear_reply.result)
-          c.request-line.ensures.same.1
-          (exchanged g.L.Link.is_remote c.args.place c.args.command.now asking.end.client.ids
-          (record { rest = rest; bytes = asking.ahead ++ heard.0; left = c.hear_reply.new.ahead; kept = end.assembler; client = end.client.ids; settled = end.settled.items })
-          old.taken new.taken (source_of mid) (source_of new) c.hear_reply.new.reads c.hear_reply.result
-          sent c.request-line.ensures.client (heard.3 rest same) c.hear_reply.ensures.ends),
+          let h : Heard = heard_by end rest (asking.ahead ++ heard.0) c.hear_reply.new.ahead in
+          let reply = subst (λ (x : ById Call). HearsReply x h c.hear_reply.result) c.request-line.ensures.client (heard.3 rest same) in
+          subst (λ (xs : List ℕ). Exchanges g.L.Link.is_remote c.args.place c.args.command.now (heard_by end rest (xs ++ heard.0) c.hear_reply.new.ahead)
+          old.taken new.taken c.hear_reply.result) c.request-line.ensures.same.1
+          (exchanged g.L.Link.is_remote c.args.place c.args.command.now h old.taken new.taken
+          (source_of mid) (source_of new) c.hear_reply.new.reads c.hear_reply.result sent reply c.hear_reply.ensures.ends),
     )
 
 pub returns-clause-ends : goal.returns-clause-ends

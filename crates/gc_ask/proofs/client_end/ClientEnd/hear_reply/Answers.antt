@@ -1,6 +1,7 @@
-use Rattle.std.proofs.Common.{◌≡◌, ℕ, List, [], ◌++◌, sym, ap, ◌∙◌, subst, arith, length-append, append-nil, not, Ok}
+use Rattle.std.proofs.Common.{◌≡◌, ℕ, List, [], ◌++◌, drop, sym, ap, ◌∙◌, subst, arith, length-append, append-nil, not, Ok}
 use Rattle.std.specs.Io.KnownBytes.{Consumes}
 use Rattle.std.proofs.KnownBytes.{Consumes-kept, Consumes-trans}
+use Rattle.gc_ask.specs.Listening.{heard_by}
 use Rattle.gc_ask.proofs.FirstReplies.{reading_more, reading_quiet, reading_settles}
 use Rattle.gc_ask.proofs.client_end.ClientEnd.hear_reply.Goals as goal
 
@@ -12,7 +13,8 @@ returns-in-Some-clause-hears g c =
       h.2,
       λ rest s.
           let r = h.3 rest s in
-          rw (c.advance.ensures) (reading_settles rest _ _ _ _ _ _ _ _ _ _ r (rw (c.left.ensures) at (c.in-Some.ensures.listens _ r.quiet.stands))),
+          rw (c.advance.ensures) (reading_settles (heard_by c.listen.new.self rest c.loop-used.ahead (drop c.in-Some.used c.loop-used.ahead))
+          r (rw (c.left.ensures) at (c.in-Some.ensures.listens _ r.quiet.stands))),
     )
 
 pub returns-then-reads-eq0-clause-hears : goal.returns-then-reads-eq0-clause-hears
@@ -23,7 +25,7 @@ returns-then-reads-eq0-clause-hears g c =
       h.2,
       λ rest s.
           let r = h.3 rest s in
-          reading_quiet rest _ _ _ _ _ _ _ _ r (rw (c.left.ensures) at (c.in_default.ensures.listens _ r.quiet.stands)),
+          reading_quiet r (rw (c.left.ensures) at (c.in_default.ensures.listens _ r.quiet.stands)),
     )
 
 pub returns-in_default-read-clause-hears : goal.returns-in_default-read-clause-hears
@@ -34,7 +36,7 @@ returns-in_default-read-clause-hears g c =
       omega (arith, h.2, c.in_default-read.ensures.bytes.1),
       λ rest s.
           let r = h.3 rest s in
-          reading_quiet rest _ _ _ _ _ _ _ _ r (rw (c.left.ensures) at (c.in_default.ensures.listens _ r.quiet.stands)),
+          reading_quiet r (rw (c.left.ensures) at (c.in_default.ensures.listens _ r.quiet.stands)),
     )
 
 pub returns-then-not-more-clause-hears : goal.returns-then-not-more-clause-hears
@@ -48,7 +50,7 @@ returns-then-not-more-clause-hears g c =
       omega (arith, h.2, c.in-Ok.ensures.bytes.1),
       λ rest s.
           let r = h.3 rest s in
-          reading_quiet rest _ _ _ _ _ _ _ _ r (rw (c.left.ensures) at (c.in_default.ensures.listens _ r.quiet.stands)),
+          reading_quiet r (rw (c.left.ensures) at (c.in_default.ensures.listens _ r.quiet.stands)),
     )
 
 pub loop-used-preserved : goal.loop-used-preserved
@@ -63,7 +65,7 @@ loop-used-preserved g c =
         omega (arith, h.2, length-append h.0 c.read.new.ahead, c.in-Ok.ensures.few, c.in-Ok.ensures.bytes.1, c.loop-used.invariant.grows),
         λ rest s.
             let r = h.3 rest s in
-            reading_more rest _ _ _ _ _ _ _ _ _ r (rw (c.left.ensures) at (c.in_default.ensures.listens _ r.quiet.stands)),
+            reading_more c.read.new.ahead r (rw (c.left.ensures) at (c.in_default.ensures.listens _ r.quiet.stands)),
       );
       reads = omega (arith, c.loop-used.invariant.reads, c.in-Ok.ensures.bytes.1, c.if-reads-eq0.false);
       grows = omega (arith, c.loop-used.invariant.grows, c.in-Ok.ensures.bytes.1);

@@ -1,5 +1,6 @@
 use Rattle.std.proofs.Common.{◌≤◌, ◌-◌, List, ℕ, length, drop}
 use Rattle.gc_lines.specs.Assembler.{StandsFor}
+use Rattle.gc_ask.specs.Listening.{heard_by}
 use Rattle.gc_ask.proofs.FirstReplies.{Passed}
 use Rattle.gc_ask.proofs.client_end.ClientEnd.listen.Given as goal
 
@@ -7,7 +8,7 @@ use Rattle.gc_ask.proofs.client_end.ClientEnd.listen.Given as goal
 abbrev pub invariant-loop-at : goal.invariant-loop-at
 invariant-loop-at l = record {
   within : l.at ≤ length l.piece;
-  passed : (rest : List ℕ) → StandsFor l.initial.self.assembler rest → Passed rest l.piece (drop l.at l.piece) l.self.assembler l.initial.self.client.ids l.self.client.ids;
+  passed : (rest : List ℕ) → StandsFor l.initial.self.assembler rest → Passed l.initial.self.client.ids (heard_by l.self rest l.piece (drop l.at l.piece));
 }
 
 -- how many bytes of the piece are left

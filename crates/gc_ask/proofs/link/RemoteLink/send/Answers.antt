@@ -8,9 +8,8 @@ use Rattle.gc_ask.proofs.Exchanging.{takes_sent}
 use Rattle.gc_ask.proofs.link.RemoteLink.send.Goals as goal
 
 pub returns-clause-takes : goal.returns-clause-takes
-returns-clause-takes g c = takes_sent true c.args.place (with_end c.args.request.now.items) (g.O.Sink.taken c.args.self.now.sink.now)
-    (g.O.Sink.taken c.send_line.new.sink) (g.O.Sink.failed c.args.self.now.sink.now)
-    (g.O.Sink.failed c.send_line.new.sink) c.send_line.result c.send_line.ensures
+returns-clause-takes g c = takes_sent true c.args.place (with_end c.args.request.now.items)
+    (taken_by g.O.Sink c.args.self.now.sink.now) (taken_by g.O.Sink c.send_line.new.sink) c.send_line.result c.send_line.ensures
 
 pub returns-clause-ends : goal.returns-clause-ends
 returns-clause-ends g c =

@@ -10,9 +10,8 @@ not_remote : false ≡ true → ⊥
 not_remote e = cc
 
 pub returns-in-Err-clause-takes : goal.returns-in-Err-clause-takes
-returns-in-Err-clause-takes g c = takes_sent false c.args.place (with_end c.args.request.now.items) (g.B.Sink.taken c.args.self.now.client_out.now)
-    (g.B.Sink.taken c.send_line.new.sink) (g.B.Sink.failed c.args.self.now.client_out.now) (g.B.Sink.failed c.send_line.new.sink)
-    (Err c.in-Err.fault) c.in-Err.ensures
+returns-in-Err-clause-takes g c = takes_sent false c.args.place (with_end c.args.request.now.items)
+    (taken_by g.B.Sink c.args.self.now.client_out.now) (taken_by g.B.Sink c.send_line.new.sink) (Err c.in-Err.fault) c.in-Err.ensures
 
 pub returns-in-Err-clause-ends : goal.returns-in-Err-clause-ends
 returns-in-Err-clause-ends g c =

@@ -1,6 +1,7 @@
-use Rattle.std.proofs.Common.{◌≡◌, None, sym, ap, ◌∙◌, subst}
+use Rattle.std.proofs.Common.{◌≡◌, ℕ, None, sym, ap, ◌∙◌, subst}
+use Rattle.std.specs.Prelude.{unwrap_or}
 use Rattle.std.specs.Option.{option_map}
-use Rattle.gc_instrument.specs.Replying.{AppendsExecuted, kept_after, kept_line}
+use Rattle.gc_instrument.specs.Replying.{AppendsExecuted, IsAnswered, kept_after, kept_line}
 use Rattle.gc_instrument.specs.Seen.{state_of}
 use Rattle.gc_instrument.specs.State.{State}
 use Rattle.gc_instrument.proofs.Keeping.{appended_bytes, sound_keeping, kept_anew}
@@ -9,10 +10,11 @@ use Rattle.gc_instrument.proofs.instrument.Instrument.answer_call.Goals as goal
 pub invariant_of-self : goal.invariant_of-self
 invariant_of-self g c =
     let h = c.carry_out_onto.ensures.replies in
-    let line : _ ≡ h.text = appended_bytes c.args.out.now.items c.carry_out_onto.new.out.items c.deref.result.now h.text c.len-start.result c.deref.ensures.0 h.appended c.len-start.ensures.value in
+    let line : _ ≡ h.text = appended_bytes c.args.out.now.items c.deref.result.now h.text c.len-start.result (c.deref.ensures.0 ∙ h.appended) c.len-start.ensures.value in
     let kept : c.keep.new.self ≡ kept_after c.self-2.inside.kept c.args.id h.text = c.keep.ensures ∙ ap (kept_after c.self-2.inside.kept c.args.id) line in
-    sound_keeping (state_of c.self-2.inside) c.args.id c.keep.new.self c.unwrap_or.result h.text h.says.fields c.self-2.invariant.0 c.self-2.invariant.1 kept
-    c.unwrap_or.ensures h.says.is_reply h.says.same_id h.plain
+    let says : IsAnswered c.args.self.now (unwrap_or c.args.id 0) c.args.call.now h.text =
+    subst (λ (n : ℕ). IsAnswered c.args.self.now n c.args.call.now h.text) c.unwrap_or.ensures h.says in
+    sound_keeping (state_of c.self-2.inside) c.args.self.now c.args.id c.keep.new.self c.args.call.now h.text c.self-2.invariant.0 c.self-2.invariant.1 kept says h.plain
 
 pub returns-clause-replies : goal.returns-clause-replies
 returns-clause-replies g c =
@@ -21,9 +23,10 @@ returns-clause-replies g c =
     let old = c.args.out.now.items in
     let new = c.carry_out_onto.new.out.items in
     let after : State = state_of c.self-2.inside in
-    let h : AppendsExecuted c.args.self.now c.unwrap_or.result call after old new =
-    subst (λ (s : State). AppendsExecuted c.args.self.now c.unwrap_or.result call s old new) (sym c.self-2.view_is) c.carry_out_onto.ensures.replies in
-    let line : _ ≡ h.text = appended_bytes old new c.deref.result.now h.text c.len-start.result c.deref.ensures.0 h.appended c.len-start.ensures.value in
+    let h : AppendsExecuted c.args.self.now (unwrap_or id 0) call after old new =
+    subst (λ (n : ℕ). AppendsExecuted c.args.self.now n call after old new) c.unwrap_or.ensures
+    (subst (λ (s : State). AppendsExecuted c.args.self.now c.unwrap_or.result call s old new) (sym c.self-2.view_is) c.carry_out_onto.ensures.replies) in
+    let line : _ ≡ h.text = appended_bytes old c.deref.result.now h.text c.len-start.result (c.deref.ensures.0 ∙ h.appended) c.len-start.ensures.value in
     let none : kept_line c.self.inside.kept id ≡ None = sym c.line_of.ensures.line ∙ ap (option_map (λ r. r.now)) c.in_default.is in
     let own : c.self.inside.kept ≡ c.args.self.now.kept = ap (λ (s : State). s.kept) c.self.view_is in
-    kept_anew c.args.self.now after id c.unwrap_or.result call old new _ c.keep.new.self c.unwrap_or.ensures (ap (λ k. kept_line k id) (sym own) ∙ none) h line c.keep.ensures
+    kept_anew c.args.self.now after id call old new c.keep.new.self (ap (λ k. kept_line k id) (sym own) ∙ none) h (c.keep.ensures ∙ ap (kept_after c.self-2.inside.kept id) line)

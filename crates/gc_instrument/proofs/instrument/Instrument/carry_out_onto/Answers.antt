@@ -25,5 +25,5 @@ returns-clause-replies g c =
       plain = c.encode_answer_onto.ensures.plain;
       state = sym (ap (λ (x : Executed). x.state) c.carry_out-rc.ensures);
       line = executed_is c.args.self.now after call c.args.id _ _ _ c.carry_out-rc.ensures places;
-      says = made_answered c.args.self.now after call c.args.id _ _ _ c.carry_out-rc.ensures places (c.encode_answer_onto.ensures.reads_back call) (c.encode_answer_onto.ensures.refused call);
+      says = made_answered c.args.self.now after call c.args.id _ _ _ c.carry_out-rc.ensures places c.encode_answer_onto.ensures.reads_back c.encode_answer_onto.ensures.refused;
     }

@@ -1,20 +1,22 @@
 use Rattle.std.proofs.Common.{refl}
 use Rattle.gc_lines.specs.Requests.{request_seen}
-use Rattle.gc_instrument.proofs.Answering.{request_replied, silence_replied, silence_exchanged, line_exchanged}
+use Rattle.gc_lines.specs.AnsweringLines.{silent, answers}
+use Rattle.gc_lines.proofs.AnsweringLines.{no_request}
+use Rattle.gc_instrument.proofs.Answering.{silence_exchanged, line_exchanged}
 use Rattle.gc_instrument.proofs.instrument.Instrument.reply_onto.Goals as goal
 
 pub returns-in-Ok-clause-replied : goal.returns-in-Ok-clause-replied
 returns-in-Ok-clause-replied g c =
     let made = c.reply_to.ensures.replies in
-    (made.text, request_replied _ _ _ _ _ _ refl c.in-Ok.ensures.found made.answers, made.appended)
+    (made.text, answers _ c.in-Ok.ensures.found made.text made.answers refl, made.appended)
 
 pub returns-in-Ok-clause-exchanged : goal.returns-in-Ok-clause-exchanged
 returns-in-Ok-clause-exchanged g c id call small fits own =
     let made = c.reply_to.ensures.replies in
-    (made.text, line_exchanged _ _ _ _ (request_seen c.in-Ok.request) id call made.text refl c.in-Ok.ensures.found small fits own made.answers made.plain made.says, made.appended)
+    (made.text, line_exchanged _ _ _ (request_seen c.in-Ok.request) id call _ _ c.in-Ok.ensures.found small fits own made, made.appended)
 
 pub returns-in-Err-clause-replied : goal.returns-in-Err-clause-replied
-returns-in-Err-clause-replied g c = (silence_replied _ _ _ c.in-Err.field-0 request_seen refl c.in-Err.ensures.only, refl)
+returns-in-Err-clause-replied g c = (silent (no_request _ c.in-Err.field-0 request_seen c.in-Err.ensures.only) refl refl, refl)
 
 pub returns-in-Err-clause-exchanged : goal.returns-in-Err-clause-exchanged
-returns-in-Err-clause-exchanged g c id call small fits own = (silence_exchanged _ _ _ c.in-Err.field-0 request_seen id call refl c.in-Err.ensures.only small fits own, refl)
+returns-in-Err-clause-exchanged g c id call small fits own = (silence_exchanged _ _ id call (no_request _ c.in-Err.field-0 request_seen c.in-Err.ensures.only) small fits own, refl)

@@ -3,7 +3,7 @@ use Rattle.gc_lines.specs.Lent.{lent_seen}
 use Rattle.gc_lines.specs.Passing.{completed}
 use Rattle.gc_lines.specs.declared.frame.Lent.{Lent}
 use Rattle.gc_lines.specs.declared.frame.Lent.TheVariants.{Line, Cleared, Overlong, More}
-use Rattle.gc_lines.proofs.Gathering.{gathering_silent, gathering_more, gathering_start, gathering_written, answered_part}
+use Rattle.gc_lines.proofs.Gathering.{Joins, gathering_silent, gathering_more, gathering_start, gathering_written, answered_part}
 use Rattle.gc_lines.proofs.session.Session.answer_frame.Goals as goal
 
 -- a frame other than `More` is completed
@@ -14,36 +14,36 @@ completed_unless_more Overlong not = refl
 completed_unless_more More not = absurd (not refl)
 
 -- where `more` was appended to the text `old`, and the text's length from before was subtracted from its length now and pushed to
--- `lengths`, the length of `more` was pushed
-length_pushed : (old new more lengths lengths' : List ℕ) (before now : ℕ) → before ≡ length old → now ≡ length new → new ≡ old ++ more → lengths' ≡ lengths ++ (now - before) ∷ []
-    → lengths' ≡ lengths ++ length more ∷ []
-length_pushed old new more lengths lengths' before now at to is pushed =
+-- `lengths`, `more` joined the texts that wait
+text_joined : (old new more lengths lengths' : List ℕ) (before now : ℕ) → before ≡ length old → now ≡ length new → new ≡ old ++ more
+    → lengths' ≡ lengths ++ (now - before) ∷ [] → Joins old lengths more new lengths'
+text_joined old new more lengths lengths' before now at to is pushed =
     let same : now - before ≡ length more = omega (arith, at, to, ap (λ (xs : List ℕ). length xs) is, length-append old more) in
-    pushed ∙ ap (λ (k : ℕ). lengths ++ k ∷ []) same
+    record { longer = is; counted = pushed ∙ ap (λ (k : ℕ). lengths ++ k ∷ []) same }
 
 pub returns-then-not-answer-clause-ok : goal.returns-then-not-answer-clause-ok
 returns-then-not-answer-clause-ok g c from seen h =
     let answered = c.if-not-answer.ensures.answered in
-    rw (completed_unless_more c.args.frame c.in_default.not-More, answered.1) (gathering_silent _ from _ _ seen _ _ _ answered.0 h)
+    rw (completed_unless_more c.args.frame c.in_default.not-More, answered.1) (gathering_silent _ from _ seen _ _ h _ _ answered.0)
 
 pub returns-then-may_wait-clause-ok : goal.returns-then-may_wait-clause-ok
 returns-then-may_wait-clause-ok g c from seen h =
     let answered = c.if-not-answer.ensures.answered in
-    rw (completed_unless_more c.args.frame c.in_default.not-More) (gathering_more _ from _ _ seen _ _ _ answered.0 _ _ answered.1 h answered.2
-    (length_pushed _ _ _ _ _ _ _ c.len-before.ensures.value c.len.ensures.value answered.2 c.push.ensures))
+    rw (completed_unless_more c.args.frame c.in_default.not-More) (gathering_more _ from _ seen _ _ h _ _ answered.0 _ _ answered.1
+    (text_joined _ _ _ _ _ _ _ c.len-before.ensures.value c.len.ensures.value answered.2 c.push.ensures))
 
 pub returns-in-Err-clause-err : goal.returns-in-Err-clause-err
 returns-in-Err-clause-err g c from seen h =
     let answered = c.if-not-answer.ensures.answered in
     let failed = c.in-Err.ensures.err in
-    rw (completed_unless_more c.args.frame c.in_default.not-More) (answered_part _ from _ _ seen _ _ _ answered.0 _ _ _ failed.0 c.args.self.now.gathers c.requires.room.alone answered.1 h answered.2
-    (length_pushed _ _ _ _ _ _ _ c.len-before.ensures.value c.len.ensures.value answered.2 c.push.ensures) failed.1 failed.2)
+    rw (completed_unless_more c.args.frame c.in_default.not-More) (answered_part _ from _ seen _ _ h _ _ answered.0 _ _ _ c.args.self.now.gathers c.requires.room.alone answered.1
+    (text_joined _ _ _ _ _ _ _ c.len-before.ensures.value c.len.ensures.value answered.2 c.push.ensures) failed)
 
 pub returns-clause-ok : goal.returns-clause-ok
 returns-clause-ok g c from seen h =
     let answered = c.if-not-answer.ensures.answered in
     let written = c.in_default-write_texts.ensures.ok in
-    let more = gathering_more _ from _ _ seen _ _ _ answered.0 _ _ answered.1 h answered.2
-    (length_pushed _ _ _ _ _ _ _ c.len-before.ensures.value c.len.ensures.value answered.2 c.push.ensures) in
+    let more = gathering_more _ from _ seen _ _ h _ _ answered.0 _ _ answered.1
+    (text_joined _ _ _ _ _ _ _ c.len-before.ensures.value c.len.ensures.value answered.2 c.push.ensures) in
     rw (completed_unless_more c.args.frame c.in_default.not-More, c.in_default-write_texts.ensures.nothing.0, c.in_default-write_texts.ensures.nothing.1)
-    (gathering_start _ from _ _ (gathering_written _ from _ _ _ _ _ _ more written.0 written.1))
+    (gathering_start _ from _ _ (gathering_written _ from _ _ _ _ more _ _ written.0 written.1))

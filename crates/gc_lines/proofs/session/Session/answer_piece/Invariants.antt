@@ -1,6 +1,6 @@
 use Rattle.std.proofs.Common.{◌≡◌, ◌+◌, ◌≤◌, List, ℕ, length}
 use Rattle.gc_lines.specs.Assembler.{StandsFor}
-use Rattle.gc_lines.specs.Passing.{HasRoom}
+use Rattle.gc_lines.specs.Passing.{HasRoom, session_progress}
 use Rattle.gc_lines.proofs.Passing.{PieceAnswered}
 use Rattle.gc_lines.proofs.session.Session.answer_piece.Given as goal
 
@@ -10,9 +10,8 @@ invariant-loop-left g l = record {
   room : HasRoom l.self.text.items l.self.lengths l.self.gathers;
   gathers : l.self.gathers ≡ l.initial.self.gathers;
   failed : g.K.Sink.failed l.sink ≡ g.K.Sink.failed l.initial.sink;
-  going : (rest : List ℕ) → StandsFor l.initial.self.assembler rest → PieceAnswered g.A.Answers.answers rest l.fn.piece l.left l.self.assembler
-      (record { state = l.initial.answerer; taken = g.K.Sink.taken l.initial.sink; whole = l.initial.self.replies })
-      (record { state = l.answerer; taken = g.K.Sink.taken l.sink; whole = l.self.replies }) l.self.text.items l.self.lengths;
+  going : (rest : List ℕ) → StandsFor l.initial.self.assembler rest → PieceAnswered g.A.Answers.answers rest l.fn.piece l.left
+      (session_progress g.K.Sink l.initial.answerer l.initial.sink l.initial.self) (session_progress g.K.Sink l.answerer l.sink l.self) l.self;
 }
 
 abbrev pub decreases-loop-left : goal.decreases-loop-left

@@ -21,6 +21,20 @@ returns c =
     notes_are c.repeats-repeats.result _ c.kept_id-before.result _ c.kept_id-after.result _ _ _ c.repeats-repeats.ensures c.kept_id-before.ensures c.kept_id-after.ensures
     (record { same = noted.ensures.same; another = noted.ensures.another; never = noted.ensures.never }) in
     on_ok_weaker c.push.result
-    (λ pushed width v h. streams_up_deliver width (seen s) v h request.items c.take.new.self did.new.self c.new-reply.result.items did.new.out.items did.result noted.new.executed c.push.new.self
-    c.in-Some.ensures.texts c.take.ensures.gone empty played notes pushed)
+    (λ pushed width v h. streams_up_deliver width (seen s) v h (record {
+      request = request.items;
+      up = c.take.new.self;
+      instrument = did.new.self;
+      old = c.new-reply.result.items;
+      reply = did.new.out.items;
+      answers = did.result;
+      executed = noted.new.executed;
+      down = c.push.new.self;
+      front = c.in-Some.ensures.texts;
+      start = c.take.ensures.gone;
+      empty = empty;
+      played = played;
+      notes = notes;
+      down_is = pushed;
+    }))
     c.push.ensures

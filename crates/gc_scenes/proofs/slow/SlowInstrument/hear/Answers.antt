@@ -1,6 +1,7 @@
 use Rattle.std.proofs.Common.{ℕ, refl, ap, ◌∙◌}
 use Rattle.gc_scenes.specs.SceneState.{at_moment}
-use Rattle.gc_scenes.specs.Slow.{SlowState, moment_after, taken_up}
+use Rattle.gc_catalogue.specs.Moments.{later}
+use Rattle.gc_scenes.specs.Slow.{SlowState, taken_up}
 use Rattle.gc_scenes.proofs.Slowly.{silent_heard, reply_heard}
 use Rattle.gc_scenes.proofs.slow.SlowInstrument.hear.Goals as goal
 
@@ -16,7 +17,7 @@ pub returns-clause-heard : goal.returns-clause-heard
 returns-clause-heard g c =
     let i = c.self.inside in
     reply_heard (record { scene = i.scene; delays = i.delays.items; drops = i.drops; free_from = i.free_from }) c.args.self.now c.self.view_is c.args.line.now c.args.at
-    c.set_moment.new.self c.reply_onto.new.self c.delay_of_line.result c.moment_after-due.result c.args.out.now.items c.reply_onto.new.out.items (c.if-drops_at.ensures.taken refl)
-    c.delay_of_line.ensures (c.moment_after-due.ensures ∙ ap (λ n. moment_after n c.delay_of_line.result) c.taken_up-from.ensures)
+    c.set_moment.new.self c.reply_onto.new.self c.args.out.now.items c.reply_onto.new.out.items (c.if-drops_at.ensures.taken refl)
     (c.set_moment.ensures ∙ ap (λ (n : ℕ). at_moment n i.scene) c.taken_up-from.ensures ∙ ap (λ (b : SlowState). at_moment (taken_up c.args.self.now c.args.at) b.scene) c.self.view_is)
-    c.if-not-reply_onto.ensures.played
+    c.delay_of_line.result c.moment_after-due.result c.delay_of_line.ensures
+    (c.moment_after-due.ensures ∙ ap (λ n. later n c.delay_of_line.result) c.taken_up-from.ensures) c.if-not-reply_onto.ensures.played

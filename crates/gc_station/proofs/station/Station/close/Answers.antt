@@ -2,7 +2,7 @@ use Rattle.std.proofs.Common.{refl, ap, ◌∙◌}
 use Rattle.gc_station.specs.declared.progress.Waiting.{Waiting}
 use Rattle.gc_links.specs.Acts.{Closed}
 use Rattle.gc_station.specs.Model.{waiting_of}
-use Rattle.gc_station.proofs.Hearing.{commands_same, closed_same}
+use Rattle.gc_station.proofs.Hearing.{outstanding_commands_same, closed_same}
 use Rattle.gc_station.proofs.station.Station.close.Goals as goal
 
 pub returns : goal.returns
@@ -17,7 +17,8 @@ returns g c commands text known =
       goes = λ s start stands so. (
         refl,
         record {
-          progress = c.close-2.ensures ∙ closed_same plan w (waiting_of s) c.args.cause old.progress s.progress (ap (λ (x : Waiting). x.commands) is ∙ commands_same old s stands) stands.progress;
+          progress = c.close-2.ensures
+              ∙ closed_same plan w (waiting_of s) c.args.cause old.progress s.progress (ap (λ (x : Waiting). x.commands) is ∙ outstanding_commands_same old s stands) stands.progress;
           ids = stands.ids;
           width = stands.width;
           marks = stands.marks;

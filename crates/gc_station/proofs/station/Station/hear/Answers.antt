@@ -36,7 +36,7 @@ returns-clause-hears g c s start stands so =
     same
     (sym (length-map items settlement_seen) ∙ ap length same)
     (hears_paired s.marks s.client line (heard line) stands.paired)
-    (λ are. c.in_default-write.ensures.wrote s.reads start s.records are (so are)) c.in_default-write.ensures.after c.in_default-write.ensures.tally c.in_default-write.ensures.well
+    (λ are. c.in_default-write.ensures.wrote s.reads are start s.records (so are)) c.in_default-write.ensures.after c.in_default-write.ensures.tally c.in_default-write.ensures.well
     c.in_default-write.ensures.listed c.in_default-write.ensures.fresh in
     let after = c.in_default-write.ensures.after in
     let table = c.ends_with_table-of_table.ensures ∙ ap (λ l. ends_with_table (map settlement_seen l)) c.as_slice.ensures.value ∙ ap
@@ -76,7 +76,7 @@ returns-in-Err-clause-hears g c s start stands so =
       fresh = refl;
     })
     same
-    (λ are. c.in-Err.ensures.wrote s.reads start s.records are (so are)) in
+    (λ are. c.in-Err.ensures.wrote s.reads are start s.records (so are)) in
     rw c.in-Line.is t
 
 pub returns-in_default : goal.returns-in_default

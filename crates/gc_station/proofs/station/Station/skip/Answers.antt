@@ -1,15 +1,13 @@
-use Rattle.std.proofs.Common.{None, if◌then◌else◌, ◌<◌, List, ◌++◌, length, drop, ap, sym, ◌∙◌, arith, subst}
+use Rattle.std.proofs.Common.{◌<◌, List, ◌++◌, length, drop, ap, sym, ◌∙◌, arith, subst}
 use Rattle.std.specs.Io.KnownBytes.{Appends}
 use Rattle.gc_station.specs.declared.cause.Cause.TheVariants.{Clock}
 use Rattle.gc_station.specs.declared.progress.Progress.{Progress}
 use Rattle.gc_station.specs.declared.station.Station.{Station}
 use Rattle.gc_links.specs.Acts.{Told, Untold}
-use Rattle.gc_station.specs.Attempts.{listed_after}
-use Rattle.gc_texts.specs.Endings.{Missed, Skipped}
 use Rattle.gc_station.specs.Marks.{commands_in}
 use Rattle.gc_station.specs.Progressing.{failing, skipped, early_noted}
 use Rattle.gc_station.specs.Records.{Record, texts_of}
-use Rattle.gc_station.specs.Model.{Model, listed_after_skip, unsent_record, with_progress, with_listed, with_records}
+use Rattle.gc_station.specs.Model.{Model, listed_after_skip, unsent_record, with_progress, with_listed, with_records, listed_unsent}
 use Rattle.gc_station.specs.NextCommand.{place_next, mark_next, is_chained_after_next, others_after_next}
 use Rattle.gc_station.specs.Stations.{Refines, Took}
 use Rattle.gc_station.proofs.Hearing.{refines_expired}
@@ -38,10 +36,9 @@ returns-in_default-clause-does g c =
           let is = stands.progress in
           let same = ap (λ (x : Station). x.progress) c.in_default.ensures.after ∙ is in
           let here_stands : Refines mid (with_listed listed (with_records rs s)) = skipped_refines old mid s rs
-          (listed_after old.recorded.listed (mark_next plan commands p).expected None (if p.missed then Missed else Skipped)) listed stands
+          (listed_unsent plan commands p old.recorded.listed) listed stands
           (λ b. skips_unwell b p m (mark_next plan commands p) (drop (place_next commands p) commands) here.0 here.1 here.2)
-          (λ are. ap (λ b. listed_after b (mark_next plan commands p).expected None (if p.missed then Missed else Skipped)) (stands.listed are)
-          ∙ ap (λ (x : Progress). listed_after s.listed (mark_next plan commands x).expected None (if x.missed then Missed else Skipped)) is)
+          (λ are. ap (λ b. listed_unsent plan commands p b) (stands.listed are) ∙ ap (λ (x : Progress). listed_unsent plan commands x s.listed) is)
           c.in_default.ensures.after in
           let rs' = ap (λ (x : Progress). unsent_record plan commands x (Told m)) is in
           let there : Refines mid (with_listed listed (with_records (unsent_record plan commands q (Told m)) s)) = subst

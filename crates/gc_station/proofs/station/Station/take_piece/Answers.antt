@@ -3,7 +3,7 @@ use Rattle.gc_station.specs.declared.progress.Waiting.{Waiting}
 use Rattle.gc_station.specs.Marks.{commands_in}
 use Rattle.gc_station.specs.Progressing.{moment_noted, early_noted}
 use Rattle.gc_station.specs.Model.{Model, with_moment, with_progress, waiting_of, after_piece, is_heard}
-use Rattle.gc_station.proofs.Hearing.{refines_expired, all_same, commands_same, early_noted_same}
+use Rattle.gc_station.proofs.Hearing.{refines_expired, outstanding_same, outstanding_commands_same, early_noted_same}
 use Rattle.gc_station.proofs.station.Station.take_piece.Goals as goal
 
 pub returns-in-Err-clause-takes : goal.returns-in-Err-clause-takes
@@ -24,8 +24,8 @@ returns-clause-takes g c s start stands so =
     (c.note_moment.ensures ∙ ap (moment_noted m) stands.progress) c.expire.ensures) so in
     let heard : Model = after_piece (is_heard s.progress.phase) s.progress.word c.args.piece.now (with_moment m (with_progress (moment_noted m) s)) in
     let before = c.commands_waiting-before.ensures ∙ ap commands_in stands.marks in
-    let all = ap (λ (w : Waiting). w.all) c.waiting-after.ensures ∙ all_same c.take_lines.new.self heard t.0 in
-    let commands = ap (λ (w : Waiting). w.commands) c.waiting-after.ensures ∙ commands_same c.take_lines.new.self heard t.0 in (
+    let all = ap (λ (w : Waiting). w.all) c.waiting-after.ensures ∙ outstanding_same c.take_lines.new.self heard t.0 in
+    let commands = ap (λ (w : Waiting). w.commands) c.waiting-after.ensures ∙ outstanding_commands_same c.take_lines.new.self heard t.0 in (
       record {
         progress = c.note_early.ensures ∙ ap (early_noted plan c.waiting-after.result.commands) c.note_bytes.ensures
             ∙ early_noted_same plan until c.commands_waiting-before.result (commands_in s.marks) c.waiting-after.result

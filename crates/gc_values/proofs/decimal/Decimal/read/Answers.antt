@@ -1,14 +1,16 @@
 use Rattle.std.proofs.Common.{subst, sym}
 use Rattle.gc_values.specs.Spelling.{Spells}
 use Rattle.gc_values.proofs.DecimalLaws.{written_spells_decimal}
-use Rattle.gc_values.proofs.Reading.{IsDecimalRead, reads_parts}
+use Rattle.gc_values.proofs.Reading.{IsDecimalRead, reads_units}
 use Rattle.gc_values.proofs.decimal.Decimal.read.Goals as goal
 use Rattle.gc_values.proofs.decimal.Decimal.read.Goals.{After-try_from_parts}
 
 -- what `Decimal::read` returns for a text that has the parts of a number is as `IsDecimalRead` says
 result_is_reading : (c : After-try_from_parts) → IsDecimalRead c.args.text.now c.try_from_parts.result
 result_is_reading c =
-    reads_parts c.args.text.now _ _ _ _ _ _ _ c.try_from_parts.result c.in-Some.ensures.found c.rounded_units-magnitude.ensures c.try_from_parts.ensures.made c.try_from_parts.ensures.exact
+    reads_units c.args.text.now _ _ _ c.try_from_parts.result
+    (record { whole = _; fraction = _; up = _; down = _; numeral = c.in-Some.ensures.found; rounded = c.rounded_units-magnitude.ensures })
+    c.try_from_parts.ensures.made c.try_from_parts.ensures.exact
 
 pub returns-clause-value : goal.returns-clause-value
 returns-clause-value c = (result_is_reading c).value

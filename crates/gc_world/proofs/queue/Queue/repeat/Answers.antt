@@ -1,13 +1,13 @@
-use Rattle.std.proofs.Common.{◌≡◌, ◌<◌, ◌≤◌, false, true, length, sym, ◌∙◌, ap, subst, refl}
+use Rattle.std.proofs.Common.{◌≡◌, ◌<◌, ◌≤◌, false, true, length, sym, ◌∙◌, ap, subst, refl, arith}
 use Rattle.gc_world.specs.World.{doubled}
-use Rattle.gc_world.proofs.Queues.{doubled_is, doubled_past, not_below}
+use Rattle.gc_world.proofs.Queues.{doubled_is, doubled_past}
 use Rattle.gc_world.proofs.queue.Queue.repeat.Goals as goal
 
 pub returns-in_default-clause-left : goal.returns-in_default-clause-left
 returns-in_default-clause-left c =
     let old = c.self.inside.places in
-    let past : length old.items ≤ c.args.k = not_below c.args.k (length old.items) (λ lt. let e : false ≡ true = c.in_default.ensures.variant.1 (subst (λ n. c.args.k < n) (sym old.ok.0) lt) in cc) in
-    sym (doubled_past c.args.k c.args.self.now (subst (λ q. length q ≤ c.args.k) c.self.view_is past))
+    let none : c.args.k < length old.items → ⊥ = λ lt. let e : false ≡ true = c.in_default.ensures.variant.1 (subst (λ n. c.args.k < n) (sym old.ok.0) lt) in cc in
+    sym (doubled_past c.args.k c.args.self.now (subst (λ q. length q ≤ c.args.k) c.self.view_is (omega (arith, none))))
 
 pub returns-clause-left : goal.returns-clause-left
 returns-clause-left c =

@@ -56,10 +56,20 @@ returns-in_ok-append_all-clause-follows g c =
     let came : reply ≡ c.as_slice-line.result.now = came_out c.finish-frame.result c.in-Line.reply c.as_slice-line.result.now c.in-Line.is c.finish-frame.ensures.line in
     let out : reply ≡ line.items = came ∙ c.as_slice-line.ensures.value in
     let fits : length reply ≤ 512 = subst (λ l. length l ≤ 512) (sym came) c.as_slice-line.ensures.fits in
-    λ width v h. streams_down_deliver width s v h c.in-Some.place c.finish-frame.new.self c.at.result.now reply c.hear.new.settled.items c.append_all.new.self c.hear.new.self
-    (c.in-Some.ensures ∙ ap (λ q. c.in-Some.place ∷ q) (sym c.finish-frame.ensures.queue)) c.at.ensures out (c.hear.ensures.settled fits)
-    (c.hear.ensures.client fits) (c.in_ok-append_all.ensures ∙ ap (λ l. s.report.settled ++ l) c.as_slice.ensures.value) c.finish-frame.ensures.start
-    c.finish-frame.ensures.gone
+    λ width v h. streams_down_deliver width s v h c.finish-frame.new.self (record {
+      place = c.in-Some.place;
+      reply = c.at.result.now;
+      line = reply;
+      more = c.hear.new.settled.items;
+      settled = c.append_all.new.self;
+      client = c.hear.new.self;
+      front = c.in-Some.ensures ∙ ap (λ q. c.in-Some.place ∷ q) (sym c.finish-frame.ensures.queue);
+      found = c.at.ensures;
+      line_is = out;
+      more_are = c.hear.ensures.settled fits;
+      client_is = c.hear.ensures.client fits;
+      settled_is = c.in_ok-append_all.ensures ∙ ap (λ l. s.report.settled ++ l) c.as_slice.ensures.value;
+    }) c.finish-frame.ensures.start c.finish-frame.ensures.gone
 
 pub returns-in_default-hear-clause-follows : goal.returns-in_default-hear-clause-follows
 returns-in_default-hear-clause-follows g c =
@@ -70,7 +80,17 @@ returns-in_default-hear-clause-follows g c =
     let came : reply ≡ c.as_slice-line.result.now = came_out c.finish-frame.result c.in-Line.reply c.as_slice-line.result.now c.in-Line.is c.finish-frame.ensures.line in
     let out : reply ≡ line.items = came ∙ c.as_slice-line.ensures.value in
     let fits : length reply ≤ 512 = subst (λ l. length l ≤ 512) (sym came) c.as_slice-line.ensures.fits in
-    λ width v h. streams_down_deliver width s v h c.in-Some.place c.finish-frame.new.self c.at.result.now reply c.hear.new.settled.items s.report.settled c.hear.new.self
-    (c.in-Some.ensures ∙ ap (λ q. c.in-Some.place ∷ q) (sym c.finish-frame.ensures.queue)) c.at.ensures out (c.hear.ensures.settled fits) (c.hear.ensures.client fits)
-    (none_settled s.client.ids c.hear.new.self.ids reply c.hear.result c.hear.new.settled.items s.report.settled
-    (c.hear.ensures.heard fits) c.in_default-hear.not-Settled) c.finish-frame.ensures.start c.finish-frame.ensures.gone
+    λ width v h. streams_down_deliver width s v h c.finish-frame.new.self (record {
+      place = c.in-Some.place;
+      reply = c.at.result.now;
+      line = reply;
+      more = c.hear.new.settled.items;
+      settled = s.report.settled;
+      client = c.hear.new.self;
+      front = c.in-Some.ensures ∙ ap (λ q. c.in-Some.place ∷ q) (sym c.finish-frame.ensures.queue);
+      found = c.at.ensures;
+      line_is = out;
+      more_are = c.hear.ensures.settled fits;
+      client_is = c.hear.ensures.client fits;
+      settled_is = none_settled s.client.ids c.hear.new.self.ids reply c.hear.result c.hear.new.settled.items s.report.settled (c.hear.ensures.heard fits) c.in_default-hear.not-Settled;
+    }) c.finish-frame.ensures.start c.finish-frame.ensures.gone

@@ -10,6 +10,15 @@ returns-clause-follows g c =
     let s = c.args.self.now in
     let entry : Sent = record { target = c.args.target; call = c.args.call.now; line = c.send_into.new.line } in
     on_ok_weaker c.push_sent.result
-    (λ pushed width v h. streams_send width (seen s) v h entry c.args.deadline c.send_into.new.self c.push_sent.new.self c.push.new.self
-    c.in-Ok.ensures.rule.0 c.in-Ok.ensures.width c.in-Ok.ensures.rule.1 c.in-Ok.ensures.plain c.in-Ok.ensures.fitting pushed (c.in_ok-push.ensures ∙ ap (λ n. s.up.queue ++ n ∷ []) c.len.ensures))
+    (λ pushed width v h. streams_send width (seen s) v h entry c.args.deadline (record {
+      client = c.send_into.new.self;
+      sent = c.push_sent.new.self;
+      queue = c.push.new.self;
+      sends_is = c.in-Ok.ensures.rule.0;
+      wide = c.in-Ok.ensures.width;
+      line_is = c.in-Ok.ensures.rule.1;
+      fits = c.in-Ok.ensures.fitting;
+      sent_is = pushed;
+      queue_is = c.in_ok-push.ensures ∙ ap (λ n. s.up.queue ++ n ∷ []) c.len.ensures;
+    }) c.in-Ok.ensures.plain)
     c.push_sent.ensures

@@ -8,7 +8,8 @@ use Rattle.gc_world.specs.declared.report.Sent.{Sent}
 use Rattle.gc_world.specs.Stages.{seen}
 use Rattle.gc_world.specs.Streams.{up_texts}
 use Rattle.gc_world.proofs.Pieces.{came_out, none_else}
-use Rattle.gc_world.proofs.Showing.{Notes, exchanges_any, up_answered}
+use Rattle.gc_world.proofs.Contracts.{Notes}
+use Rattle.gc_world.proofs.Showing.{exchanges_any, up_answered}
 use Rattle.gc_world.proofs.Shown.{carries, front_request, streams_up_deliver}
 use Rattle.gc_world.proofs.Sides.{front_flow}
 use Rattle.gc_world.proofs.stage.Stage.up_deliver.Goals as goal
@@ -45,11 +46,24 @@ returns-in_ok-push_made-clause-follows g c =
     let executed = c.in_ok-note_execution.ensures in
     let notes : Notes s.report.instrument c.reply_onto.new.self c.in-Some.number s.report.executed c.note_execution.new.executed =
     record { new_is = λ other. executed.new (λ e. other (sym before ∙ e ∙ after)); same_is = λ e. executed.same (before ∙ e ∙ sym after) } in
-    λ width v h. streams_up_deliver width s v h c.in-Some.number c.finish-frame.new.self c.push.new.self c.at.result.now entry c.note_execution.new.executed c.push_made.new.self c.reply_onto.new.self
-    (cond c.reply_onto.result (Some made.items) None) (c.in-Some.ensures
-    ∙ ap (λ q. c.in-Some.number ∷ q) (sym c.finish-frame.ensures.queue)) c.at.ensures exchanged
-    (ap (λ b. cond b (Some made.items) None) c.if-reply_onto.true) refl
-    notes c.in_ok-push_made.ensures (c.in_ok-push.ensures ∙ ap (λ n. s.down.queue ++ n ∷ []) c.len.ensures) c.finish-frame.ensures.start c.finish-frame.ensures.gone
+    λ width v h. streams_up_deliver width s v h c.finish-frame.new.self (record {
+      number = c.in-Some.number;
+      request = c.at.result.now;
+      reply = cond c.reply_onto.result (Some made.items) None;
+      entry = entry;
+      executed = c.note_execution.new.executed;
+      made = c.push_made.new.self;
+      state = c.reply_onto.new.self;
+      queue = c.push.new.self;
+      front = c.in-Some.ensures ∙ ap (λ q. c.in-Some.number ∷ q) (sym c.finish-frame.ensures.queue);
+      found = c.at.ensures;
+      replied = exchanged;
+      told = ap (λ b. cond b (Some made.items) None) c.if-reply_onto.true;
+      same = refl;
+      executed_is = notes;
+      made_is = c.in_ok-push_made.ensures;
+      queue_is = c.in_ok-push.ensures ∙ ap (λ n. s.down.queue ++ n ∷ []) c.len.ensures;
+    }) c.finish-frame.ensures.start c.finish-frame.ensures.gone
 
 pub returns-else-reply_onto-clause-follows : goal.returns-else-reply_onto-clause-follows
 returns-else-reply_onto-clause-follows g c =

@@ -1,0 +1,91 @@
+-- What functions of the code leave, by their contracts: variables such as `executed` and `made` are the values that they left.
+use Rattle.std.proofs.Common.{◌≡◌, ℕ, ◌<◌, List, [], ◌∷◌, ◌++◌, length, Option, Some}
+use Rattle.std.specs.Prelude.{slice_get}
+use Rattle.gc_catalogue.specs.declared.call.Call.{Call}
+use Rattle.gc_catalogue.specs.Calls.{IsFitting}
+use Rattle.gc_catalogue.specs.Texts.{request_line}
+use Rattle.gc_client.specs.declared.settlement.Settlement.{Settlement}
+use Rattle.gc_client.specs.Rule.{Windowed, heard, hears, sends, restarts}
+use Rattle.gc_client.specs.Settlements.{AreSettlements}
+use Rattle.gc_instrument.specs.State.{State, restarted}
+use Rattle.gc_instrument.specs.Replying.{IsExchanged}
+use Rattle.gc_world.specs.declared.report.Made.{Made}
+use Rattle.gc_world.specs.declared.report.Report.{Report}
+use Rattle.gc_world.specs.declared.report.Sent.{Sent}
+use Rattle.gc_world.proofs.Handing.{kept_id}
+
+-- where the line is the request line of a call that fits, with whatever id below 8, the instrument got from `before` to `after`,
+-- and gave this reply, as `IsExchanged` has it
+abbrev pub ExchangesAny : (before : State) → (line : List ℕ) → (after : State) → (reply : Option (List ℕ)) → Type 0
+ExchangesAny before line after reply = (id : ℕ) (call : Call) → id < 8 → IsFitting call → line ≡ request_line (Some id) call → IsExchanged before id call after reply
+
+-- the number n was appended to `old`, which gave `new`, where the kept id changed from `before` to `after`; else `new` is `old`
+pub record Notes (before after : State) (n : ℕ) (old new : List ℕ) : Type 0 where
+  pub new_is : (kept_id before.kept ≡ kept_id after.kept → ⊥) → new ≡ old ++ n ∷ []
+  pub same_is : kept_id before.kept ≡ kept_id after.kept → new ≡ old
+
+-- What a function did to a report r, the queues `up` and `down` of its stage, and a client c. The first fields of these records
+-- are the values that it left, and what these depend on; the others say how they come of what was there before.
+
+-- the client sent this request: the report has it at its end, and its number is at the back of the upward queue
+pub record Sends (r : Report) (up : List ℕ) (c : Windowed Call) (entry : Sent) (deadline : ℕ) : Type 0 where
+  pub client : Windowed Call
+  pub sent : List Sent
+  pub queue : List ℕ
+  pub sends_is : sends c.width c.ids entry.target entry.call deadline ≡ Some (record { id = c.ids.next; client = client.ids })
+  pub wide : client.width ≡ c.width
+  pub line_is : entry.line.items ≡ request_line (Some c.ids.next) entry.call
+  pub fits : IsFitting entry.call
+  pub sent_is : sent ≡ r.sent ++ entry ∷ []
+  pub queue_is : queue ≡ up ++ length r.sent ∷ []
+
+-- the front request was handed to the instrument: `rest` is the upward queue then. The report has the reply at its end, and the
+-- reply's place is at the back of the downward queue
+pub record HandsToInstrument (r : Report) (up down rest : List ℕ) : Type 0 where
+  pub number : ℕ
+  pub request : Sent
+  pub reply : Option (List ℕ)
+  pub entry : Made
+  pub executed : List ℕ
+  pub made : List Made
+  pub state : State
+  pub queue : List ℕ
+  pub front : up ≡ number ∷ rest
+  pub found : slice_get r.sent number ≡ Some request
+  pub replied : ExchangesAny r.instrument request.line.items state reply
+  pub told : reply ≡ Some entry.line.items
+  pub same : entry.number ≡ number
+  pub executed_is : Notes r.instrument state number r.executed executed
+  pub made_is : made ≡ r.made ++ entry ∷ []
+  pub queue_is : queue ≡ down ++ length r.made ∷ []
+
+-- the front reply was handed to the client: `rest` is the downward queue then. The report has at its end what the client settled
+pub record HandsToClient (r : Report) (down rest : List ℕ) (c : Windowed Call) : Type 0 where
+  pub place : ℕ
+  pub reply : Made
+  pub line : List ℕ
+  pub more : List (Settlement Call)
+  pub settled : List (Settlement Call)
+  pub client : Windowed Call
+  pub front : down ≡ place ∷ rest
+  pub found : slice_get r.made place ≡ Some reply
+  pub line_is : line ≡ reply.line.items
+  pub more_are : AreSettlements more (hears c.ids line (heard line)).settlements
+  pub client_is : client ≡ record c { ids = (hears c.ids line (heard line)).client }
+  pub settled_is : settled ≡ r.settled ++ more
+
+-- the client was restarted, and the instrument with it, while no line was in flight. The report has at its end what the client
+-- settled
+pub record RestartsBoth (r : Report) (up down : List ℕ) (c : Windowed Call) : Type 0 where
+  pub more : List (Settlement Call)
+  pub settled : List (Settlement Call)
+  pub client : Windowed Call
+  pub starts : List ℕ
+  pub state : State
+  pub up_empty : up ≡ []
+  pub down_empty : down ≡ []
+  pub more_are : AreSettlements more (restarts c.ids).settlements
+  pub client_is : client ≡ record c { ids = (restarts c.ids).client }
+  pub settled_is : settled ≡ r.settled ++ more
+  pub starts_is : starts ≡ r.starts ++ length r.executed ∷ []
+  pub state_is : state ≡ restarted r.instrument
