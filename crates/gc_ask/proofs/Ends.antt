@@ -7,7 +7,7 @@ use Rattle.std.proofs.lemmas.Bool.{cases_lt}
 use Rattle.std.proofs.KnownBytes.{Consumes-nil}
 use Rattle.gc_lines.specs.Answering.{Ports}
 use Rattle.gc_ask.specs.Asking.{EndsWith, LinkEnd, LinkEnds, Taken}
-use Rattle.gc_ask.specs.Links.{BothStep, Sends, StepEnds, no_ports, source_of}
+use Rattle.gc_ask.specs.Links.{BothStep, SeenStep, Sends, StepEnds, no_ports, source_of}
 use Rattle.gc_ask.specs.Listening.{ReadEnds}
 use Rattle.gc_ask.specs.Looping.{BothEnd, SeenAtBoth}
 use Rattle.gc_texts.specs.declared.fault.RunFault.{RunFault}
@@ -121,19 +121,15 @@ link_step old mid new (Err other) g s = absurd s.ends
 sound_step : (old mid new : Ports) → Sound old mid → StepEnds mid new (Ok tt) → Sound old new
 sound_step old mid new g s = record { ends = link_step old mid new (Ok tt) g s; grows = omega (arith, g.grows, s.grows) }
 
--- one step, with this result, took both ends of a link from what was seen of them before (`old`) to what is seen now (`new`)
-abbrev pub step_over : (old new : SeenAtBoth) → LinkEnd → Type 0
-step_over old new = BothStep old.client new.client old.instrument new.instrument
-
 -- two ends that were sound before a step that went well are sound after it
 pub sound_on : (first old new : SeenAtBoth) → Sound first.client old.client → Sound first.instrument old.instrument
-    → EndsWith (step_over old new) old.sink.failed new.sink.failed (Ok tt) → Sound first.client new.client × Sound first.instrument new.instrument
+    → EndsWith (SeenStep old new) old.sink.failed new.sink.failed (Ok tt) → Sound first.client new.client × Sound first.instrument new.instrument
 sound_on first old new client instrument ends =
     let both = both_ok old.client new.client old.instrument new.instrument ends.0 in
     (sound_step first.client old.client new.client client both.0, sound_step first.instrument old.instrument new.instrument instrument both.1)
 
 -- where two ends were sound, and then made a step with this result, their whole use ended with this result
-pub both_end : (first old new : SeenAtBoth) (r : LinkEnd) → Sound first.client old.client → Sound first.instrument old.instrument → step_over old new r
+pub both_end : (first old new : SeenAtBoth) (r : LinkEnd) → Sound first.client old.client → Sound first.instrument old.instrument → SeenStep old new r
     → BothEnd first.client new.client first.instrument new.instrument r
 both_end first old new r client instrument (inl s) =
     inl (link_step first.client old.client new.client r client s.0, link_step first.instrument old.instrument new.instrument (Ok tt) instrument s.1)
@@ -151,7 +147,7 @@ no_output p p' q q' (inr s) = s.1.ends
 
 -- A remote link: all that ends it comes at the client's end.
 
--- where there is no other end (`no_ports`), a result that comes of the two ends comes of the client's end alone
+-- where the instrument's end isn't there (`no_ports`), the client's end alone has the result that one of the two ends has
 pub remote_end : (p p' : Ports) (r : LinkEnd) → BothEnd p p' no_ports no_ports r → LinkEnds p p' r
 remote_end p p' r (inl s) = s.0
 remote_end p p' (Ok u) (inr s) = s.0
@@ -161,8 +157,8 @@ remote_end p p' (Err TooManyReads) (inr s) = s.0
 remote_end p p' (Err LinkClosed) (inr s) = absurd (omega (arith, s.1.0))
 remote_end p p' (Err other) (inr s) = absurd s.1
 
--- where `other` holds of each end of which `over` does, `EndsWith` may be said with `other`, and from an earlier moment on, at which the
--- sink had failed (x) exactly if it had later on (y); z says whether it has failed in the end
+-- `EndsWith over` implies `EndsWith other`, if `over` implies `other`, and also with x in place of y, where these are equal: x and y say
+-- whether the sink had failed at two moments before, and z whether it has failed in the end
 pub ends_as : (over other : LinkEnd → Type 0) → ((r : LinkEnd) → over r → other r) → (x y z : Bool) → y ≡ x → (r : LinkEnd) → EndsWith over y z r
     → EndsWith other x z r
 ends_as over other so x y z same (Ok u) ends = (so (Ok u) ends.0, ends.1 ∙ same)

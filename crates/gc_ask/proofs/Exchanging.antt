@@ -12,11 +12,11 @@ use Rattle.gc_client.specs.Rule.{ById, settled_by_line, restarts}
 use Rattle.gc_client.specs.Rule
 use Rattle.gc_client.specs.Settlements.{AreSettlements, settlement_seen}
 use Rattle.gc_ask.specs.Asking.{awaited, waiting_for, request_text, lost_of, EndsWith, LinkEnd, LinkEnds, Taken}
-use Rattle.gc_ask.specs.Links.{CountsReplies, Sends, TakesRequest}
+use Rattle.gc_ask.specs.Links.{CountsReplies, SeenStep, Sends, TakesRequest}
 use Rattle.gc_ask.specs.Listening.{AsksOn, AsksOne, Exchanges, Heard, HearsReply, ReadEnds, Settles}
 use Rattle.gc_ask.specs.Looping.{BothEnd, SeenAtBoth, written_there}
 use Rattle.gc_ask.proofs.Asked.{AtNext, Course, RunState, heard_after, later_on, course_more, course_stops, course_cut, course_sink_failed, settled_is, asked_with}
-use Rattle.gc_ask.proofs.Ends.{Sound, both_end, no_output, step_over}
+use Rattle.gc_ask.proofs.Ends.{Sound, both_end, no_output}
 use Rattle.gc_texts.specs.declared.commands.Command.{Command}
 use Rattle.gc_texts.specs.declared.fault.RunFault.{RunFault}
 use Rattle.gc_texts.specs.declared.fault.RunFault.TheVariants.{Read, Write, TooManyReads, LinkClosed, Output}
@@ -81,15 +81,15 @@ sent_part is_remote place command h a b other x = (length (request_text place co
 
 -- where the link had a fault, and the line of the lost command was written, asking this command ended with that fault (`AsksOne`)
 pub asks_lost : (is_remote : Bool) (place : ℕ) (command : Command) (h : Heard) (to : ById Call) (now : List (Settlement Call)) (old new : SeenAtBoth) (e : RunFault)
-    → step_over old new (Err e) → Exchanges is_remote place command h old.client.taken new.client.taken (Err e) → map settlement_seen now ≡ lost_of command ∷ []
+    → SeenStep old new (Err e) → Exchanges is_remote place command h old.client.taken new.client.taken (Err e) → map settlement_seen now ≡ lost_of command ∷ []
     → Appends old.sink.bytes new.sink.bytes (lines_from place (map settlement_seen now))
-    → AsksOne is_remote place command (record h { client = to }) (written_there old new) (step_over old new) (Err e)
+    → AsksOne is_remote place command (record h { client = to }) (written_there old new) (SeenStep old new) (Err e)
 asks_lost is_remote place command h to now old new e ends x alone wrote =
     by_fault e ends x (Appends-is _ _ _ _ (ap (lines_from place) alone) wrote) where
       -- by the fault e of the exchange: asking ended with it
-      by_fault : (e : RunFault) → step_over old new (Err e) → Exchanges is_remote place command h old.client.taken new.client.taken (Err e)
+      by_fault : (e : RunFault) → SeenStep old new (Err e) → Exchanges is_remote place command h old.client.taken new.client.taken (Err e)
           → Appends old.sink.bytes new.sink.bytes (lines_from place (lost_of command ∷ []))
-          → AsksOne is_remote place command (record h { client = to }) (written_there old new) (step_over old new) (Err e)
+          → AsksOne is_remote place command (record h { client = to }) (written_there old new) (SeenStep old new) (Err e)
       by_fault (Write count part) ends x wrote = (x.0, wrote)
       by_fault Output ends x wrote = absurd (no_output old.client new.client old.instrument new.instrument ends)
       by_fault other ends x wrote = (x.0, x.1, wrote)
@@ -97,15 +97,15 @@ asks_lost is_remote place command h to now old new e ends x alone wrote =
 -- where the link had the fault e, and the sink failed as it took the line of the lost command, asking this command ended with
 -- the fault of the sink (f)
 pub asks_sink_failed : (is_remote : Bool) (place : ℕ) (command : Command) (h : Heard) (to : ById Call) (now : List (Settlement Call)) (old new : SeenAtBoth)
-    (e f : RunFault) → step_over old new (Err e) → Exchanges is_remote place command h old.client.taken new.client.taken (Err e)
+    (e f : RunFault) → SeenStep old new (Err e) → Exchanges is_remote place command h old.client.taken new.client.taken (Err e)
     → map settlement_seen now ≡ lost_of command ∷ []
     → WroteSettlements place (map settlement_seen now) old.sink.bytes new.sink.bytes old.sink.failed new.sink.failed (Err f)
-    → AsksOne is_remote place command (record h { client = to }) (written_there old new) (step_over old new) (Err f)
+    → AsksOne is_remote place command (record h { client = to }) (written_there old new) (SeenStep old new) (Err f)
 asks_sink_failed is_remote place command h to now old new e f ends ex alone wrote =
     by_fault f (subst (λ (zs : List (Rule.Settlement Call)). WroteSettlements place zs old.sink.bytes new.sink.bytes old.sink.failed new.sink.failed (Err f)) alone wrote) where
       -- by the fault f of the writing, which is the sink's: asking ended with it
       by_fault : (f : RunFault) → WroteSettlements place (lost_of command ∷ []) old.sink.bytes new.sink.bytes old.sink.failed new.sink.failed (Err f)
-          → AsksOne is_remote place command (record h { client = to }) (written_there old new) (step_over old new) (Err f)
+          → AsksOne is_remote place command (record h { client = to }) (written_there old new) (SeenStep old new) (Err f)
       by_fault Output t =
           let sent = sent_part is_remote place command h old.client.taken new.client.taken e ex in
           inr (e, ends, (sent.0, sent.1, t.0))
@@ -114,9 +114,9 @@ asks_sink_failed is_remote place command h to now old new e f ends ex alone wrot
 -- where the request was sent whole, the link's use ended well, a reply settled the request (`Settles`), and the line of the
 -- settlement was written, or the sink failed, asking this command ended as that writing did (`AsksOne`)
 pub asks_written : (is_remote : Bool) (place : ℕ) (command : Command) (h : Heard) (now : List (Settlement Call)) (old new : SeenAtBoth) (r : LinkEnd)
-    → step_over old new (Ok tt) → Appends old.client.taken new.client.taken (request_text place command) → Settles (waiting_for place command) h
+    → SeenStep old new (Ok tt) → Appends old.client.taken new.client.taken (request_text place command) → Settles (waiting_for place command) h
     → now ≡ h.settled → WroteSettlements place (map settlement_seen now) old.sink.bytes new.sink.bytes old.sink.failed new.sink.failed r
-    → AsksOne is_remote place command h (written_there old new) (step_over old new) r
+    → AsksOne is_remote place command h (written_there old new) (SeenStep old new) r
 asks_written is_remote place command h now old new (Ok u) link sent s is wrote =
     (sent, s, subst (λ (zs : List (Settlement Call)). Appends old.sink.bytes new.sink.bytes (lines_from place (map settlement_seen zs))) is wrote.0)
 asks_written is_remote place command h now old new (Err Output) link sent s is wrote =
@@ -124,24 +124,24 @@ asks_written is_remote place command h now old new (Err Output) link sent s is w
 asks_written is_remote place command h now old new (Err other) link sent s is wrote = absurd wrote
 
 -- where the use of the link ended well, and settlements were written with the result r, the ports are as `EndsWith` says of r
-pub ends_written : (old new : SeenAtBoth) (place : ℕ) (settled : List (Rule.Settlement Call)) (r : LinkEnd) → step_over old new (Ok tt)
-    → WroteSettlements place settled old.sink.bytes new.sink.bytes old.sink.failed new.sink.failed r → EndsWith (step_over old new) old.sink.failed new.sink.failed r
+pub ends_written : (old new : SeenAtBoth) (place : ℕ) (settled : List (Rule.Settlement Call)) (r : LinkEnd) → SeenStep old new (Ok tt)
+    → WroteSettlements place settled old.sink.bytes new.sink.bytes old.sink.failed new.sink.failed r → EndsWith (SeenStep old new) old.sink.failed new.sink.failed r
 ends_written old new place settled (Ok u) ends wrote = (ends, wrote.1)
 ends_written old new place settled (Err Output) ends wrote = (wrote.1, (Ok tt, ends))
 ends_written old new place settled (Err other) ends wrote = absurd wrote
 
 -- where the use of the link ended with the fault e, and whether the sink has failed is as before, the ports are as `EndsWith`
 -- says of e
-pub ends_lost : (old new : SeenAtBoth) (e : RunFault) → step_over old new (Err e) → new.sink.failed ≡ old.sink.failed
-    → EndsWith (step_over old new) old.sink.failed new.sink.failed (Err e)
+pub ends_lost : (old new : SeenAtBoth) (e : RunFault) → SeenStep old new (Err e) → new.sink.failed ≡ old.sink.failed
+    → EndsWith (SeenStep old new) old.sink.failed new.sink.failed (Err e)
 ends_lost old new Output ends same = absurd (no_output old.client new.client old.instrument new.instrument ends)
 ends_lost old new other ends same = (ends, same)
 
 -- where the use of the link ended with the fault e, and then the writing of settlements with the fault f, the ports are as
 -- `EndsWith` says of f
-pub ends_sink_failed : (old new : SeenAtBoth) (place : ℕ) (settled : List (Rule.Settlement Call)) (e f : RunFault) → step_over old new (Err e)
+pub ends_sink_failed : (old new : SeenAtBoth) (place : ℕ) (settled : List (Rule.Settlement Call)) (e f : RunFault) → SeenStep old new (Err e)
     → WroteSettlements place settled old.sink.bytes new.sink.bytes old.sink.failed new.sink.failed (Err f)
-    → EndsWith (step_over old new) old.sink.failed new.sink.failed (Err f)
+    → EndsWith (SeenStep old new) old.sink.failed new.sink.failed (Err f)
 ends_sink_failed old new place settled e Output ends wrote = (wrote.1, (Err e, ends))
 ends_sink_failed old new place settled e other ends wrote = absurd wrote
 
@@ -153,28 +153,28 @@ ends_sink_failed old new place settled e other ends wrote = absurd wrote
 pub run_fault : (is_remote : Bool) (commands : List Command) (place : ℕ) (s : RunState) (n : AtNext commands s) (more : List ℕ) (h : Heard)
     (new : SeenAtBoth) (e : RunFault) → Sound s.first.client s.latest.client → Sound s.first.instrument s.latest.instrument
     → length n.done ≡ place
-    → AsksOne is_remote place n.command (heard_after n.course more h) (written_there s.latest new) (step_over s.latest new) (Err e)
-    → EndsWith (step_over s.latest new) s.latest.sink.failed new.sink.failed (Err e)
+    → AsksOne is_remote place n.command (heard_after n.course more h) (written_there s.latest new) (SeenStep s.latest new) (Err e)
+    → EndsWith (SeenStep s.latest new) s.latest.sink.failed new.sink.failed (Err e)
     → AsksOn is_remote commands (s.given ++ more) (written_there s.first new) (BothEnd s.first.client new.client s.first.instrument new.instrument) (Err e)
 run_fault is_remote commands place s n more h new e client instrument is one ends =
-    by_fault e (subst (λ k. AsksOne is_remote k n.command (heard_after n.course more h) (written_there s.latest new) (step_over s.latest new) (Err e)) (sym is) one) ends where
+    by_fault e (subst (λ k. AsksOne is_remote k n.command (heard_after n.course more h) (written_there s.latest new) (SeenStep s.latest new) (Err e)) (sym is) one) ends where
       -- how the two ends of the link were used in the whole run
       over : LinkEnd → Type 0
       over = BothEnd s.first.client new.client s.first.instrument new.instrument
 
       -- the whole use of the two ends ended as the last step did
-      whole : (r : LinkEnd) → step_over s.latest new r → over r
+      whole : (r : LinkEnd) → SeenStep s.latest new r → over r
       whole r = both_end s.first s.latest new r client instrument
 
       -- a result that neither end of the link can have is that of no step
       none : {e : RunFault} → (LinkEnds s.latest.client new.client (Err e) → ⊥) → (LinkEnds s.latest.instrument new.instrument (Err e) → ⊥)
-          → step_over s.latest new (Err e) → ⊥
+          → SeenStep s.latest new (Err e) → ⊥
       none f g (inl x) = f x.0.ends
       none f g (inr x) = g x.1.ends
 
       -- by the fault: how the run ended
-      by_fault : (e : RunFault) → AsksOne is_remote (length n.done) n.command (heard_after n.course more h) (written_there s.latest new) (step_over s.latest new) (Err e)
-          → EndsWith (step_over s.latest new) s.latest.sink.failed new.sink.failed (Err e)
+      by_fault : (e : RunFault) → AsksOne is_remote (length n.done) n.command (heard_after n.course more h) (written_there s.latest new) (SeenStep s.latest new) (Err e)
+          → EndsWith (SeenStep s.latest new) s.latest.sink.failed new.sink.failed (Err e)
           → AsksOn is_remote commands (s.given ++ more) (written_there s.first new) over (Err e)
       by_fault Read one ends = course_stops is_remote commands s n more new one.1 one.0 one.2
       by_fault (Write count part) one ends = course_cut is_remote commands s n more new count part one.0.1.0 one.0.0 one.0.1.2 one.0.1.1 one.1
@@ -196,8 +196,8 @@ run_fault is_remote commands place s n more h new e client instrument is one end
 -- `done` and that command
 pub course_next : (is_remote : Bool) (done : List Command) (command : Command) (place : ℕ) (s : RunState) (more : List ℕ) (h : Heard) (new : SeenAtBoth)
     → (at : Course done s) → length done ≡ place
-    → AsksOne is_remote place command (heard_after at more h) (written_there s.latest new) (step_over s.latest new) (Ok tt)
+    → AsksOne is_remote place command (heard_after at more h) (written_there s.latest new) (SeenStep s.latest new) (Ok tt)
     → Course (done ++ command ∷ []) (later_on s more h new)
 course_next is_remote done command place s more h new at is one =
-    let one' = subst (λ n. AsksOne is_remote n command (heard_after at more h) (written_there s.latest new) (step_over s.latest new) (Ok tt)) (sym is) one in
+    let one' = subst (λ n. AsksOne is_remote n command (heard_after at more h) (written_there s.latest new) (SeenStep s.latest new) (Ok tt)) (sym is) one in
     course_more done command s more h new at one'.1 one'.0 one'.2

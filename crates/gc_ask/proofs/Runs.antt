@@ -5,9 +5,9 @@ use Rattle.gc_lines.specs.Answering.{all_of}
 use Rattle.gc_lines.proofs.Known.{Appends-is}
 use Rattle.gc_ask.specs.AskRuns.{AskRuns, AsksOver, Seen, written}
 use Rattle.gc_ask.specs.Asking.{Asks, AsksPart, AsksUpTo, LinkEnd, LinkEnds, WritesPart, Written, lost_of, request_text, request_texts}
-use Rattle.gc_ask.specs.Links.{no_ports, seen_at}
+use Rattle.gc_ask.specs.Links.{no_ports}
 use Rattle.gc_ask.specs.Listening.{AsksAt, AsksOn, IsCut, RunsAt, StopsAt}
-use Rattle.gc_ask.specs.Looping.{BothEnd, LoopRuns, Loops, LoopsOver, SeenAtBoth, written_there}
+use Rattle.gc_ask.specs.Looping.{BothEnd, LoopRuns, Loops, LoopsOver, SeenAtBoth, seen_at, written_there}
 use Rattle.gc_ask.proofs.Ends.{remote_end, ends_as}
 use Rattle.gc_texts.specs.declared.commands.Command.{Command}
 use Rattle.gc_texts.specs.declared.fault.RunFault.TheVariants.{Read, Write, TooManyReads, LinkClosed, Output, Memory}

@@ -1,12 +1,12 @@
 -- No part of a promise: what is seen of a link that commands are asked over, and what its calls do. A step is one call that
 -- uses the link, or several in a row. A place is the number of a request, counted from 0. A link is remote where the
 -- instrument's end isn't in this program.
-use Rattle.std.specs.Prelude.{◌≡◌, ℕ, ◌+◌, ◌<◌, ◌⊎◌, Bool, true, false, not, List, [], Option, Some, Result, Ok, Err, ◌≤◌, length, take}
+use Rattle.std.specs.Prelude.{◌≡◌, ℕ, ◌+◌, ◌<◌, Bool, true, false, not, List, [], Option, Some, Result, Ok, Err, ◌≤◌, length, take}
 use Rattle.std.specs.Borrow.{GName}
 use Rattle.std.specs.Io.KnownBytes.{Appends, Consumes, Keeps}
 use Rattle.gc_lines.specs.Answering.{Ports}
 use Rattle.gc_ask.specs.Asking.{Taken, LinkEnd, LinkEnds}
-use Rattle.gc_ask.specs.Looping.{SeenAtBoth}
+use Rattle.gc_ask.specs.Looping.{IsOfOneEnd, SeenAtBoth}
 use Rattle.gc_texts.specs.WholeTexts.{Input}
 use Rattle.gc_texts.specs.declared.fault.RunFault.TheVariants.{Write}
 
@@ -20,10 +20,6 @@ pub record Held : Type 0 where
 -- the ports of an end that isn't there: nothing is read of it, and none of them fails
 abbrev pub no_ports : Ports
 no_ports = record { remaining = Some []; reads = 0; ended = false; source_failed = false; taken = Some []; sink_failed = false }
-
--- what is seen of both ends of a link, and of the sink of the settlements
-abbrev pub seen_at : (client instrument : Ports) → (sink : Taken) → SeenAtBoth
-seen_at client instrument sink = record { client = client; instrument = instrument; sink = sink }
 
 -- what is seen of the source of an end
 abbrev pub source_of : Ports → Input
@@ -44,8 +40,11 @@ pub record StepEnds (old new : Ports) (result : LinkEnd) : Type 0 where
 -- the ports of both ends after one step, which had this result at one of them and went well at the other
 abbrev pub BothStep : (client_old client_new instrument_old instrument_new : Ports) → LinkEnd → Type 0
 BothStep client_old client_new instrument_old instrument_new result =
-    (StepEnds client_old client_new result × StepEnds instrument_old instrument_new (Ok tt))
-    ⊎ (StepEnds client_old client_new (Ok tt) × StepEnds instrument_old instrument_new result)
+    IsOfOneEnd (StepEnds client_old client_new) (StepEnds instrument_old instrument_new) result
+
+-- one step, with this result, took both ends of a link from what was seen of them before (`old`) to what is seen now (`new`)
+abbrev pub SeenStep : (old new : SeenAtBoth) → LinkEnd → Type 0
+SeenStep old new = BothStep old.client new.client old.instrument new.instrument
 
 -- the text at this place went out whole, or the sink failed and took its first bytes, but not all: the fault has the place and their count
 abbrev pub Sends : (place : ℕ) → (text : List ℕ) → (old new : Taken) → LinkEnd → Type 0

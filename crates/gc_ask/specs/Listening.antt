@@ -19,8 +19,8 @@ use Rattle.gc_ask.specs.declared.client_end.ClientEnd.{ClientEnd}
 use Rattle.gc_ask.specs.declared.link.Link.{Ghosts as Link}
 use Rattle.gc_ask.specs.declared.unused.TheConstants.{ROOM}
 use Rattle.gc_ask.specs.Asking.{Written, LinkEnd, taken_by, first_reply, asked, waiting_for, request_text, lost_of, AsksAll, WritesPart, EndsWith, RunsText}
-use Rattle.gc_ask.specs.Links.{BothStep, OnlyReads, TakesRequest, seen_at}
-use Rattle.gc_ask.specs.Looping.{BothEnd, LoopsPart, LoopsUpTo, SeenAtBoth, written_there}
+use Rattle.gc_ask.specs.Links.{BothStep, OnlyReads, TakesRequest}
+use Rattle.gc_ask.specs.Looping.{BothEnd, LoopsPart, LoopsUpTo, SeenAtBoth, seen_at, written_there}
 use Rattle.gc_texts.specs.WholeTexts.{Input}
 use Rattle.gc_texts.specs.declared.commands.Command.{Command}
 use Rattle.gc_texts.specs.declared.fault.RunFault.{RunFault}
@@ -124,11 +124,15 @@ abbrev pub HearsReply : ById Call → Heard → LinkEnd → Type 0
 HearsReply from hearing (Ok _) = Settles from hearing
 HearsReply from hearing (Err _) = (first_reply from (lines_completed hearing.rest hearing.bytes) ≡ None) × (hearing.client ≡ from)
 
--- a client's end read for a reply, with this result: what the client's end of the link gave, and how that ended (`HearsReply`). `ahead`
--- are the bytes that were read before and not used, and `ahead'` those that aren't used now
-abbrev pub HearsOver : (from to : ClientEnd) → (ahead ahead' : List ℕ) → (client_old client_new : Ports) → LinkEnd → Type 0
-HearsOver from to ahead ahead' client_old client_new result = Gives client_old client_new from.assembler (λ rest given.
-    HearsReply from.client.ids (heard_by to rest (ahead ++ given) ahead') result)
+-- a client's end heard what came over a link, and whatever rest of a line its assembler had kept, `claim` holds of all that it heard.
+-- `ahead` are the bytes that were read before and not used, and `ahead'` those that aren't used now
+abbrev pub HearsMore : (from to : ClientEnd) → (ahead ahead' : List ℕ) → (client_old client_new : Ports) → (claim : Heard → Type 0) → Type 0
+HearsMore from to ahead ahead' client_old client_new claim =
+    Gives client_old client_new from.assembler (λ rest given. claim (heard_by to rest (ahead ++ given) ahead'))
+
+-- `HearsMore` of the client's end that asking keeps from one command to the next, with the bytes that it keeps
+abbrev pub HearsOn : (old new : AskState) → (client_old client_new : Ports) → (claim : Heard → Type 0) → Type 0
+HearsOn old new client_old client_new claim = HearsMore old.end new.end old.ahead new.ahead client_old client_new claim
 
 -- why reading a source ended, with `after` reads left. Only with `LinkClosed` was the last read the end of the input; with
 -- `Read` the source failed, and a read was left; with `TooManyReads` none was. Without a read `ended` is as before
@@ -152,12 +156,6 @@ Exchanges is_remote place command hearing old new (Err _) =
     Appends old new (request_text place command)
     × (is_remote ≡ true → first_reply (waiting_for place command) (lines_completed hearing.rest hearing.bytes) ≡ None)
     × (hearing.client ≡ waiting_for place command)
-
--- the command at this place was sent over a link, and its reply waited for, with this result: what the client's end of the link gave, and
--- how that ended (`Exchanges`). `old` and `new` are what asking keeps from one command to the next
-abbrev pub ExchangesCommand : (is_remote : Bool) → (place : ℕ) → Command → (old new : AskState) → (client_old client_new : Ports) → LinkEnd → Type 0
-ExchangesCommand is_remote place command old new client_old client_new result = Gives client_old client_new old.end.assembler (λ rest given.
-    Exchanges is_remote place command (heard_by new.end rest (old.ahead ++ given) new.ahead) client_old.taken client_new.taken result)
 
 -- the sink failed as it took the line of a settlement. Where the link had ended well (left case), the request was sent whole, and
 -- that is the settlement by the reply; after a fault of the link (right case), the first bytes of the request were sent, or none
@@ -186,13 +184,6 @@ AsksOne is_remote place command hearing w over (Err _) =
     Appends w.link_old w.link_new (request_text place command)
     × (is_remote ≡ true → first_reply (waiting_for place command) (lines_completed hearing.rest hearing.bytes) ≡ None)
     × Appends w.sink_old w.sink_new (lines_from place (lost_of command ∷ []))
-
--- one command was asked over a link, with this result: what the link gave, and how that ended (`AsksOne`). `old` and `new` are what
--- asking keeps from one command to the next
-abbrev pub AsksCommand : (is_remote : Bool) → (place : ℕ) → Command → (old new : AskState) → (seen_old seen_new : SeenAtBoth) → LinkEnd → Type 0
-AsksCommand is_remote place command old new seen_old seen_new result = Gives seen_old.client seen_new.client old.end.assembler (λ rest given.
-    AsksOne is_remote place command (heard_by new.end rest (old.ahead ++ given) new.ahead) (written_there seen_old seen_new)
-    (BothStep seen_old.client seen_new.client seen_old.instrument seen_new.instrument) result)
 
 -- Runs.
 

@@ -34,12 +34,15 @@ Loops commands given w over (Err (Write count _)) = LoopsPart commands given w c
 Loops commands given w over (Err Output) = WritesPart commands given w over
 Loops commands given w over (Err _) = ⊥
 
+-- one end of a link has this result, and the other ended well: `Client` and `Instrument` say what a result means at each end
+abbrev pub IsOfOneEnd : (Client Instrument : LinkEnd → Type 0) → LinkEnd → Type 0
+IsOfOneEnd Client Instrument result = (Client result × Instrument (Ok tt)) ⊎ (Client (Ok tt) × Instrument result)
+
 -- the ports of both ends of a link, by the result of asking over it. At one end they are as `LinkEnds` says for this result, so a fault is
 -- a fault of that end; at the other end they are as it says for `Ok`
 abbrev pub BothEnd : (client_old client_new instrument_old instrument_new : Ports) → LinkEnd → Type 0
 BothEnd client_old client_new instrument_old instrument_new result =
-    (LinkEnds client_old client_new result × LinkEnds instrument_old instrument_new (Ok tt))
-    ⊎ (LinkEnds client_old client_new (Ok tt) × LinkEnds instrument_old instrument_new result)
+    IsOfOneEnd (LinkEnds client_old client_new) (LinkEnds instrument_old instrument_new) result
 
 -- what is seen of the two ends of a link, and of the sink of the settlements
 pub record SeenAtBoth : Type 0 where
@@ -47,11 +50,14 @@ pub record SeenAtBoth : Type 0 where
   pub instrument : Ports
   pub sink : Taken
 
+-- what is seen of both ends of a link and of the sink, put together from what is seen of each
+abbrev pub seen_at : (client instrument : Ports) → (sink : Taken) → SeenAtBoth
+seen_at client instrument sink = record { client = client; instrument = instrument; sink = sink }
+
 -- what is seen of the client's source and sink (a and b), the instrument's source and sink (c and d), and the sink of the settlements
 -- (k), by the ghost members of their traits
 abbrev pub seen_of : {A B C D K : Type 0} → Source A → A → Sink B → B → Source C → C → Sink D → D → Sink K → K → SeenAtBoth
-seen_of of_a a of_b b of_c c of_d d of_k k =
-    record { client = ports_of of_a a of_b b; instrument = ports_of of_c c of_d d; sink = taken_by of_k k }
+seen_of of_a a of_b b of_c c of_d d of_k k = seen_at (ports_of of_a a of_b b) (ports_of of_c c of_d d) (taken_by of_k k)
 
 -- what is seen of these two ends, each with both directions, and of this sink
 abbrev pub seen_over : {A B C D K : Type 0} → Source A → Sink B → Duplex A B → Source C → Sink D → Duplex C D → Sink K → K → SeenAtBoth

@@ -5,7 +5,7 @@ ghost use Rattle.gc_lines.specs.Assembler.{StandsFor};
 ghost use Rattle.gc_lines.specs.Frames.{line_in};
 ghost use Rattle.gc_lines.specs.Lent.{lent_seen, IsLineWithin};
 ghost use Rattle.gc_ask.specs.Asking.{idle};
-ghost use Rattle.gc_ask.specs.Listening.{TakesFrame, Listens, left_by, HearsOver, LinkOnlyReads, ReadEnds, heard_by};
+ghost use Rattle.gc_ask.specs.Listening.{TakesFrame, Listens, left_by, HearsMore, HearsReply, LinkOnlyReads, ReadEnds, heard_by};
 ghost use Rattle.gc_ask.specs.Links.{source_of};
 
 use crate::link::Link;
@@ -79,7 +79,8 @@ impl ClientEnd {
         ahead: &mut Unused,
         reads: &mut u32,
     ) -> Result<(), RunFault>
-        ensures hears { HearsOver self.old self.new ahead.old ahead.new (L.client link.old) (L.client link.new) result }
+        ensures hears { HearsMore self.old self.new ahead.old ahead.new (L.client link.old) (L.client link.new)
+            (λ h. HearsReply self.old.client.ids h result) }
         ensures grows { (L.client link.old).reads ≤ (L.client link.new).reads }
         ensures reads { (L.client link.new).reads + reads.new ≡ (L.client link.old).reads + reads.old }
         ensures ends { ReadEnds (source_of (L.client link.old)) (source_of (L.client link.new)) reads.new result }

@@ -4,7 +4,7 @@ ghost use Rattle.std.specs.Prelude.{◌≡◌, ◌≤◌};
 ghost use Rattle.gc_ask.specs.AskRuns.{AskRunsAt, AsksOverOne};
 ghost use Rattle.gc_ask.specs.Asking.{taken_by};
 ghost use Rattle.gc_ask.specs.Looping.{LoopRunsAt, LoopsOverOne};
-ghost use Rattle.gc_ask.specs.Places.{IsFaultOfPlace, fault_of_reason};
+ghost use Rattle.gc_ask.specs.Places.{IsFaultOfPlace, fault_of_reason, fault_of_unusable};
 ghost use Rattle.gc_texts.specs.Faults.{end_of_serving};
 ghost use Rattle.gc_texts.specs.WholeTexts.{input_of};
 ghost use Rattle.gc_texts.specs.declared.fault.RunFault.{RunFault};
@@ -256,10 +256,19 @@ pub fn fault_of_reason(reason: Option<Unusable>) -> RunFault
     ensures { result ≡ fault_of_reason reason }
 {
     match reason {
-        Some(Unusable::NoTerminal) => RunFault::NoTerminal,
-        Some(Unusable::Held) => RunFault::Held,
-        Some(Unusable::Forbidden) => RunFault::Forbidden,
+        Some(unusable) => fault_of_unusable(unusable),
         None => RunFault::Socket,
+    }
+}
+
+/// The fault that is reported if a device can't be used: the one for why.
+pub fn fault_of_unusable(unusable: Unusable) -> RunFault
+    ensures { result ≡ fault_of_unusable unusable }
+{
+    match unusable {
+        Unusable::NoTerminal => RunFault::NoTerminal,
+        Unusable::Held => RunFault::Held,
+        Unusable::Forbidden => RunFault::Forbidden,
     }
 }
 

@@ -7,7 +7,7 @@ ghost use Rattle.gc_ask.specs.Places.{IsFaultOfDevice};
 use crate::busy_clock::BusyClock;
 use crate::caller::{End, ReplyWriter, RequestReader};
 use crate::callers::{CallerFault, Callers, PAUSE, end_of_caller, keep};
-use crate::connections::{end_of_serving, fault_of_reason};
+use crate::connections::{end_of_serving, fault_of_reason, fault_of_unusable};
 use crate::kept_port::Keeping;
 use crate::simulated::Simulates;
 use gc_lines::ToWriter;
@@ -56,7 +56,7 @@ pub fn serve_device<R: Files<File = File> + Clock, I: Simulates>(
 /// clock of an instrument whose replies take time. A device has one caller alone, who may be silent for as long as he likes,
 /// so `keeping.idle` is not used.
 ///
-/// If the first attempt to open the device fails with an `Unusable`, the call returns the fault for it (`fault_of_reason`), and
+/// If the first attempt to open the device fails with an `Unusable`, the call returns the fault for it (`fault_of_unusable`), and
 /// writes nothing. Later attempts are made with a second between them while the device is missing, or can't be opened, locked or
 /// set up for a reason that is no `Unusable`. After the end of each serving, with a fault or without, the next attempt comes a
 /// second later. A later attempt that fails with an `Unusable` counts as one caller with the fault `Socket`.
@@ -72,7 +72,7 @@ pub fn keep_device<R: Files<File = File> + Clock, I: Simulates, E: Write>(
     ensures fault { IfErr result (λ fault. (messages.new ≡ messages.old) × IsFaultOfDevice fault) }
 {
     let first = match wire_on(rt, path) {
-        Err(Some(unusable)) => return Err(fault_of_reason(Some(unusable))),
+        Err(Some(unusable)) => return Err(fault_of_unusable(unusable)),
         Ok(wire) => Some(wire),
         Err(None) => None,
     };
@@ -101,8 +101,7 @@ struct DeviceCallers<'a, R, I> {
 
 impl<'a, R: Files<File = File> + Clock, I> DeviceCallers<'a, R, I> {
     // Opens the device, which is looked for each second until it is there. The first call returns the device that was opened
-    // already, if it was. `Socket`: the device is there and can't be used, or 2^64 - 1 tries gave neither the device nor a
-    // reason with a name.
+    // already, if it was. `Socket`: the opening failed with an `Unusable`, or 2^64 - 1 tries failed without one.
     fn wait(&mut self) -> Result<Wire<'a, R>, CallerFault> {
         if let Some(first) = self.first.take() {
             return Ok(first);

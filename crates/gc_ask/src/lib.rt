@@ -23,7 +23,8 @@ pub use ask::run_ask;
 pub use busy_clock::BusyClock;
 pub use callers::{CallerFault, Callers, keep};
 pub use connections::{
-    MOST_CONNECTIONS, ask_at, ask_tcp, fault_of_reason, loop_tcp, loop_tcp_on, serve_on, serve_tcp,
+    MOST_CONNECTIONS, ask_at, ask_tcp, fault_of_reason, fault_of_unusable, loop_tcp, loop_tcp_on,
+    serve_on, serve_tcp,
 };
 pub use devices::{keep_device, serve_device};
 pub use kept_port::{Keeping, keep_on, keep_tcp};

@@ -76,8 +76,9 @@ pub fn cut_word(text: &str) -> (&str, &str) {
     text.split_once(' ').unwrap_or((text, ""))
 }
 
-/// Of the bytes for which a text stands, those after its first word and the space after it; none if there is no space. `word` is that
-/// word, and has to be without a backslash, so that it stands for as many bytes as it has.
+/// The bytes behind the first word of a text and the space after that word; none if there is no space. `bytes` are those for
+/// which the text stands, and `word` is its first word, which has to be without a backslash: so it stands for as many bytes as
+/// it has.
 pub fn bytes_behind<'a>(word: &str, bytes: &'a [u8]) -> &'a [u8] {
     bytes.get(word.len().saturating_add(1)..).unwrap_or(b"")
 }

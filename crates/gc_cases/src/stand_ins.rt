@@ -1,5 +1,5 @@
-//! What players share that have a runtime of their own in place of the system's, so that the case decides which files and addresses
-//! there are: the errors that such a runtime returns, and the milliseconds by which its clock counts; and the port of a listener.
+//! What players share: the errors that a runtime of their own returns, which takes the place of the system's so that the case decides
+//! which files and addresses there are; and the port of a listener.
 
 use std::io::{self, ErrorKind};
 use std::net::TcpListener;
@@ -9,7 +9,7 @@ pub fn not_found<T>() -> io::Result<T> {
     Err(io::Error::from(ErrorKind::NotFound))
 }
 
-/// The error of a call that comes while another one is made.
+/// The error of a call that comes while another one is still running.
 pub fn in_use() -> io::Error {
     io::Error::from(ErrorKind::ResourceBusy)
 }

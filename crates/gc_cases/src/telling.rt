@@ -6,7 +6,7 @@ use crate::told::Told;
 
 impl<'a> Case<'a> {
     /// Whether the value under a key is this text, as it is written there, with its backslashes. Without such a line the value is empty.
-    pub fn has(&self, key: &str, value: &str) -> bool {
+    pub fn is(&self, key: &str, value: &str) -> bool {
         self.value(key) == value
     }
 

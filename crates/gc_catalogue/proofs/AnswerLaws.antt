@@ -1,17 +1,17 @@
 -- One reading for a reply, and which values of an answer are rounded when it is written.
 use Rattle.std.specs.Prelude.{◌≡◌, ℕ, List, [], ◌∷◌, Some, refl}
-use Rattle.std.proofs.Common.{sym, ◌∙◌, ap}
+use Rattle.std.proofs.Common.{sym, ◌∙◌}
 use Rattle.gc_values.specs.declared.fault.ValueFault.{ValueFault}
 use Rattle.gc_values.specs.declared.value.Value.{Value}
 use Rattle.gc_values.specs.declared.value.Value.TheVariants as value
 use Rattle.gc_catalogue.specs.declared.answer.Answer.{Answer}
-use Rattle.gc_catalogue.specs.declared.answer.Reading.TheVariants as reading
 use Rattle.gc_catalogue.specs.declared.call.Call.{Call}
 use Rattle.gc_catalogue.specs.Answers.{answer_fields, IsAnswer, IsUnreadable}
 use Rattle.gc_catalogue.specs.Laws.{AreShown, DoublesAreRounded, OneReading}
 use Rattle.gc_catalogue.specs.Lists.{shown_values}
 use Rattle.gc_values.proofs.RoundedDecimals.{rounded_rounds}
 use Rattle.gc_values.proofs.ListLaws.{no_list_fault, one_list_fault, one_values}
+use Rattle.gc_catalogue.proofs.ReadingLaws.{one_reading_by}
 use Rattle.gc_catalogue.proofs.Table.{answer_kinds, few_answer_values, same_answer, same_answer_kinds, shape-rounded, values-rounded}
 
 -- parameters are read as at most one answer of a call
@@ -32,22 +32,9 @@ one_unreadable call params e f x y =
 
 -- a reply has at most one reading for a call
 pub one_reading : OneReading
-one_reading call r (reading.ComFault a) (reading.ComFault b) x y = ap (λ n. reading.ComFault n) (x.1 ∙ sym y.1)
-one_reading call r (reading.ComFault a) (reading.Refused b) x y = absurd (x.0 y.0)
-one_reading call r (reading.ComFault a) (reading.Value b) x y = absurd (x.0 y.0)
-one_reading call r (reading.ComFault a) (reading.Unreadable b) x y = absurd (x.0 y.0)
-one_reading call r (reading.Refused a) (reading.ComFault b) x y = absurd (y.0 x.0)
-one_reading call r (reading.Refused a) (reading.Refused b) x y = ap (λ n. reading.Refused n) (x.2 ∙ sym y.2)
-one_reading call r (reading.Refused a) (reading.Value b) x y = absurd (x.1 y.1)
-one_reading call r (reading.Refused a) (reading.Unreadable b) x y = absurd (x.1 y.1)
-one_reading call r (reading.Value a) (reading.ComFault b) x y = absurd (y.0 x.0)
-one_reading call r (reading.Value a) (reading.Refused b) x y = absurd (y.1 x.1)
-one_reading call r (reading.Value a) (reading.Value b) x y = ap (λ z. reading.Value z) (one_answer call r.params a b x.2 y.2)
-one_reading call r (reading.Value a) (reading.Unreadable b) x y = absurd (no_unreadable call r.params a b x.2 y.2)
-one_reading call r (reading.Unreadable a) (reading.ComFault b) x y = absurd (y.0 x.0)
-one_reading call r (reading.Unreadable a) (reading.Refused b) x y = absurd (y.1 x.1)
-one_reading call r (reading.Unreadable a) (reading.Value b) x y = absurd (no_unreadable call r.params b a y.2 x.2)
-one_reading call r (reading.Unreadable a) (reading.Unreadable b) x y = ap (λ z. reading.Unreadable z) (one_unreadable call r.params a b x.2 y.2)
+one_reading call r x y =
+    one_reading_by (IsAnswer call r.params) (IsUnreadable call r.params) r x y
+    (record { answer = one_answer call r.params; fault = one_unreadable call r.params; never_both = no_unreadable call r.params })
 
 -- `AreShown` holds between values and the same values with each double rounded
 all_shown : (places : ℕ) (vs : List Value) → AreShown places vs (shown_values (Some places) vs)

@@ -57,7 +57,7 @@ asked_again id (Table call) i fits = let again = call_again id call i fits in re
 asked_again id (Raw raw) i fits = record { line = request_back (raw_request id raw) (record { rpc = raw.is.bound; id = i }); is_asked = (refl, refl) }
 
 -- the request for what is asked has the id that it was given
-asked_id : (id : Option ℕ) (asked : Asked) → (asked_request id asked).id ≡ id
+pub asked_id : (id : Option ℕ) (asked : Asked) → (asked_request id asked).id ≡ id
 asked_id id (Table call) = refl
 asked_id id (Raw raw) = refl
 

@@ -2,11 +2,11 @@
 -- fault for which they can't be.
 use Rattle.std.proofs.Common.{◌≡◌, ℕ, List, [], ◌∷◌, refl, sym, ap, ◌∙◌, subst, ◌⊎◌, inl, inr}
 use Rattle.std.specs.Prelude.{Bool, ℤ, pos}
-use Rattle.std.proofs.lemmas.Bool.{cases_eq}
 use Rattle.gc_values.specs.Decimals.{zero}
 use Rattle.gc_values.specs.Item.{kind_of}
 use Rattle.gc_values.specs.Lists.{kinds_of, AreParams}
 use Rattle.gc_values.specs.declared.decimal.Decimal.{Decimal}
+use Rattle.gc_values.specs.declared.fault.ValueFault.{ValueFault}
 use Rattle.gc_values.specs.declared.value.Kind.{Kind}
 use Rattle.gc_values.specs.declared.value.Kind.TheVariants as kind
 use Rattle.gc_values.specs.declared.value.Value.{Value}
@@ -17,12 +17,12 @@ use Rattle.gc_catalogue.specs.Calls.{call_fields}
 use Rattle.gc_catalogue.specs.Laws.{EachReplyIsRead}
 use Rattle.gc_catalogue.specs.declared.answer.Answer.{Answer}
 use Rattle.gc_catalogue.specs.declared.answer.Answer.TheVariants as answer
-use Rattle.gc_catalogue.specs.declared.answer.Reading.TheVariants as reading
 use Rattle.gc_catalogue.specs.declared.answer.Shape.{Shape}
 use Rattle.gc_catalogue.specs.declared.answer.Shape.TheVariants as shape
 use Rattle.gc_catalogue.specs.declared.call.Call.{Call}
+use Rattle.gc_catalogue.proofs.ReadingLaws.{each_reading_by}
 
--- the value is the one that a decimal, a number, a truth value or bytes make, by this kind
+-- the value is of this kind: it holds a decimal, a whole number, a truth value or bytes, as the kind says
 abbrev IsMade : Kind → Value → Type 0
 IsMade kind.Double v = (d : Decimal) × (value.Double d ≡ v)
 IsMade kind.Long v = (z : ℤ) × (value.Long z ≡ v)
@@ -31,7 +31,7 @@ IsMade kind.Byte v = (n : ℕ) × (value.Byte n ≡ v)
 IsMade kind.Bool v = (b : Bool) × (value.Bool b ≡ v)
 IsMade kind.Text v = (bytes : List ℕ) × (value.Text bytes ≡ v)
 
--- each value is made as its kind says
+-- each value is of its own kind (`IsMade`)
 is_made : (v : Value) → IsMade (kind_of v) v
 is_made (value.Double d) = (d, refl)
 is_made (value.Long z) = (z, refl)
@@ -40,7 +40,7 @@ is_made (value.Byte n) = (n, refl)
 is_made (value.Bool b) = (b, refl)
 is_made (value.Text bytes) = (bytes, refl)
 
--- the list vs is a first value, which is made as the kind k says, and the values after it, of the kinds ks
+-- the list vs is a first value, of the kind k (`IsMade`), and the values behind it, of the kinds ks
 record FirstValue (k : Kind) (ks : List Kind) (vs : List Value) : Type 0 where
   first : Value
   behind : List Value
@@ -48,7 +48,7 @@ record FirstValue (k : Kind) (ks : List Kind) (vs : List Value) : Type 0 where
   made : IsMade k first
   kinds : kinds_of behind ≡ ks
 
--- a list of values whose kinds are k and then ks has a first value, made as k says, and after it values of the kinds ks
+-- a list of values whose kinds are k and then ks has a first value of the kind k, and behind it values of the kinds ks
 first_value : (k : Kind) (ks : List Kind) (vs : List Value) → kinds_of vs ≡ k ∷ ks → FirstValue k ks vs
 first_value k ks [] e = absurd (cc)
 first_value k ks (v ∷ vs) e =
@@ -71,8 +71,8 @@ record ShapeIsAnswered (s : Shape) : Type 0 where
   shape : (answer_fields some).shape ≡ s
   each : (vs : List Value) → kinds_of vs ≡ kinds_of (answer_fields some).values → HasAnswer s vs
 
--- where `make` gives each value that is made as the kind k says, and each value that it gives is all of an answer of the shape s,
--- there is an answer of that shape for each list of one value of that kind
+-- for a shape of one value: if `make` gives every value of the kind k, and each of its values alone makes an answer of the shape
+-- s, there is such an answer for each list of one value of that kind
 one_value_answer : {X : Type 0} (k : Kind) (make : X → Value) (s : Shape) → ((v : Value) → IsMade k v → (x : X) × (make x ≡ v))
     → ((x : X) → HasAnswer s (make x ∷ [])) → (vs : List Value) → kinds_of vs ≡ k ∷ [] → HasAnswer s vs
 one_value_answer k make s is says vs e =
@@ -191,7 +191,7 @@ shape_is_answered shape.MeasuredMode = record { some = answer.MeasuredMode zero 
       (answer.MeasuredMode a.0 b.0 c.0 m.0, refl, cc (a.1, b.1, c.1, m.1, none_left s.behind s.kinds, s.is, r.is, q.is, p.is))
 
 -- parameters are read as an answer of the call, or are unreadable for some reason
-answer_or_unreadable : (call : Call) (params : List ℕ) → ((a : Answer) × IsAnswer call params a) ⊎ ((e : _) × IsUnreadable call params e)
+answer_or_unreadable : (call : Call) (params : List ℕ) → ((a : Answer) × IsAnswer call params a) ⊎ ((e : ValueFault) × IsUnreadable call params e)
 answer_or_unreadable call params =
     let m = shape_is_answered (call_fields call).answer in
     elim (each_list (kinds_of (answer_fields m.some).values) params) [
@@ -203,13 +203,4 @@ answer_or_unreadable call params =
 
 -- each reply has a reading for each call
 pub each_reply : EachReplyIsRead
-each_reply call r = elim (cases_eq r.rc_com 0) [
-  | inr fault ↦ (reading.ComFault r.rc_com, (fault, refl))
-  | inl sent ↦ elim (cases_eq r.rc 0) [
-    | inr refused ↦ (reading.Refused r.rc, (sent, refused, refl))
-    | inl well ↦ elim (answer_or_unreadable call r.params) [
-      | inl found ↦ (reading.Value found.0, (sent, well, found.1))
-      | inr none ↦ (reading.Unreadable none.0, (sent, well, none.1))
-    ]
-  ]
-]
+each_reply call r = each_reading_by (IsAnswer call r.params) (IsUnreadable call r.params) r (answer_or_unreadable call r.params)

@@ -45,19 +45,18 @@ behind-before (v ∷ vs) =
     ∙ sym (ap (λ rest. 44 ∷ rest) (append_assoc (text v) (behind_commas vs) (44 ∷ [])))
 
 -- without its last element, a list with one appended is the list
-without_last : (xs : List ℕ) (a : ℕ) → take (length (xs ++ a ∷ []) - 1) (xs ++ a ∷ []) ≡ xs
+pub without_last : {A : Type 0} (xs : List A) (a : A) → take (length (xs ++ a ∷ []) - 1) (xs ++ a ∷ []) ≡ xs
 without_last xs a =
     let n : length (xs ++ a ∷ []) - 1 ≡ length xs = omega (arith, length-append xs (a ∷ [])) in
     ap (λ k. take k (xs ++ a ∷ [])) n ∙ take-append_seam xs (a ∷ [])
 
--- where `begun` is a head and a comma, `old` is `begun` and then values, each before a comma, and `new` is `old` without its last
--- byte, `new` is the head and then the values, each after a comma
-pub comma_list : (head : List ℕ) (vs : List Value) (begun old new : List ℕ) → begun ≡ head ++ 44 ∷ [] → old ≡ begun ++ before_commas vs
+-- where `old` is a head, a comma and then values, each before a comma, and `new` is `old` without its last byte, `new` is the head
+-- and then the values, each after a comma
+pub comma_list : (head : List ℕ) (vs : List Value) (old new : List ℕ) → old ≡ (head ++ 44 ∷ []) ++ before_commas vs
     → new ≡ take (length old - 1) old → new ≡ head ++ behind_commas vs
-comma_list head vs begun old new start is cut =
-    let all : old ≡ (head ++ behind_commas vs) ++ 44 ∷ [] = is ∙ ap (λ bytes. bytes ++ before_commas vs) start
-    ∙ append_assoc head (44 ∷ []) (before_commas vs) ∙ ap (λ bytes. head ++ bytes) (behind-before vs)
-    ∙ sym (append_assoc head (behind_commas vs) (44 ∷ [])) in
+comma_list head vs old new is cut =
+    let all : old ≡ (head ++ behind_commas vs) ++ 44 ∷ [] = is ∙ append_assoc head (44 ∷ []) (before_commas vs)
+    ∙ ap (λ bytes. head ++ bytes) (behind-before vs) ∙ sym (append_assoc head (behind_commas vs) (44 ∷ [])) in
     cut ∙ ap (λ bytes. take (length bytes - 1) bytes) all ∙ without_last (head ++ behind_commas vs) 44
 
 -- `new` is `old` without the comma at its end, if one is there

@@ -8,5 +8,6 @@ pub mod LineLaws
 pub mod Plain
 pub mod RawLines
 pub mod RawRules
+pub mod ReadingLaws
 pub mod SameText
 pub mod Table

@@ -16,8 +16,8 @@ use Rattle.gc_catalogue.specs.declared.call.Call.{Call}
 use Rattle.gc_catalogue.specs.Answers.{answer_fields, IsAnswer, IsAnswerOf, IsFittingAnswer, rounded_answer}
 use Rattle.gc_catalogue.specs.Laws.{CallsReadBack, OneCallForALine, ReadsBackAnswer}
 use Rattle.gc_values.specs.Lists.{AreValues}
-use Rattle.gc_catalogue.specs.Lists.{params_of, shown_values}
-use Rattle.gc_catalogue.specs.Texts.{reply_of, request_of}
+use Rattle.gc_catalogue.specs.Lists.{shown_values}
+use Rattle.gc_catalogue.specs.Texts.{answer_params, reply_of, request_of}
 use Rattle.gc_catalogue.proofs.CallLaws.{one_call, written_is_call}
 use Rattle.gc_values.proofs.ListLaws.{written_reads}
 use Rattle.gc_catalogue.proofs.Table.{number_fits, shape-rounded, values-rounded}
@@ -54,7 +54,7 @@ rounded_fits places answer h = rw (values-rounded places answer) (shown_fit plac
 
 -- the parameters written for a rounded answer of the call, with values in range, read as that answer
 pub written_is_answer : (call : Call) (answer : Answer) (places : ℕ) → IsAnswerOf call answer → IsFittingAnswer (rounded_answer places answer)
-    → IsAnswer call (params_of (answer_fields (rounded_answer places answer)).values) (rounded_answer places answer)
+    → IsAnswer call (answer_params places answer) (rounded_answer places answer)
 written_is_answer call answer places of_call fits = record {
   of_call = shape-rounded places answer ∙ of_call;
   values = written_reads _ fits;
@@ -78,6 +78,6 @@ refusal_again call id rc places i some fits = record {
 }
 
 -- an id that is below 8 where there is one, by `ForSome`, is in range
-pub some_id : (id : Option ℕ) → ForSome id (λ i. i < 8) → IsIdInRange id
-some_id None h = tt
-some_id (Some i) h = h i refl
+pub id_in_range : (id : Option ℕ) → ForSome id (λ i. i < 8) → IsIdInRange id
+id_in_range None h = tt
+id_in_range (Some i) h = h i refl

@@ -2,8 +2,8 @@
 use Rattle.std.specs.Prelude.{◌++◌, List, [], ◌∷◌}
 use Rattle.std.proofs.Common.{lit<}
 use Rattle.std.proofs.lemmas.List.Elements.{All-from_recursion}
-use Rattle.gc_lines.proofs.Plain.{IsPlainByte, plain_append, plain_cons}
-use Rattle.gc_lines.specs.Lines.{IsPlain}
+use Rattle.gc_lines.proofs.Plain.{plain_append, plain_cons}
+use Rattle.gc_lines.specs.Lines.{IsPlainByte, IsPlain}
 use Rattle.gc_values.proofs.TextShape.{text_is_plain}
 use Rattle.gc_values.specs.Item.{text}
 use Rattle.gc_values.specs.declared.value.Value.{Value}

@@ -1,10 +1,10 @@
 -- Lines of procedures that aren't in the table: how long they are, and that they fit.
-use Rattle.std.proofs.Common.{◌≡◌, ◌+◌, ◌-◌, ◌<◌, ◌≤◌, ◌++◌, ℕ, List, ◌∷◌, length, take, drop, replicate, ap, ◌∙◌, arith, length-append}
+use Rattle.std.proofs.Common.{◌≡◌, ◌+◌, ◌-◌, ◌<◌, ◌≤◌, ◌++◌, ℕ, List, ◌∷◌, length, take, replicate, ap, ◌∙◌, arith, length-append}
 use Rattle.std.specs.Prelude.{Option, Some, None}
 use Rattle.std.specs.Fmt.{decimal}
 use Rattle.std.proofs.lemmas.Fmt.{decimal_nonempty}
 use Rattle.std.proofs.lemmas.List.{length-replicate}
-use Rattle.std.proofs.Math.Seq.{take-append_seam, drop-append_seam}
+use Rattle.std.proofs.Math.Seq.{take-append_seam}
 use Rattle.gc_lines.proofs.Plain.{request_plain}
 use Rattle.gc_lines.specs.Headers.{id_text}
 use Rattle.gc_lines.specs.Requests.{request_signature, request_text}
@@ -36,10 +36,6 @@ short_with rpc id params short = omega (arith, short, length-request rpc (Some 0
 -- where the line of a request has at most 512 bytes with an id, and its number has 16 bits, its parameters have at most 503 bytes
 pub params_short : (rpc : ℕ) (params : List ℕ) → rpc < 65536 → line_length rpc params ≤ 512 → length params ≤ 503
 params_short rpc params bound short = omega (arith, short, length-request rpc (Some 0) params, decimal_nonempty rpc (omega arith))
-
--- where `all` is `bytes`, filled up to 503 with zeros, what is after `bytes` in it is these zeros
-pub filled_zeros : (bytes all : List ℕ) → all ≡ bytes ++ replicate (503 - length bytes) 0 → drop (length bytes) all ≡ replicate (503 - length bytes) 0
-filled_zeros bytes all e = ap (drop (length bytes)) e ∙ drop-append_seam bytes (replicate (503 - length bytes) 0)
 
 -- where `all` is `bytes`, filled up to 503 with zeros, it begins with `bytes`
 pub filled_front : (bytes all : List ℕ) → all ≡ bytes ++ replicate (503 - length bytes) 0 → take (length bytes) all ≡ bytes

@@ -1,6 +1,6 @@
 -- Which procedures that aren't in the table may be asked for, and what replies say of them: one refusal or none, and one reading.
-use Rattle.std.proofs.Common.{◌≡◌, ◌≤◌, ◌%◌, ◌⊎◌, ℕ, List, [], length, refl, sym, ap, ◌∙◌, subst, inl, inr, arith}
-use Rattle.std.proofs.lemmas.Bool.{cases_lt, cases_eq}
+use Rattle.std.proofs.Common.{◌≡◌, ◌≤◌, ◌%◌, ◌⊎◌, ℕ, List, [], length, refl, sym, ◌∙◌, subst, inl, inr, arith}
+use Rattle.std.proofs.lemmas.Bool.{cases_lt}
 use Rattle.gc_lines.specs.Replies.{ReplyFields}
 use Rattle.gc_values.proofs.EachItem.{each_list}
 use Rattle.gc_values.proofs.ParamLists.{one_list, params_even, even_not_odd}
@@ -9,11 +9,12 @@ use Rattle.gc_values.specs.Params.{AreTooMany, IsParams, quotes}
 use Rattle.gc_values.specs.declared.fault.ValueFault.{ValueFault}
 use Rattle.gc_values.specs.declared.fault.ValueFault.TheVariants as fault
 use Rattle.gc_catalogue.specs.declared.answer.Reading.{Reading}
-use Rattle.gc_catalogue.specs.declared.answer.Reading.TheVariants as reading
+use Rattle.gc_catalogue.specs.declared.answer.Answer.{Answer}
 use Rattle.gc_catalogue.specs.declared.answer.Answer.TheVariants.{Nothing}
 use Rattle.gc_catalogue.specs.declared.raw.RawFault.{RawFault}
 use Rattle.gc_catalogue.specs.declared.raw.RawFault.TheVariants.{InTable, NotPlain, TooLong, OpenQuote, TooMany}
-use Rattle.gc_catalogue.specs.Raws.{AreFewItems, IsItemsRefusal, IsRawCall, IsRawReading, IsRawRefusal}
+use Rattle.gc_catalogue.specs.Raws.{AreFewItems, IsItemsRefusal, IsRawAnswer, IsRawCall, IsRawReading, IsRawRefusal}
+use Rattle.gc_catalogue.proofs.ReadingLaws.{IsDecisive, each_reading_by, one_reading_by}
 
 -- parameters of at most 16 items have an even number of double quotes
 pub few_closed : (params : List ℕ) → AreFewItems params → quotes params % 2 ≡ 0
@@ -92,34 +93,22 @@ one_raw_refusal rpc params TooMany TooLong x y = let l = y.2 in let s = x.2 in a
 one_raw_refusal rpc params TooMany OpenQuote x y = absurd (even_not_odd _ (params_even params x.3.0 x.3.1) y.3)
 one_raw_refusal rpc params TooMany TooMany x y = refl
 
+-- parameters are read as one answer at most (`IsRawAnswer`), or have one fault
+raw_decisive : (params : List ℕ) → IsDecisive (IsRawAnswer params) (IsItemsRefusal params)
+raw_decisive params = record {
+  answer = λ a b x y. x.1 ∙ sym y.1;
+  fault = one_items_refusal params;
+  never_both = λ a e x why. no_items_refusal params e x.0 why;
+}
+
+-- parameters are read as an answer (`IsRawAnswer`), or have a fault
+raw_answer_or_refusal : (params : List ℕ) → ((a : Answer) × IsRawAnswer params a) ⊎ ((e : ValueFault) × IsItemsRefusal params e)
+raw_answer_or_refusal params = elim (few_or_not params) [ inl few ↦ inl (Nothing, (few, refl)) | inr none ↦ inr none ]
+
 -- a reply has at most one reading for a procedure that isn't in the table
 pub one_raw_reading : (r : ReplyFields) (x y : Reading) → IsRawReading r x → IsRawReading r y → x ≡ y
-one_raw_reading r (reading.ComFault a) (reading.ComFault b) x y = ap (λ n. reading.ComFault n) (x.1 ∙ sym y.1)
-one_raw_reading r (reading.ComFault a) (reading.Refused b) x y = absurd (x.0 y.0)
-one_raw_reading r (reading.ComFault a) (reading.Value b) x y = absurd (x.0 y.0)
-one_raw_reading r (reading.ComFault a) (reading.Unreadable b) x y = absurd (x.0 y.0)
-one_raw_reading r (reading.Refused a) (reading.ComFault b) x y = absurd (y.0 x.0)
-one_raw_reading r (reading.Refused a) (reading.Refused b) x y = ap (λ n. reading.Refused n) (x.2 ∙ sym y.2)
-one_raw_reading r (reading.Refused a) (reading.Value b) x y = absurd (x.1 y.1)
-one_raw_reading r (reading.Refused a) (reading.Unreadable b) x y = absurd (x.1 y.1)
-one_raw_reading r (reading.Value a) (reading.ComFault b) x y = absurd (y.0 x.0)
-one_raw_reading r (reading.Value a) (reading.Refused b) x y = absurd (y.1 x.1)
-one_raw_reading r (reading.Value a) (reading.Value b) x y = ap (λ z. reading.Value z) (x.3 ∙ sym y.3)
-one_raw_reading r (reading.Value a) (reading.Unreadable b) x y = absurd (no_items_refusal r.params b x.2 y.2)
-one_raw_reading r (reading.Unreadable a) (reading.ComFault b) x y = absurd (y.0 x.0)
-one_raw_reading r (reading.Unreadable a) (reading.Refused b) x y = absurd (y.1 x.1)
-one_raw_reading r (reading.Unreadable a) (reading.Value b) x y = absurd (no_items_refusal r.params a y.2 x.2)
-one_raw_reading r (reading.Unreadable a) (reading.Unreadable b) x y = ap (λ z. reading.Unreadable z) (one_items_refusal r.params a b x.2 y.2)
+one_raw_reading r x y = one_reading_by (IsRawAnswer r.params) (IsItemsRefusal r.params) r x y (raw_decisive r.params)
 
 -- each reply has a reading for a procedure that isn't in the table
 pub each_raw_reply : (r : ReplyFields) → (reading : Reading) × IsRawReading r reading
-each_raw_reply r = elim (cases_eq r.rc_com 0) [
-  | inr fault ↦ (reading.ComFault r.rc_com, (fault, refl))
-  | inl sent ↦ elim (cases_eq r.rc 0) [
-    | inr refused ↦ (reading.Refused r.rc, (sent, refused, refl))
-    | inl well ↦ elim (few_or_not r.params) [
-      | inl few ↦ (reading.Value Nothing, (sent, well, few, refl))
-      | inr none ↦ (reading.Unreadable none.0, (sent, well, none.1))
-    ]
-  ]
-]
+each_raw_reply r = each_reading_by (IsRawAnswer r.params) (IsItemsRefusal r.params) r (raw_answer_or_refusal r.params)

@@ -11,28 +11,34 @@ use Rattle.gc_catalogue.specs.declared.raw_text.RawText.{RawText}
 abbrev AreZeros : (bytes : List ℕ) → (len : ℕ) → Type 0
 AreZeros bytes len = drop len bytes ≡ replicate (503 - len) 0
 
--- the text with these places and this count, with the proofs of its facts
-abbrev text_of : (bytes : List ℕ) (len : ℕ) → len ≤ 503 → length bytes ≡ 503 → AreZeros bytes len → RawText
-text_of bytes len few long zeros = record { bytes = bytes; len = len; few = few; long = long; zeros = zeros }
+-- the facts that a text with these places and this count carries
+record Facts (bytes : List ℕ) (len : ℕ) : Type 0 where
+  few : len ≤ 503
+  long : length bytes ≡ 503
+  zeros : AreZeros bytes len
 
--- texts of the same places and count are equal whatever the proofs are
-same_proofs : (bytes : List ℕ) (len : ℕ) (few few' : len ≤ 503) (long long' : length bytes ≡ 503) (zeros zeros' : AreZeros bytes len)
-    → text_of bytes len few long zeros ≡ text_of bytes len few' long' zeros'
-same_proofs bytes len few few' long long' zeros zeros' =
+-- the facts of a text
+abbrev facts_of : (t : RawText) → Facts t.bytes t.len
+facts_of t = record { few = t.few; long = t.long; zeros = t.zeros }
+
+-- the text with these places and this count, and these proofs of its facts
+abbrev text_of : (bytes : List ℕ) (len : ℕ) → Facts bytes len → RawText
+text_of bytes len facts = record { bytes = bytes; len = len; few = facts.few; long = facts.long; zeros = facts.zeros }
+
+-- any two proofs of the facts are equal
+one_proof : (bytes : List ℕ) (len : ℕ) → IsProp (Facts bytes len)
+one_proof bytes len x y =
     let few_prop : IsProp (len ≤ 503) = hlevel props in
     let long_prop : IsProp (length bytes ≡ 503) = hlevel props in
     let zeros_prop : IsProp (drop len bytes ≡ replicate (503 - len) 0) = hlevel props in
-    ap (λ x. text_of bytes len x long zeros) (few_prop few few') ∙ ap (λ x. text_of bytes len few' x zeros) (long_prop long long') ∙ ap (text_of bytes len few' long') (zeros_prop zeros zeros')
+    λ i. record { few = few_prop x.few y.few i; long = long_prop x.long y.long i; zeros = zeros_prop x.zeros y.zeros i }
 
--- texts of equal places and counts are equal whatever the proofs are
-same_fields : (bytes : List ℕ) (len : ℕ) (few : len ≤ 503) (long : length bytes ≡ 503) (zeros : AreZeros bytes len) (others : List ℕ) (count : ℕ)
-    → bytes ≡ others → len ≡ count
-    → (few' : count ≤ 503) (long' : length others ≡ 503) (zeros' : AreZeros others count)
-    → text_of bytes len few long zeros ≡ text_of others count few' long' zeros'
-same_fields bytes len few long zeros others count e f =
-    let P : List ℕ → Type 0 = λ bs. (few' : count ≤ 503) (long' : length bs ≡ 503) (zeros' : AreZeros bs count) → text_of bytes len few long zeros ≡ text_of bs count few' long' zeros' in
-    let Q : ℕ → Type 0 = λ n. (few' : n ≤ 503) (long' : length bytes ≡ 503) (zeros' : AreZeros bytes n) → text_of bytes len few long zeros ≡ text_of bytes n few' long' zeros' in
-    subst P e (subst Q f (λ few' long' zeros'. same_proofs bytes len few few' long long' zeros zeros'))
+-- texts of equal places and counts are equal, whatever the proofs of their facts are
+same_parts : (a b : RawText) → a.bytes ≡ b.bytes → a.len ≡ b.len → a ≡ b
+same_parts a b places count =
+    let P : List ℕ → Type 0 = λ bytes. (facts : Facts bytes b.len) → a ≡ text_of bytes b.len facts in
+    let Q : ℕ → Type 0 = λ len. (facts : Facts a.bytes len) → a ≡ text_of a.bytes len facts in
+    subst P places (subst Q count (λ facts. ap (text_of a.bytes a.len) (one_proof a.bytes a.len (facts_of a) facts))) (facts_of b)
 
 -- a text's count is how many bytes it has
 count_is : (t : RawText) → length (raw_bytes t) ≡ t.len
@@ -47,4 +53,4 @@ pub same_text : (a b : RawText) → raw_bytes a ≡ raw_bytes b → a ≡ b
 same_text a b e =
     let places : a.bytes ≡ b.bytes = places_are a ∙ ap (λ bs. bs ++ replicate (503 - length bs) 0) e ∙ sym (places_are b) in
     let count : a.len ≡ b.len = sym (count_is a) ∙ ap length e ∙ count_is b in
-    same_fields a.bytes a.len a.few a.long a.zeros b.bytes b.len places count b.few b.long b.zeros
+    same_parts a b places count

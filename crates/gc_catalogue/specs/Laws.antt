@@ -1,5 +1,6 @@
 -- What is claimed of the definitions themselves, apart from any call of a function: this project's own.
-use Rattle.std.specs.Prelude.{◌≡◌, ◌≢◌, ◌<◌, ℕ, List, [], ◌∷◌, Option, Ok}
+use Rattle.std.specs.Prelude.{◌≡◌, ◌≢◌, ◌<◌, ℕ, List, Option, Ok}
+use Rattle.std.specs.List.{AllZip}
 use Rattle.gc_lines.specs.Headers.{IsIdInRange}
 use Rattle.gc_lines.specs.Replies.{ReplyFields}
 use Rattle.gc_lines.specs.Readers.{reply_at, request_at}
@@ -38,10 +39,7 @@ IsShown places v shown = v ≡ shown
 -- `shown` are the values as they are written, one for one (`IsShown`): each double rounded to the places, and any other value
 -- unchanged
 abbrev pub AreShown : (places : ℕ) → (values shown : List Value) → Type 0
-AreShown places [] [] = Unit {0}
-AreShown places [] (shown ∷ rest) = ⊥
-AreShown places (v ∷ vs) [] = ⊥
-AreShown places (v ∷ vs) (shown ∷ rest) = IsShown places v shown × AreShown places vs rest
+AreShown places values shown = AllZip (IsShown places) values shown
 
 -- an answer is written with every double rounded to the places, and with its shape and every other value unchanged
 abbrev pub DoublesAreRounded : Type 0

@@ -32,12 +32,12 @@ shown (Some places) v = v
 abbrev pub shown_values : (places : Option ℕ) → List Value → List Value
 shown_values places vs = map (λ v. shown places v) vs
 
--- by the relation `reads`, `old` reads as these values if `new` reads as the empty list of values. That is so where taking the
--- values one by one leads from `old` to `new`; `reads` and `fails` are those of the trait `Parameters`
+-- taking these values one by one leads from the parameters `old` to `new`: where none are left in `new`, `old` reads as these
+-- values. `reads` is that of the trait `Parameters`
 abbrev pub ReadsAll : {P : Type 0} → (reads : P → List Value → Type 0) → (old new : P) → (values : List Value) → Type 0
 ReadsAll reads old new values = reads new [] → reads old values
 
--- by the relation `fails`, each fault of `new` with no kinds to be taken is a fault of `old` with the kinds of these values to be
--- taken. That is so where taking parameters of these kinds one by one leads from `old` to `new`
+-- taking parameters of the kinds of these values one by one leads from `old` to `new`: a fault of `new` where nothing more is to
+-- be taken is a fault of `old` as parameters of these kinds. `fails` is that of the trait `Parameters`
 abbrev pub FailsAll : {P : Type 0} → (fails : P → List Kind → ValueFault → Type 0) → (old new : P) → (values : List Value) → Type 0
 FailsAll fails old new values = (e : ValueFault) → fails new [] e → fails old (kinds_of values) e

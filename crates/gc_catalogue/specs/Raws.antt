@@ -1,18 +1,19 @@
 -- Procedures that aren't in the table: which numbers and parameters may be asked for, why others may not, and what a reply says.
 -- The lines' form is the manual's; these rules are this project's own.
-use Rattle.std.specs.Prelude.{◌≡◌, ◌≢◌, ◌⊎◌, ◌<◌, ◌≤◌, ◌%◌, ℕ, List, length, Some, Result, Err}
+use Rattle.std.specs.Prelude.{◌≡◌, ◌⊎◌, ◌<◌, ◌≤◌, ◌%◌, ℕ, List, length, Some, Result, Err}
 use Rattle.gc_lines.specs.Lines.{IsPlain}
 use Rattle.gc_lines.specs.Replies.{ReplyFields}
 use Rattle.gc_lines.specs.Requests.{request_text}
 use Rattle.gc_values.specs.Params.{AreTooMany, HasOpenQuote, IsParams, quotes}
 use Rattle.gc_values.specs.declared.fault.ValueFault.{ValueFault}
 use Rattle.gc_values.specs.declared.fault.ValueFault.TheVariants as fault
+use Rattle.gc_catalogue.specs.declared.answer.Answer.{Answer}
 use Rattle.gc_catalogue.specs.declared.answer.Answer.TheVariants.{Nothing}
 use Rattle.gc_catalogue.specs.declared.answer.Reading.{Reading}
-use Rattle.gc_catalogue.specs.declared.answer.Reading.TheVariants.{Value, Refused, ComFault, Unreadable}
 use Rattle.gc_catalogue.specs.declared.raw.RawFault.{RawFault}
 use Rattle.gc_catalogue.specs.declared.raw.RawFault.TheVariants.{InTable, NotPlain, TooLong, OpenQuote, TooMany}
 use Rattle.gc_catalogue.specs.Calls.{IsNoProcedure, IsProcedure}
+use Rattle.gc_catalogue.specs.Readings.{IsReadingBy}
 
 -- the length, in bytes, of the line of a request with this number, these parameters and an id
 abbrev pub line_length : (rpc : ℕ) → (params : List ℕ) → ℕ
@@ -50,11 +51,12 @@ IsRawRefusal rpc params TooMany = IsNoProcedure rpc × IsPlain params × (line_l
 abbrev pub GivesRawRefusal : {A : Type 0} → ℕ → List ℕ → Result A RawFault → Type 0
 GivesRawRefusal rpc params result = (e : RawFault) → IsRawRefusal rpc params e → result ≡ Err e
 
--- the reply has this reading for a procedure that isn't in the table: a communication fault if the communication code isn't 0,
--- else a refusal if the return code isn't 0, else the fault of its parameters (`IsItemsRefusal`) if they have one, else the
--- answer `Nothing`
+-- the parameters of a reply of a procedure that isn't in the table are read as this answer: they are at most 16 items, and the
+-- answer is `Nothing`, whatever they are
+abbrev pub IsRawAnswer : List ℕ → Answer → Type 0
+IsRawAnswer params answer = AreFewItems params × (answer ≡ Nothing)
+
+-- the reply has this reading for a procedure that isn't in the table (`IsReadingBy`): its parameters are read as `Nothing`
+-- (`IsRawAnswer`)
 abbrev pub IsRawReading : ReplyFields → Reading → Type 0
-IsRawReading r (ComFault code) = (r.rc_com ≢ 0) × (code ≡ r.rc_com)
-IsRawReading r (Refused code) = (r.rc_com ≡ 0) × (r.rc ≢ 0) × (code ≡ r.rc)
-IsRawReading r (Value answer) = (r.rc_com ≡ 0) × (r.rc ≡ 0) × AreFewItems r.params × (answer ≡ Nothing)
-IsRawReading r (Unreadable e) = (r.rc_com ≡ 0) × (r.rc ≡ 0) × IsItemsRefusal r.params e
+IsRawReading r reading = IsReadingBy (IsRawAnswer r.params) (IsItemsRefusal r.params) r reading

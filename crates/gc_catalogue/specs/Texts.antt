@@ -12,6 +12,10 @@ use Rattle.gc_catalogue.specs.Lists.{params_of}
 abbrev pub request_of : Option ℕ → Call → RequestFields
 request_of id call = record { rpc = (call_fields call).number; id = id; params = params_of (call_fields call).values }
 
+-- the parameters of an answer as they are written, each double rounded to the places
+abbrev pub answer_params : (places : ℕ) → Answer → List ℕ
+answer_params places answer = params_of (answer_fields (rounded_answer places answer)).values
+
 -- the fields of a reply with the communication code 0, an id, a return code and an answer, whose doubles are rounded to the
 -- places
 abbrev pub reply_of : (id rc : ℕ) → Answer → (places : ℕ) → ReplyFields
@@ -19,7 +23,7 @@ reply_of id rc answer places = record {
   rc_com = 0;
   id = Some id;
   rc = rc;
-  params = params_of (answer_fields (rounded_answer places answer)).values;
+  params = answer_params places answer;
 }
 
 -- the request line of a call, with an id or without one

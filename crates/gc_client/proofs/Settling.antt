@@ -15,16 +15,22 @@ well_read_one : {Q : Type 0} (says : Says Q) (s : Settlement Q) → IsReadBy say
 well_read_one says s read zero d lt = read
 well_read_one says s read (suc k) d lt = absurd (omega arith)
 
+-- where the settlements ss are the rule's settlements rs (`AreSettledBy`), and ts are us, ss and then ts are rs and then us
+pub settled_append : {Q : Type 0} (says : Says Q) (ss ts : List (Settlement Q)) (rs us : List (Rule.Settlement Q))
+    → AreSettledBy says ss rs → AreSettledBy says ts us → AreSettledBy says (ss ++ ts) (rs ++ us)
+settled_append says ss ts rs us first next =
+    record {
+      seen = map-append settlement_seen ss ts ∙ ap₂ (λ xs ys. xs ++ ys) first.seen next.seen;
+      read = All-append (λ s. IsReadBy says s.call s.outcome) ss ts first.read next.read;
+    }
+
 -- where the settlements ss are the rule's settlements rs (`AreSettledBy`), and s is the rule's r (`IsSettledBy`), ss and then s
 -- are rs and then r
 one_more : {Q : Type 0} (says : Says Q) (ss : List (Settlement Q)) (rs : List (Rule.Settlement Q)) (s : Settlement Q) (r : Rule.Settlement Q)
     → AreSettledBy says ss rs → IsSettledBy says s r
     → AreSettledBy says (ss ++ s ∷ []) (rs ++ r ∷ [])
 one_more says ss rs s r are is =
-    record {
-      seen = map-append settlement_seen ss (s ∷ []) ∙ ap₂ (λ xs x. xs ++ x ∷ []) are.seen is.seen;
-      read = All-append (λ s. IsReadBy says s.call s.outcome) ss (s ∷ []) are.read (well_read_one says s is.read);
-    }
+    settled_append says ss (s ∷ []) rs (r ∷ []) are (record { seen = ap (λ x. x ∷ []) is.seen; read = well_read_one says s is.read })
 
 -- where the first k settlements of ss, which has more than k, are the rule's rs, and s is the rule's r, the first k + 1, once s
 -- is written over the one at place k, are rs and then r

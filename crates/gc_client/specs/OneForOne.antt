@@ -30,9 +30,13 @@ pub record Course (Q : Type 0) : Type 0 where
   pub settlements : List (Settlement Q)
   pub client : ById Q
 
+-- the course of this client from now on: nothing was sent and nothing settled yet
+abbrev pub course_at : {Q : Type 0} → ById Q → Course Q
+course_at c = record { sent = []; settlements = []; client = c }
+
 -- the course of a new client: nothing has happened
 abbrev pub begun : {Q : Type 0} → Course Q
-begun = record { sent = []; settlements = []; client = fresh }
+begun = course_at fresh
 
 -- the course after a send of this call to this target, with this result; a refusal (`None`) changes nothing
 abbrev pub sent_on : {Q : Type 0} → Course Q → (target : ℕ) → Q → Option (Sending (ById Q)) → Course Q

@@ -40,10 +40,6 @@ IsReadBy says call (Answered reading line) = ReadsBy says call line.items readin
 IsReadBy says call Late = ⊤
 IsReadBy says call Lost = ⊤
 
--- if the outcome is an answer, its reading is that of its line for the call
-abbrev pub IsReadForCall : Call → Outcome → Type 0
-IsReadForCall call outcome = IsReadBy IsReading call outcome
-
 -- each of these settlements that is an answer has the reading of its line for what was asked (`IsReadBy`)
 abbrev pub AreReadBy : {Q : Type 0} → Says Q → List (Settlement Q) → Type 0
 AreReadBy says settlements = All (λ s. IsReadBy says s.call s.outcome) settlements

@@ -82,7 +82,7 @@ judged_next s u frame later text rest n at few (v, is, counts, told) next =
 
 -- ended frames that were judged in order, from the count n on, got the lines of their verdicts, as long as 64 bits can count them
 judged : (s t : Judge) (seen : List Frame) (texts : List (List ℕ)) (n : ℕ) → s.frames ≡ n → n + length seen < 2 ^ 64 → AreEnded seen
-    → AnswersInOrder Judge JudgesFrame s seen t texts → Judged n seen texts
+    → AnswersInOrder Judge Frame JudgesFrame s seen t texts → Judged n seen texts
 unfolding AreEnded
 judged s t [] texts n at few ended h = record { verdicts = []; are = tt; numbered = h.1 }
 judged s t (Line line ∷ later) texts n at few ended h = subst (Judged n (Line line ∷ later)) (sym h.5)
@@ -95,7 +95,7 @@ judged s t (More ∷ later) texts n at few ended h = absurd ended
 
 -- ended frames that were judged from the first on got the lines of their verdicts, if they are fewer than 2 ^ 64
 lines_of : (s t : Judge) (seen : List Frame) (texts : List (List ℕ)) → s.frames ≡ 0 → length seen < 2 ^ 64 → AreEnded seen
-    → AnswersInOrder Judge JudgesFrame s seen t texts → AreLinesOf seen texts
+    → AnswersInOrder Judge Frame JudgesFrame s seen t texts → AreLinesOf seen texts
 lines_of s t seen texts at few ended h =
     let k = judged s t seen texts 0 at (omega (arith, few)) ended h in
     record { verdicts = k.verdicts; are = k.are; numbered = k.numbered }

@@ -1,21 +1,19 @@
 -- Which lines have the forms of a schedule.
 use Rattle.std.proofs.Common.{◌≡◌, ℕ, List, ◌∷◌, ◌++◌, Option, Some, None, ap, subst, sym, ◌∙◌, codes}
-use Rattle.std.specs.Prelude.{MatchOption}
 use Rattle.std.proofs.lemmas.List.{append_cancel_left}
 use Rattle.gc_catalogue.specs.declared.call.Call.{Call}
 use Rattle.gc_world.specs.declared.event.Event.{Event}
-use Rattle.gc_world.specs.declared.event.Event.TheVariants.{Send, UpBytes, UpLose, UpRepeat, DownBytes, DownLose, DownRepeat, Expire}
+use Rattle.gc_world.specs.declared.event.Event.TheVariants.{Send}
 use Rattle.gc_texts.specs.Cuts.{Cuts}
 use Rattle.gc_texts.specs.Procedures.{IsNumber, IsProcedure}
-use Rattle.gc_texts.proofs.Cutting.{read_alike, cut_found, digits_lack_spaces}
+use Rattle.gc_texts.proofs.Cutting.{IsReadAs, read_alike, cut_found, digits_lack_spaces}
 use Rattle.std.proofs.lemmas.Option.{same_Some}
-use Rattle.gc_engines.specs.Schedule.{count_max, IsNumbered, IsRequested, IsSend, IsEvent, IsNumberedEvent, SendsRequested}
+use Rattle.gc_engines.specs.Schedule.{IsNumbered, IsRequested, IsSend, IsEvent, SendsRequested}
 
 -- where a line is `word` and `rest`, and r is the number up to `max` that `rest` is, or `None` where it is none, r is the
 -- number after `word` in the line, too
 pub numbered_is : (word line rest : List ℕ) (max : ℕ) (r : Option ℕ) → line ≡ word ++ rest
-    → MatchOption r ((n : ℕ) → IsNumber rest n max → ⊥) (λ n. IsNumber rest n max)
-    → MatchOption r ((n : ℕ) → IsNumbered word line n max → ⊥) (λ n. IsNumbered word line n max)
+    → IsReadAs (λ n. IsNumber rest n max) r → IsReadAs (λ n. IsNumbered word line n max) r
 numbered_is word line rest max r e =
     read_alike (λ n. IsNumber rest n max) (λ n. IsNumbered word line n max) r (λ n number. record { digits = rest; line_is = e; number = number })
     (λ n found. subst (λ (ds : List ℕ). IsNumber ds n max) (append_cancel_left word found.digits rest (sym found.line_is ∙ e)) found.number)
@@ -67,24 +65,3 @@ pub no_send : (word line rest : List ℕ) → word ≡ codes "send " → line �
     → ((t : ℕ) (call : Call) (d : ℕ) → IsRequested rest t call d → ⊥) → (t : ℕ) (call : Call) (d : ℕ) → IsSend line t call d → ⊥
 no_send word line rest same e none t call d sent =
     none t call d (subst (λ (x : List ℕ). IsRequested x t call d) (append_cancel_left (codes "send ") sent.rest rest (sym sent.line_is ∙ e ∙ ap (λ w. w ++ rest) same)) sent.requested)
-
--- the line has none of the forms that are words and a number
-pub record IsUnnumbered (line : List ℕ) : Type 0 where
-  pub up_bytes : (n : ℕ) → IsNumbered (codes "up bytes ") line n count_max → ⊥
-  pub up_lose : (n : ℕ) → IsNumbered (codes "up lose ") line n count_max → ⊥
-  pub up_repeat : (n : ℕ) → IsNumbered (codes "up repeat ") line n count_max → ⊥
-  pub down_bytes : (n : ℕ) → IsNumbered (codes "down bytes ") line n count_max → ⊥
-  pub down_lose : (n : ℕ) → IsNumbered (codes "down lose ") line n count_max → ⊥
-  pub down_repeat : (n : ℕ) → IsNumbered (codes "down repeat ") line n count_max → ⊥
-  pub expire : (n : ℕ) → IsNumbered (codes "expire ") line n 18446744073709551615 → ⊥
-
--- a line that has none of these forms is the line of no event that is written as words and a number
-pub no_numbered : (line : List ℕ) → IsUnnumbered line → (event : Event) → IsNumberedEvent event → IsEvent line event → ⊥
-no_numbered line none (UpBytes n) counted h = none.up_bytes n h
-no_numbered line none (UpLose k) counted h = none.up_lose k h
-no_numbered line none (UpRepeat k) counted h = none.up_repeat k h
-no_numbered line none (DownBytes n) counted h = none.down_bytes n h
-no_numbered line none (DownLose k) counted h = none.down_lose k h
-no_numbered line none (DownRepeat k) counted h = none.down_repeat k h
-no_numbered line none (Expire moment) counted h = none.expire moment h
-no_numbered line none event counted h = counted

@@ -1,24 +1,16 @@
--- Which lines have the forms of a scene with rules.
-use Rattle.std.proofs.Common.{◌≡◌, ℕ, ℤ, ◌<◌, ◌≤◌, List, length, Option, Some, None, sym, ◌∙◌, subst, arith, codes}
-use Rattle.std.specs.Prelude.{MatchOption, IfSome, IfNone}
+-- Lines `answer` of a scene with rules, and the reply that each gives.
+use Rattle.std.proofs.Common.{◌≡◌, ℕ, ◌<◌, ◌≤◌, List, length, Option, Some, None, sym, ◌∙◌, subst, arith, codes}
+use Rattle.std.specs.Prelude.{IfSome, IfNone}
 use Rattle.gc_catalogue.specs.RawTexts.{raw_bytes}
 use Rattle.gc_catalogue.specs.declared.raw.RawCall.{RawCall}
-use Rattle.gc_instrument.specs.declared.target.Target.{Target}
 use Rattle.gc_scenes.specs.Params.{scripted_params}
-use Rattle.gc_scenes.specs.declared.rules.Fault.{Fault}
 use Rattle.gc_scenes.specs.declared.rules.Scripted.{Scripted}
-use Rattle.gc_scenes.specs.declared.rules.Noise.{Noise}
-use Rattle.gc_scenes.specs.declared.ways.Way.{Way}
 use Rattle.gc_texts.specs.Cuts.{before, behind}
 use Rattle.gc_texts.specs.Procedures.{IsNumber}
 use Rattle.gc_texts.specs.Words.{second_word, after_two_words}
+use Rattle.gc_texts.proofs.Cutting.{IsReadAs}
 use Rattle.gc_texts.proofs.Procedures.{one_number}
-use Rattle.gc_engines.specs.Scenes.{IsSerial, IsName, IsTarget}
-use Rattle.gc_engines.specs.RuleScenes.{Begins, IsAnswer, IsFault, IsBlocked, IsDrift, IsNoise, IsRuleLine, Scripts, way_line}
-use Rattle.gc_engines.specs.declared.rule_line.RuleLine.{RuleLine}
-use Rattle.gc_engines.specs.declared.rule_line.RuleLine.TheVariants as says
-use Rattle.gc_engines.specs.declared.rule_line.Blocked.{Blocked}
-use Rattle.gc_engines.specs.declared.rule_line.Drift.{Drift}
+use Rattle.gc_engines.specs.RuleScenes.{Begins, IsAnswer, Scripts}
 
 -- if r is the reply that was made, with this return code, of a request of this procedure with these parameters, `Scripts` holds
 -- of r; r is `None` only if the parameters are too long for a reply, with more than 490 bytes
@@ -40,7 +32,7 @@ pub record HasAnswer (line params : List ℕ) (rpc rc : ℕ) : Type 0 where
 -- where a line is `answer` with this procedure, this return code and these parameters, and r is the reply made of them, r is
 -- what the line is read as
 pub answer_is : (line params : List ℕ) (rpc rc : ℕ) (r : Option Scripted) → HasAnswer line params rpc rc → Scripts rpc rc params r
-    → MatchOption r ((a : Scripted) → IsAnswer line a → ⊥) (λ a. IsAnswer line a)
+    → IsReadAs (IsAnswer line) r
 answer_is line params rpc rc None has none = λ a h.
     let same : a.rpc ≡ rpc = one_number (second_word line) a.rpc rpc 65535 h.rpc has.rpc_is in
     none a h.call same h.with_is (h.number ∙ same) (h.params ∙ sym has.params_is)
@@ -53,29 +45,3 @@ answer_is line params rpc rc (Some a) has made = record {
   number = made.2.2 ∙ sym made.0;
   params = made.2.3 ∙ has.params_is;
 }
-
--- the line has none of the forms of a scene with rules
-pub record HasNoForm (line : List ℕ) : Type 0 where
-  pub serial : (n : ℤ) → IsSerial line n → ⊥
-  pub name : (bytes : List ℕ) → IsName line bytes → ⊥
-  pub target : (t : Target) → IsTarget line t → ⊥
-  pub fault : (f : Fault) → IsFault line f → ⊥
-  pub answer : (a : Scripted) → IsAnswer line a → ⊥
-  pub blocked : (b : Blocked) → IsBlocked line b → ⊥
-  pub drift : (d : Drift) → IsDrift line d → ⊥
-  pub noise : (n : Noise) → IsNoise line n → ⊥
-  pub way : (w : Way) → line ≡ way_line w → ⊥
-  pub repeats : line ≡ codes "repeats no" → ⊥
-
--- a line that has none of the ten forms is no line of a scene with rules
-pub no_rule : (line : List ℕ) → HasNoForm line → (rule : RuleLine) → IsRuleLine line rule → ⊥
-no_rule line none (says.Serial n) h = none.serial n h
-no_rule line none (says.Name bytes) h = none.name bytes h
-no_rule line none (says.Target t) h = none.target t h
-no_rule line none (says.Fault f) h = none.fault f h
-no_rule line none (says.Answer a) h = none.answer a h
-no_rule line none (says.Blocked b) h = none.blocked b h
-no_rule line none (says.Drift d) h = none.drift d h
-no_rule line none (says.Noise n) h = none.noise n h
-no_rule line none (says.Behave w) h = none.way w h
-no_rule line none says.NoRepeats h = none.repeats h

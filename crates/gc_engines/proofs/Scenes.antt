@@ -1,6 +1,6 @@
 -- Which lines have the forms of a scene, and that a text is one scene.
 use Rattle.std.proofs.Common.{◌≡◌, arith, ℕ, ℤ, List, ◌∷◌, ◌++◌, get_or, length, Option, Some, None, ap, subst, sym, ◌∙◌, codes}
-use Rattle.std.specs.Prelude.{MatchOption, filter}
+use Rattle.std.specs.Prelude.{filter}
 use Rattle.std.proofs.lemmas.List.{append_cancel_left}
 use Rattle.gc_values.specs.Whole.{NamesWhole}
 use Rattle.gc_values.specs.declared.decimal.Decimal.{Decimal}
@@ -11,7 +11,7 @@ use Rattle.gc_instrument.specs.declared.target.Target.{Target}
 use Rattle.gc_texts.specs.Cuts.{Cuts}
 use Rattle.gc_texts.specs.LineForms.{IsText, is_kept, text_lines}
 use Rattle.gc_texts.specs.Nears.{IsDouble}
-use Rattle.gc_texts.proofs.Cutting.{read_alike, cut_found, one_front}
+use Rattle.gc_texts.proofs.Cutting.{IsReadAs, read_alike, cut_found, one_front}
 use Rattle.gc_texts.proofs.OneReading.{one_list}
 use Rattle.gc_engines.specs.Scenes.{IsSerial, IsTargetWords, IsTarget, IsSceneLine, IsScene, IsOverfullScene, scene_opening, targets_of}
 use Rattle.gc_engines.specs.declared.scene_line.SceneLine.{SceneLine}
@@ -21,8 +21,7 @@ use Rattle.std.proofs.lemmas.Option.{same_Some}
 -- where a line is `target ` and `rest`, and `o` is the target that `rest` says, or `None` where it says none, `o` is what the
 -- line says, too
 pub target_is : (line rest : List ℕ) (o : Option Target) → line ≡ codes "target " ++ rest
-    → MatchOption o ((t : Target) → IsTargetWords rest t → ⊥) (λ t. IsTargetWords rest t)
-    → MatchOption o ((t : Target) → IsTarget line t → ⊥) (λ t. IsTarget line t)
+    → IsReadAs (IsTargetWords rest) o → IsReadAs (IsTarget line) o
 target_is line rest o e =
     read_alike (IsTargetWords rest) (IsTarget line) o (λ t said. record { words = rest; line_is = e; words_say = said })
     (λ t found. subst (λ (ws : List ℕ). IsTargetWords ws t) (append_cancel_left (codes "target ") found.words rest (sym found.line_is ∙ e)) found.words_say)

@@ -26,15 +26,11 @@ text_shown r w totals is =
     let settled : length r.settled ≡ length w.settled = sym (length-map r.settled settlement_seen) ∙ ap length is.settled.seen in
     rw (sent, ap length is.executed, made, settled, is.refused, is.idle, is.settled.seen) refl
 
--- what a drill writes of events is the text of the wire with which their run ends
-text_of_run : (opening : State) (width : ℕ) (events : List Event) (totals : Bool)
-    → drill_text_on opening width events totals ≡ wire_text (played width opening events).wire totals
-text_of_run opening width events totals = unfold drill_text_on in refl
-
 -- the text of a report of an instrument's run is what a drill on that instrument writes
 pub drill_shown : (opening : State) (width : ℕ) (events : List Event) (totals : Bool) (r : Report) → IsReport r (played width opening events).wire
     → report_text r totals ≡ drill_text_on opening width events totals
-drill_shown opening width events totals r is = text_shown r (played width opening events).wire totals is ∙ sym (text_of_run opening width events totals)
+unfolding drill_text_on
+drill_shown opening width events totals r is = text_shown r (played width opening events).wire totals is
 
 -- The same of a run on the instrument of a scene.
 
@@ -44,12 +40,8 @@ scene_text_shown r w totals is =
     let settled : length r.settled.items ≡ length w.settled = sym (length-map r.settled.items settlement_seen) ∙ ap length is.settled.seen in
     rw (is.counts.sent, is.counts.executed, is.counts.made, settled, is.counts.refused, is.counts.idle, is.settled.seen) refl
 
--- what a drill on a scene's instrument writes of events is the text of the wire with which their run ends
-scene_text_of_run : (opening : SceneState) (width : ℕ) (events : List Event) (totals : Bool)
-    → scene_drill_text opening width events totals ≡ wire_text (scene_played width opening events).wire totals
-scene_text_of_run opening width events totals = unfold scene_drill_text in refl
-
 -- the text of a report of a run on a scene's instrument is what a drill on that instrument writes
 pub scene_drill_shown : (opening : SceneState) (width : ℕ) (events : List Event) (totals : Bool) (r : SceneReport)
     → IsSceneReport r (scene_played width opening events).wire → scene_report_text r totals ≡ scene_drill_text opening width events totals
-scene_drill_shown opening width events totals r is = scene_text_shown r (scene_played width opening events).wire totals is ∙ sym (scene_text_of_run opening width events totals)
+unfolding scene_drill_text
+scene_drill_shown opening width events totals r is = scene_text_shown r (scene_played width opening events).wire totals is

@@ -40,14 +40,19 @@ Checks given old new (Err (Read count)) = ChecksAll given old new count
 Checks given old new (Err (Write count bytes)) = ChecksPart given old new count bytes
 Checks given old new (Err (TooManyReads count)) = ChecksAll given old new count
 
--- a check of at most `most` reads took the ports from old to new, and gave this result
-pub record IsChecking (old new : Ports) (most : ℕ) (result : Result Served ServeFault) : Type 0 where
-  -- the source gave some bytes, at most 256 at each read, and the sink took the lines of the verdicts on them, or the part of these that
-  -- the fault says
+-- a check in at most `most` reads took the ports from old to new, and gave this result. `Writes` says what the sink takes for the
+-- bytes that the source gives, by the result
+pub record IsCheckWriting (Writes : List ℕ → (old new : Option (List ℕ)) → Result Served ServeFault → Type 0) (old new : Ports) (most : ℕ)
+    (result : Result Served ServeFault) : Type 0 where
+  -- the source gave some bytes, at most 256 at each read, and what the sink took is as `Writes` says of them
   pub checks : (given : List ℕ) × Consumes old.remaining new.remaining given
-      × (length given ≤ 256 * (new.reads - old.reads)) × Checks given old.taken new.taken result
+      × (length given ≤ 256 * (new.reads - old.reads)) × Writes given old.taken new.taken result
   -- why it ended, and what that says of the ports, as `HasEnded` has it
   pub ended : HasEnded old new most result
+
+-- a check of frames in at most `most` reads took the ports from old to new, and gave this result; what it wrote is as `Checks` says
+abbrev pub IsChecking : (old new : Ports) → (most : ℕ) → Result Served ServeFault → Type 0
+IsChecking old new most result = IsCheckWriting Checks old new most result
 
 -- the judge counts one frame more than before, as far as 64 bits go, and `text` is the line of the verdict on that frame, which
 -- begins with the new count

@@ -7,6 +7,7 @@ use Rattle.gc_instrument.specs.State.{State, simulator_opening}
 use Rattle.gc_world.specs.declared.event.Event.{Event}
 use Rattle.gc_world.specs.Clients.{played}
 use Rattle.gc_world.specs.World.{Wire}
+use Rattle.gc_texts.specs.LineForms.{MemoryOnlyIf}
 use Rattle.gc_texts.specs.Settlements.{settlement_lines}
 use Rattle.gc_engines.specs.Reports.{totals_text}
 use Rattle.gc_engines.specs.Schedule.{IsSchedule, IsFirstFaulty}
@@ -73,7 +74,7 @@ HasEndedIfWhole old new result = is_read_whole result ≡ true → IsReadToEnd o
 
 -- where memory was refused to a drill, which took its source from `old` to `new`, a read of the source had been answered
 abbrev pub HasReadIfMemory : (old new : Input) → Result (Unit {0}) RunFault → Type 0
-HasReadIfMemory old new result = result ≡ Err Memory → old.reads < new.reads
+HasReadIfMemory old new result = MemoryOnlyIf (old.reads < new.reads) result
 
 -- whether the source has failed after a drill with this result; `failed` says whether it had before
 abbrev pub source_failed : Result (Unit {0}) RunFault → (failed : Bool) → Bool

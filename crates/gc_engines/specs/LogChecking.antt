@@ -1,9 +1,9 @@
 -- What a check of a log writes of each of its lines: this project's own. `given` are the bytes that the source gave, `rest` those
 -- of a line that no line feed has ended, and `old` and `new` what the sink had taken before and has taken after, where that is
 -- known.
-use Rattle.std.specs.Prelude.{◌≡◌, ℕ, ◌+◌, ◌*◌, ◌-◌, ◌<◌, ◌≤◌, ◌==◌, ◌&&◌, Bool, true, false, not, nat_lt, List, [], ◌∷◌, ◌++◌, length, take, get_or, Option, Result, Ok, Err, if◌then◌else◌, codes}
-use Rattle.std.specs.Io.KnownBytes.{Appends, Consumes}
-use Rattle.gc_lines.specs.Answering.{Ports, HasEnded, all_of}
+use Rattle.std.specs.Prelude.{◌≡◌, ℕ, ◌+◌, ◌-◌, ◌<◌, ◌≤◌, ◌==◌, ◌&&◌, Bool, true, false, not, nat_lt, List, [], ◌∷◌, ◌++◌, length, take, get_or, Option, Result, Ok, Err, if◌then◌else◌, codes}
+use Rattle.std.specs.Io.KnownBytes.{Appends}
+use Rattle.gc_lines.specs.Answering.{Ports, all_of}
 use Rattle.gc_lines.specs.Frames.{ends_in_return, pieces_behind, rest_behind}
 use Rattle.gc_lines.specs.declared.served.Served.{Served}
 use Rattle.gc_lines.specs.declared.served.ServeFault.{ServeFault}
@@ -12,6 +12,7 @@ use Rattle.gc_texts.specs.LineForms.{AreItems}
 use Rattle.gc_texts.specs.Logs.{mark_text, escaped, IsLogLine}
 use Rattle.gc_texts.specs.declared.log_line.LogMark.{LogMark}
 use Rattle.gc_texts.specs.declared.log_line.LogMark.TheVariants as mark
+use Rattle.gc_engines.specs.Checking.{IsCheckWriting}
 use Rattle.gc_engines.specs.Verdicts.{IsLineVerdict, verdict_text}
 use Rattle.gc_engines.specs.declared.check_log.PartialLine.{PartialLine}
 use Rattle.gc_engines.specs.declared.verdict.Verdict.{Verdict}
@@ -100,11 +101,6 @@ ChecksLog given old new (Err (Read count)) = WritesVerdicts [] given old new 0 c
 ChecksLog given old new (Err (Write count bytes)) = WritesVerdictsInPart [] given old new 0 count bytes
 ChecksLog given old new (Err (TooManyReads count)) = WritesVerdicts [] given old new 0 count
 
--- a check of a log in at most `most` reads took the ports from old to new, and gave this result
-pub record IsCheckingLog (old new : Ports) (most : ℕ) (result : Result Served ServeFault) : Type 0 where
-  -- the source gave some bytes, at most 256 at each read, and the sink took the verdicts on their lines, or the part of these that the
-  -- fault says
-  pub checks : (given : List ℕ) × Consumes old.remaining new.remaining given
-      × (length given ≤ 256 * (new.reads - old.reads)) × ChecksLog given old.taken new.taken result
-  -- why it ended, and what that says of the ports, as `HasEnded` has it
-  pub ended : HasEnded old new most result
+-- a check of a log in at most `most` reads took the ports from old to new, and gave this result; what it wrote is as `ChecksLog` says
+abbrev pub IsCheckingLog : (old new : Ports) → (most : ℕ) → Result Served ServeFault → Type 0
+IsCheckingLog old new most result = IsCheckWriting ChecksLog old new most result

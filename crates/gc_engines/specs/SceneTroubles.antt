@@ -11,8 +11,8 @@ use Rattle.gc_texts.specs.Cuts.{before, behind}
 use Rattle.gc_texts.specs.Nears.{IsDouble}
 use Rattle.gc_texts.specs.Procedures.{IsNumber}
 use Rattle.gc_texts.specs.Troubles.{NoNumber}
-use Rattle.gc_texts.specs.Words.{first_word, second_word, third_word, after_two_words, after_three_words}
-use Rattle.gc_engines.specs.RuleScenes.{GivesClock}
+use Rattle.gc_texts.specs.Words.{second_word, third_word, after_two_words, after_three_words}
+use Rattle.gc_engines.specs.RuleScenes.{Begins, GivesClock}
 use Rattle.gc_engines.specs.declared.scene_trouble.SceneTrouble.{SceneTrouble}
 use Rattle.gc_engines.specs.declared.scene_trouble.SceneTrouble.TheVariants as trouble
 use Rattle.gc_engines.specs.declared.scene_trouble.SceneWord.{SceneWord}
@@ -50,7 +50,7 @@ form_text word.Busy = codes "busy queue or busy drop"
 
 -- the line begins with this word
 abbrev pub BeginsWith : SceneWord → List ℕ → Type 0
-BeginsWith w line = first_word line ≡ word_text w
+BeginsWith w line = Begins (word_text w) line
 
 -- the line needs a clock, which `serve` alone has: it gives the instrument one, or it begins with `delay` or `busy`
 abbrev pub NeedsClock : List ℕ → Type 0

@@ -1,7 +1,7 @@
 -- A schedule's text, and the events that it gives: this project's own.
 use Rattle.std.specs.Prelude.{◌≡◌, ℕ, List, ◌∷◌, ◌++◌, codes}
 use Rattle.gc_catalogue.specs.declared.call.Call.{Call}
-use Rattle.gc_texts.specs.LineForms.{IsText, FirstFaulty, ReachesASoundLine}
+use Rattle.gc_texts.specs.LineForms.{IsText, FirstFaulty}
 use Rattle.gc_texts.specs.Procedures.{IsNumber, IsProcedure}
 use Rattle.gc_world.specs.declared.event.Event.{Event}
 use Rattle.gc_world.specs.declared.event.Event.TheVariants.{Send, UpDeliver, UpBytes, UpLose, UpRepeat, DownDeliver, DownBytes, DownLose, DownRepeat, Expire, RestartClient, RestartInstrument}
@@ -71,8 +71,3 @@ IsSchedule text events = IsText IsEvent text events
 -- line number n, counted from 1, is the first that isn't skipped and has the form of no event
 abbrev pub IsFirstFaulty : (text : List ℕ) → (n : ℕ) → Type 0
 IsFirstFaulty text n = FirstFaulty IsEvent text n
-
--- the text has a line that isn't skipped and has the form of an event, and no faulty line before it: a reader comes to such a
--- line, and memory may be refused there
-abbrev pub ReachesASoundEvent : List ℕ → Type 0
-ReachesASoundEvent text = ReachesASoundLine IsEvent text

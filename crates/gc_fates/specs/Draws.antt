@@ -24,7 +24,7 @@ start_of seed Down = output_at ((seed + golden) % 2 ^ 64)
 
 -- the state from which kills of the station are drawn: the seed's third output
 abbrev pub start_of_kills : ℕ → ℕ
-start_of_kills seed = output_at ((seed + golden * 2 % 2 ^ 64) % 2 ^ 64)
+start_of_kills seed = output_at (steps_on seed 2)
 
 -- how many draws are before draw k of line n, both counted from 1: sixteen for each earlier line, and the earlier ones of the same
 -- line, modulo 2^64

@@ -1,13 +1,14 @@
 -- Words with any number of spaces (byte 32) before each: this project's own.
 use Rattle.std.specs.Prelude.{◌≡◌, ℕ, List, []}
 use Rattle.gc_values.specs.Pieces.{without_front_spaces}
-use Rattle.gc_texts.specs.Cuts.{before, behind}
+use Rattle.gc_texts.specs.Cuts.{behind}
+use Rattle.gc_texts.specs.Words as words
 
--- the first word of a text; empty where it has none
+-- the first word of a text, after any spaces; empty where it has none
 abbrev pub first_word : List ℕ → List ℕ
-first_word text = before 32 (without_front_spaces text)
+first_word text = words.first_word (without_front_spaces text)
 
--- what comes after the first word of a text and one space; empty if nothing does
+-- what comes after the first word of a text, the spaces before that word, and one space after it; empty if nothing does
 abbrev pub other_words : List ℕ → List ℕ
 other_words text = behind 32 (without_front_spaces text)
 

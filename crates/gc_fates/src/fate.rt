@@ -96,6 +96,6 @@ pub fn fate_of(rules: &Rules, draws: Draws, line: u64) -> Fate
             rules.chance(Word::Refuse),
             refuse,
         ),
-        restarts: hits(rules.chance(Word::Restart), draws.draw(line, 8)),
+        restarts: restarts_at(rules, draws, line),
     }
 }

@@ -111,6 +111,7 @@ impl Word {
     fn read(text: &[u8]) -> Option<Word>
         ensures { MatchOption result ((word : Word) → name_of word ≡ text.now → ⊥) (λ word. name_of word ≡ text.now) }
     {
+        // Word by word: where all are refused, each refusal is a part of the proof that the text is no word.
         if Word::Delay.is_named(text) {
             return Some(Word::Delay);
         }

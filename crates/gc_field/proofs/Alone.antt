@@ -18,12 +18,12 @@ use Rattle.gc_field.specs.Made.{WasMadeOn, wire_behind}
 
 module _ (s : State) (line : List ℕ) where
   -- the world in which the second request alone is in flight
-  abbrev out : World (ById Asked) State
-  out = moved ends (by_ids 7 ends) (Sends 1 (Table NullProc) 9 ∷ Sends 2 (Table NullProc) 9 ∷ OnLine (Up_lose 0) ∷ []) (ids_open s)
+  abbrev second_out : World (ById Asked) State
+  second_out = moved ends (by_ids 7 ends) (Sends 1 (Table NullProc) 9 ∷ Sends 2 (Table NullProc) 9 ∷ OnLine (Up_lose 0) ∷ []) (ids_open s)
 
   -- the world once the second request reached an instrument that did `h` with that request
   abbrev reached : Handed State → World (ById Asked) State
-  reached h = on_wire out (replied out.wire 1 [] h)
+  reached h = on_wire second_out (replied second_out.wire 1 [] h)
 
   -- what the instrument does with a request for whose id it retains `line`: it sends that line again
   abbrev again : Handed State
@@ -47,14 +47,14 @@ module _ (s : State) (line : List ℕ) where
 
   -- if a request reaches the instrument at one of the moves `two_at_once`, the moves before that one are these: two requests are
   -- sent, and the first is lost
-  only : (front later : List (Move State)) → two_at_once line ≡ front ++ OnLine Up_deliver ∷ later → front ≡ Sends 1 (Table NullProc) 9 ∷ Sends 2 (Table NullProc) 9 ∷ OnLine (Up_lose 0) ∷ []
-  only [] later e = let never : ⊥ = cc in absurd never
-  only (a ∷ []) later e = let never : ⊥ = cc in absurd never
-  only (a ∷ b ∷ []) later e = let never : ⊥ = cc in absurd never
-  only (a ∷ b ∷ c ∷ []) later e = cc
-  only (a ∷ b ∷ c ∷ d ∷ []) later e = let never : ⊥ = cc in absurd never
-  only (a ∷ b ∷ c ∷ d ∷ f ∷ []) later e = let never : ⊥ = cc in absurd never
-  only (a ∷ b ∷ c ∷ d ∷ f ∷ g ∷ front) later e = let never : ⊥ = cc in absurd never
+  moves_before : (front later : List (Move State)) → two_at_once line ≡ front ++ OnLine Up_deliver ∷ later → front ≡ Sends 1 (Table NullProc) 9 ∷ Sends 2 (Table NullProc) 9 ∷ OnLine (Up_lose 0) ∷ []
+  moves_before [] later e = let never : ⊥ = cc in absurd never
+  moves_before (a ∷ []) later e = let never : ⊥ = cc in absurd never
+  moves_before (a ∷ b ∷ []) later e = let never : ⊥ = cc in absurd never
+  moves_before (a ∷ b ∷ c ∷ []) later e = cc
+  moves_before (a ∷ b ∷ c ∷ d ∷ []) later e = let never : ⊥ = cc in absurd never
+  moves_before (a ∷ b ∷ c ∷ d ∷ f ∷ []) later e = let never : ⊥ = cc in absurd never
+  moves_before (a ∷ b ∷ c ∷ d ∷ f ∷ g ∷ front) later e = let never : ⊥ = cc in absurd never
 
   -- the id of the first of these requests, or 0 if there is none
   abbrev first_id : List (Numbered Request) → ℕ
@@ -64,7 +64,7 @@ module _ (s : State) (line : List ℕ) where
   -- if the instrument retains the line with id 1, the line wasn't made on executing the second request
   unmade : kept_line (kept_of s) (Some 1) ≡ Some line → WasMadeOn WINDOW ends (ids_open s) (two_at_once line) 1 (Table NullProc) line → ⊥
   unmade k h =
-      let here = only h.front h.later h.split in
+      let here = moves_before h.front h.later h.split in
       let reaches = subst (λ front. (wire_behind WINDOW ends (ids_open s) front).up ≡ record { number = 1; line = record { id = h.id; call = Table NullProc } } ∷ h.rest) here h.reaches in
       let id : 1 ≡ h.id = ap first_id reaches in
       let executed : (ends.handed s h.id (Table NullProc)).executed ≡ true =

@@ -1,18 +1,19 @@
 -- What is at a place of a list that was appended or cut, or of two lists of which a relation holds place by place; and
 -- settlements among those of requests that were lost.
-use Rattle.std.proofs.Common.{◌≡◌, ℕ, zero, suc, ◌+◌, List, [], ◌∷◌, ◌++◌, map, Some, refl, sym, ap, subst, arith, drop}
+use Rattle.std.proofs.Common.{◌≡◌, ℕ, zero, suc, ◌+◌, ◌-◌, List, [], ◌∷◌, ◌++◌, map, Some, refl, sym, ◌∙◌, ap, subst, arith, drop}
 use Rattle.std.specs.Prelude.{slice_get}
 use Rattle.std.specs.List.{AllZip, AllByRecursion}
 use Rattle.gc_catalogue.specs.declared.asked.Asked.{Asked}
 use Rattle.gc_client.specs.declared.pending.Pending.{Pending}
 use Rattle.gc_client.specs.Rule.{Lost, Settlement, lost}
+use Rattle.gc_world.proofs.Places.{slice_drop}
 use Rattle.std.proofs.lemmas.Option.{none-some, same_Some}
 
--- a settlement whose outcome isn't `Lost` is at no place of the settlements of lost requests (`ps`)
-none_lost : (x : Settlement Asked) → (x.outcome ≡ Lost → ⊥) → (ps : List (Pending Asked)) (n : ℕ) → slice_get (map lost ps) n ≡ Some x → ⊥
-none_lost x other [] n e = none-some x e
-none_lost x other (p ∷ ps) zero e = other (ap (λ (s : Settlement Asked). s.outcome) (sym (same_Some (lost p) x e)))
-none_lost x other (p ∷ ps) (suc n) e = none_lost x other ps n e
+-- among the settlements of lost requests (`ps`), the one at place n has the outcome `Lost`
+pub lost_at : (ps : List (Pending Asked)) (n : ℕ) (x : Settlement Asked) → slice_get (map lost ps) n ≡ Some x → x.outcome ≡ Lost
+lost_at [] n x e = absurd (none-some x e)
+lost_at (p ∷ ps) zero x e = ap (λ (s : Settlement Asked). s.outcome) (sym (same_Some (lost p) x e))
+lost_at (p ∷ ps) (suc n) x e = lost_at ps n x e
 
 -- if x, whose outcome isn't `Lost`, is at place n of the settlements `xs` followed by those of the lost requests `ps`, x is at
 -- place n of `xs`
@@ -20,7 +21,7 @@ pub among_first : (xs : List (Settlement Asked)) (ps : List (Pending Asked)) (n 
     → slice_get (xs ++ map lost ps) n ≡ Some x → slice_get xs n ≡ Some x
 among_first (y ∷ xs) ps zero x other got = got
 among_first (y ∷ xs) ps (suc n) x other got = among_first xs ps n x other got
-among_first [] ps n x other got = absurd (none_lost x other ps n got)
+among_first [] ps n x other got = absurd (other (lost_at ps n x got))
 
 -- where R holds of the elements of two lists, place by place (`AllZip`), it holds of those at place i
 pub zip_at : {A B : Type 0} (R : A → B → Type 0) (xs : List A) (ys : List B) (i : ℕ) (x : A) (y : B) → AllZip R xs ys → slice_get xs i ≡ Some x → slice_get ys i ≡ Some y → R x y
@@ -36,8 +37,4 @@ each_at P (x ∷ xs) f = (f 0 x refl, each_at P xs (λ i y got. f (suc i) y got)
 
 -- an element that is at place n after the first k is at place k + n
 pub get_drop : {A : Type 0} (k n : ℕ) (xs : List A) (x : A) → slice_get (drop k xs) n ≡ Some x → slice_get xs (k + n) ≡ Some x
-get_drop zero n xs x got = let same : n ≡ 0 + n = omega arith in subst (λ i. slice_get xs i ≡ Some x) same got
-get_drop (suc k) n [] x got = absurd (none-some x got)
-get_drop (suc k) n (y ∷ xs) x got =
-    let next : suc (k + n) ≡ suc k + n = omega arith in
-    subst (λ i. slice_get (y ∷ xs) i ≡ Some x) next (get_drop k n xs x got)
+get_drop k n xs x got = let same : k + n - k ≡ n = omega arith in sym (slice_drop k xs (k + n) (omega arith)) ∙ ap (slice_get (drop k xs)) same ∙ got

@@ -94,7 +94,7 @@ abbrev pub moved : List Move → Model → Model
 moved [] s = s
 moved (m ∷ ms) s = moved ms (moves s m)
 
--- each element and each one after it have the relation
+-- each element and each one after it have the relation: `AllPairs` of std, by recursion
 abbrev pub Pairs : {A : Type 0} → (A → A → Type 0) → List A → Type 0
 Pairs R [] = Unit {0}
 Pairs R (x ∷ xs) = AllByRecursion (R x) xs × Pairs R xs

@@ -17,16 +17,16 @@ use Rattle.gc_instrument.specs.State.{KeptReply}
 use Rattle.gc_field.specs.World.{Ends, Request, without, doubled}
 use Rattle.std.proofs.lemmas.Option.{same_Some, none-some}
 use Rattle.gc_world.proofs.Rows.{each_without, each_doubled}
-use Rattle.gc_field.specs.Begin.{InFlight, IsWellFormed, AreTurns, Model, Turn, Asks, Comes, Foreign, Reaches, Up_lose, Up_repeat, Down_lose, Down_repeat, Anew, Changes, UnderWay, begins, leaves, ids_under_way, asks, comes, reaches, turns, turned}
+use Rattle.gc_field.specs.Begin.{InFlight, IsWellFormed, LacksTheWord, AreTurns, Model, Turn, Asks, Comes, Foreign, Reaches, Up_lose, Up_repeat, Down_lose, Down_repeat, Anew, Changes, UnderWay, begins, leaves, ids_under_way, asks, comes, reaches, turns, turned}
 use Rattle.gc_field.specs.Begun.{HasBegunCleanly, eighth}
-use Rattle.gc_field.specs.Instrument.{IsAnInstrument}
+use Rattle.gc_field.specs.Instrument.{IsAnInstrument, IsOwnOrNone}
 use Rattle.gc_field.proofs.BeginIds as ids
 use Rattle.gc_field.proofs.BeginIds.{IdSent, IsClean, aged, begun_anew, ids_of, moved}
-use Rattle.gc_field.proofs.BeginKilled.{begins_anew, behind_one, under_way}
+use Rattle.gc_field.proofs.BeginKilled.{SplitWord, absent_behind, begins_anew, ids_before, ids_upto, under_way}
 use Rattle.gc_field.proofs.BeginLists.{each_map}
-use Rattle.gc_lines.proofs.Lists.{all_front, all_append}
+use Rattle.gc_lines.proofs.Lists.{all_append}
+use Rattle.gc_values.proofs.Every.{every_front as all_front}
 use Rattle.gc_field.proofs.BeginSound.{the_word_begins_cleanly}
-use Rattle.gc_field.proofs.KeptReplies.{IsOwnOrNone}
 use Rattle.gc_field.proofs.Once.{still_retained}
 use Rattle.gc_world.proofs.Handing.{kept_id}
 use Rattle.gc_world.proofs.Queues.{without_map, doubled_map}
@@ -64,8 +64,8 @@ pub small_left : (left : List ℕ) (o : Option ℕ) → IsSmall left → IsSmall
 small_left [] o h = tt
 small_left (asked ∷ rest) o h = small_if (is_answered (asked ∷ rest) o) asked rest h
 
--- where the ids left are below 8, a line leaves the same ids by the client's rule (`left_by`) as in the synchronization over ids, in
--- which a line without an id counts as one with the id 8
+-- where the ids left are below 8, a line leaves the same ids by the client's rule (`left_by`) as in the synchronization over ids,
+-- in which a line without an id counts as one with the id 8
 same_left : (left : List ℕ) (o : Option ℕ) → IsSmall left → ids.heard left (id_or o) ≡ left_by left o
 same_left [] o h = refl
 same_left (asked ∷ rest) (Some id) h = refl
@@ -287,8 +287,8 @@ module _ {State : Type 0} (ends : Ends State) (Good : State → Type 0) (kept : 
   -- Its words: a line without an id makes no difference.
 
   -- the ids of the marks of requests are the requests' ids
-  ids_up : (xs : List Request) → ids_of (map (λ x. record { id = x.id; old = true }) xs) ≡ map (λ x. x.id) xs
-  ids_up xs = map-map _ _ xs
+  ids_of_marked : (xs : List Request) → ids_of (map (λ x. record { id = x.id; old = true }) xs) ≡ map (λ x. x.id) xs
+  ids_of_marked xs = map-map _ _ xs
 
   -- `ids` are the ids of some lines, with 8 for a line without one; `others` are the ids that these lines have. If each word of
   -- ids below 8 that `ids` contain is contained in `others`, the same holds with one line more before them, whose id, if any, is
@@ -342,7 +342,7 @@ module _ {State : Type 0} (ends : Ends State) (Good : State → Type 0) (kept : 
 
   -- a word of ids below 8 that isn't in the ids in flight isn't in those of the marks
   absent_marks : (u : UnderWay State) (word : List ℕ) → IsSmall word → (IsSubsequence word (ids_under_way u) → ⊥) → IsSubsequence word (under_way (marks u)) → ⊥
-  absent_marks u word s none h = none (marked_lines u.down word (ids_of (marks u).up) (map (λ x. x.id) u.up) (ids_up u.up) s h)
+  absent_marks u word s none h = none (marked_lines u.down word (ids_of (marks u).up) (map (λ x. x.id) u.up) (ids_of_marked u.up) s h)
 
   -- the ids of the requests that a synchronization leaves are those of their marks
   up_left : (xs : List (InFlight Request)) → map (λ x. x.id) (map (λ x. x.line) xs) ≡ ids_of (map mark_up xs)
@@ -389,7 +389,7 @@ module _ {State : Type 0} (ends : Ends State) (Good : State → Type 0) (kept : 
   -- if what is in flight at the start of a synchronization is well formed, its turns are possible, the ids in flight at its start
   -- don't contain the word, and no id is left after its turns, it has ended cleanly
   pub begins_cleanly : (u : UnderWay State) (ts : List (Turn State)) → IsWellFormed Good u → AreTurns ends Good kept ts (begins u)
-      → (IsSubsequence the_word (ids_under_way u) → ⊥) → (turned ends ts (begins u)).left ≡ []
+      → LacksTheWord u → (turned ends ts (begins u)).left ≡ []
       → HasBegunCleanly kept (turned ends ts (begins u))
   begins_cleanly u ts lines possible none done =
       let r = shown ts (begins u) (begun_anew the_word (marks u)) possible (shows_begins u lines) in
@@ -406,14 +406,13 @@ module _ {State : Type 0} (ends : Ends State) (Good : State → Type 0) (kept : 
         good = r.1.good;
       }
 
-  -- where what is in flight at the start of a synchronization is `IsWellFormed`, its ids don't contain the front a, b, `more` of
-  -- the word, and the turns are possible: the ids that the synchronization leaves, killed or not, don't contain that front with
-  -- the next id of the word, c
-  pub left_absent : (u : UnderWay State) (ts : List (Turn State)) (a b : ℕ) (more : List ℕ) (c : ℕ) (tail : List ℕ) → the_word ≡ a ∷ b ∷ (more ++ c ∷ tail)
-      → IsWellFormed Good u → AreTurns ends Good kept ts (begins u)
-      → (IsSubsequence (a ∷ b ∷ more) (ids_under_way u) → ⊥) → IsSubsequence (a ∷ b ∷ (more ++ c ∷ [])) (ids_under_way (leaves (turned ends ts (begins u)))) → ⊥
-  left_absent u ts a b more c tail e lines possible none h =
+  -- where the word is split at its id c, what is in flight at the start of a synchronization is `IsWellFormed`, its ids don't
+  -- contain those of the word before c (`ids_before`), and the turns are possible: the ids that the synchronization leaves,
+  -- killed or not, don't contain them with c after them (`ids_upto`)
+  pub left_absent : (u : UnderWay State) (ts : List (Turn State)) (w : SplitWord the_word) → IsWellFormed Good u → AreTurns ends Good kept ts (begins u)
+      → (IsSubsequence (ids_before w) (ids_under_way u) → ⊥) → IsSubsequence (ids_upto w) (ids_under_way (leaves (turned ends ts (begins u)))) → ⊥
+  left_absent u ts w lines possible none h =
       let r = shown ts (begins u) (begun_anew the_word (marks u)) possible (shows_begins u lines) in
-      let small : IsSmall (a ∷ b ∷ more) = all_front (λ i. i < 8) (a ∷ b ∷ more) (c ∷ tail) (subst IsSmall e word_small) in
-      behind_one (marks u) r.0 a b more c tail e (absent_marks u (a ∷ b ∷ more) small none)
-      (left_marks (turned ends ts (begins u)) (moved r.0 (begun_anew the_word (marks u))) (a ∷ b ∷ (more ++ c ∷ [])) r.1 h)
+      let small : IsSmall (ids_before w) = all_front (λ i. i < 8) (ids_before w) (w.c ∷ w.tail) (subst IsSmall w.is word_small) in
+      absent_behind (marks u) r.0 w (absent_marks u (ids_before w) small none)
+      (left_marks (turned ends ts (begins u)) (moved r.0 (begun_anew the_word (marks u))) (ids_upto w) r.1 h)

@@ -5,19 +5,20 @@
 use Rattle.std.proofs.Common.{◌≡◌, ℕ, zero, ◌⊎◌, inl, inr, Bool, true, false, List, [], ◌∷◌, ◌++◌, nat_eq, refl, sym, ◌∙◌, ap, subst, append-nil, append_assoc}
 use Rattle.std.specs.List.{AllByRecursion}
 use mathlib.Core.List.{map-map}
-use mathlib.Core.Path.{ap₂}
 use Rattle.std.proofs.lemmas.Bool.{eqb-true, false≢true}
-use Rattle.std.proofs.lemmas.List.{map-append}
+use Rattle.std.proofs.lemmas.List.{append_cancel_left, map-append}
 use Rattle.gc_client.specs.Beginning.{left_by_one, IsSubsequence, the_word}
 use Rattle.gc_field.proofs.BeginIds.{IdSent, Model, Move, heard, moved, aged, begun_anew, Pairs, AllDiffer, Begins, ids_of}
 use Rattle.gc_field.specs.World.{without, doubled}
-use Rattle.gc_lines.proofs.Lists.{all_behind, all_append, all_on}
+use Rattle.gc_lines.proofs.Lists.{all_append}
+use Rattle.gc_values.proofs.Every.{every_behind as all_behind, every_weaker as all_on}
 use Rattle.gc_field.proofs.BeginLists.{each_all, each_both, each_map, each_to_map, pairs_front, pairs_back}
 use Rattle.gc_field.proofs.BeginWords.{HasNoMoreWords, subword_front, subword_each, word_differs}
 use Rattle.gc_field.proofs.BeginMoves.{Lasts, holds_moved}
 use Rattle.gc_field.proofs.BeginLines.{IsLine, IsOld, IsOwn, KeepsOwn, HasNone, KeepsTheId, OwnIdsFit, old_if, olds, olds_all, olds_push, has_without, has_doubled, line_without, line_doubled, line_asked, line_came}
 use Rattle.gc_field.proofs.BeginSound.{sound_at_start}
 use Rattle.gc_world.proofs.Rows.{each_without, each_doubled}
+use Rattle.gc_station.proofs.Lists.{fronts}
 
 -- The invariant of one synchronization.
 
@@ -146,20 +147,40 @@ module _ (z : ℕ) (word first : List ℕ) where
 
 -- What can be in flight meanwhile.
 
+-- a word that is split at its id c: a and b are its first two ids, `more` are those after them and before c, and `tail` those
+-- after c
+pub record SplitWord (word : List ℕ) : Type 0 where
+  pub a : ℕ
+  pub b : ℕ
+  pub more : List ℕ
+  pub c : ℕ
+  pub tail : List ℕ
+  pub is : word ≡ a ∷ b ∷ (more ++ c ∷ tail)
+
+-- the ids of a split word before c
+abbrev pub ids_before : {word : List ℕ} → SplitWord word → List ℕ
+ids_before w = w.a ∷ w.b ∷ w.more
+
+-- the ids of a split word up to c
+abbrev pub ids_upto : {word : List ℕ} → SplitWord word → List ℕ
+ids_upto w = w.a ∷ w.b ∷ (w.more ++ w.c ∷ [])
+
 -- if a word is split into `done` and `left`, and also into `front`, an id c, and `tail`: `front` is a front of `done`, or c is
 -- in `left`, after its first id
-fronts : (done left front : List ℕ) (c : ℕ) (tail : List ℕ) → done ++ left ≡ front ++ c ∷ tail
+front_or_left : (done left front : List ℕ) (c : ℕ) (tail : List ℕ) → done ++ left ≡ front ++ c ∷ tail
     → ((more : List ℕ) × (done ≡ front ++ more)) ⊎ ((asked : ℕ) × (more : List ℕ) × (left ≡ asked ∷ (more ++ c ∷ tail)))
-fronts [] left [] c tail e = inl ([], refl)
-fronts [] left (a ∷ front) c tail e = inr (a, front, e)
-fronts (d ∷ done) left [] c tail e = inl (d ∷ done, refl)
-fronts (d ∷ done) left (a ∷ front) c tail e =
-    let same : d ≡ a = cc in
-    let rest : done ++ left ≡ front ++ c ∷ tail = cc in
-    elim (fronts done left front c tail rest) [
-      | inl h ↦ inl (h.0, ap₂ (λ (x : ℕ) (xs : List ℕ). x ∷ xs) same h.1)
-      | inr h ↦ inr h
+front_or_left done left front c tail e =
+    elim (fronts done left front (c ∷ tail) e) [
+      | inl h ↦ by_more h.0 h.1
+      | inr h ↦ inl h
     ]
+  where
+    -- the lemma above, where `front` is `done` and then `more`
+    by_more : (more : List ℕ) → front ≡ done ++ more
+        → ((more : List ℕ) × (done ≡ front ++ more)) ⊎ ((asked : ℕ) × (more : List ℕ) × (left ≡ asked ∷ (more ++ c ∷ tail)))
+    by_more [] is = inl ([], sym (is ∙ append-nil done) ∙ sym (append-nil front))
+    by_more (asked ∷ more) is =
+        inr (asked, more, append_cancel_left done left (asked ∷ (more ++ c ∷ tail)) (e ∙ ap (λ l. l ++ c ∷ tail) is ∙ append_assoc done (asked ∷ more) (c ∷ tail)))
 
 -- ids that don't have the last id c of a word don't contain the word
 own_has_no : (front : List ℕ) (c : ℕ) (ids : List ℕ) → AllByRecursion (λ i. c ≡ i → ⊥) ids → IsSubsequence (front ++ c ∷ []) ids → ⊥
@@ -209,42 +230,39 @@ over_short p left word line a b c d h s =
     not_three p left a b c d.0.0 d.0.1.0 d.1.0.0 near.0 near.1.0 near.1.1.0
 
 -- where `IsTrying` holds of what is in flight, and no id is in the word twice: if the ids at the start (`first`) didn't contain
--- the front a, b, `more` of the word, the ids in flight don't contain that front with the next id, c
-no_longer : (z : ℕ) (word first left : List ℕ) (line : List IdSent) (a b : ℕ) (more : List ℕ) (c : ℕ) (tail : List ℕ) → word ≡ a ∷ b ∷ (more ++ c ∷ tail) → AllDiffer word
-    → (IsSubsequence (a ∷ b ∷ more) first → ⊥) → IsTrying z word first left line → IsSubsequence (a ∷ b ∷ (more ++ c ∷ [])) (ids_of line) → ⊥
-no_longer z word first left line a b more c tail e d none h s =
+-- those of the word before its id c (`ids_before`), the ids in flight don't contain them with c after them (`ids_upto`)
+next_absent : (z : ℕ) (word first left : List ℕ) (line : List IdSent) (w : SplitWord word) → AllDiffer word → (IsSubsequence (ids_before w) first → ⊥)
+    → IsTrying z word first left line → IsSubsequence (ids_upto w) (ids_of line) → ⊥
+next_absent z word first left line w d none h s =
     elim h.phase [
       | inl g ↦ (
-          elim (fronts h.done left (a ∷ b ∷ more) c tail (sym h.split ∙ e)) [
-            | inl f ↦ none (subword_front (a ∷ b ∷ more) f.0 first (subst
+          elim (front_or_left h.done left (ids_before w) w.c w.tail (sym h.split ∙ w.is)) [
+            | inl f ↦ none (subword_front (ids_before w) f.0 first (subst
                 (λ l. IsSubsequence l first) (append-nil h.done ∙ f.1) (g.heard [] (subst AllDiffer (sym (append-nil h.done)) done_differs) tt)))
-            | inr f ↦ none (subword_front (a ∷ b ∷ more) (c ∷ []) first (g.from front front_differs (in_old line (a ∷ b ∷ more) c h.sound.ordered (own_none f.0 f.1 f.2) s)))
+            | inr f ↦ none (subword_front (ids_before w) (w.c ∷ []) first (g.from (ids_upto w) upto_differs (in_old line (ids_before w) w.c h.sound.ordered (own_none f.0 f.1 f.2) s)))
           ])
-      | inr g ↦ third more front_differs s g.0 g.1
+      | inr g ↦ third w.more upto_differs s g.0 g.1
     ]
   where
-    -- the front of the word, with c
-    front : List ℕ
-    front = a ∷ b ∷ (more ++ c ∷ [])
-
     -- no id is among the answered ones twice
     done_differs : AllDiffer h.done
     done_differs = pairs_front (λ i j. i ≡ j → ⊥) h.done left (subst AllDiffer h.split d)
 
-    -- no id is in the front with c twice
-    front_differs : AllDiffer (a ∷ b ∷ (more ++ c ∷ []))
-    front_differs = pairs_front (λ i j. i ≡ j → ⊥) (a ∷ b ∷ (more ++ c ∷ [])) tail (subst AllDiffer (e ∙ sym (ap (λ l. a ∷ b ∷ l) (append_assoc more (c ∷ []) tail))) d)
+    -- no id is among those up to c twice
+    upto_differs : AllDiffer (ids_upto w)
+    upto_differs = pairs_front (λ i j. i ≡ j → ⊥) (ids_upto w) w.tail (subst AllDiffer (w.is ∙ sym (ap (λ l. w.a ∷ w.b ∷ l) (append_assoc w.more (w.c ∷ []) w.tail))) d)
 
     -- where c isn't answered yet, and isn't the first id left, no own line has it
-    own_none : (asked : ℕ) (between : List ℕ) → left ≡ asked ∷ (between ++ c ∷ tail) → AllByRecursion (λ x. IsOwn x → c ≡ x.id → ⊥) line
+    own_none : (asked : ℕ) (between : List ℕ) → left ≡ asked ∷ (between ++ w.c ∷ w.tail) → AllByRecursion (λ x. IsOwn x → w.c ≡ x.id → ⊥) line
     own_none asked between f =
-        all_on (HasNone (between ++ c ∷ tail)) (λ x. IsOwn x → c ≡ x.id → ⊥) line (λ x g o. (all_behind (λ i. i ≡ x.id → ⊥) between (c ∷ tail) (g o)).0)
+        all_on (HasNone (between ++ w.c ∷ w.tail)) (λ x. IsOwn x → w.c ≡ x.id → ⊥) line (λ x g o. (all_behind (λ i. i ≡ x.id → ⊥) between (w.c ∷ w.tail) (g o)).0)
         (subst (λ l. OwnIdsFit z l line) f h.sound.own).0
 
-    -- the front with c has a third id, so it isn't in the ids of lines that have two ids at most
-    third : (more : List ℕ) → AllDiffer (a ∷ b ∷ (more ++ c ∷ [])) → IsSubsequence (a ∷ b ∷ (more ++ c ∷ [])) (ids_of line) → (p : ℕ) → AllByRecursion (λ x. IsOwn x × IsOneOfTwo p left x.id) line → ⊥
-    third [] d s p g = over_short p left [] line a b c d g s
-    third (m ∷ more) d s p g = over_short p left (more ++ c ∷ []) line a b m d g s
+    -- the ids up to c are three at least, so they aren't in the ids of lines that have two ids at most
+    third : (more : List ℕ) → AllDiffer (w.a ∷ w.b ∷ (more ++ w.c ∷ [])) → IsSubsequence (w.a ∷ w.b ∷ (more ++ w.c ∷ [])) (ids_of line) → (p : ℕ)
+        → AllByRecursion (λ x. IsOwn x × IsOneOfTwo p left x.id) line → ⊥
+    third [] d s p g = over_short p left [] line w.a w.b w.c d g s
+    third (m ∷ more) d s p g = over_short p left (more ++ w.c ∷ []) line w.a w.b m d g s
 
 -- One synchronization after the other.
 
@@ -279,15 +297,15 @@ trying_at_start s h =
       phase = inl (record { from = λ v d g. subst (λ ids. IsSubsequence v ids) same g; heard = λ v d g. subst (λ ids. IsSubsequence v ids) same g });
     }
 
--- if the ids in flight don't contain the front a, b, `more` of the word, those after any moves of a synchronization, wherever it
--- is killed, don't contain that front with the next id, c
-pub behind_one : (s : Model) (ms : List Move) (a b : ℕ) (more : List ℕ) (c : ℕ) (tail : List ℕ) → the_word ≡ a ∷ b ∷ (more ++ c ∷ tail)
-    → (IsSubsequence (a ∷ b ∷ more) (under_way s) → ⊥) → IsSubsequence (a ∷ b ∷ (more ++ c ∷ [])) (under_way (moved ms (begun_anew the_word s))) → ⊥
-behind_one s ms a b more c tail e none h =
+-- where the word is split at its id c, and the ids in flight don't contain those of the word before c (`ids_before`): the ids in
+-- flight after any moves of a synchronization, wherever it is killed, don't contain them with c after them (`ids_upto`)
+pub absent_behind : (s : Model) (ms : List Move) (w : SplitWord the_word) → (IsSubsequence (ids_before w) (under_way s) → ⊥)
+    → IsSubsequence (ids_upto w) (under_way (moved ms (begun_anew the_word s))) → ⊥
+absent_behind s ms w none h =
     let anew : Model = begun_anew the_word s in
     let end : Model = moved ms anew in
-    let begins : Begins the_word anew = begins_anew s (λ g. none (subword_front (a ∷ b ∷ more) (c ∷ tail) (under_way s) (subst (λ w. IsSubsequence w (under_way s)) e g))) in
+    let begins : Begins the_word anew = begins_anew s (λ g. none (subword_front (ids_before w) (w.c ∷ w.tail) (under_way s) (subst (λ l. IsSubsequence l (under_way s)) w.is g))) in
     let trying = holds_moved (IsTrying 7 the_word (under_way anew)) (trying_lasts 7 the_word (under_way anew)) ms anew (trying_at_start anew begins) in
-    no_longer 7 the_word (under_way anew) end.left (end.down ++ end.up) a b more c tail e word_differs
-    (λ g. none (subst (λ ids. IsSubsequence (a ∷ b ∷ more) ids) (ids_anew s) g)) trying
-    (subst (λ ids. IsSubsequence (a ∷ b ∷ (more ++ c ∷ [])) ids) (sym (map-append (λ (x : IdSent). x.id) end.down end.up)) h)
+    next_absent 7 the_word (under_way anew) end.left (end.down ++ end.up) w word_differs
+    (λ g. none (subst (λ ids. IsSubsequence (ids_before w) ids) (ids_anew s) g)) trying
+    (subst (λ ids. IsSubsequence (ids_upto w) ids) (sym (map-append (λ (x : IdSent). x.id) end.down end.up)) h)

@@ -4,7 +4,8 @@
 use Rattle.std.proofs.Common.{◌≡◌, ℕ, zero, suc, inl, Bool, true, false, List, [], ◌∷◌, ◌++◌, nat_eq, refl, sym, ◌∙◌, ap, subst}
 use Rattle.std.specs.List.{AllByRecursion}
 use Rattle.std.proofs.lemmas.Bool.{eqb-true, true≢false, false≢true}
-use Rattle.gc_lines.proofs.Lists.{all_append, all_on}
+use Rattle.gc_lines.proofs.Lists.{all_append}
+use Rattle.gc_values.proofs.Every.{every_weaker as all_on}
 use Rattle.gc_client.specs.Beginning.{left_by_one, IsSubsequence}
 use Rattle.gc_field.proofs.BeginIds.{IdSent, heard, Pairs, AllDiffer, ids_of, last}
 use Rattle.gc_field.specs.World.{without, doubled}
@@ -103,10 +104,11 @@ has_if : (b : Bool) (i : ℕ) (ids others : List ℕ) → HasNoMoreWords ids oth
 has_if true i ids others h = has_behind i ids others h
 has_if false i ids others h = h
 
--- without its front line, old or own, the line has no more words in its old ids
-has_less_if : (b : Bool) (i : ℕ) (ids : List ℕ) → HasNoMoreWords ids (old_if b i ids)
-has_less_if true i ids = λ word d h. subword_more word ids i h
-has_less_if false i ids = λ word d h. h
+-- the old ids without the front line's contain no more words without an id twice than those with it (`HasNoMoreWords`), whether
+-- that line is old or own
+has_front_if : (b : Bool) (i : ℕ) (ids : List ℕ) → HasNoMoreWords ids (old_if b i ids)
+has_front_if true i ids = λ word d h. subword_more word ids i h
+has_front_if false i ids = λ word d h. h
 
 -- if the front line, old or own, comes twice, no more words without an id twice are in the old ids
 has_twice_if : (b : Bool) (i : ℕ) (ids : List ℕ) → HasNoMoreWords (old_if b i (old_if b i ids)) (old_if b i ids)
@@ -116,7 +118,7 @@ has_twice_if false i ids = λ word d h. h
 -- if a line is lost, no more words without an id twice are in the old ids
 pub has_without : (k : ℕ) (line : List IdSent) → HasNoMoreWords (olds (without k line)) (olds line)
 has_without k [] = λ word d h. h
-has_without zero (x ∷ xs) = has_less_if x.old x.id (olds xs)
+has_without zero (x ∷ xs) = has_front_if x.old x.id (olds xs)
 has_without (suc k) (x ∷ xs) = has_if x.old x.id (olds (without k xs)) (olds xs) (has_without k xs)
 
 -- if a line comes twice, no more words without an id twice are in the old ids

@@ -3,7 +3,8 @@
 -- and each one after it; `without k` is the loss of element k, and `doubled k` its repeat.
 use Rattle.std.proofs.Common.{◌≡◌, ℕ, zero, suc, ◌⊎◌, inl, inr, List, [], ◌∷◌, ◌++◌, map, refl, ap}
 use Rattle.std.specs.List.{AllByRecursion}
-use Rattle.gc_lines.proofs.Lists.{all_front, all_behind, all_append}
+use Rattle.gc_lines.proofs.Lists.{all_append}
+use Rattle.gc_values.proofs.Every.{every_front as all_front, every_behind as all_behind}
 use Rattle.gc_field.proofs.BeginIds.{Pairs}
 use Rattle.gc_field.specs.World.{without, doubled}
 use Rattle.gc_world.proofs.Rows.{each_without, each_doubled}

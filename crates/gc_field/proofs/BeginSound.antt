@@ -7,7 +7,8 @@ use Rattle.gc_client.specs.Beginning.{left_by_one, IsSubsequence, the_word}
 use Rattle.gc_field.proofs.BeginIds.{IdSent, Model, Move, Ask, Reach, Pass, Come, Up_lose, Up_repeat, Down_lose, Down_repeat, Anew, heard, asks, reaches, kept_past, passes, comes, moves, moved, AllDiffer, ids_of, last, Begins, IsClean}
 use Rattle.gc_field.specs.World.{without, doubled}
 use Rattle.gc_field.proofs.BeginLists.{each_all, each_both, pairs_before, pairs_of_each}
-use Rattle.gc_lines.proofs.Lists.{all_front, all_behind, all_append, all_on}
+use Rattle.gc_lines.proofs.Lists.{all_append}
+use Rattle.gc_values.proofs.Every.{every_front as all_front, every_behind as all_behind, every_weaker as all_on}
 use Rattle.gc_field.proofs.BeginMoves.{Lasts, holds_moves}
 use Rattle.gc_field.proofs.BeginWords.{word_differs}
 use Rattle.gc_field.proofs.BeginLines.{IsLine, IsOld, IsOwn, KeepsOwn, HasNone, KeepsTheId, OwnIdsFit, olds_all, each_own, line_without, line_doubled, line_asked, line_came, is_own}
@@ -26,10 +27,14 @@ abbrev pub KeptIdFits : ℕ → List ℕ → List IdSent → Option ℕ → Type
 KeptIdFits z [] down kept = IfSome kept (λ i. i ≡ z)
 KeptIdFits z (asked ∷ later) down kept = AllByRecursion (KeepsIf asked kept) down
 
+-- in this state `KeptIdFits` holds of what the instrument retains
+abbrev pub KeptFits : ℕ → Model → Type 0
+KeptFits z s = KeptIdFits z s.left s.down s.kept
+
 -- what holds of a state of a synchronization, where z is the word's last id: of the line, and of what is retained
 pub record IsSound (z : ℕ) (s : Model) : Type 0 where
   pub line : IsLine z s.left (s.down ++ s.up)
-  pub keeps : KeptIdFits z s.left s.down s.kept
+  pub keeps : KeptFits z s
 
 -- What is kept.
 
@@ -85,13 +90,13 @@ keeps_heard z (asked ∷ later) x rest up kept h k = chosen (nat_eq x.id asked) 
 line_lasts : (z : ℕ) → Lasts (IsLine z)
 line_lasts z = record { lost = line_without z; twice = line_doubled z; asked = line_asked z; came = line_came z }
 
--- where `IsSound` holds of a state, `KeptIdFits` still does after the client asked
-keeps_asks : (z : ℕ) (s : Model) (left : List ℕ) → IsSound z s → KeptIdFits z (asks s left).left (asks s left).down (asks s left).kept
+-- where `IsSound` holds of a state, `KeptFits` holds after the client asked
+keeps_asks : (z : ℕ) (s : Model) (left : List ℕ) → IsSound z s → KeptFits z (asks s left)
 keeps_asks z s [] h = h.keeps
 keeps_asks z s (asked ∷ later) h = h.keeps
 
--- where `IsSound` holds of a state, `KeptIdFits` still does after a request reached the instrument
-keeps_reaches : (z : ℕ) (s : Model) (up : List IdSent) → s.up ≡ up → IsSound z s → KeptIdFits z (reaches s up).left (reaches s up).down (reaches s up).kept
+-- where `IsSound` holds of a state, `KeptFits` holds after a request reached the instrument
+keeps_reaches : (z : ℕ) (s : Model) (up : List IdSent) → s.up ≡ up → IsSound z s → KeptFits z (reaches s up)
 keeps_reaches z s [] e h = h.keeps
 keeps_reaches z s (x ∷ rest) e h = keeps_replied z s.left s.down x (keeps_reached z s.left s.down x rest (subst (λ q. IsLine z s.left (s.down ++ q)) e h.line))
 
@@ -104,8 +109,8 @@ keeps_old : (z : ℕ) (left : List ℕ) (down : List IdSent) (x : IdSent) (kept 
 keeps_old z [] down x kept old h = h
 keeps_old z (asked ∷ later) down x kept old h = all_append (KeepsIf asked kept) down (x ∷ []) h ((λ own e. absurd (not_both x old own)), tt)
 
--- where `IsSound` holds of a state, `KeptIdFits` still does after `Pass`
-keeps_passes : (z : ℕ) (s : Model) (up : List IdSent) → s.up ≡ up → IsSound z s → KeptIdFits z (passes s up).left (passes s up).down (passes s up).kept
+-- where `IsSound` holds of a state, `KeptFits` holds after `Pass`
+keeps_passes : (z : ℕ) (s : Model) (up : List IdSent) → s.up ≡ up → IsSound z s → KeptFits z (passes s up)
 keeps_passes z s [] e h = h.keeps
 keeps_passes z s (x ∷ rest) e h = by_case x.old refl where
   -- the lemma above, by whether the request is old (`old`)
@@ -113,14 +118,14 @@ keeps_passes z s (x ∷ rest) e h = by_case x.old refl where
   by_case true old = keeps_old z s.left s.down x s.kept old h.keeps
   by_case false own = keeps_replied z s.left s.down x (keeps_reached z s.left s.down x rest (subst (λ q. IsLine z s.left (s.down ++ q)) e h.line))
 
--- where `IsSound` holds of a state, `KeptIdFits` still does after the front reply came, if one is in flight
-keeps_comes : (z : ℕ) (s : Model) (down : List IdSent) → s.down ≡ down → IsSound z s → KeptIdFits z (comes s down).left (comes s down).down (comes s down).kept
+-- where `IsSound` holds of a state, `KeptFits` holds after the front reply came, if one is in flight
+keeps_comes : (z : ℕ) (s : Model) (down : List IdSent) → s.down ≡ down → IsSound z s → KeptFits z (comes s down)
 keeps_comes z s [] e h = h.keeps
 keeps_comes z s (x ∷ rest) e h =
     keeps_heard z s.left x rest s.up s.kept (subst (λ q. IsLine z s.left (q ++ s.up)) e h.line) (subst (λ q. KeptIdFits z s.left q s.kept) e h.keeps)
 
--- where `IsSound` holds of a state, `KeptIdFits` still does after any move
-keeps_moves : (z : ℕ) (s : Model) (m : Move) → IsSound z s → KeptIdFits z (moves s m).left (moves s m).down (moves s m).kept
+-- where `IsSound` holds of a state, `KeptFits` holds after any move
+keeps_moves : (z : ℕ) (s : Model) (m : Move) → IsSound z s → KeptFits z (moves s m)
 keeps_moves z s Ask h = keeps_asks z s s.left h
 keeps_moves z s Reach h = keeps_reaches z s s.up refl h
 keeps_moves z s Pass h = keeps_passes z s s.up refl h
@@ -183,9 +188,8 @@ sound_at_start word s differ h =
 -- Its end.
 
 -- if no id is left, a sound state is clean
-clean_if : (z : ℕ) (s : Model) (left : List ℕ) → s.left ≡ left → left ≡ [] → IsSound z s → IsClean z s
-clean_if z s left e f h =
-    let done : s.left ≡ [] = e ∙ f in
+clean_if_done : (z : ℕ) (s : Model) → s.left ≡ [] → IsSound z s → IsClean z s
+clean_if_done z s done h =
     let line : IsLine z [] (s.down ++ s.up) = subst (λ l. IsLine z l (s.down ++ s.up)) done h.line in
     let keeps : IfSome s.kept (λ i. i ≡ z) = subst (λ l. KeptIdFits z l s.down s.kept) done h.keeps in
     let each : AllByRecursion (λ x. (x.old ≡ false) × (x.id ≡ z)) (s.down ++ s.up) =
@@ -196,14 +200,7 @@ clean_if z s left e f h =
       kept = λ i e. subst (λ k. IfSome k (λ i. i ≡ z)) e keeps;
     }
 
--- if no id is in the word twice, the ids in flight at the start of a synchronization don't contain the word (`Begins`), and no id
--- is left after these moves, it has ended cleanly
-pub begins_cleanly : (word : List ℕ) (s : Model) (ms : List Move) → AllDiffer word → Begins word s → (moved ms s).left ≡ [] → IsClean (last 0 word) (moved ms s)
-begins_cleanly word s ms differ begins done = clean_if (last 0 word) (moved ms s) (moved ms s).left refl done (sound_moved (last 0 word) ms s (sound_at_start word s differ begins))
-
--- The word.
-
 -- if the ids in flight at the start of a synchronization don't contain the word that a station uses (`Begins`), and no id of it
 -- is left after these moves, it has ended cleanly
 pub the_word_begins_cleanly : (s : Model) (ms : List Move) → Begins the_word s → (moved ms s).left ≡ [] → IsClean 7 (moved ms s)
-the_word_begins_cleanly s ms begins done = begins_cleanly the_word s ms word_differs begins done
+the_word_begins_cleanly s ms begins done = clean_if_done 7 (moved ms s) done (sound_moved 7 ms s (sound_at_start the_word s word_differs begins))

@@ -1,9 +1,9 @@
 -- When a list of ids contains a word as a subsequence ("the word is in the ids"). If it doesn't, it doesn't either once ids are
 -- lost; nor once an id is repeated directly after itself, if no id is in the word twice.
-use Rattle.std.proofs.Common.{◌≡◌, ℕ, zero, suc, ◌+◌, ◌-◌, ◌%◌, ◌<◌, ◌≤◌, inl, inr, Bool, true, false, List, [], ◌∷◌, ◌++◌, nat_eq, cond, refl, sym, ◌∙◌, subst, arith, map}
+use Rattle.std.proofs.Common.{◌≡◌, ℕ, zero, suc, ◌+◌, ◌-◌, ◌%◌, ◌<◌, ◌≤◌, inl, inr, Bool, true, false, not, ◌&&◌, List, [], ◌∷◌, ◌++◌, nat_eq, refl, sym, ◌∙◌, subst, arith, map}
 use Rattle.std.specs.List.{AllByRecursion}
 use mathlib.Core.Path.{ap₂}
-use Rattle.std.proofs.lemmas.Bool.{eq-eqb, eqb-true, eqb-false, false≢true}
+use Rattle.std.proofs.lemmas.Bool.{eq-eqb, eqb-true, eqb-false, false≢true, and_parts, not-true}
 use Rattle.gc_client.specs.Beginning.{left_by_one, IsSubsequence, the_word}
 use Rattle.gc_field.proofs.BeginIds.{heard, AllDiffer, upward}
 use Rattle.gc_world.specs.Order.{Rising}
@@ -66,33 +66,24 @@ has_twice i ids (w ∷ word) d (inr h) = h
 -- whether this id isn't among these
 abbrev pub is_new : ℕ → List ℕ → Bool
 is_new i [] = true
-is_new i (j ∷ ids) = cond (nat_eq i j) false (is_new i ids)
+is_new i (j ∷ ids) = not (nat_eq i j) && is_new i ids
 
 -- whether no id is among these twice
 abbrev pub are_new : List ℕ → Bool
 are_new [] = true
-are_new (i ∷ ids) = cond (is_new i ids) (are_new ids) false
-
--- the step of `is_new` at an id j, where `rest` is its value for the ids after j, and b whether i equals j: if the whole value
--- is true, i differs from j, and `rest` is true
-new_if : (i j : ℕ) (rest : Bool) (b : Bool) → nat_eq i j ≡ b → cond b false rest ≡ true → (i ≡ j → ⊥) × (rest ≡ true)
-new_if i j rest true t e = absurd (false≢true e)
-new_if i j rest false t e = ((λ same. false≢true (sym t ∙ eq-eqb i j same)), e)
+are_new (i ∷ ids) = is_new i ids && are_new ids
 
 -- an id that isn't among these ids by `is_new` differs from each of them
 new_differs : (i : ℕ) (ids : List ℕ) → is_new i ids ≡ true → AllByRecursion (λ j. i ≡ j → ⊥) ids
 new_differs i [] e = tt
-new_differs i (j ∷ ids) e = let h = new_if i j (is_new i ids) (nat_eq i j) refl e in (h.0, new_differs i ids h.1)
-
--- where `cond a b false`, which is "a and b", is true, a and b are true
-both_if : (a b : Bool) → cond a b false ≡ true → (a ≡ true) × (b ≡ true)
-both_if true b e = (refl, e)
-both_if false b e = absurd (false≢true e)
+new_differs i (j ∷ ids) e =
+    let h = and_parts (not (nat_eq i j)) (is_new i ids) e in
+    (eqb-false i j (not-true (nat_eq i j) h.0), new_differs i ids h.1)
 
 -- ids among which `are_new` finds none twice all differ
 pub all_differ : (ids : List ℕ) → are_new ids ≡ true → AllDiffer ids
 all_differ [] e = tt
-all_differ (i ∷ ids) e = let h = both_if (is_new i ids) (are_new ids) e in (new_differs i ids h.0, all_differ ids h.1)
+all_differ (i ∷ ids) e = let h = and_parts (is_new i ids) (are_new ids) e in (new_differs i ids h.0, all_differ ids h.1)
 
 -- no id is in the word twice
 pub word_differs : AllDiffer the_word
@@ -192,8 +183,3 @@ three_within low ns some h below s =
     let first : low ≡ a + 1 = omega (arith, some) in
     let within = are_upward 8 a ns (subst (λ l. Rising l ns) first h) (each_below (low + 7) (a + 8) ns (omega (arith, first)) below) (6 ∷ 5 ∷ 4 ∷ []) (all_differ (6 ∷ 5 ∷ 4 ∷ []) refl) s in
     three_upward (a % 8) (omega arith) (subst (λ ids. IsSubsequence (6 ∷ 5 ∷ 4 ∷ []) ids) (upward_round 8 a (a % 8) (omega arith)) within)
-
--- where `low` is above 0: numbers that never fall, of the eight consecutive ones from `low` - 1 on, as a run that has
--- synchronized has in flight, don't contain the word modulo 8
-pub none_within : (low : ℕ) (ns : List ℕ) → 0 < low → Rising low ns → AllByRecursion (λ n. n < low + 7) ns → IsSubsequence the_word (ids_at ns) → ⊥
-none_within low ns some h below s = three_within low ns some h below (subword_front (6 ∷ 5 ∷ 4 ∷ []) (3 ∷ 2 ∷ 1 ∷ 0 ∷ 7 ∷ []) (ids_at ns) s)

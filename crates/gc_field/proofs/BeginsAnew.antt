@@ -60,9 +60,9 @@ runs_anew =
     (refl, (tt, (tt, (refl, (tt, (tt, (refl, (tt, (tt, (refl, (tt, (tt, (refl, (tt, (tt, (refl, (tt, (tt, (refl, (tt, (tt, (refl, tt))))))))))))))))))))))
 
 -- after the acts `given_up`, by the end of which seven requests have timed out, the station resynchronizes at the next act
-begins_anew : IsResynchronizing plan commands scope given_up (Told (at 115))
+resynchronizes_next : IsResynchronizing plan commands scope given_up (Told (at 115))
 unfolding is_elsewhere header_at reply_at digits
-begins_anew = record { resynchronizes = record { renews = refl; moment = at 115; told = refl; seven = refl; given_up = refl }; word = refl; client = refl }
+resynchronizes_next = record { resynchronizes = record { renews = refl; moment = at 115; told = refl; seven = refl; given_up = refl }; word = refl; client = refl }
 
 -- the answer was made on executing the last command's request, the client's first one after the new synchronization
 was_made : WasMadeOn WINDOW counting from moves_anew 8 (Table InstrumentNo) answer
@@ -84,7 +84,7 @@ answered_anew =
             possible = ((units 24, units 23), ((units 27, (tt, (tt, (tt, (tt, ((8, [], refl), tt)))))), ((tt, refl), tt)));
           };
       over = refl;
-      begins_anew = begins_anew;
+      begins_anew = resynchronizes_next;
       up = refl;
       down = refl;
       written = refl;

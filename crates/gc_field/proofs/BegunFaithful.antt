@@ -19,7 +19,7 @@ use Rattle.gc_world.specs.Record.{IsReplyTo}
 use Rattle.gc_field.specs.World.{Ends, Numbered, Request, Wire, World, written}
 use Rattle.gc_world.proofs.Booked.{has_at}
 use Rattle.gc_world.proofs.Replay.{IsOf}
-use Rattle.gc_world.proofs.Settled.{of_sent}
+use Rattle.gc_world.specs.Worlds.{of_sent}
 use Rattle.gc_world.proofs.Settled as settled
 use Rattle.gc_world.proofs.Sound.{IsGoing, IsComing, Sound}
 use Rattle.gc_field.specs.Begin.{UnderWay}
@@ -150,10 +150,10 @@ module _ {State : Type 0} (ends : Ends State) (Good : State → Type 0) (kept : 
       text = sym (ap (λ (r : Request). asked_line (Some r.id) r.call) e);
     }
 
-    module _ (knows : Asked → Bool) (is : IsAnInstrumentFor ends Good kept knows) (E : ℕ → Type 0) (early : (n : ℕ) → n < 8 → E n) (Plain : Type 0) (M : ℕ → Asked → List ℕ → Type 0) where
+    module _ (knows : Asked → Bool) (is : IsAnInstrumentFor ends Good kept knows) (E : ℕ → Type 0) (early : (n : ℕ) → n < 8 → E n) (MustKnow : Type 0) (M : ℕ → Asked → List ℕ → Type 0) where
       -- right after a synchronization the line is vouched for as the reply to request n, or request n is excepted (E)
       abbrev IsVouchedAtStart : ℕ → List ℕ → Type 0
-      IsVouchedAtStart n line = Vouched width narrow knows ends Good kept is 8 E Plain M nulls [] [] 7 n line
+      IsVouchedAtStart n line = Vouched width narrow knows ends Good kept is 8 E MustKnow M nulls [] [] 7 n line
 
       -- any line is `IsVouchedAtStart` as a reply to the eighth null procedure, number 7, because that request is excepted
       last_null_vouched : (line : List ℕ) → IsVouchedAtStart 7 line
@@ -166,7 +166,7 @@ module _ {State : Type 0} (ends : Ends State) (Good : State → Type 0) (kept : 
 
       -- after a clean synchronization the invariant `AllVouched` of `Vouched` holds of the world of the client that is given
       -- numbers, if `IsNear` holds of the null procedures: what is in flight is of the eighth, which is excepted
-      vouched_begun : IsNear knows E Plain nulls 8 7 → AllVouched width narrow knows ends Good kept is 8 E Plain M (numbers_begun u)
+      vouched_begun : IsNear knows E MustKnow nulls 8 7 → AllVouched width narrow knows ends Good kept is 8 E MustKnow M (numbers_begun u)
       vouched_begun near =
           let within : 8 ≤ 8 = omega arith in
           record {

@@ -6,9 +6,9 @@ use mathlib.Core.Path.{ap₂}
 use Rattle.std.specs.List.{filter_map, cons_option, AllByRecursion}
 use Rattle.std.proofs.lemmas.Bool.{ltb-false}
 use Rattle.std.proofs.lemmas.List.{map-append}
-use Rattle.gc_lines.proofs.Lists.{all_on}
+use Rattle.gc_values.proofs.Every.{every_weaker as all_on}
 use Rattle.gc_catalogue.specs.declared.asked.Asked.{Asked}
-use Rattle.gc_client.specs.Beginning.{IsSubsequence, the_word}
+use Rattle.gc_client.specs.Beginning.{IsSubsequence}
 use Rattle.gc_client.specs.Rule as rule
 use Rattle.gc_client.specs.Rule.{ById}
 use Rattle.gc_instrument.specs.State.{KeptReply}
@@ -16,12 +16,12 @@ use Rattle.gc_world.specs.Clients.{ByNumber, by_ids, by_numbers, number_reply, n
 use Rattle.gc_world.specs.Order.{numbers}
 use Rattle.gc_field.specs.World.{Ends, Numbered, Request, Step, Wire, World, happens, down_delivered, requested}
 use Rattle.gc_world.proofs.Sound.{IsComing, IsGoing, Sound, all_sent}
-use Rattle.gc_field.specs.Begin.{UnderWay, ids_under_way}
+use Rattle.gc_field.specs.Begin.{LacksTheWord, UnderWay, ids_under_way}
 use Rattle.gc_field.specs.Beginnings.{HasRisingIds, on_line}
 use Rattle.gc_field.specs.Begun.{IsClean, behind, ids_begun, numbers_begun}
 use Rattle.gc_field.specs.Field.{Move, Sends, Tells, Comes, Foreign, OnLine, Anew, Changes, Joins, IsLineStep, ArePossible, moved}
 use Rattle.gc_field.specs.Instrument.{IsAnInstrument}
-use Rattle.gc_field.proofs.BeginWords.{none_within, three_within, ids_at}
+use Rattle.gc_field.proofs.BeginWords.{subword_front, three_within, ids_at}
 use Rattle.gc_field.proofs.BeginLists.{each_map}
 use Rattle.gc_field.proofs.BegunFaithful.{both_begun, exchange}
 use Rattle.gc_field.proofs.LineSteps.{same_over_line}
@@ -29,13 +29,13 @@ use Rattle.gc_field.proofs.Moving.{both_all}
 
 -- Rising ids contain neither the word nor its first three ids.
 
--- where `HasRisingIds` holds, the ids in flight don't contain the word as a subsequence
-pub rising_lack_the_word : {State : Type 0} (u : UnderWay State) → HasRisingIds u → IsSubsequence the_word (ids_under_way u) → ⊥
-rising_lack_the_word u h s = none_within h.low h.numbers h.some h.rising h.few (subst (IsSubsequence the_word) h.ids s)
-
 -- where `HasRisingIds` holds, the ids in flight don't contain 6, 5, 4 as a subsequence
 pub rising_lack_three : {State : Type 0} (u : UnderWay State) → HasRisingIds u → IsSubsequence (6 ∷ 5 ∷ 4 ∷ []) (ids_under_way u) → ⊥
 rising_lack_three u h s = three_within h.low h.numbers h.some h.rising h.few (subst (IsSubsequence (6 ∷ 5 ∷ 4 ∷ [])) h.ids s)
+
+-- where `HasRisingIds` holds, the word isn't in flight, because its first three ids, 6, 5 and 4, aren't
+pub rising_lack_the_word : {State : Type 0} (u : UnderWay State) → HasRisingIds u → LacksTheWord u
+rising_lack_the_word u h s = rising_lack_three u h (subword_front (6 ∷ 5 ∷ 4 ∷ []) (3 ∷ 2 ∷ 1 ∷ 0 ∷ 7 ∷ []) (ids_under_way u) s)
 
 -- The client that is given the numbers never restarts, and what it settled doesn't become less.
 
@@ -85,11 +85,11 @@ module _ {State : Type 0} (width : ℕ) (ends : Ends State) where
 -- Its ids.
 
 -- where the client never restarted (`since` is 0), the ids of the requests in flight are their numbers modulo 8
-ids_up : (since total : ℕ) (xs : List (Numbered Request)) → since ≡ 0 → AllByRecursion (IsGoing since total) xs → map (λ x. x.id) (map (λ x. x.line) xs) ≡ ids_at (numbers xs)
-ids_up since total [] e h = refl
-ids_up since total (x ∷ xs) e h =
+ids_of_requests : (since total : ℕ) (xs : List (Numbered Request)) → since ≡ 0 → AllByRecursion (IsGoing since total) xs → map (λ x. x.id) (map (λ x. x.line) xs) ≡ ids_at (numbers xs)
+ids_of_requests since total [] e h = refl
+ids_of_requests since total (x ∷ xs) e h =
     let plain : x.number - since ≡ x.number = omega (arith, e) in
-    ap₂ (λ i ids. i ∷ ids) (h.0.id ∙ ap (λ n. n % 8) plain) (ids_up since total xs e h.1)
+    ap₂ (λ i ids. i ∷ ids) (h.0.id ∙ ap (λ n. n % 8) plain) (ids_of_requests since total xs e h.1)
 
 module _ {State : Type 0} (width : ℕ) (ends : Ends State) (Good : State → Type 0) (same_heard : (line : List ℕ) → ends.heard line ≡ rule.heard line) where
   -- where the client never restarted (`since` is 0), the ids of the replies in flight are their numbers modulo 8
@@ -112,7 +112,7 @@ module _ {State : Type 0} (width : ℕ) (ends : Ends State) (Good : State → Ty
         few =
             all_on (λ n. n < total) (λ n. n < c.count + 7) (numbers w.down ++ numbers w.up) (λ n l. omega (arith, l, s.few, narrow))
             (all_sent width ends Good c.since total w.down w.up s.coming s.going);
-        ids = ap₂ (λ xs ys. xs ++ ys) (ids_down c.since total w.down base.since s.coming) (ids_up c.since total w.up base.since s.going)
+        ids = ap₂ (λ xs ys. xs ++ ys) (ids_down c.since total w.down base.since s.coming) (ids_of_requests c.since total w.up base.since s.going)
             ∙ sym (map-append (λ n. n % 8) (numbers w.down) (numbers w.up));
       }
 

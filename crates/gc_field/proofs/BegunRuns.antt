@@ -6,7 +6,7 @@ use Rattle.gc_client.specs.Beginning.{IsSubsequence, the_word}
 use Rattle.gc_client.specs.Rule.{heard}
 use Rattle.gc_instrument.specs.State.{KeptReply}
 use Rattle.gc_field.specs.World.{Ends, Request}
-use Rattle.gc_field.specs.Begin.{InFlight, IsWellFormed, AreTurns, Model, UnderWay, begins, ids_under_way, leaves}
+use Rattle.gc_field.specs.Begin.{InFlight, IsWellFormed, LacksTheWord, AreTurns, Model, UnderWay, begins, ids_under_way, leaves}
 use Rattle.gc_field.specs.Beginnings.{AreFewKilled, AreOwn, AreRuns, ArePossibleIf, IsOwnIf, HasRisingIds, Run, killed_if, left_by_run, left_if, on_line, after_turns}
 use Rattle.gc_field.specs.Begun.{HasBegunCleanly, IsClean, behind, eighth}
 use Rattle.gc_field.specs.Instrument.{IsAnInstrument}
@@ -30,7 +30,7 @@ pub short_rising : {State : Type 0} (u : UnderWay State) → HasRisingIds u → 
 short_rising u h = record { more = 4 ∷ []; tail = 3 ∷ 2 ∷ 1 ∷ 0 ∷ 7 ∷ []; split = refl; few = refl; none = rising_lack_three u h }
 
 -- the ids of what is `IsShort` don't contain the word
-pub short_word : {State : Type 0} (n : ℕ) (u : UnderWay State) → IsShort n u → IsSubsequence the_word (ids_under_way u) → ⊥
+pub short_word : {State : Type 0} (n : ℕ) (u : UnderWay State) → IsShort n u → LacksTheWord u
 short_word n u h s = h.none (subword_front (6 ∷ 5 ∷ h.more) h.tail (ids_under_way u) (subst (λ w. IsSubsequence w (ids_under_way u)) h.split s))
 
 module _ {Line : Type 0} (P : Line → Type 0) where
@@ -56,7 +56,7 @@ module _ {State : Type 0} (ends : Ends State) (Good : State → Type 0) (kept : 
         tail = tail;
         split = split ∙ sym (ap (λ l. 6 ∷ 5 ∷ l) (append_assoc h.more (c ∷ []) tail));
         few = (let size = h.few in let one : length h.tail ≡ suc (length tail) = ap length e in omega (arith, size, one));
-        none = left_absent ends Good kept is u r.turns 6 5 h.more c tail split lines turns h.none;
+        none = left_absent ends Good kept is u r.turns (record { a = 6; b = 5; more = h.more; c = c; tail = tail; is = split }) lines turns h.none;
       }
 
   -- what a run comes to, by the ids that are left of its word. If no id is left, it has synchronized cleanly, is faithful, and

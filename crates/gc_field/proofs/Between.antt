@@ -3,9 +3,11 @@
 -- between them; `Goes` says it, too, and that the later wire is `IsConsistent` as the earlier one was.
 use Rattle.std.proofs.Common.{◌≡◌, ℕ, ◌+◌, ◌≤◌, Bool, true, false, cond, List, [], ◌∷◌, ◌++◌, length, Option, Some, None, refl, sym, ◌∙◌, ap, subst, arith, append_assoc, append-nil, ltb}
 use Rattle.std.specs.List.{AllByRecursion}
-use Rattle.std.specs.Prelude.{slice_get}
+use Rattle.std.specs.Prelude.{fold, slice_get}
 use Rattle.std.proofs.lemmas.List.{length-append}
-use Rattle.gc_lines.proofs.Lists.{all_append, all_on}
+use Rattle.std.proofs.lemmas.List.Sums.{fold-append}
+use Rattle.gc_lines.proofs.Lists.{all_append}
+use Rattle.gc_values.proofs.Every.{every_weaker as all_on}
 use Rattle.gc_catalogue.specs.declared.asked.Asked.{Asked}
 use Rattle.gc_catalogue.specs.declared.asked.Asked.TheVariants.{Table}
 use Rattle.gc_catalogue.specs.declared.call.Call.TheVariants.{NullProc}
@@ -20,32 +22,27 @@ use Rattle.gc_world.proofs.Rows.{each_without, each_doubled}
 use Rattle.gc_field.specs.Begin.{UnderWay}
 use Rattle.gc_field.specs.Begun.{IsClean, eighth, ids_begun, nulls}
 use Rattle.gc_field.specs.Field.{Move, Sends, Tells, Comes, Foreign, OnLine, Anew, Changes, Joins, IsLineStep, moves, moved, ArePossible}
-use Rattle.gc_field.specs.Chains.{HasNoStartBetween, IsUndisturbed, HasEffect, AreCalls, executing}
+use Rattle.gc_field.specs.Chains.{HasNoStartAmong, IsUndisturbed, HasEffect, AreCalls}
 use Rattle.gc_field.proofs.BegunFaithful.{each_last}
 
 -- What the instrument becomes.
 
--- two lists of calls, one after the other, make the state that the second makes of what the first makes
-executing_append : {State : Type 0} (effect : State → Asked → State) (xs ys : List Asked) (s : State) → executing effect s (xs ++ ys) ≡ executing effect (executing effect s xs) ys
-executing_append effect [] ys s = refl
-executing_append effect (call ∷ xs) ys s = executing_append effect xs ys (effect s call)
-
 module _ {State : Type 0} (ends : Ends State) where
   -- where executing has the effect `effect` (`HasEffect`), two states that are alike apart from what is retained are still so
   -- after the same calls
-  executing_alike : (apart : State → State) (effect : State → Asked → State) → HasEffect ends apart effect → (calls : List Asked) (s t : State)
-      → apart s ≡ apart t → apart (executing effect s calls) ≡ apart (executing effect t calls)
-  executing_alike apart effect has [] s t e = e
-  executing_alike apart effect has (call ∷ calls) s t e = executing_alike apart effect has calls (effect s call) (effect t call) (has.alike s t call e)
+  effects_alike : (apart : State → State) (effect : State → Asked → State) → HasEffect ends apart effect → (calls : List Asked) (s t : State)
+      → apart s ≡ apart t → apart (fold effect s calls) ≡ apart (fold effect t calls)
+  effects_alike apart effect has [] s t e = e
+  effects_alike apart effect has (call ∷ calls) s t e = effects_alike apart effect has calls (effect s call) (effect t call) (has.alike s t call e)
 
   -- executing these calls makes the second state of the first, apart from what is retained, for each effect that executing has
   abbrev pub IsMadeBy : (s : State) (calls : List Asked) (t : State) → Type 0
-  IsMadeBy s calls t = (apart : State → State) (effect : State → Asked → State) → HasEffect ends apart effect → apart t ≡ apart (executing effect s calls)
+  IsMadeBy s calls t = (apart : State → State) (effect : State → Asked → State) → HasEffect ends apart effect → apart t ≡ apart (fold effect s calls)
 
   -- if calls make the second state of the first, and others the third of the second, both together make the third of the first
   pub made_both : (r s t : State) (xs ys : List Asked) → IsMadeBy r xs s → IsMadeBy s ys t → IsMadeBy r (xs ++ ys) t
   made_both r s t xs ys h g apart effect has =
-      g apart effect has ∙ executing_alike apart effect has ys s (executing effect r xs) (h apart effect has) ∙ ap apart (sym (executing_append effect xs ys r))
+      g apart effect has ∙ effects_alike apart effect has ys s (fold effect r xs) (h apart effect has) ∙ ap apart (sym (fold-append effect r xs ys))
 
   -- the empty list of calls makes of a state that state itself
   made_none : (s t : State) → t ≡ s → IsMadeBy s [] t
@@ -289,25 +286,25 @@ module _ {State : Type 0} (ends : Ends State) where
     -- from a wire on that is `IsConsistent`, `Goes` holds over any possible moves, quiet if the instrument doesn't start, and
     -- still if it isn't disturbed
     goes_all : (ms : List (Move State)) (w : World (ById Asked) State) → ArePossible ends Good kept (by_ids 7 ends) ms w → IsConsistent w.wire
-        → Goes w.wire (moved ends (by_ids 7 ends) ms w).wire (HasNoStartBetween ms) (IsUndisturbed ms)
+        → Goes w.wire (moved ends (by_ids 7 ends) ms w).wire (HasNoStartAmong ms) (IsUndisturbed ms)
     goes_all [] w p k = goes_same w.wire w.wire (Unit {0}) (Unit {0}) refl refl refl refl k.known k
     goes_all (Sends target call deadline ∷ ms) w p k =
-        let one = goes_sent w (HasNoStartBetween ms) (IsUndisturbed ms) target call (sends 7 w.client target call deadline) k in
-        goes_alike w.wire _ _ (HasNoStartBetween ms) (IsUndisturbed ms) one (goes_all ms _ p.1 one.stands)
+        let one = goes_sent w (HasNoStartAmong ms) (IsUndisturbed ms) target call (sends 7 w.client target call deadline) k in
+        goes_alike w.wire _ _ (HasNoStartAmong ms) (IsUndisturbed ms) one (goes_all ms _ p.1 one.stands)
     goes_all (Tells now ∷ ms) w p k = goes_all ms _ p.1 k
     goes_all (Comes line ∷ ms) w p k =
-        let one = goes_down w (HasNoStartBetween ms) (IsUndisturbed ms) w.wire.down k in goes_alike w.wire _ _ (HasNoStartBetween ms) (IsUndisturbed ms) one (goes_all ms _ p.1 one.stands)
+        let one = goes_down w (HasNoStartAmong ms) (IsUndisturbed ms) w.wire.down k in goes_alike w.wire _ _ (HasNoStartAmong ms) (IsUndisturbed ms) one (goes_all ms _ p.1 one.stands)
     goes_all (Foreign line ∷ ms) w p k = goes_all ms w p.1 k
     goes_all (OnLine step ∷ ms) w p k =
-        let one = goes_line w (HasNoStartBetween ms) (IsUndisturbed ms) step p.0 k in goes_alike w.wire _ _ (HasNoStartBetween ms) (IsUndisturbed ms) one (goes_all ms _ p.1 one.stands)
+        let one = goes_line w (HasNoStartAmong ms) (IsUndisturbed ms) step p.0 k in goes_alike w.wire _ _ (HasNoStartAmong ms) (IsUndisturbed ms) one (goes_all ms _ p.1 one.stands)
     goes_all (Anew ∷ ms) w p k =
         let one = goes_anew w.wire k in
         goes_then w.wire (started ends w.wire true) _ ⊥ ⊥ ⊥ ⊥ (λ e. e) (λ e. e) one
-        (goes_less (started ends w.wire true) _ (HasNoStartBetween ms) ⊥ (IsUndisturbed ms) ⊥ (λ e. absurd e) (λ e. absurd e) (goes_all ms _ p.1 one.stands))
+        (goes_less (started ends w.wire true) _ (HasNoStartAmong ms) ⊥ (IsUndisturbed ms) ⊥ (λ e. absurd e) (λ e. absurd e) (goes_all ms _ p.1 one.stands))
     goes_all (Changes state ∷ ms) w p k =
-        let one = goes_changed w.wire (HasNoStartBetween ms) state k in
-        goes_then w.wire (record w.wire { state = state }) _ (HasNoStartBetween ms) (HasNoStartBetween ms) ⊥ ⊥ (λ q. q) (λ e. e) one
-        (goes_less (record w.wire { state = state }) _ (HasNoStartBetween ms) (HasNoStartBetween ms) (IsUndisturbed ms) ⊥ (λ q. q) (λ e. absurd e) (goes_all ms _ p.1 one.stands))
+        let one = goes_changed w.wire (HasNoStartAmong ms) state k in
+        goes_then w.wire (record w.wire { state = state }) _ (HasNoStartAmong ms) (HasNoStartAmong ms) ⊥ ⊥ (λ q. q) (λ e. e) one
+        (goes_less (record w.wire { state = state }) _ (HasNoStartAmong ms) (HasNoStartAmong ms) (IsUndisturbed ms) ⊥ (λ q. q) (λ e. absurd e) (goes_all ms _ p.1 one.stands))
     goes_all (Joins line ∷ ms) w p k = absurd p.0
 
     -- a copy of the eighth null procedure was sent
@@ -326,7 +323,7 @@ module _ {State : Type 0} (ends : Ends State) where
     -- from a wire on that is `IsConsistent`, `Did` holds over any possible moves, quiet if the instrument doesn't start, and
     -- still if it isn't disturbed
     pub did_all : (ms : List (Move State)) (w : World (ById Asked) State) → ArePossible ends Good kept (by_ids 7 ends) ms w → IsConsistent w.wire
-        → Did w.wire (moved ends (by_ids 7 ends) ms w).wire (HasNoStartBetween ms) (IsUndisturbed ms)
+        → Did w.wire (moved ends (by_ids 7 ends) ms w).wire (HasNoStartAmong ms) (IsUndisturbed ms)
     did_all ms w p k = (goes_all ms w p k).did
 
   -- if the front request is executed on reaching the instrument, it is the next one executed, the state becomes what its call

@@ -22,9 +22,9 @@ use Rattle.gc_station.specs.Records.{Record}
 use Rattle.gc_station.specs.Runs.{state_after}
 use Rattle.gc_station.specs.Scopes.{Scope}
 use Rattle.gc_station.specs.Model.{Runs, opening}
-use Rattle.gc_station.proofs.Booking.{of_length}
+use Rattle.gc_station.proofs.Booking.{marks_ask_length}
 use Rattle.gc_station.proofs.Lists.{all_at, get_more, all_on, cons_head, cons_tail}
-use Rattle.gc_station.proofs.OnePart.{runs_front}
+use Rattle.gc_station.proofs.Going.{runs_front}
 use Rattle.gc_field.specs.World.{Ends, Up_deliver}
 use Rattle.std.proofs.lemmas.Option.{same_Some, slice_get_within}
 use Rattle.gc_field.specs.Begin.{AreTurns, UnderWay, begins, leaves, turned}
@@ -261,7 +261,7 @@ module _ {State : Type 0} (ends : Ends State) (Good : State → Type 0) (kept : 
       let at = own_place before h.runs i back.m first back.expected back.its.answer ss back.its.good.line of_first back.mark (subst (λ c. 0 < c) (sym back.its.own_cycle) many) o in
       let of_ss : slice_get ss i ≡ Some o.of.stretch = subst (λ k. slice_get ss k ≡ Some o.of.stretch) at.0 o.of.of_stretches in
       let size : length first.marks ≡ length (own_sent ends o.of.stretch) =
-      of_length commands first.marks (map asked (own_sent ends o.of.stretch))
+      marks_ask_length commands first.marks (map asked (own_sent ends o.of.stretch))
       (sent_at ends commands (parts plan commands scope before) ss i first o.of.stretch f.sent of_first of_ss) ∙ length-map (own_sent ends o.of.stretch) asked in (
         o.of.stretch,
         of_ss,

@@ -41,9 +41,9 @@ held_for None id None line h e s = let never : ⊥ = cc in absurd never
 held_for (Some x) id None line h e s = absurd (none_held x id (ap (λ (r : KeptReply). r.id) (same_Some (record { id = x.0; line = giving x.0 x.1 }) (record { id = id; line = line }) e)) h)
 
 -- an execution makes the count one higher
-executes : (s : Counter) (id : ℕ) (call : Asked) (o : Option ℕ) → (counted_or s id o).executed ≡ true → bare (counted_or s id o).state ≡ bare (counts s call)
-executes s id call (Some n) e = absurd (true≢false (sym e))
-executes s id call None e = refl
+executes_by_count : (s : Counter) (id : ℕ) (call : Asked) (o : Option ℕ) → (counted_or s id o).executed ≡ true → bare (counted_or s id o).state ≡ bare (counts s call)
+executes_by_count s id call (Some n) e = absurd (true≢false (sym e))
+executes_by_count s id call None e = refl
 
 -- a line that is sent again leaves the count as it was
 unchanged : (s : Counter) (id : ℕ) (o : Option ℕ) → (counted_or s id o).executed ≡ false → bare (counted_or s id o).state ≡ bare s
@@ -75,7 +75,7 @@ keeps_its =
 effect : HasEffect counting bare counts
 effect =
     record {
-      executes = λ s id call e. executes s id call (held s.keeps id) e;
+      executes = λ s id call e. executes_by_count s id call (held s.keeps id) e;
       repeats = λ s id call e. unchanged s id (held s.keeps id) e;
       alike = λ s t call e. ap (λ (c : Counter). record { count = suc c.count; keeps = None }) e;
     }

@@ -11,7 +11,7 @@ use Rattle.gc_instrument.specs.State.{KeptReply}
 use Rattle.gc_world.specs.Record.{IsReplyTo}
 use Rattle.gc_field.specs.World.{Ends, Wire}
 use Rattle.gc_world.proofs.Booked.{has_at}
-use Rattle.gc_world.proofs.Settled.{of_sent}
+use Rattle.gc_world.specs.Worlds.{of_sent}
 use Rattle.gc_world.proofs.Settled as settled
 use Rattle.gc_field.specs.Field.{Move, moved, ArePossible, AsksTheTable, IsFirstAlone, seen}
 use Rattle.gc_field.specs.Laws.{IsFaithfulUnsynchronized}

@@ -5,7 +5,7 @@ use Rattle.std.specs.Prelude.{slice_index}
 use Rattle.std.specs.Fmt.{decimal}
 use Rattle.std.specs.List.{AllByRecursion}
 use Rattle.std.specs.Str.Parse.{AllDigits}
-use Rattle.std.proofs.lemmas.Bool.{ne_eqb, ltb-true, agree_below_at}
+use Rattle.std.proofs.lemmas.Bool.{ne_eqb}
 use Rattle.std.proofs.lemmas.Fmt.{decimal_is_IsNumeral}
 use Rattle.std.proofs.lemmas.List.Elements.{All-from_recursion}
 use Rattle.std.proofs.lemmas.Str.Parse.{digit_at}
@@ -24,6 +24,8 @@ use Rattle.gc_values.specs.Whole.{signed_text}
 use Rattle.gc_values.specs.Written.{minus_text, whole_text, behind_text, written}
 use Rattle.gc_values.specs.declared.value.Value.{Value}
 use Rattle.gc_values.specs.declared.value.Value.TheVariants as value
+use Rattle.gc_values.proofs.Every.{every_drop, every_take, every_weaker as all_on}
+use Rattle.gc_values.proofs.TextShape.{digit_above}
 use Rattle.gc_values.proofs.WrittenSpells.{writes_whole, is_fraction_text}
 use Rattle.gc_catalogue.specs.Calls.{call_fields, IsFitting}
 use Rattle.gc_catalogue.specs.Lists.{behind_commas, params_of}
@@ -35,10 +37,9 @@ use Rattle.gc_catalogue.proofs.Table.{number_fits}
 use Rattle.gc_instrument.specs.Laws.{HasNoRequest}
 use Rattle.gc_instrument.proofs.HeardFrames.{lines_of}
 use Rattle.gc_field.specs.Fronts.{request_bytes, IsWholeOrNothing}
-use Rattle.gc_station.proofs.Lists.{all_append, all_drop, all_on}
+use Rattle.gc_lines.proofs.Lists.{all_append}
 use Rattle.std.proofs.Math.Bool.{and-false}
-use Rattle.gc_lines.proofs.Lists.{all_front}
-use Rattle.std.proofs.lemmas.List.{take-append-drop, take-append-le}
+use Rattle.std.proofs.lemmas.List.{take-append-le}
 use Rattle.std.proofs.Math.Seq.{take-append-add}
 
 -- Bytes above the sign that begins a request.
@@ -46,10 +47,6 @@ use Rattle.std.proofs.Math.Seq.{take-append-add}
 -- each of these bytes is above 37, the sign with which each request begins
 abbrev pub AreAbove : List ℕ → Type 0
 AreAbove bytes = AllByRecursion (λ b. 37 < b) bytes
-
--- what holds of all bytes holds of the first k
-pub all_take : (P : ℕ → Type 0) (k : ℕ) (xs : List ℕ) → AllByRecursion P xs → AllByRecursion P (take k xs)
-all_take P k xs h = all_front P (take k xs) (drop k xs) (subst (AllByRecursion P) (sym (take-append-drop k xs)) h)
 
 -- bytes that are digits, by `AreDigits`, are above the sign with which each request begins
 above_digits : (ds : List ℕ) → AreDigits ds → AreAbove ds
@@ -83,7 +80,7 @@ above_written m s =
 
 -- a hexadecimal digit is above the sign
 above_digit : (d : ℕ) → d < 16 → 37 < slice_index lower_digits d
-above_digit d h = ltb-true 37 (slice_index lower_digits d) (agree_below_at (λ k. ltb 37 (slice_index lower_digits k)) (λ _. true) 16 d refl h)
+above_digit d h = let above = digit_above d h in omega (arith, above)
 
 -- the text of a byte is above the sign
 above_byte : (n : ℕ) → n < 256 → AreAbove (byte_text n)
@@ -192,7 +189,7 @@ unsigned_lines before (b ∷ bytes) h g =
     chosen (is_line_feed b)
     (framed IsNoRequest (frame_of before) (map frame_of (pieces_behind [] bytes))
     (λ line e. unsigned line (subst (λ l. AllByRecursion (λ b. b ≢ 37) l) (sym (frame_line before line e))
-    (all_take (λ b. b ≢ 37) (length before - 1) before h))) (unsigned_lines [] bytes tt g.1))
+    (every_take (λ b. b ≢ 37) before (length before - 1) h))) (unsigned_lines [] bytes tt g.1))
     (unsigned_lines (before ++ b ∷ []) bytes (all_append (λ b. b ≢ 37) before (b ∷ []) h (g.0, tt)) g.1)
   where
     -- the lemma above, by whether the next byte ends a frame (`t`)
@@ -239,7 +236,7 @@ whole_or_nothing id call fits =
     record {
       front = λ count le. ap (λ l. lines (l ++ 10 ∷ [])) (take-append-le count line (13 ∷ 10 ∷ []) le)
           ∙ no_lines [] (take count line ++ 10 ∷ []) tt
-          (all_append (λ b. b ≢ 13) (take count line) (10 ∷ []) (all_take (λ b. b ≢ 13) count line
+          (all_append (λ b. b ≢ 13) (take count line) (10 ∷ []) (every_take (λ b. b ≢ 13) line count
           ((λ e. omega (arith, e)), all_on (λ b. 37 < b) (λ b. b ≢ 13) (body id call) (λ b l e. omega (arith, l, e)) above)) ((λ e. omega (arith, e)), tt));
       whole = ap (λ l. l ++ 10 ∷ []) (take-append-add line (13 ∷ 10 ∷ []) 1) ∙ append_assoc line (13 ∷ []) (10 ∷ []);
       tail = λ count some. tail_of above count some;
@@ -250,5 +247,5 @@ whole_or_nothing id call fits =
     tail_of above zero some = absurd (omega (arith, some))
     tail_of above (suc k) some =
         unsigned_lines [] (drop k (body id call ++ 13 ∷ 10 ∷ [])) tt
-        (all_drop (λ b. b ≢ 37) k (body id call ++ 13 ∷ 10 ∷ []) (all_append (λ b. b ≢ 37) (body id call) (13 ∷ 10 ∷ [])
+        (every_drop (λ b. b ≢ 37) (body id call ++ 13 ∷ 10 ∷ []) k (all_append (λ b. b ≢ 37) (body id call) (13 ∷ 10 ∷ [])
         (all_on (λ b. 37 < b) (λ b. b ≢ 37) (body id call) (λ b l e. omega (arith, l, e)) above) ((λ e. omega (arith, e)), ((λ e. omega (arith, e)), tt))))

@@ -34,7 +34,7 @@ use Rattle.std.proofs.lemmas.Option.{same_Some}
 use Rattle.gc_field.proofs.BeginWords.{cons_not_nil}
 
 -- the client's steps among two lists of moves are those of the first and then those of the second
-seen_append : {State : Type 0} (front later : List (Move State)) → seen (front ++ later) ≡ seen front ++ seen later
+pub seen_append : {State : Type 0} (front later : List (Move State)) → seen (front ++ later) ≡ seen front ++ seen later
 seen_append [] later = refl
 seen_append (Sends target call deadline ∷ front) later = ap (λ xs. step.Send target call deadline ∷ xs) (seen_append front later)
 seen_append (Tells now ∷ front) later = ap (λ xs. step.Expire now ∷ xs) (seen_append front later)

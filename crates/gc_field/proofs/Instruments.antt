@@ -1,6 +1,6 @@
 -- Instruments: each meets what the proofs of the world ask of an instrument; the simulator is one; and so is any that retains
 -- no reply.
-use Rattle.std.proofs.Common.{◌≡◌, ◌⊎◌, ℕ, ◌<◌, inl, inr, true, false, List, [], Option, Some, None, cond, refl, sym, ◌∙◌, ap, subst, lit<}
+use Rattle.std.proofs.Common.{◌≡◌, ℕ, ◌<◌, inl, inr, true, false, List, [], Option, Some, None, cond, refl, sym, ◌∙◌, ap, subst, lit<}
 use Rattle.std.proofs.lemmas.Bool.{eq-eqb, true≢false}
 use Rattle.gc_lines.proofs.Requests.{request_found}
 use Rattle.gc_catalogue.proofs.AskedRules.{asked_again}
@@ -19,8 +19,8 @@ use Rattle.gc_field.specs.Simulator.{ends, handed}
 use Rattle.gc_world.specs.Exchange.{IsExchange}
 use Rattle.gc_field.specs.World.{Ends}
 use Rattle.gc_world.proofs.Handing.{exchange, kept_own, reply_heard}
-use Rattle.gc_field.specs.Instrument.{IsAnInstrument, IsAnInstrumentFor, KeepingNothingSuffices, KeepsItsOwn, TreatsRawsAlike, all_known}
-use Rattle.gc_field.specs.Laws.{SimulatorIsAnInstrument, kept_of}
+use Rattle.gc_field.specs.Instrument.{IsAnInstrument, IsAnInstrumentFor, KeepingNothingSuffices, IsKeptAfter, TreatsRawsAlike, all_known}
+use Rattle.gc_field.specs.Laws.{SimulatorIsAnInstrument}
 
 -- an instrument meets what the proofs of the world ask of one, `IsExchange`
 pub exchange_of : {State : Type 0} (ends : Ends State) (Good : State → Type 0) (kept : State → Option KeptReply) → IsAnInstrument ends Good kept → IsExchange ends Good
@@ -77,7 +77,7 @@ asked_repeats s id (Raw raw) not = absurd (true≢false not)
 
 -- after a request the simulator retains its reply to that request, or nothing; or the request is no call of the table, and the
 -- simulator retains what it retained before
-asked_keeps : (s : State) (id : ℕ) (asked : Asked) → KeepsItsOwn ends IsFittingState kept_of s id asked ⊎ ((is_of_table asked ≡ false) × ((handed s id asked).state.kept ≡ s.kept))
+asked_keeps : (s : State) (id : ℕ) (asked : Asked) → IsKeptAfter (is_of_table asked) id (handed s id asked).reply s.kept (handed s id asked).state.kept
 asked_keeps s id (Table call) = inl (inr (retains_reply s id call (kept_line s.kept (Some id)) refl))
 asked_keeps s id (Raw raw) = inr (refl, refl)
 
@@ -97,8 +97,8 @@ asked_always s id (Table call) of = retains_reply s id call (kept_line s.kept (S
 asked_always s id (Raw raw) of = absurd (true≢false (sym of))
 
 -- the simulated instrument refuses the line of a procedure that isn't in the table, and nothing changes
-refused : (s : State) (id : ℕ) (raw : RawCall) → id < 8 → IsReplied s (asked_line (Some id) (Raw raw)) s (Some (refusal_line id Unknown))
-refused s id raw small =
+raw_refused : (s : State) (id : ℕ) (raw : RawCall) → id < 8 → IsReplied s (asked_line (Some id) (Raw raw)) s (Some (refusal_line id Unknown))
+raw_refused s id raw small =
     let q = asked_request (Some id) (Raw raw) in
     let back = asked_again (Some id) (Raw raw) small raw.is in
     answers q (request_found (asked_line (Some id) (Raw raw)) q back.line) (refusal_line id Unknown) (refuses Unknown raw.is.no_procedure refl refl) refl
@@ -122,7 +122,7 @@ simulator =
             again = λ s id asked line good small of e. not_again s id asked line of e;
             always = λ s id asked good small of. asked_always s id asked of;
           };
-      refuses = refused;
+      refuses = raw_refused;
     }
 
 -- An instrument that executes each request and retains no reply.

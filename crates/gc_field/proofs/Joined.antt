@@ -2,10 +2,11 @@
 use Rattle.std.proofs.Common.{◌≡◌, ℕ, zero, suc, ◌<◌, List, [], ◌∷◌, ◌++◌, take, drop, Some, refl, sym, ◌∙◌, ap, arith, append_assoc, lit<}
 use Rattle.gc_lines.specs.Headers.{id_text}
 use Rattle.gc_lines.specs.Requests.{RequestFields, IsRequest}
+use Rattle.gc_values.proofs.Every.{every_take}
 use Rattle.gc_catalogue.specs.Texts.{request_line}
 use Rattle.gc_instrument.proofs.Answering.{read_of}
 use Rattle.gc_field.specs.Fronts.{JoinedRequestsHaveTheFrontsId}
-use Rattle.gc_field.proofs.Fronts.{AreAbove, all_take, above_decimal_digits, above_id, body, above_body}
+use Rattle.gc_field.proofs.Fronts.{AreAbove, above_decimal_digits, above_id, body, above_body}
 use Rattle.gc_station.proofs.Lists.{all_append, cons_head, cons_tail}
 use Rattle.std.proofs.lemmas.List.{take-append-drop}
 
@@ -44,7 +45,7 @@ joined_requests id call next behind (suc k) small fits some q is =
     let e : take k (body id call) ++ 37 ∷ body next behind ≡ h ++ q.params =
     cons_tail 37 37 (take k (body id call) ++ 37 ∷ body next behind) (82 ∷ 49 ∷ 81 ∷ 44 ∷ (number ++ (id_text q.id ++ 58 ∷ q.params))) is.whole
     ∙ sym (whole q.params) in
-    let s = split (take k (body id call)) h (body next behind) q.params (all_take (λ b. 37 < b) k (body id call) (above_body id call fits)) above e in
+    let s = split (take k (body id call)) h (body next behind) q.params (every_take (λ b. 37 < b) (body id call) k (above_body id call fits)) above e in
     let params = s.0 ++ drop k (body id call) in
     let own : body id call ≡ h ++ params = sym (take-append-drop k (body id call)) ∙ ap (λ l. l ++ drop k (body id call)) s.1 ∙ append_assoc h s.0 (drop k (body id call)) in
     let p : RequestFields = record { rpc = q.rpc; id = q.id; params = params } in

@@ -6,7 +6,7 @@ use Rattle.std.specs.Prelude.{slice_get}
 use Rattle.std.specs.List.{AllByRecursion, AllZip}
 use Rattle.gc_catalogue.specs.declared.answer.Reading.{Reading}
 use Rattle.gc_catalogue.specs.declared.asked.Asked.{Asked}
-use Rattle.gc_client.specs.Beginning.{IsSubsequence, the_word}
+use Rattle.gc_client.specs.Beginning.{the_word}
 use Rattle.gc_client.specs.OneForOne.{Wanted, Restart, Send, Step, begun, course}
 use Rattle.gc_client.specs.declared.pending.Pending.{Pending}
 use Rattle.gc_client.specs.Rule.{ById, Outcome, Answered, Late, Lost, Settlement, fresh, lost}
@@ -28,7 +28,7 @@ use Rattle.gc_station.specs.Runs.{state_after}
 use Rattle.gc_station.specs.Model.{Model, opening}
 use Rattle.gc_station.proofs.Asked.{parts_begun}
 use Rattle.gc_station.proofs.GoesBehind.{behind_the_table}
-use Rattle.gc_station.proofs.Booking.{Books, settled_by, sent_by, settled_append, sent_append, course_settled, course_sent, course_client, of_at, all_records, restarting}
+use Rattle.gc_station.proofs.Booking.{Books, settled_by, sent_by, settled_append, sent_append, course_settled, course_sent, course_client, marks_ask_at, all_records, restarting}
 use Rattle.gc_station.proofs.EachRun.{invariant_opening, each_once}
 use Rattle.gc_station.proofs.Following.{BooksInParts, follows}
 use Rattle.gc_station.proofs.Meets.{was_answered, was_late}
@@ -38,7 +38,7 @@ use Rattle.gc_world.specs.Clients.{by_ids}
 use Rattle.gc_world.specs.Record.{IsReplyTo}
 use Rattle.std.proofs.lemmas.Option.{slice_get_within}
 use Rattle.gc_field.specs.World.{Ends}
-use Rattle.gc_field.specs.Begin.{IsWellFormed, AreTurns, UnderWay, begins, ids_under_way, leaves, turned}
+use Rattle.gc_field.specs.Begin.{IsWellFormed, LacksTheWord, AreTurns, UnderWay, begins, leaves, turned}
 use Rattle.gc_field.specs.Beginnings.{AreOwn, ArePossibleIf, AreRuns, IsOwnIf, Run, after_turns, left_by_run, left_if, on_line}
 use Rattle.gc_field.specs.Begun.{IsClean, IsFaithful, IsSafe, WasMadeOn, behind, ids_begun}
 use Rattle.gc_field.specs.Field.{ArePossible, seen}
@@ -72,14 +72,14 @@ module _ {State : Type 0} (ends : Ends State) (Good : State → Type 0) (kept : 
     faithful : IsFaithful 7 ends (leaves (turned ends r.turns (begins u))) r.moves Good kept
 
   -- a run over what is well formed, without the word in its ids, that has synchronized by possible turns has synchronized cleanly
-  begun_clean : (u : UnderWay State) (r : Run State) → IsWellFormed Good u → (IsSubsequence the_word (ids_under_way u) → ⊥)
+  begun_clean : (u : UnderWay State) (r : Run State) → IsWellFormed Good u → LacksTheWord u
       → AreTurns ends Good kept r.turns (begins u) → (after_turns ends u r).left ≡ [] → IsClean Good kept (leaves (after_turns ends u r))
   begun_clean u r lines none turns e =
       clean_lines ends Good kept is 7 (omega arith) (after_turns ends u r) (left_lines ends Good kept is u r.turns lines turns).good (begins_cleanly ends Good kept is u r.turns lines turns none e)
 
   -- each possible run over what is well formed, without the word in its ids, is `IsSoundRun`
   sound_run : (u : UnderWay State) (r : Run State) (left : List ℕ) → (after_turns ends u r).left ≡ left → IsWellFormed Good u
-      → (IsSubsequence the_word (ids_under_way u) → ⊥) → AreTurns ends Good kept r.turns (begins u)
+      → LacksTheWord u → AreTurns ends Good kept r.turns (begins u)
       → ArePossibleIf 7 ends Good kept left (after_turns ends u r) r.moves → IsSoundRun u r left
   sound_run u r [] e lines none turns p =
       let from = leaves (after_turns ends u r) in
@@ -96,16 +96,16 @@ module _ {State : Type 0} (ends : Ends State) (Good : State → Type 0) (kept : 
 
   -- where a possible run over what is `IsWellFormed`, without the word in its ids, has synchronized, what it leaves in flight is
   -- `IsWellFormed`, too, without the word in its ids
-  leaves_next : (u : UnderWay State) (r : Run State) → IsWellFormed Good u → (IsSubsequence the_word (ids_under_way u) → ⊥)
+  leaves_next : (u : UnderWay State) (r : Run State) → IsWellFormed Good u → LacksTheWord u
       → AreTurns ends Good kept r.turns (begins u) → ArePossibleIf 7 ends Good kept (after_turns ends u r).left (after_turns ends u r) r.moves
-      → (after_turns ends u r).left ≡ [] → IsWellFormed Good (left_by_run 7 ends u r) × (IsSubsequence the_word (ids_under_way (left_by_run 7 ends u r)) → ⊥)
+      → (after_turns ends u r).left ≡ [] → IsWellFormed Good (left_by_run 7 ends u r) × LacksTheWord (left_by_run 7 ends u r)
   leaves_next u r lines none turns p e =
       let s = after_turns ends u r in
       let clean = begun_clean u r lines none turns e in
       let possible = subst (λ w. ArePossibleIf 7 ends Good kept w s r.moves) e p in
       let good = runs_leave_good ends Good kept is 7 (omega arith) (leaves s) clean r.moves possible in
       let row = runs_leave_rising_ids ends Good kept is 7 (omega arith) (leaves s) clean r.moves possible in
-      subst (λ w. IsWellFormed Good (left_if 7 ends w s r.moves) × (IsSubsequence the_word (ids_under_way (left_if 7 ends w s r.moves)) → ⊥)) (sym e)
+      subst (λ w. IsWellFormed Good (left_if 7 ends w s r.moves) × LacksTheWord (left_if 7 ends w s r.moves)) (sym e)
       (record { ids = good.1; good = good.0 }, rising_lack_the_word (on_line (behind 7 ends (leaves s) r.moves).wire) row)
 
   -- A stretch with its part.
@@ -127,7 +127,7 @@ module _ {State : Type 0} (ends : Ends State) (Good : State → Type 0) (kept : 
 
   -- where possible runs over what is well formed, without the word in its ids, show these parts, and `AreBegun` holds of the
   -- parts: the parts fit the stretches, and the runs are `AreOwn`
-  pub all_fit : (ps : List Part) (rs : List (Run State)) (u : UnderWay State) → IsWellFormed Good u → (IsSubsequence the_word (ids_under_way u) → ⊥)
+  pub all_fit : (ps : List Part) (rs : List (Run State)) (u : UnderWay State) → IsWellFormed Good u → LacksTheWord u
       → AreShownAs ends u rs ps → AreRuns 7 ends Good kept u rs → AreBegun the_word ps
       → AllFit ps (stretches ends u rs) × AreOwn 7 ends Good kept u rs
   all_fit [] [] u lines none s p b = (tt, tt)
@@ -189,7 +189,7 @@ module _ {State : Type 0} (ends : Ends State) (Good : State → Type 0) (kept : 
   -- that is a command is safe
   safe_part : (commands : List Task) (p : Part) (s : Stretch State) → IsRuled p → Fits p s → MarksAsk commands p.marks (map asked (own_sent ends s)) → IsSafePart p s
   safe_part commands p s rule f sent n mark at =
-      let a = of_at commands p.marks (map asked (own_sent ends s)) n (Some mark) sent at in
+      let a = marks_ask_at commands p.marks (map asked (own_sent ends s)) n (Some mark) sent at in
       let size : length (course 7 begun p.steps).sent ≡ length (map asked (own_sent ends s)) = ap length (course_sent p.steps begun ∙ fit_sent p s f) in
       let low : n < length (map asked (own_sent ends s)) = slice_get_within (map asked (own_sent ends s)) n a.0 a.1 in
       inr (inr (goes_out ends Good kept is s f.sound p.steps f.steps n (omega (arith, size, low))
@@ -275,7 +275,7 @@ module _ {State : Type 0} (ends : Ends State) (Good : State → Type 0) (kept : 
       let here = among_first (own_settled ends s) waiting n x other (sym (ap (λ l. slice_get l n) e) ∙ got) in
       let beyond : 8 ≤ 8 + n = omega arith in
       let there = get_drop 8 n (world ends s).wire.settled x here in
-      let a = of_at commands p.marks (map asked (own_sent ends s)) n (Some mark) sent at in
+      let a = marks_ask_at commands p.marks (map asked (own_sent ends s)) n (Some mark) sent at in
       let r = get_seen asked (own_sent ends s) n a.0 a.1 in
       let b = f.faithful.booked (8 + n) x beyond (safe n mark at) there line answered in
       let right : x.call ≡ call_at a.2.0 mark.sent = (f.faithful.one_for_one.same (8 + n) x r.0 there (get_drop 8 n (world ends s).wire.sent r.0 r.1)).1 ∙ ap
@@ -319,7 +319,7 @@ module _ {State : Type 0} (ends : Ends State) (Good : State → Type 0) (kept : 
       let here = among_first (own_settled ends s) waiting n x other (sym (ap (λ l. slice_get l n) e) ∙ got) in
       let beyond : 8 ≤ 8 + n = omega arith in
       let there = get_drop 8 n (world ends s).wire.settled x here in
-      let a = of_at commands p.marks (map asked (own_sent ends s)) n (Some mark) sent at in
+      let a = marks_ask_at commands p.marks (map asked (own_sent ends s)) n (Some mark) sent at in
       let r = get_seen asked (own_sent ends s) n a.0 a.1 in
       let right : x.call ≡ call_at a.2.0 mark.sent = (f.faithful.one_for_one.same (8 + n) x r.0 there (get_drop 8 n (world ends s).wire.sent r.0 r.1)).1 ∙ ap
       (λ (o : Wanted Asked). o.call) (r.2 ∙ a.2.2) in

@@ -12,7 +12,7 @@ use Rattle.gc_world.specs.Record.{IsReplyTo}
 use Rattle.gc_field.specs.World.{Request, Sent, Numbered, Ends, World, written}
 use Rattle.gc_world.proofs.Booked.{Has}
 use Rattle.gc_world.proofs.Replay.{IsOf}
-use Rattle.gc_field.specs.Instrument.{KeepsItsReply}
+use Rattle.gc_field.specs.Instrument.{IsKeptAfter, IsOwnOrNone, KeepsItsReply}
 use Rattle.gc_field.proofs.Once.{IsUnknown, IsUnknownOrRetained}
 
 -- What is kept.
@@ -26,15 +26,6 @@ pub record IsKept (P : ℕ → List ℕ → Type 0) (since top table : ℕ) (k :
   pub behind : table ≤ number
   pub id : k.id ≡ (number - since) % 8
   pub line : P number k.line
-
--- what is retained after a request with this id is `line`, the reply to it, with its id; or nothing
-abbrev pub IsOwnOrNone : (id : ℕ) (line : List ℕ) → Option KeptReply → Type 0
-IsOwnOrNone id line after = (after ≡ None) ⊎ (after ≡ Some (record { id = id; line = line }))
-
--- what is retained after a request with this id is `line`, the reply to it, or nothing (`IsOwnOrNone`); or, if the request isn't
--- known (`known` is false), what was retained before, k
-abbrev pub IsKeptAfter : (known : Bool) (id : ℕ) (line : List ℕ) (k after : Option KeptReply) → Type 0
-IsKeptAfter known id line k after = IsOwnOrNone id line after ⊎ ((known ≡ false) × (after ≡ k))
 
 -- if anything is retained, `IsKept` holds of it
 abbrev pub KeptIs : (P : ℕ → List ℕ → Type 0) (since top table : ℕ) → Option KeptReply → Type 0
@@ -57,13 +48,11 @@ kept_more P Q f since top table k h = kept_below P Q since top table (λ n line 
 pub kept_none : (P : ℕ → List ℕ → Type 0) (since top table : ℕ) (k : Option KeptReply) → k ≡ None → KeptIs P since top table k
 kept_none P since top table k e = subst (λ k. KeptIs P since top table k) (sym e) tt
 
--- if request n is from `since` and from `table` on and before `top`, P holds of n and a line, and what is retained is that line
--- with the id of request n, or nothing: `KeptIs` holds
-pub kept_one : (P : ℕ → List ℕ → Type 0) (since top table n id : ℕ) (line : List ℕ) (k : Option KeptReply) → since ≤ n → n < top → table ≤ n → id ≡ (n - since) % 8
-    → P n line → IsOwnOrNone id line k → KeptIs P since top table k
-kept_one P since top table n id line k recent before behind own p (inl none) = kept_none P since top table k none
-kept_one P since top table n id line k recent before behind own p (inr e) =
-    subst (λ k. KeptIs P since top table k) (sym e) (record { number = n; recent = recent; before = before; behind = behind; id = own; line = p })
+-- if `IsKept` holds of a line with an id, and what is retained is that line with that id, or nothing, `KeptIs` holds
+pub kept_one : (P : ℕ → List ℕ → Type 0) (since top table id : ℕ) (line : List ℕ) (k : Option KeptReply)
+    → IsKept P since top table (record { id = id; line = line }) → IsOwnOrNone id line k → KeptIs P since top table k
+kept_one P since top table id line k is (inl none) = kept_none P since top table k none
+kept_one P since top table id line k is (inr e) = subst (λ k. KeptIs P since top table k) (sym e) is
 
 -- `KeptIs` is preserved if what is retained stays, or nothing is retained any more
 pub kept_still : (P : ℕ → List ℕ → Type 0) (since top table : ℕ) (k after : Option KeptReply) → (after ≡ None) ⊎ (after ≡ k) → KeptIs P since top table k → KeptIs P since top table after
@@ -102,21 +91,20 @@ pub newest_dealt : (knows : Asked → Bool) (sent : List Sent) (known : Bool) (n
 newest_dealt knows sent true n table f = inl (omega arith)
 newest_dealt knows sent false n table f = inr (f refl)
 
--- where P implies Q, and Q holds of request n and its line, and n has the id `id` and isn't before `since`, before `table` or
--- before any request that was handed: `KeptIs` of P before n is handed gives `KeptIs` of Q afterwards, by what is retained then
--- (`IsKeptAfter`)
-pub kept_handed : (P Q : ℕ → List ℕ → Type 0) → ((n : ℕ) (line : List ℕ) → P n line → Q n line) → (since top table n id : ℕ) (known : Bool) (line : List ℕ) (k after : Option KeptReply)
-    → since ≤ n → top ≤ n + 1 → table ≤ n → id ≡ (n - since) % 8 → Q n line
-    → IsKeptAfter known id line k after → KeptIs P since top table k → KeptIs Q since (n + 1) (newest known n table) after
-kept_handed P Q f since top table n id known line k after recent le low own p (inl now) h =
-    kept_one Q since (n + 1) (newest known n table) n id line after recent (omega arith) (newest_low known n table low) own p now
-kept_handed P Q f since top table n id known line k after recent le low own p (inr same) h =
-    subst (λ t. KeptIs Q since (n + 1) t after) (sym (ap (λ b. newest b n table) same.0))
-    (kept_longer Q since top (n + 1) table after le (kept_more P Q f since top table after (kept_still P since top table k after (inr same.1) h)))
+-- where request n is handed to the instrument, and no later one was handed before (`top`), `KeptIs` is preserved, with n + 1 for
+-- `top`, and the newest known request for `table`: by what is retained afterwards (`IsKeptAfter`), if `IsKept` holds of the
+-- reply to n, `line` with its id
+pub kept_handed : (P : ℕ → List ℕ → Type 0) (since top table n id : ℕ) (known : Bool) (line : List ℕ) (k after : Option KeptReply) → top ≤ n + 1
+    → IsKept P since (n + 1) (newest known n table) (record { id = id; line = line })
+    → IsKeptAfter known id line k after → KeptIs P since top table k → KeptIs P since (n + 1) (newest known n table) after
+kept_handed P since top table n id known line k after le is (inl now) h = kept_one P since (n + 1) (newest known n table) id line after is now
+kept_handed P since top table n id known line k after le is (inr same) h =
+    subst (λ t. KeptIs P since (n + 1) t after) (sym (ap (λ b. newest b n table) same.0))
+    (kept_longer P since top (n + 1) table after le (kept_still P since top table k after (inr same.1) h))
 
 -- what the invariant of `Vouched` speaks of: of the client, the number that its ids are counted from (`since`) and how many of
 -- its requests are settled (`count`); the fields of the wire; and the reply that the instrument retains
-pub record Fields : Type 0 where
+pub record VouchedFields : Type 0 where
   pub since : ℕ
   pub count : ℕ
   pub sent : List Sent
@@ -128,8 +116,8 @@ pub record Fields : Type 0 where
   pub down : List (Numbered (List ℕ))
   pub retained : Option KeptReply
 
--- the `Fields` of a world, where `kept` gives the reply that an instrument retains
-abbrev pub fields_of : {State : Type 0} → (State → Option KeptReply) → World (ByNumber Asked) State → Fields
+-- the `VouchedFields` of a world, where `kept` gives the reply that an instrument retains
+abbrev pub fields_of : {State : Type 0} → (State → Option KeptReply) → World (ByNumber Asked) State → VouchedFields
 fields_of kept w =
     record {
       since = w.client.since;
@@ -150,10 +138,11 @@ module _ {State : Type 0} (ends : Ends State) (Good : State → Type 0) (kept : 
   pub unknown_or_retained : (w : World (ByNumber Asked) State) (x : Numbered Request) (hd : Handed State) (keeps : Asked → Bool) (b : Bool) → keeps x.line.call ≡ b
       → KeepsItsReply ends Good kept keeps → ends.handed w.wire.state x.line.id x.line.call ≡ hd → Good w.wire.state → (since : ℕ) → x.line.id ≡ (x.number - since) % 8
       → IsOf written w.wire.sent x
-      → IsUnknownOrRetained keeps w.wire.sent x.number ((x.number + 1 - 1 - since) % 8) (kept hd.state) (record { id = x.line.id; line = hd.reply })
+      → IsUnknownOrRetained keeps w.wire.sent x.number ((x.number + 1 - 1 - since) % 8) (kept hd.state)
   unknown_or_retained w x hd keeps true e is handed good since own o =
       let back : x.number ≡ x.number + 1 - 1 = omega arith in
       inr (
+        record { id = x.line.id; line = hd.reply },
         subst (λ (k : Handed State). kept k.state ≡ Some (record { id = x.line.id; line = k.reply })) handed (is.always w.wire.state x.line.id x.line.call good o.small e),
         own ∙ ap (λ i. (i - since) % 8) back,
       )

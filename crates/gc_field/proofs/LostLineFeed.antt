@@ -49,9 +49,9 @@ too_many =
     (wrong_count refl (omega arith) (λ e. omega (arith, e)))
 
 -- the joint line is refused in any state
-refused : (s : State) → IsReplied s joint s (Some refusal)
+joint_refused : (s : State) → IsReplied s joint s (Some refusal)
 unfolding digits
-refused s = answers fields is_request refusal (refuses (Parameters Count) (InstrumentNo, refl, too_many) refl refl) refl
+joint_refused s = answers fields is_request refusal (refuses (Parameters Count) (InstrumentNo, refl, too_many) refl refl) refl
 
 -- the reply to the joint line is booked for the request that was cut
 pub joined : IsBookedJoined
@@ -61,7 +61,7 @@ joined =
       line = refl;
       reads = refl;
       possible = (tt, (tt, ((8, [], refl), (tt, (tt, tt)))));
-      replied = refused _;
+      replied = joint_refused _;
       settled = refl;
       executed = refl;
     }

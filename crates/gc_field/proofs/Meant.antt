@@ -11,7 +11,7 @@ use Rattle.gc_links.specs.Acts.{Act, Told, Untold, Put, Cut, Gave, Silent, Ended
 use Rattle.gc_station.specs.Deciding.{has_begun}
 use Rattle.gc_station.specs.Parts.{Part, Asks, Hears, sync_part, client_part, heard_steps, nothing, only_turns, put_part}
 use Rattle.gc_station.specs.Model.{Model, action_at, is_heard, lines_completed, null_text, Performs, after, Runs}
-use Rattle.gc_station.proofs.Asked.{none_doing, steps_none, turns_gave, turns_none, word_after}
+use Rattle.gc_station.proofs.Asked.{none_doing, steps_none, turns_gave, turns_none, word_after_turns}
 use Rattle.gc_station.proofs.Booking.{sending_of, sends_with_room}
 use Rattle.gc_station.proofs.EachRun.{invariant_after}
 use Rattle.gc_station.proofs.Givens.{after_rest, rest_with}
@@ -138,7 +138,7 @@ module _ (plan : Plan) (commands : List Task) where
   pub is_meant : (s : Model) (act : Act) (b : Bool) → has_begun s.progress ≡ b → Invariant plan commands s → Performs commands s (action_at plan s) act
       → IsMeant b s act (if b then client_part plan commands s (action_at plan s) act else sync_part s (action_at plan s) act) (after plan commands s act)
   is_meant s act true e fine obeys = (none_doing plan commands s (action_at plan s) act, act_means s act fine e obeys)
-  is_meant s act false e fine obeys = (steps_none s (action_at plan s) act, turns_mean s act e obeys, word_after plan commands s act obeys e)
+  is_meant s act false e fine obeys = (steps_none s (action_at plan s) act, turns_mean s act e obeys, word_after_turns plan commands s act obeys e)
 
   -- from a model of which the `Invariant` holds, each act of a run means its part
   pub are_meant : (s : Model) (acts : List Act) → Invariant plan commands s → Runs plan commands s acts → AreMeant plan commands s acts

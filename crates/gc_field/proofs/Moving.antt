@@ -6,7 +6,8 @@ use Rattle.std.specs.List.{AllByRecursion}
 use Rattle.std.specs.Prelude.{slice_get}
 use Rattle.std.proofs.lemmas.List.{length_push}
 use Rattle.std.proofs.lemmas.Bool.{le-ltb, true≢false}
-use Rattle.gc_lines.proofs.Lists.{all_append, all_on}
+use Rattle.gc_lines.proofs.Lists.{all_append}
+use Rattle.gc_values.proofs.Every.{every_weaker as all_on}
 use Rattle.gc_catalogue.specs.declared.asked.Asked.{Asked}
 use Rattle.gc_catalogue.specs.Asked.{asked_line}
 use Rattle.gc_client.specs.Rule.{ById, Settlement, Answered, Late, settle}
@@ -21,7 +22,7 @@ use Rattle.gc_world.proofs.Replay.{IsOf, of_more}
 use Rattle.gc_world.proofs.Rows.{each_without, each_doubled}
 use Rattle.gc_world.proofs.Sound.{IsGoing, Sound, sound_step, sound_open}
 use Rattle.gc_field.specs.Field.{Move, Sends, Tells, Comes, Foreign, OnLine, Anew, Changes, Joins, IsLineStep, moves, moved, IsPossible, ArePossible, AsksOnly, IsFirstAlone}
-use Rattle.gc_field.specs.Instrument.{IsAnInstrumentFor, KeepsItsOwn, KeepsItsReply}
+use Rattle.gc_field.specs.Instrument.{IsAnInstrumentFor, IsKeptAfter, KeepsItsOwn, KeepsItsReply}
 use Rattle.gc_field.proofs.Answered.{HoldsOfAll, HoldsOfOutcome, holds_get}
 use Rattle.gc_field.specs.Once.{ActsOnce, IsInOrder}
 use Rattle.gc_field.proofs.Once.{IsUnknownOrRetained, acts_once, once_few, climbing_first, order_few, ordered_first}
@@ -161,15 +162,15 @@ module _ {State : Type 0} (width : ℕ) (narrow : width ≤ 7) (ends : Ends Stat
       }
 
 module _ {State : Type 0} (width : ℕ) (narrow : width ≤ 7) (knows : Asked → Bool) (ends : Ends State) (Good : State → Type 0) (ex : IsExchange ends Good)
-    (kept : State → Option KeptReply) (keeper : IsAnInstrumentFor ends Good kept knows) (low : ℕ) (E : ℕ → Type 0) (Plain : Type 0) (M : ℕ → Asked → List ℕ → Type 0) where
+    (kept : State → Option KeptReply) (keeper : IsAnInstrumentFor ends Good kept knows) (low : ℕ) (E : ℕ → Type 0) (MustKnow : Type 0) (M : ℕ → Asked → List ℕ → Type 0) where
   -- the invariant `AllVouched` of `Vouched`, for these parameters: each reply in flight and each answer was made for its own
   -- request, unless that is excepted (`E`)
   abbrev pub Trusted : World (ByNumber Asked) State → Type 0
-  Trusted w = AllVouched width narrow knows ends Good kept keeper low E Plain M w
+  Trusted w = AllVouched width narrow knows ends Good kept keeper low E MustKnow M w
 
   -- `Vouched` in a `Trusted` world: request n is `IsDealt`; and it is excepted, or the line is vouched for as its reply
   abbrev Vouches : (w : World (ByNumber Asked) State) → Trusted w → ℕ → List ℕ → Type 0
-  Vouches w t n line = Vouched width narrow knows ends Good kept keeper low E Plain M w.wire.sent w.wire.executed w.wire.made t.table n line
+  Vouches w t n line = Vouched width narrow knows ends Good kept keeper low E MustKnow M w.wire.sent w.wire.executed w.wire.made t.table n line
 
   -- where `Vouches` holds of request m, which isn't excepted, and a line, the line is vouched for as its reply (`IsVouched`)
   own_line : (w : World (ByNumber Asked) State) (t : Trusted w) (m : ℕ) (line : List ℕ) → (E m → ⊥) → Vouches w t m line → IsVouched ends Good M w.wire.sent w.wire.executed w.wire.made m line
@@ -195,10 +196,6 @@ module _ {State : Type 0} (width : ℕ) (narrow : width ≤ 7) (knows : Asked �
         once = λ keeps k. acts_once keeps w.wire.sent w.wire.executed w.wire.starts (t.once keeps k).once;
       }
 
-  -- if `Plain` holds, and implies that these moves ask only what is known, the call that the first one asks for is known
-  asks_first : (target : ℕ) (call : Asked) (deadline : ℕ) (ms : List (Move State)) → (Plain → AsksOnly knows (Sends target call deadline ∷ ms)) → Plain → knows call ≡ true
-  asks_first target call deadline ms f plain = (f plain).0
-
   -- if the moves ask only what is known, so do those after the first
   pub asks_behind : (m : Move State) (ms : List (Move State)) → AsksOnly knows (m ∷ ms) → AsksOnly knows ms
   asks_behind (Sends target call deadline) ms h = h.1
@@ -211,26 +208,26 @@ module _ {State : Type 0} (width : ℕ) (narrow : width ≤ 7) (knows : Asked �
   asks_behind (Joins line) ms h = h
 
   -- where `Both` holds of two worlds, `Trusted` is preserved by the first of these moves, which is possible, if `RepliesHave`
-  -- holds of the moves and, where `Plain` holds, they ask only what is known
+  -- holds of the moves and, where `MustKnow` holds, they ask only what is known
   trusted_move : (m : Move State) (ms : List (Move State)) (a : World (ById Asked) State) (b : World (ByNumber Asked) State) → Both width narrow ends Good ex kept a b → IsPossible Good kept a m
-      → (Plain → AsksOnly knows (m ∷ ms)) → RepliesHave width ends M (m ∷ ms) b → Sound width ends Good b → Trusted b → Trusted (moves ends (by_numbers width) b m)
+      → (MustKnow → AsksOnly knows (m ∷ ms)) → RepliesHave width ends M (m ∷ ms) b → Sound width ends Good b → Trusted b → Trusted (moves ends (by_numbers width) b m)
   trusted_move (Sends target call deadline) ms a b both p asks on s t =
-      vouched_requested width narrow knows ends Good kept keeper low E Plain M b target call deadline ((by_numbers width).send b.client target call deadline)
-      (asks_first target call deadline ms asks) refl t
+      vouched_requested width narrow knows ends Good kept keeper low E MustKnow M b target call deadline ((by_numbers width).send b.client target call deadline)
+      (λ must. (asks must).0) refl t
   trusted_move (Tells now) ms a b both p asks on s t = t
-  trusted_move (Comes line) ms a b both p asks on s t = vouched_down width narrow knows ends Good kept keeper low E Plain M b b.wire.down refl s t
+  trusted_move (Comes line) ms a b both p asks on s t = vouched_down width narrow knows ends Good kept keeper low E MustKnow M b b.wire.down refl s t
   trusted_move (Foreign line) ms a b both p asks on s t = t
   trusted_move (OnLine step) ms a b both p asks on s t =
-      vouched_line width narrow knows ends Good kept keeper low E Plain M b step p (λ x rest e q. on [] ms (ap (λ (y : Step). OnLine y ∷ ms) e) x rest q) s t
-  trusted_move Anew ms a b both p asks on s t = vouched_started width narrow knows ends Good kept keeper low E Plain M b true s.good t
+      vouched_line width narrow knows ends Good kept keeper low E MustKnow M b step p (λ x rest e q. on [] ms (ap (λ (y : Step). OnLine y ∷ ms) e) x rest q) s t
+  trusted_move Anew ms a b both p asks on s t = vouched_started width narrow knows ends Good kept keeper low E MustKnow M b true s.good t
   trusted_move (Changes state) ms a b both p asks on s t =
-      vouched_changed width narrow knows ends Good kept keeper low E Plain M b state (p.1 ∙ ap (λ (w : Wire State). kept w.state) both.agree.wire) t
+      vouched_changed width narrow knows ends Good kept keeper low E MustKnow M b state (p.1 ∙ ap (λ (w : Wire State). kept w.state) both.agree.wire) t
   trusted_move (Joins line) ms a b both p asks on s t = absurd p
 
   -- where `Both` holds of two worlds, possible moves of which `RepliesHave` holds leave a `Trusted` world `Trusted`; where
-  -- `Plain` holds, they have to ask only what is known
+  -- `MustKnow` holds, they have to ask only what is known
   pub trusted_all : (ms : List (Move State)) (a : World (ById Asked) State) (b : World (ByNumber Asked) State) → Both width narrow ends Good ex kept a b
-      → ArePossible ends Good kept (by_ids width ends) ms a → (Plain → AsksOnly knows ms) → RepliesHave width ends M ms b → Trusted b → Trusted (moved ends (by_numbers width) ms b)
+      → ArePossible ends Good kept (by_ids width ends) ms a → (MustKnow → AsksOnly knows ms) → RepliesHave width ends M ms b → Trusted b → Trusted (moved ends (by_numbers width) ms b)
   trusted_all [] a b h p asks on t = t
   trusted_all (m ∷ ms) a b h p asks on t =
       trusted_all ms _ _ (both_move width narrow ends Good ex kept a b m p.0 h) p.1 (λ plain. asks_behind m ms (asks plain)) (replies_have_behind width ends M m ms b on)
@@ -238,7 +235,7 @@ module _ {State : Type 0} (width : ℕ) (narrow : width ≤ 7) (knows : Asked �
 
 module _ {State : Type 0} (width : ℕ) (narrow : width ≤ 7) (knows : Asked → Bool) (ends : Ends State) (Good : State → Type 0) (ex : IsExchange ends Good)
     (kept : State → Option KeptReply) (keeper : IsAnInstrumentFor ends Good kept knows) (E : ℕ → Type 0) (first : E 0) (M : ℕ → Asked → List ℕ → Type 0) where
-  -- `Trusted` where `Plain` holds, so that all requests that are sent have to be known, and `low` is 1
+  -- `Trusted` where `MustKnow` holds, so that all requests that are sent have to be known, and `low` is 1
   abbrev TrustedIfKnown : World (ByNumber Asked) State → Type 0
   TrustedIfKnown w = Trusted width narrow knows ends Good ex kept keeper 1 E (Unit {0}) M w
 
@@ -284,7 +281,8 @@ module _ {State : Type 0} (width : ℕ) (narrow : width ≤ 7) (knows : Asked �
           above = each_all (λ (y : Numbered Request). 1 ≤ y.number + 1) (λ y. omega arith) rest;
           below = subst (λ l. AllByRecursion (λ (y : Numbered (List ℕ)). y.number < 1) (l ++ m ∷ [])) (sym f.down) (omega (arith, nought), tt);
           holds =
-              kept_one P b.client.since 1 0 0 x.line.id hd.reply (kept hd.state) (omega (arith, f.since)) (omega arith) (omega arith) id (subst (λ n. P n hd.reply) nought early)
+              kept_one P b.client.since 1 0 x.line.id hd.reply (kept hd.state)
+              (record { number = 0; recent = omega (arith, f.since); before = omega arith; behind = omega arith; id = id; line = subst (λ n. P n hd.reply) nought early })
               (own_kept known (keeper.keeps v.state x.line.id x.line.call s.good o.0.small));
           lines = o.1;
           near = inl (tt, omega arith, f.known);
@@ -292,7 +290,7 @@ module _ {State : Type 0} (width : ℕ) (narrow : width ≤ 7) (knows : Asked �
           answers = subst (λ l. HoldsOfAll P 0 l) (sym f.settled) tt;
           order = ordered_first x.number v.executed hd.executed f.executed nought;
           once = λ keeps k.
-              climbing_first keeps ((1 - 1 - b.client.since) % 8) x.number v.sent v.executed v.starts hd.executed (kept hd.state) (record { id = x.line.id; line = hd.reply }) f.executed nought
+              climbing_first keeps ((1 - 1 - b.client.since) % 8) x.number v.sent v.executed v.starts hd.executed (kept hd.state) f.executed nought
               (held keeps k (keeps x.line.call) refl o.0 id);
         }
       where
@@ -303,8 +301,8 @@ module _ {State : Type 0} (width : ℕ) (narrow : width ≤ 7) (knows : Asked �
 
         -- after a request that is known its reply is retained, or nothing
         own_kept : knows x.line.call ≡ true
-            → KeepsItsOwn ends Good kept b.wire.state x.line.id x.line.call
-            ⊎ ((knows x.line.call ≡ false) × (kept (ends.handed b.wire.state x.line.id x.line.call).state ≡ kept b.wire.state))
+            → IsKeptAfter (knows x.line.call) x.line.id (ends.handed b.wire.state x.line.id x.line.call).reply (kept b.wire.state)
+            (kept (ends.handed b.wire.state x.line.id x.line.call).state)
             → KeepsItsOwn ends Good kept b.wire.state x.line.id x.line.call
         own_kept known (inl own) = own
         own_kept known (inr third) = absurd (true≢false (sym known ∙ third.0))
@@ -313,8 +311,9 @@ module _ {State : Type 0} (width : ℕ) (narrow : width ≤ 7) (knows : Asked �
         -- retained, with its id, which is that of request 0
         held : (keeps : Asked → Bool) → KeepsItsReply ends Good kept keeps → (t : Bool) → keeps x.line.call ≡ t → IsOf written b.wire.sent x → x.line.id ≡ (0 - b.client.since) % 8
             → IsUnknownOrRetained keeps b.wire.sent x.number ((1 - 1 - b.client.since) % 8) (kept (ends.handed b.wire.state x.line.id x.line.call).state)
-            (record { id = x.line.id; line = (ends.handed b.wire.state x.line.id x.line.call).reply })
-        held keeps k true e o id = inr (k.always b.wire.state x.line.id x.line.call s.good o.small e, id)
+        held keeps k true e o id =
+            let reply : KeptReply = record { id = x.line.id; line = (ends.handed b.wire.state x.line.id x.line.call).reply } in
+            inr (reply, k.always b.wire.state x.line.id x.line.call s.good o.small e, id)
         held keeps k false e o id = inl (o.request, o.found, ap keeps o.call ∙ e)
 
     -- if no request is in flight, a fresh world stays fresh; else the front one reaches the instrument, and the world becomes

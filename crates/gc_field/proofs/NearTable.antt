@@ -1,5 +1,5 @@
 -- Requests near the last call of the table that the instrument was handed: `table` is the number of that call, the newest request
--- that `knows` names; requests that `E` names are excepted, and `Plain` is any statement.
+-- that `knows` names; requests that `E` names are excepted, and where `MustKnow` holds, all requests that are sent are known.
 use Rattle.std.proofs.Common.{◌≡◌, ℕ, ◌+◌, ◌-◌, ◌%◌, ◌<◌, ◌≤◌, ◌⊎◌, inl, inr, Bool, true, List, sym, ap, subst, arith}
 use Rattle.std.specs.List.{AllByRecursion}
 use Rattle.gc_catalogue.specs.declared.asked.Asked.{Asked}
@@ -7,11 +7,11 @@ use Rattle.gc_instrument.specs.State.{KeptReply}
 use Rattle.gc_field.specs.World.{Sent}
 use Rattle.gc_field.proofs.KeptReplies.{IsKept, newest, newest_up}
 
-module _ (knows : Asked → Bool) (E : ℕ → Type 0) (Plain : Type 0) where
-  -- `Plain` holds, no request after the newest known one was handed, and all requests that were sent are known; or each request
-  -- that isn't excepted is at most seven after the newest known one
+module _ (knows : Asked → Bool) (E : ℕ → Type 0) (MustKnow : Type 0) where
+  -- `MustKnow` holds, no request after the newest known one was handed, and all requests that were sent are known; or each
+  -- request that isn't excepted is at most seven after the newest known one
   abbrev pub IsNear : (sent : List Sent) (top table : ℕ) → Type 0
-  IsNear sent top table = (Plain × (top ≤ table + 1) × AllByRecursion (λ (r : Sent). knows r.call ≡ true) sent) ⊎ ((n : ℕ) → E n ⊎ (n ≤ table + 7))
+  IsNear sent top table = (MustKnow × (top ≤ table + 1) × AllByRecursion (λ (r : Sent). knows r.call ≡ true) sent) ⊎ ((n : ℕ) → E n ⊎ (n ≤ table + 7))
 
   -- where `IsKept` holds of the retained reply `k`, and request n, which is neither before `since` nor before the last one handed
   -- (`top` - 1), has the id of `k`, and is excepted or at most seven after the newest known one: n is excepted, or P holds of n

@@ -9,20 +9,18 @@ use Rattle.gc_catalogue.specs.Asked.{asked_line, asked_request, is_of_table}
 use Rattle.gc_catalogue.specs.declared.asked.Asked.TheVariants.{Table}
 use Rattle.gc_catalogue.specs.declared.call.Call.TheVariants.{InstrumentNo}
 use Rattle.gc_client.specs.Rule.{heard}
-use Rattle.gc_client.specs.declared.window.TheConstants.{WINDOW}
 use Rattle.gc_instrument.specs.State.{KeptReply}
 use Rattle.std.proofs.lemmas.Option.{none-some, same_Some}
 use Rattle.gc_world.proofs.Handing.{reply_heard}
 use Rattle.gc_world.proofs.Places.{all_at}
 use Rattle.gc_field.specs.Begin.{none_under_way}
-use Rattle.gc_field.specs.Begun.{IsClean, behind}
-use Rattle.gc_field.specs.Instrument.{IsAnInstrument, AnyState, nothing}
+use Rattle.gc_field.specs.Begun.{IsClean, wire_over_empty_line}
+use Rattle.gc_field.specs.Instrument.{IsAnInstrument, IsKeptAfter, AnyState, nothing}
 use Rattle.gc_field.specs.Laws.{WasExecuted}
 use Rattle.gc_field.specs.Needed.{Keeper, IsAllNeeded, IsUnbroken, giving, refusal, kept, keeper, held, again_else, again_or, refuses_or, answers_in, deals_anew, refuses_raws, sound, forgets, repeated_request}
 use Rattle.gc_field.specs.Once.{ActsOnce}
 use Rattle.gc_field.specs.World.{Sent}
 use Rattle.gc_field.proofs.Instruments.{keeps_none}
-use Rattle.gc_field.proofs.KeptReplies.{IsKeptAfter}
 
 -- where n is held for an id, the reply with that id and n is kept
 kept_own : (k : Keeper) (id n : ℕ) → held k id ≡ Some n → kept k ≡ Some (record { id = id; line = giving id n })
@@ -83,24 +81,24 @@ refuses_repeats true k id not = again_repeats k id (held k id) refl not
 refuses_repeats false k id not = absurd (true≢false not)
 
 -- a number that is above all that were executed wasn't executed
-above : (n : ℕ) (xs : List ℕ) → AllByRecursion (λ m. m < n) xs → WasExecuted xs n → ⊥
-above n xs low h = omega (arith, all_at (λ m. m < n) xs h.0 n low h.1)
+unexecuted_above : (n : ℕ) (xs : List ℕ) → AllByRecursion (λ m. m < n) xs → WasExecuted xs n → ⊥
+unexecuted_above n xs low h = omega (arith, all_at (λ m. m < n) xs h.0 n low h.1)
 
 -- where only requests 8 to 15 were executed, request 16 wasn't
 not_16 : WasExecuted (8 ∷ 9 ∷ 10 ∷ 11 ∷ 12 ∷ 13 ∷ 14 ∷ 15 ∷ []) 16 → ⊥
-not_16 h = above 16 (8 ∷ 9 ∷ 10 ∷ 11 ∷ 12 ∷ 13 ∷ 14 ∷ 15 ∷ []) (lit< tt, (lit< tt, (lit< tt, (lit< tt, (lit< tt, (lit< tt, (lit< tt, (lit< tt, tt)))))))) h
+not_16 h = unexecuted_above 16 (8 ∷ 9 ∷ 10 ∷ 11 ∷ 12 ∷ 13 ∷ 14 ∷ 15 ∷ []) (lit< tt, (lit< tt, (lit< tt, (lit< tt, (lit< tt, (lit< tt, (lit< tt, (lit< tt, tt)))))))) h
 
 -- if nothing was executed, request 9 wasn't
 not_9_of_none : WasExecuted [] 9 → ⊥
-not_9_of_none h = above 9 [] tt h
+not_9_of_none h = unexecuted_above 9 [] tt h
 
 -- where only request 8 was executed, request 9 wasn't
 not_9 : WasExecuted (8 ∷ []) 9 → ⊥
-not_9 h = above 9 (8 ∷ []) (lit< tt, tt) h
+not_9 h = unexecuted_above 9 (8 ∷ []) (lit< tt, tt) h
 
 -- where only requests 8 and 9 were executed, request 10 wasn't
 not_10 : WasExecuted (8 ∷ 9 ∷ []) 10 → ⊥
-not_10 h = above 10 (8 ∷ 9 ∷ []) (lit< tt, (lit< tt, tt)) h
+not_10 h = unexecuted_above 10 (8 ∷ 9 ∷ []) (lit< tt, (lit< tt, tt)) h
 
 -- executions of requests 8, 9 and 9, with no start between, aren't `ActsOnce` if request 9 is a call of the table
 not_once : (sent : List Sent) (r : Sent) → slice_get sent 9 ≡ Some r → is_of_table r.call ≡ true → ActsOnce is_of_table sent (8 ∷ 9 ∷ 9 ∷ []) [] → ⊥
@@ -180,15 +178,15 @@ sound_is =
 clean_none : {State : Type 0} (Good : State → Type 0) (retains : State → Option KeptReply) (state : State) → Good state → retains state ≡ None → IsClean Good retains (none_under_way state)
 clean_none Good retains state good none = record { good = good; up = tt; down = tt; keeps = λ k e. absurd (none-some k (sym none ∙ e)) }
 
--- `clean_none` over an instrument that retains nothing, in any state
+-- `clean_none` of the state `false`, where nothing is retained, and each state is a good one
 clean_any : IsClean AnyState nothing (none_under_way false)
 clean_any = clean_none AnyState nothing false tt refl
 
--- `clean_none` over an instrument in order
+-- `clean_none` of the state `false`, where nothing is retained, and the good states are those in order
 clean_order : IsClean IsUnbroken nothing (none_under_way false)
 clean_order = clean_none IsUnbroken nothing false refl refl
 
--- `clean_none` over a `Keeper` that has nothing
+-- `clean_none` of a `Keeper` that has nothing
 clean_kept : IsClean AnyState kept (none_under_way None)
 clean_kept = clean_none AnyState kept None tt refl
 
@@ -416,7 +414,7 @@ all_needed =
         good = tt;
         clean = clean_kept;
         field = (tt, (tt, ((8, [], refl), (tt, (tt, (tt, (tt, tt)))))));
-        twice = not_once (behind WINDOW deals_anew (none_under_way None) repeated_request).wire.sent twice_sent refl refl;
+        twice = not_once (wire_over_empty_line deals_anew None repeated_request).sent twice_sent refl refl;
       };
       again_keeps = λ k id call. refl;
       always_again = λ b id call line e. let never : ⊥ = cc in absurd never;
@@ -425,6 +423,6 @@ all_needed =
         good = tt;
         clean = clean_any;
         field = (tt, (tt, ((8, [], refl), (tt, (tt, (tt, (tt, tt)))))));
-        twice = not_once (behind WINDOW forgets (none_under_way false) repeated_request).wire.sent twice_sent refl refl;
+        twice = not_once (wire_over_empty_line forgets false repeated_request).sent twice_sent refl refl;
       };
     }

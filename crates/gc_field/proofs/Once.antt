@@ -4,6 +4,7 @@
 use Rattle.std.proofs.Common.{◌≡◌, ℕ, zero, suc, ◌+◌, ◌-◌, ◌%◌, ◌<◌, ◌≤◌, ◌⊎◌, inl, inr, Bool, true, false, List, [], ◌∷◌, ◌++◌, length, Option, Some, None, cond, refl, sym, ◌∙◌, ap, subst, arith, ltb}
 use Rattle.std.specs.List.{AllByRecursion}
 use Rattle.std.proofs.lemmas.Bool.{ltb-true, ltb-false, true≢false}
+use Rattle.std.proofs.lemmas.List.{length_push}
 use Rattle.std.specs.Prelude.{slice_get}
 use Rattle.gc_catalogue.specs.declared.asked.Asked.{Asked}
 use Rattle.gc_instrument.specs.State.{KeptReply}
@@ -11,7 +12,8 @@ use Rattle.std.proofs.lemmas.Option.{same_Some, none-some, slice_get_within}
 use Rattle.gc_field.specs.World.{Sent}
 use Rattle.gc_world.proofs.Places.{all_at, get_more}
 use Rattle.gc_field.specs.Once.{HasNoStart, ActsOnce, IsInOrder}
-use Rattle.gc_lines.proofs.Lists.{all_front, all_behind, all_append, all_on}
+use Rattle.gc_lines.proofs.Lists.{all_append}
+use Rattle.gc_values.proofs.Every.{every_front as all_front, every_behind as all_behind, every_weaker as all_on}
 use Rattle.gc_station.proofs.SentAt.{get_split}
 
 -- Lists.
@@ -28,6 +30,20 @@ get_pushed xs x i y e =
     last : (k : ℕ) → i ≡ length xs + k → slice_get (x ∷ []) k ≡ Some y → (i ≡ length xs) × (x ≡ y)
     last zero at got = (omega (arith, at), same_Some x y got)
     last (suc k) at got = absurd (none-some y got)
+
+-- of two places, i before j, of a list with one element more behind it: i was one before, and so was j; or j is the last place,
+-- and has that element
+pushed_two : {A : Type 0} (xs : List A) (n : A) (i j : ℕ) (x y : A) → i < j → slice_get (xs ++ n ∷ []) i ≡ Some x → slice_get (xs ++ n ∷ []) j ≡ Some y
+    → (slice_get xs i ≡ Some x) × ((slice_get xs j ≡ Some y) ⊎ ((j ≡ length xs) × (n ≡ y)))
+pushed_two xs n i j x y lt a b = (by_first (get_pushed xs n i x a), get_pushed xs n j y b) where
+  -- the places of elements are below the length of the list with one element more
+  within : j < length xs + 1
+  within = omega (arith, slice_get_within (xs ++ n ∷ []) j y b, length_push xs n)
+
+  -- i was a place before: it isn't the last one, because j is after it
+  by_first : (slice_get xs i ≡ Some x) ⊎ ((i ≡ length xs) × (n ≡ x)) → slice_get xs i ≡ Some x
+  by_first (inl first) = first
+  by_first (inr last) = absurd (omega (arith, last.0, lt, within))
 
 -- What was executed.
 
@@ -92,17 +108,12 @@ below_acted top n executed le h = all_append (λ m. m < n + 1) executed (n ∷ [
 pub ordered_acted : (top n : ℕ) (executed : List ℕ) → top ≤ n + 1 → IsOrdered top executed → IsOrdered (n + 1) (executed ++ n ∷ [])
 ordered_acted top n executed le h =
     record {
-      order = λ i j x y lt a b. elim (get_pushed executed n j y b) [
-        | inl old ↦ (let size : j < length executed = slice_get_within executed j y old in
-            elim (get_pushed executed n i x a) [
-              | inl first ↦ h.order i j x y lt first old
-              | inr last ↦ absurd (omega (arith, last.0, lt, size))
-            ])
-        | inr new ↦ elim (get_pushed executed n i x a) [
-          | inl first ↦ subst (λ z. x ≤ z) new.1 (let l : x < top = all_at (λ m. m < top) executed i x h.below first in omega (arith, l, le))
-          | inr last ↦ absurd (omega (arith, last.0, lt, new.0))
-        ]
-      ];
+      order = λ i j x y lt a b.
+          let two = pushed_two executed n i j x y lt a b in
+          elim two.1 [
+            | inl old ↦ h.order i j x y lt two.0 old
+            | inr new ↦ subst (λ z. x ≤ z) new.1 (let l : x < top = all_at (λ m. m < top) executed i x h.below two.0 in omega (arith, l, le))
+          ];
       below = below_acted top n executed le h.below;
     }
 
@@ -168,32 +179,32 @@ climbing_started knows id top sent executed starts k after now h =
       ];
     }
 
--- request n isn't known; or a reply, r, with the id `new` is retained (`after`)
-abbrev pub IsUnknownOrRetained : (knows : Asked → Bool) (sent : List Sent) (n new : ℕ) (after : Option KeptReply) (r : KeptReply) → Type 0
-IsUnknownOrRetained knows sent n new after r = IsUnknown knows sent n ⊎ ((after ≡ Some r) × (r.id ≡ new))
+-- request n isn't known; or a reply with the id `new` is retained (`after`)
+abbrev pub IsUnknownOrRetained : (knows : Asked → Bool) (sent : List Sent) (n new : ℕ) (after : Option KeptReply) → Type 0
+IsUnknownOrRetained knows sent n new after = IsUnknown knows sent n ⊎ ((r : KeptReply) × (after ≡ Some r) × (r.id ≡ new))
 
 -- `IsUnknownOrRetained` gives what `IsClimbing` says of the request handed last (`last`), where that is request n
-pub last_of : (knows : Asked → Bool) (new n : ℕ) (sent : List Sent) (executed starts : List ℕ) (after : Option KeptReply) (r : KeptReply)
-    → IsUnknownOrRetained knows sent n new after r → IsUnknown knows sent (n + 1 - 1) ⊎ IsHeld new executed starts after
-last_of knows new n sent executed starts after r (inl u) =
+pub last_of : (knows : Asked → Bool) (new n : ℕ) (sent : List Sent) (executed starts : List ℕ) (after : Option KeptReply)
+    → IsUnknownOrRetained knows sent n new after → IsUnknown knows sent (n + 1 - 1) ⊎ IsHeld new executed starts after
+last_of knows new n sent executed starts after (inl u) =
     let back : n ≡ n + 1 - 1 = omega arith in
     inl (subst (λ i. IsUnknown knows sent i) back u)
-last_of knows new n sent executed starts after r (inr kept) =
+last_of knows new n sent executed starts after (inr kept) =
     inr (record {
-      idle = λ none. absurd (none-some r (sym none ∙ kept.0));
-      same = λ y e. ap (λ (x : KeptReply). x.id) (sym (same_Some r y (sym kept.0 ∙ e))) ∙ kept.1;
+      idle = λ none. absurd (none-some kept.0 (sym none ∙ kept.1));
+      same = λ y e. ap (λ (x : KeptReply). x.id) (sym (same_Some kept.0 y (sym kept.1 ∙ e))) ∙ kept.2;
     })
 
 -- where request n is handed to the instrument and isn't executed, and no later one was handed before (`top`), `IsClimbing` is
 -- preserved, with the id `new` and n + 1 for `top`, if n isn't known, or a reply with the id `new` is retained then (`after`)
-pub climbing_handed : (knows : Asked → Bool) (id new top n : ℕ) (sent : List Sent) (executed starts : List ℕ) (k after : Option KeptReply) (r : KeptReply) → top ≤ n + 1
-    → IsUnknownOrRetained knows sent n new after r
+pub climbing_handed : (knows : Asked → Bool) (id new top n : ℕ) (sent : List Sent) (executed starts : List ℕ) (k after : Option KeptReply) → top ≤ n + 1
+    → IsUnknownOrRetained knows sent n new after
     → IsClimbing knows id top sent executed starts k → IsClimbing knows new (n + 1) sent executed starts after
-climbing_handed knows id new top n sent executed starts k after r le why h =
+climbing_handed knows id new top n sent executed starts k after le why h =
     record {
       once = h.once;
       below = below_handed top n executed le h.below;
-      last = last_of knows new n sent executed starts after r why;
+      last = last_of knows new n sent executed starts after why;
     }
 
 -- if nothing was executed since the last start, an execution, at place j, and the next one to come, at place k, have a start
@@ -210,24 +221,19 @@ never_idle executed starts j k m (inr h) run a e =
 -- where request n is executed, and no later one was handed before (`top`), `IsClimbing` is preserved, with the id `new` and n + 1
 -- for `top`, if two things hold: n isn't known, or nothing was executed since the last start, or n is later than all that were
 -- handed before; and n isn't known, or a reply with the id `new` is retained then (`after`)
-pub climbing_acted : (knows : Asked → Bool) (id new top n : ℕ) (sent : List Sent) (executed starts : List ℕ) (k after : Option KeptReply) (r : KeptReply) → top ≤ n + 1
-    → IsUnknown knows sent n ⊎ (IsIdle executed starts ⊎ (top ≤ n)) → IsUnknownOrRetained knows sent n new after r
+pub climbing_acted : (knows : Asked → Bool) (id new top n : ℕ) (sent : List Sent) (executed starts : List ℕ) (k after : Option KeptReply) → top ≤ n + 1
+    → IsUnknown knows sent n ⊎ (IsIdle executed starts ⊎ (top ≤ n)) → IsUnknownOrRetained knows sent n new after
     → IsClimbing knows id top sent executed starts k → IsClimbing knows new (n + 1) sent (executed ++ n ∷ []) starts after
-climbing_acted knows id new top n sent executed starts k after r le why retained h =
+climbing_acted knows id new top n sent executed starts k after le why retained h =
     record {
-      once = λ i j x y lt run a b. elim (get_pushed executed n j y b) [
-        | inl old ↦ (let size : j < length executed = slice_get_within executed j y old in
-            elim (get_pushed executed n i x a) [
-              | inl first ↦ h.once i j x y lt run first old
-              | inr last ↦ absurd (omega (arith, last.0, lt, size))
-            ])
-        | inr new ↦ elim (get_pushed executed n i x a) [
-          | inl first ↦ subst (λ z. (x < z) ⊎ IsUnknown knows sent z) new.1 (later i j x run first new.0 why)
-          | inr last ↦ absurd (omega (arith, last.0, lt, new.0))
-        ]
-      ];
+      once = λ i j x y lt run a b.
+          let two = pushed_two executed n i j x y lt a b in
+          elim two.1 [
+            | inl old ↦ h.once i j x y lt run two.0 old
+            | inr new ↦ subst (λ z. (x < z) ⊎ IsUnknown knows sent z) new.1 (later i j x run two.0 new.0 why)
+          ];
       below = below_acted top n executed le h.below;
-      last = last_of knows new n sent (executed ++ n ∷ []) starts after r retained;
+      last = last_of knows new n sent (executed ++ n ∷ []) starts after retained;
     }
   where
     -- an earlier execution, at place i, with no start between it and the execution of request n, at place j, is of a request
@@ -266,15 +272,15 @@ why_acted knows since top n id sent executed starts k known mine le other h = ch
 
 -- `IsClimbing` holds, with the id `new` and 1 for `top`, once request 0 (`n`) reached the instrument, executed or not (`acted`),
 -- if nothing was executed before, and that request isn't known, or a reply with the id `new` is retained (`IsUnknownOrRetained`)
-pub climbing_first : (knows : Asked → Bool) (new n : ℕ) (sent : List Sent) (executed starts : List ℕ) (acted : Bool) (after : Option KeptReply) (r : KeptReply) → executed ≡ [] → n ≡ 0
-    → IsUnknownOrRetained knows sent n new after r
+pub climbing_first : (knows : Asked → Bool) (new n : ℕ) (sent : List Sent) (executed starts : List ℕ) (acted : Bool) (after : Option KeptReply) → executed ≡ [] → n ≡ 0
+    → IsUnknownOrRetained knows sent n new after
     → IsClimbing knows new 1 sent (cond acted (executed ++ n ∷ []) executed) starts after
-climbing_first knows new n sent executed starts acted after r none nought why =
+climbing_first knows new n sent executed starts acted after none nought why =
     record {
       once = once_few knows sent (cond acted (executed ++ n ∷ []) executed) starts (few acted);
       below = low acted;
       last = subst (λ i. IsUnknown knows sent i ⊎ IsHeld new (cond acted (executed ++ n ∷ []) executed) starts after)
-          back (last_of knows new n sent (cond acted (executed ++ n ∷ []) executed) starts after r why);
+          back (last_of knows new n sent (cond acted (executed ++ n ∷ []) executed) starts after why);
     }
   where
     -- the request handed last has the number 0

@@ -1,6 +1,6 @@
 -- Where the telescope pointed when a command of a chain was executed.
 use Rattle.std.proofs.Common.{◌≡◌, ℕ, ◌+◌, ◌-◌, ℤ, pos, ◌<◌, Bool, true, false, if◌then◌else◌, List, [], ◌∷◌, length, map, Option, Some, None, refl, sym, ◌∙◌, ap, subst, arith}
-use Rattle.std.specs.Prelude.{slice_get, unsigned_abs}
+use Rattle.std.specs.Prelude.{fold, slice_get, unsigned_abs}
 use Rattle.std.specs.List.{AllByRecursion}
 use Rattle.std.specs.Ordering.{int_eq}
 use Rattle.gc_values.specs.declared.decimal.Decimal.{Decimal}
@@ -27,15 +27,15 @@ use Rattle.gc_station.specs.Records.{Record}
 use Rattle.gc_station.specs.Runs.{state_after}
 use Rattle.gc_station.specs.Scopes.{Scope}
 use Rattle.gc_station.specs.declared.plan.Plan.{Plan}
-use Rattle.gc_station.proofs.Booking.{of_at}
+use Rattle.gc_station.proofs.Booking.{marks_ask_at}
 use Rattle.gc_field.specs.Simulator.{ends, handed}
 use Rattle.gc_field.specs.World.{Sent}
 use Rattle.gc_world.proofs.Handing.{bare_after}
 use Rattle.std.proofs.lemmas.Option.{same_Some, slice_get_within}
-use Rattle.gc_world.proofs.Places.{get_map, in_range}
+use Rattle.gc_world.proofs.Places.{get_map, element_at}
 use Rattle.gc_field.specs.Begin.{UnderWay}
 use Rattle.gc_field.specs.Beginnings.{Run}
-use Rattle.gc_field.specs.Chains.{AreCalls, HasNoStartBetween, IsUndisturbed, IsChainedTo, IsExecutedInChain, stretch_wire, executing}
+use Rattle.gc_field.specs.Chains.{AreCalls, HasNoStartAmong, IsUndisturbed, IsChainedTo, IsExecutedInChain, stretch_wire}
 use Rattle.gc_field.specs.Field.{Move, Sends, Tells, Comes, Foreign, OnLine, Anew, Changes, Joins}
 use Rattle.gc_field.specs.Laws.{asked, kept_of}
 use Rattle.gc_field.specs.Pointing.{AreStill, IsMeasuredWhereItPointed, IsPointedInChain, SimulatorHasItsEffect, after_call, turns_telescope, PointsAs}
@@ -79,7 +79,7 @@ has_effect =
     }
 
 -- if nothing disturbs the instrument, it doesn't start
-no_start : (ms : List (Move State)) → IsUndisturbed ms → HasNoStartBetween ms
+no_start : (ms : List (Move State)) → IsUndisturbed ms → HasNoStartAmong ms
 no_start [] h = tt
 no_start (Sends target asked deadline ∷ ms) h = no_start ms h
 no_start (Tells now ∷ ms) h = no_start ms h
@@ -144,11 +144,11 @@ unfolding exec
 position_points s hz v pos_mode atr_mode dummy = (refl, refl)
 
 -- calls that turn no telescope leave the telescope's direction and face as they were
-executing_same : (calls : List Asked) (s : State) → AllByRecursion (λ x. turns_telescope x ≡ false) calls → PointsAs (executing after_call s calls) s
-executing_same [] s h = record { pointing = refl; face = refl }
-executing_same (x ∷ calls) s h =
+calls_same : (calls : List Asked) (s : State) → AllByRecursion (λ x. turns_telescope x ≡ false) calls → PointsAs (fold after_call s calls) s
+calls_same [] s h = record { pointing = refl; face = refl }
+calls_same (x ∷ calls) s h =
     let one = asked_same s x h.0 in
-    let others = executing_same calls (after_call s x) h.1 in
+    let others = calls_same calls (after_call s x) h.1 in
     record { pointing = others.pointing ∙ one.pointing; face = others.face ∙ one.face }
 
 -- What was executed between.
@@ -203,8 +203,8 @@ module _ (plan : Plan) (commands : List Task) (scope : Scope) (acts : List Act) 
         let f = run_faithful ends IsFittingState kept_of simulator.instrument plan commands scope acts u rs field in
         let of = sent_at ends commands (parts plan commands scope acts) ss h.i h.part h.stretch f.sent h.of_parts h.of_stretches in
         let size : h.n < length h.part.marks = slice_get_within h.part.marks h.n _ h.mark_b in
-        let mark = in_range h.part.marks x (omega (arith, under, size)) in
-        let y = of_at commands h.part.marks (map asked (own_sent ends h.stretch)) x mark.0 of mark.1 in
+        let mark = element_at h.part.marks x (omega (arith, under, size)) in
+        let y = marks_ask_at commands h.part.marks (map asked (own_sent ends h.stretch)) x mark.0 of mark.1 in
         let same : asked r ≡ y.0 = same_Some (asked r) y.0 (sym (get_map asked (own_sent ends h.stretch) x r got) ∙ y.1) in
         still_by x r mark.0 above under mark.1 y.0 same y.2
 
@@ -224,7 +224,7 @@ module _ (plan : Plan) (commands : List Task) (scope : Scope) (acts : List Act) 
         (x.strictly is_of_table simulator.keeps (no_start x.between quiet)) (λ k r above under got. still_number k r above under got) in
         let there = x.state without_kept after_call has_effect quiet in
         let t = after_call s h.earlier.answer.command.call in
-        let same = executing_same x.calls t calls in
+        let same = calls_same x.calls t calls in
         let pointing = ap (λ (z : State). z.pointing) there ∙ same.pointing in
         let face = ap (λ (z : State). z.face) there ∙ same.face in
         record {

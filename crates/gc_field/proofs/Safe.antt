@@ -12,8 +12,8 @@ use Rattle.gc_client.specs.Rule.{ById, Outcome, Answered, Late, Lost, Sending, s
 use Rattle.gc_instrument.specs.State.{KeptReply}
 use Rattle.gc_station.specs.Behind.{IsNearTheTable}
 use Rattle.gc_field.specs.World.{Ends}
-use Rattle.gc_world.proofs.Places.{in_range}
-use Rattle.gc_world.proofs.Settled.{of_sent}
+use Rattle.gc_world.proofs.Places.{element_at}
+use Rattle.gc_world.specs.Worlds.{of_sent}
 use Rattle.gc_field.specs.Begun.{IsBehindTheTable, IsByReply, WentOutBehindTheTable, behind, ids_begun, nulls, nulls_settled}
 use Rattle.gc_field.specs.Field.{Move, Sends, Tells, Comes, Foreign, OnLine, Anew, Changes, Joins, seen}
 use Rattle.gc_field.specs.Instrument.{IsAnInstrument}
@@ -165,7 +165,7 @@ module _ {State : Type 0} (ends : Ends State) (Good : State → Type 0) (kept : 
             subst (λ l. slice_get l (8 + h.0) ≡ Some h.1) (sym f.settled) (get_behind nulls_settled x.settlements (8 + h.0) h.0 refl ∙ h.2) in
             let low : 8 + h.0 < length w.settled = slice_get_within w.settled (8 + h.0) h.1 got in
             let many : length w.settled ≤ length w.sent = f.one_for_one.count in
-            let r = in_range w.sent (8 + h.0) (omega (arith, low, many)) in
+            let r = element_at w.sent (8 + h.0) (omega (arith, low, many)) in
             let same : h.1.call ≡ r.0.call = (f.one_for_one.same (8 + h.0) h.1 r.0 got r.1).1 in
             (8 + h.0, omega (arith, low, many), omega (arith, count, h.4), inr (r.0, h.1, r.1, sym (ap is_of_table same) ∙ h.3.0, got, by_reply h.1.outcome h.3.1)))
       ]

@@ -20,7 +20,7 @@ use Rattle.gc_scenes.specs.SceneExecution.{Played, played_call, played_raw, unle
 use Rattle.gc_scenes.specs.SceneReplying.{IsPlayed, answers, names_call, names_none, resent_line, again_or_played, handed_call, handed_raw, played_or_refused, played_line}
 use Rattle.gc_scenes.specs.SceneState.{SceneState}
 use Rattle.gc_scenes.specs.declared.rules.Scripted.{Scripted}
-use Rattle.gc_field.proofs.KeptReplies.{IsOwnOrNone, IsKeptAfter}
+use Rattle.gc_field.specs.Instrument.{IsKeptAfter, IsOwnOrNone}
 use Rattle.gc_field.specs.SceneField.{scene_handed, SceneIsAnInstrument}
 use Rattle.gc_world.specs.Exchange.{ReadsWithItsId}
 use Rattle.gc_world.proofs.Handing.{again_kept, kept_reads, reply_heard}

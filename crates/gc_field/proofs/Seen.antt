@@ -9,7 +9,7 @@ use Rattle.gc_client.specs.Rule.{ById, Sending, sends, hears, heard}
 use Rattle.gc_instrument.specs.State.{KeptReply}
 use Rattle.gc_world.specs.Clients.{by_ids, ids_open}
 use Rattle.gc_field.specs.World.{Numbered, Ends, Step, World, requested, with_settled, down_delivered, happens}
-use Rattle.gc_world.proofs.Settled.{of_sent}
+use Rattle.gc_world.specs.Worlds.{of_sent}
 use Rattle.gc_field.specs.Instrument.{ReadsByGrammar}
 use Rattle.gc_field.proofs.LineSteps.{same_over_line}
 use Rattle.gc_field.specs.Field.{Move, Sends, Tells, Comes, Foreign, OnLine, Anew, Changes, Joins, IsLineStep, moved, ArePossible, seen}

@@ -2,13 +2,13 @@
 -- instrument starts again; requests that `E` names are excepted. M n call line is any property that the reply to each executed
 -- request has. The client is given the number of each reply's request: `count` of its requests are settled, and request n has the
 -- id n - `since` modulo 8. What the instrument retains is a reply to `table`, the last request that it was handed and that
--- `knows` names, or to a later one; `low` is at most `table` + 1. Where `Plain` holds, all requests that are sent have to be
--- known. `AllVouched` is the invariant: each reply in flight, the retained one and each answer was made so.
+-- `knows` names, or to a later one; `low` is at most `table` + 1. Where `MustKnow` holds, each request that is sent is known.
 use Rattle.std.proofs.Common.{◌≡◌, ℕ, ◌+◌, ◌-◌, ◌%◌, ◌<◌, ◌≤◌, ◌⊎◌, inl, inr, Bool, true, false, List, [], ◌∷◌, ◌++◌, length, drop, Option, Some, None, refl, sym, ◌∙◌, ap, subst, arith, ltb, eqb}
 use Rattle.std.specs.List.{AllByRecursion}
 use Rattle.std.proofs.lemmas.List.{length_push}
 use Rattle.std.proofs.lemmas.Bool.{ltb-false, true≢false}
-use Rattle.gc_lines.proofs.Lists.{all_append, all_on}
+use Rattle.gc_lines.proofs.Lists.{all_append}
+use Rattle.gc_values.proofs.Every.{every_weaker as all_on}
 use Rattle.gc_catalogue.specs.declared.asked.Asked.{Asked}
 use Rattle.gc_catalogue.specs.Asked.{asked_line}
 use Rattle.gc_client.specs.Rule.{Settlement, Sending, pending_of}
@@ -24,14 +24,14 @@ use Rattle.gc_world.proofs.Replay.{IsOf, of_more}
 use Rattle.gc_world.proofs.Rows.{each_without, each_doubled, rising_each, rising_tail}
 use Rattle.gc_world.proofs.Sound.{IsGoing, Sound}
 use Rattle.gc_field.specs.Field.{IsLineStep}
-use Rattle.gc_field.specs.Instrument.{IsAnInstrumentFor, KeepsItsReply}
+use Rattle.gc_field.specs.Instrument.{IsAnInstrumentFor, IsKeptAfter, KeepsItsReply}
 use Rattle.gc_field.proofs.Answered.{HoldsOfAll, holds_more, holds_append, holds_settled}
 use Rattle.gc_field.proofs.Once.{IsClimbing, IsIdle, IsOrdered, IsUnknown, climbing_started, climbing_acted, climbing_handed, climbing_sent, known_not, ordered_acted, ordered_handed, unknown_more, why_acted}
-use Rattle.gc_field.proofs.KeptReplies.{Fields, fields_of, unknown_or_retained, IsKeptAfter, KeptIs, kept_more, kept_still, newest, newest_up, newest_low, IsDealt, newest_dealt, kept_handed, IsVouched, ReplyHas}
+use Rattle.gc_field.proofs.KeptReplies.{VouchedFields, fields_of, unknown_or_retained, KeptIs, kept_more, kept_still, newest, newest_up, newest_low, IsDealt, newest_dealt, kept_handed, IsVouched, ReplyHas}
 use Rattle.gc_field.proofs.NearTable.{IsNear, near_same, near_on, near_of}
 
 module _ {State : Type 0} (width : ℕ) (narrow : width ≤ 7) (knows : Asked → Bool) (ends : Ends State) (Good : State → Type 0)
-    (kept : State → Option KeptReply) (keeper : IsAnInstrumentFor ends Good kept knows) (low : ℕ) (E : ℕ → Type 0) (Plain : Type 0) (M : ℕ → Asked → List ℕ → Type 0) where
+    (kept : State → Option KeptReply) (keeper : IsAnInstrumentFor ends Good kept knows) (low : ℕ) (E : ℕ → Type 0) (MustKnow : Type 0) (M : ℕ → Asked → List ℕ → Type 0) where
   -- request n is `IsDealt`; and it is one of those that are excepted, or the line is vouched for as its reply
   abbrev pub Vouched : (sent : List Sent) (executed : List ℕ) (made : List (Numbered (List ℕ))) (table n : ℕ) (line : List ℕ) → Type 0
   Vouched sent executed made table n line = IsDealt knows sent table n × (E n ⊎ IsVouched ends Good M sent executed made n line)
@@ -68,7 +68,7 @@ module _ {State : Type 0} (width : ℕ) (narrow : width ≤ 7) (knows : Asked �
   -- the invariant, over the fields of a world: each reply in flight, the retained reply, and each answer is vouched for; each
   -- request in flight is one that was sent; executions are in order, and each request acts once to which the instrument retains
   -- its reply; and the numbers fit as said below
-  pub record AllVouchedIn (v : Fields) : Type 0 where
+  pub record AllVouchedIn (v : VouchedFields) : Type 0 where
     -- the number of the last request that the instrument was handed is one less than this
     pub top : ℕ
     -- the number of the newest request that is known
@@ -84,7 +84,7 @@ module _ {State : Type 0} (width : ℕ) (narrow : width ≤ 7) (knows : Asked �
     pub below : AllByRecursion (λ x. x.number < top) v.down
     pub holds : KeptIs (Vouched v.sent v.executed v.made table) v.since top table v.retained
     pub lines : AllByRecursion (IsOf written v.sent) v.up
-    pub near : IsNear knows E Plain v.sent top table
+    pub near : IsNear knows E MustKnow v.sent top table
     pub coming : AllByRecursion (λ x. Vouched v.sent v.executed v.made table x.number x.line) v.down
     pub answers : HoldsOfAll (Vouched v.sent v.executed v.made table) 0 v.settled
     pub order : IsOrdered top v.executed
@@ -95,7 +95,7 @@ module _ {State : Type 0} (width : ℕ) (narrow : width ≤ 7) (knows : Asked �
   AllVouched w = AllVouchedIn (fields_of kept w)
 
   -- `AllVouchedIn` is preserved if a request is sent, which is known if all have to be
-  vouched_sent : (v : Fields) (target id : ℕ) (call : Asked) → id < 8 → (Plain → knows call ≡ true) → AllVouchedIn v
+  vouched_sent : (v : VouchedFields) (target id : ℕ) (call : Asked) → id < 8 → (MustKnow → knows call ≡ true) → AllVouchedIn v
       → AllVouchedIn (record v {
         sent = v.sent ++ record { target = target; call = call; line = asked_line (Some id) call } ∷ [];
         up = v.up ++ record { number = length v.sent; line = record { id = id; call = call } } ∷ [];
@@ -124,12 +124,12 @@ module _ {State : Type 0} (width : ℕ) (narrow : width ≤ 7) (knows : Asked �
       }
     where
       -- `IsNear` is preserved if the request r is sent, which is known if all have to be
-      near_sent : (r : Sent) → (Plain → knows r.call ≡ true) → IsNear knows E Plain v.sent h.top h.table → IsNear knows E Plain (v.sent ++ r ∷ []) h.top h.table
+      near_sent : (r : Sent) → (MustKnow → knows r.call ≡ true) → IsNear knows E MustKnow v.sent h.top h.table → IsNear knows E MustKnow (v.sent ++ r ∷ []) h.top h.table
       near_sent r plain (inl n) = inl (n.0, n.1, all_append (λ (r : Sent). knows r.call ≡ true) v.sent (r ∷ []) n.2 (plain n.0, tt))
       near_sent r plain (inr n) = inr n
 
   -- `AllVouched` is preserved if the client sends a request, which is known if all have to be
-  vouched_send : (w : World (ByNumber Asked) State) (target : ℕ) (call : Asked) (deadline : ℕ) (full : Bool) (x : Sending (ByNumber Asked)) → (Plain → knows call ≡ true)
+  vouched_send : (w : World (ByNumber Asked) State) (target : ℕ) (call : Asked) (deadline : ℕ) (full : Bool) (x : Sending (ByNumber Asked)) → (MustKnow → knows call ≡ true)
       → number_send w.client target call deadline full ≡ Some x → AllVouched w → AllVouched (requested w target call (Some x))
   vouched_send w target call deadline true x plain e h = cc
   vouched_send w target call deadline false x plain e h =
@@ -167,7 +167,7 @@ module _ {State : Type 0} (width : ℕ) (narrow : width ≤ 7) (knows : Asked �
         small = o.small;
         top = a;
         least = omega (arith, a, h.lower);
-        near = near_of knows E Plain w.wire.sent h.top h.table x.number (omega (arith, g.sent, s.few, h.counted, narrow)) h.near;
+        near = near_of knows E MustKnow w.wire.sent h.top h.table x.number (omega (arith, g.sent, s.few, h.counted, narrow)) h.near;
         of = o;
         unknown = λ not. (o.request, o.found, ap knows o.call ∙ is ∙ not);
         all = λ every. sym is ∙ sym (ap knows o.call) ∙ all_at (λ (r : Sent). knows r.call ≡ true) w.wire.sent x.number o.request every o.found;
@@ -219,9 +219,12 @@ module _ {State : Type 0} (width : ℕ) (narrow : width ≤ 7) (knows : Asked �
         below =
             all_append _ v.down _ (all_on (λ (y : Numbered (List ℕ)). y.number < h.top) (λ y. y.number < n + 1) v.down (λ y l. omega (arith, l, front.top)) h.below)
             (omega arith, tt);
-        holds = kept_handed P Q f c.since h.top h.table n x.line.id known line (kept v.state) after front.recent front.top front.least front.id own was.now h.holds;
+        holds =
+            kept_handed Q c.since h.top h.table n x.line.id known line (kept v.state) after front.top
+            (record { number = n; recent = front.recent; before = omega arith; behind = low; id = front.id; line = own }) was.now
+            (kept_more P Q f c.since h.top h.table (kept v.state) h.holds);
         lines = o.1;
-        near = near_on knows E Plain v.sent h.top h.table n known front.least front.all h.near;
+        near = near_on knows E MustKnow v.sent h.top h.table n known front.least front.all h.near;
         coming = all_append _ v.down _ (all_on (λ (y : Numbered (List ℕ)). P y.number y.line) (λ y. Q y.number y.line) v.down (λ y. f y.number y.line) h.coming) (own, tt);
         answers = holds_more P Q f 0 v.settled h.answers;
         order = was.order;
@@ -237,7 +240,7 @@ module _ {State : Type 0} (width : ℕ) (narrow : width ≤ 7) (knows : Asked �
       let v = w.wire in
       let m : Numbered (List ℕ) = record { number = x.number; line = line } in
       let held = subst (λ k. KeptIs (Vouched v.sent v.executed v.made h.table) w.client.since h.top h.table k) (ke ∙ e) h.holds in
-      elim (near_same knows E Plain w.client.since h.top h.table x.number (record { id = x.line.id; line = line })
+      elim (near_same knows E MustKnow w.client.since h.top h.table x.number (record { id = x.line.id; line = line })
       (Vouched v.sent v.executed v.made h.table) held front.recent front.top front.id front.near) [
         | inl e ↦ inl e
         | inr p ↦ (stays_on v.sent v.executed v.executed v.made (m ∷ []) h.table h.table x.number line (λ i has. has) (omega arith) p).1
@@ -262,7 +265,7 @@ module _ {State : Type 0} (width : ℕ) (narrow : width ≤ 7) (knows : Asked �
         order = ordered_handed h.top x.number v.executed front.top h.order;
         once = λ keeps k.
             climbing_handed keeps ((h.top - 1 - c.since) % 8) ((x.number + 1 - 1 - c.since) % 8) h.top x.number v.sent v.executed v.starts (kept v.state) (kept hd.state)
-            (record { id = x.line.id; line = hd.reply }) front.top (unknown_or_retained ends Good kept w x hd keeps (keeps x.line.call) refl k is s.good c.since front.id front.of) (h.once keeps k);
+            front.top (unknown_or_retained ends Good kept w x hd keeps (keeps x.line.call) refl k is s.good c.since front.id front.of) (h.once keeps k);
       })
 
   -- in a good state, if the front request, x, is executed, and the instrument retains its reply to each request that `keeps`
@@ -309,7 +312,7 @@ module _ {State : Type 0} (width : ℕ) (narrow : width ≤ 7) (knows : Asked �
         order = ordered_acted h.top n v.executed front.top h.order;
         once = λ keeps k.
             climbing_acted keeps ((h.top - 1 - c.since) % 8) ((n + 1 - 1 - c.since) % 8) h.top n v.sent v.executed v.starts (kept v.state) (kept hd.state)
-            (record { id = x.line.id; line = hd.reply }) front.top (acted_by w x hd known keeps (keeps x.line.call) refl k is exe s.good h front)
+            front.top (acted_by w x hd known keeps (keeps x.line.call) refl k is exe s.good h front)
             (unknown_or_retained ends Good kept w x hd keeps (keeps x.line.call) refl k is s.good c.since front.id front.of) (h.once keeps k);
       })
 
@@ -474,7 +477,7 @@ module _ {State : Type 0} (width : ℕ) (narrow : width ≤ 7) (knows : Asked �
   vouched_with_down w down true h l c = vouched_queues w w.wire.up down h h.above h.lines l c
 
   -- `AllVouched` is preserved by a send, refused or not, of a request that is known if all have to be
-  pub vouched_requested : (w : World (ByNumber Asked) State) (target : ℕ) (call : Asked) (deadline : ℕ) (o : Option (Sending (ByNumber Asked))) → (Plain → knows call ≡ true)
+  pub vouched_requested : (w : World (ByNumber Asked) State) (target : ℕ) (call : Asked) (deadline : ℕ) (o : Option (Sending (ByNumber Asked))) → (MustKnow → knows call ≡ true)
       → (by_numbers width).send w.client target call deadline ≡ o → AllVouched w → AllVouched (requested w target call o)
   vouched_requested w target call deadline None plain e h = h
   vouched_requested w target call deadline (Some x) plain e h = vouched_send w target call deadline (eqb (length w.client.requests - w.client.count) width) x plain e h

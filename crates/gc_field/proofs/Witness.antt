@@ -66,8 +66,8 @@ one_part turns steps sent = part_of turns steps sent ∷ nothing ∷ []
 -- The run of one command.
 
 -- bytes above 34 are bytes of a string
-above : (b : ℕ) → 34 < b → IsStringByte b
-above b more = ((λ e. absurd (omega (arith, more, e))), (λ e. absurd (omega (arith, more, e))), (λ e. absurd (omega (arith, more, e))))
+in_string : (b : ℕ) → 34 < b → IsStringByte b
+in_string b more = ((λ e. absurd (omega (arith, more, e))), (λ e. absurd (omega (arith, more, e))), (λ e. absurd (omega (arith, more, e))))
 
 -- a space is a byte of a string
 space : IsStringByte 32
@@ -79,12 +79,12 @@ named =
     record {
       few = omega arith;
       plain = (
-        above 71 (lit< tt),
+        in_string 71 (lit< tt),
         (
-          above 69 (lit< tt),
+          in_string 69 (lit< tt),
           (
-            above 79 (lit< tt),
-            (above 67 (lit< tt), (above 79 (lit< tt), (above 77 (lit< tt), (space, (above 83 (lit< tt), (above 73 (lit< tt), (above 77 (lit< tt), tt))))))),
+            in_string 79 (lit< tt),
+            (in_string 67 (lit< tt), (in_string 79 (lit< tt), (in_string 77 (lit< tt), (space, (in_string 83 (lit< tt), (in_string 73 (lit< tt), (in_string 77 (lit< tt), tt))))))),
           ),
         ),
       );

@@ -7,7 +7,7 @@ use Rattle.std.specs.Prelude.{◌≡◌, ℕ, ◌<◌, Bool, true, false, List, 
 use Rattle.std.specs.List.{filter_map, AllByRecursion}
 use Rattle.gc_catalogue.specs.declared.asked.Asked.TheVariants.{Table}
 use Rattle.gc_catalogue.specs.declared.call.Call.TheVariants.{NullProc}
-use Rattle.gc_client.specs.Beginning.{the_word, left_by}
+use Rattle.gc_client.specs.Beginning.{IsSubsequence, the_word, left_by}
 use Rattle.gc_client.specs.Rule.{heard}
 use Rattle.gc_client.specs.declared.window.TheConstants.{IDS}
 use Rattle.gc_instrument.specs.State.{KeptReply}
@@ -30,6 +30,10 @@ none_under_way state = record { up = []; down = []; state = state }
 -- because it is sent only for a request; nor does a line without an id
 abbrev pub ids_under_way : {State : Type 0} → UnderWay State → List ℕ
 ids_under_way u = filter_map heard u.down ++ map (λ x. x.id) u.up
+
+-- the word isn't in flight: its ids aren't a subsequence of the ids of the replies and requests in flight
+abbrev pub LacksTheWord : {State : Type 0} → UnderWay State → Type 0
+LacksTheWord u = IsSubsequence the_word (ids_under_way u) → ⊥
 
 -- what is in flight is well formed: the id of each request is one digit from 0 to 7; and the instrument's state is good (`Good`)
 pub record IsWellFormed {State : Type 0} (Good : State → Type 0) (u : UnderWay State) : Type 0 where

@@ -89,6 +89,10 @@ with_the_word =
 abbrev pub eight_come : List (Turn State)
 eight_come = Comes ∷ Comes ∷ Comes ∷ Comes ∷ Comes ∷ Comes ∷ Comes ∷ Comes ∷ []
 
+-- what that synchronization leaves in flight: the reply after the eight
+abbrev pub left_by_eight : UnderWay State
+left_by_eight = leaves (turned ends eight_come (begins with_the_word))
+
 -- the moves after that synchronization: the first command is sent, and the reply after the eight comes
 abbrev pub ninth_comes : List (Move State)
 ninth_comes = Sends 7 (Table InstrumentNo) 100 ∷ field.Comes (codes "%R1P,0,0:0,654321") ∷ []
@@ -97,8 +101,8 @@ ninth_comes = Sends 7 (Table InstrumentNo) 100 ∷ field.Comes (codes "%R1P,0,0:
 -- command, though nothing was executed
 pub record IsBookedFromBefore : Type 0 where
   pub begun : (turned ends eight_come (begins with_the_word)).left ≡ []
-  pub possible : ArePossible ends IsFittingState kept_of (by_ids WINDOW ends) ninth_comes (ids_begun (leaves (turned ends eight_come (begins with_the_word))))
+  pub possible : ArePossible ends IsFittingState kept_of (by_ids WINDOW ends) ninth_comes (ids_begun left_by_eight)
   pub settled :
-      (behind WINDOW ends (leaves (turned ends eight_come (begins with_the_word))) ninth_comes).wire.settled
+      (behind WINDOW ends left_by_eight ninth_comes).wire.settled
       ≡ nulls_settled ++ record { target = 7; call = Table InstrumentNo; outcome = Answered (codes "%R1P,0,0:0,654321") } ∷ []
-  pub executed : (behind WINDOW ends (leaves (turned ends eight_come (begins with_the_word))) ninth_comes).wire.executed ≡ []
+  pub executed : (behind WINDOW ends left_by_eight ninth_comes).wire.executed ≡ []

@@ -4,14 +4,13 @@
 -- those that aren't answered.
 use Rattle.std.specs.Prelude.{◌≡◌, ℕ, ◌+◌, ◌%◌, ◌<◌, ◌≤◌, List, [], ◌∷◌, map, Option}
 use Rattle.std.specs.List.{AllByRecursion}
-use Rattle.gc_client.specs.Beginning.{IsSubsequence, the_word}
 use Rattle.gc_client.specs.declared.window.TheConstants.{WINDOW}
 use Rattle.gc_instrument.specs.State.{KeptReply, IsFittingState}
 use Rattle.gc_world.specs.Clients.{by_ids}
 use Rattle.gc_field.specs.Simulator.{ends}
 use Rattle.gc_world.specs.Order.{Rising}
 use Rattle.gc_field.specs.World.{Ends, Wire}
-use Rattle.gc_field.specs.Begin.{IsWellFormed, AreTurns, Model, Turn, UnderWay, begins, ids_under_way, leaves, turned}
+use Rattle.gc_field.specs.Begin.{IsWellFormed, LacksTheWord, AreTurns, Model, Turn, UnderWay, begins, ids_under_way, leaves, turned}
 use Rattle.gc_field.specs.Begun.{HasBegunCleanly, IsClean, IsFaithful, behind, ids_begun}
 use Rattle.gc_field.specs.Field.{Move, ArePossible}
 use Rattle.gc_field.specs.Instrument.{AnyState, IsAnInstrument}
@@ -31,10 +30,9 @@ pub record HasRisingIds {State : Type 0} (u : UnderWay State) : Type 0 where
   pub few : AllByRecursion (λ n. n < low + WINDOW) numbers
   pub ids : ids_under_way u ≡ map (λ n. n % 8) numbers
 
--- where `HasRisingIds` holds of what is in flight, the word is no subsequence of the ids in flight: not even the first three ids
--- of the word, in their order, are a subsequence of them
+-- where `HasRisingIds` holds of what is in flight, the word isn't in flight
 abbrev pub RisingIdsLackTheWord : Type 0 → Type 0
-RisingIdsLackTheWord State = (u : UnderWay State) → HasRisingIds u → IsSubsequence the_word (ids_under_way u) → ⊥
+RisingIdsLackTheWord State = (u : UnderWay State) → HasRisingIds u → LacksTheWord u
 
 -- for any instrument, and a client with a window of at most `WINDOW` requests: once a run has synchronized cleanly (`IsClean`),
 -- `HasRisingIds` holds of what is in flight after any moves that are possible

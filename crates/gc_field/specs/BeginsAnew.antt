@@ -4,7 +4,6 @@
 use Rattle.std.specs.Prelude.{◌≡◌, ℕ, true, false, List, [], ◌∷◌, ◌++◌, codes, drop, map, pos, Some}
 use Rattle.gc_lines.specs.Lines.{with_end}
 use Rattle.gc_catalogue.specs.declared.answer.Answer.TheVariants.{Long}
-use Rattle.gc_catalogue.specs.declared.answer.Reading.TheVariants.{Value}
 use Rattle.gc_catalogue.specs.declared.asked.Asked.TheVariants.{Table}
 use Rattle.gc_catalogue.specs.declared.call.Call.TheVariants.{InstrumentNo}
 use Rattle.gc_client.specs.declared.window.TheConstants.{WINDOW}
@@ -29,7 +28,7 @@ use Rattle.gc_field.specs.CountingChain.{Counter, at_start, null_replies, counti
 use Rattle.gc_field.specs.Field.{Move, Sends, Tells, Comes, OnLine}
 use Rattle.gc_field.specs.Instrument.{IsAnInstrument, AnyState}
 use Rattle.gc_field.specs.Runs.{IsInField}
-use Rattle.gc_field.specs.Witness.{null_lines, at, begun_with, eight_answered, exchanged, plan_of, run_and_end}
+use Rattle.gc_field.specs.Witness.{null_lines, at, begun_with, eight_answered, exchanged, plan_of, run_and_end, scope_saying}
 
 -- the plan of this run: seven requests at a time
 abbrev pub plan : Plan
@@ -43,9 +42,9 @@ command target = record { target = target; call = Table InstrumentNo }
 abbrev pub commands : List Task
 commands = map (λ target. plain_task (command target) 100 false) (1 ∷ 2 ∷ 3 ∷ 4 ∷ 5 ∷ 6 ∷ 7 ∷ 8 ∷ [])
 
--- the scope of this run: at most a hundred acts; every reply is taken to say what the reply to the last command says
+-- the scope of this run: every reply is taken to say what the reply to the last command says
 abbrev pub scope : Scope
-scope = record { turns = 100; reads = λ call line. Value (Long (pos 45)) }
+scope = scope_saying (Long (pos 45))
 
 -- the lines of the seven requests that are sent at once
 abbrev pub seven_lines : List (List ℕ)

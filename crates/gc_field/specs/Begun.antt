@@ -7,7 +7,7 @@ use Rattle.gc_catalogue.specs.declared.asked.Asked.{Asked}
 use Rattle.gc_catalogue.specs.declared.asked.Asked.TheVariants.{Table}
 use Rattle.gc_catalogue.specs.declared.call.Call.TheVariants.{NullProc}
 use Rattle.gc_catalogue.specs.Asked.{asked_line}
-use Rattle.gc_client.specs.Beginning.{IsSubsequence, the_word}
+use Rattle.gc_client.specs.Beginning.{the_word}
 use Rattle.gc_client.specs.declared.pending.Pending.{Pending}
 use Rattle.gc_client.specs.declared.window.TheConstants.{WINDOW}
 use Rattle.gc_client.specs.OneForOne.{begun, course, of_settled, of_pending}
@@ -17,7 +17,7 @@ use Rattle.gc_world.specs.Clients.{ByNumber, by_ids, by_numbers}
 use Rattle.gc_field.specs.Simulator.{ends}
 use Rattle.gc_world.specs.Record.{IsBooked, IsOneForOne}
 use Rattle.gc_field.specs.World.{Ends, Numbered, Request, Sent, Wire, World}
-use Rattle.gc_field.specs.Begin.{IsWellFormed, AreTurns, Model, Turn, UnderWay, begins, ids_under_way, turned}
+use Rattle.gc_field.specs.Begin.{IsWellFormed, LacksTheWord, AreTurns, Model, Turn, UnderWay, begins, none_under_way, turned}
 use Rattle.gc_field.specs.Field.{Move, Comes, Sends, ArePossible, AsksTheTable, moved, moves, seen}
 use Rattle.gc_field.specs.Instrument.{AnyState, IsAnInstrument, KeepsItsReply, TreatsRawsAlike}
 use Rattle.gc_field.specs.Laws.{WasExecuted, asked, kept_of}
@@ -43,14 +43,14 @@ pub record HasBegunCleanly {State : Type 0} (kept : State → Option KeptReply) 
   pub down : AllByRecursion (λ x. (x.old ≡ false) × (heard x.line ≡ Some 7)) s.down
   pub keeps : IsOfEighth kept s.state
 
--- for any instrument: unless the word is a subsequence of the ids in flight when a synchronization begins, whatever is in flight
--- then and well formed (`IsWellFormed`), and whatever happens that is possible (`AreTurns`), once it has synchronized, it has
--- synchronized cleanly
+-- for any instrument: unless the word is in flight when a synchronization begins (`LacksTheWord`), whatever is in flight then and
+-- well formed (`IsWellFormed`), and whatever happens that is possible (`AreTurns`), once it has synchronized, it has synchronized
+-- cleanly
 abbrev pub BeginsCleanly : Type 0 → Type 0
 BeginsCleanly State =
     (ends : Ends State) (kept : State → Option KeptReply) → IsAnInstrument ends AnyState kept →
     (u : UnderWay State) (ts : List (Turn State)) → IsWellFormed AnyState u → AreTurns ends AnyState kept ts (begins u) →
-    (IsSubsequence the_word (ids_under_way u) → ⊥) → (turned ends ts (begins u)).left ≡ [] → HasBegunCleanly kept (turned ends ts (begins u))
+    LacksTheWord u → (turned ends ts (begins u)).left ≡ [] → HasBegunCleanly kept (turned ends ts (begins u))
 
 -- The client after a synchronization.
 
@@ -189,6 +189,10 @@ module _ {State : Type 0} (width : ℕ) (ends : Ends State) (u : UnderWay State)
     pub first_reply :
         (n : ℕ) (line : List ℕ) (rest : List (Numbered (List ℕ))) → (behind ms).wire.down ≡ record { number = n; line = line } ∷ rest → length (behind ms).wire.settled ≤ n →
         (moves ends (by_ids width ends) (behind ms) (Comes line)).wire.settled ≡ (behind ms).wire.settled ++ settle (n - length (behind ms).wire.settled) line (behind ms).client.waiting
+
+-- the wire after these moves of a client that has synchronized with an instrument in this state, with nothing in flight then
+abbrev pub wire_over_empty_line : {State : Type 0} → Ends State → State → List (Move State) → Wire State
+wire_over_empty_line ends state ms = (behind WINDOW ends (none_under_way state) ms).wire
 
 -- possible moves after a clean synchronization (`IsClean`) are faithful, for a client with a window of at most `WINDOW` requests,
 -- whenever it sends; no request has to be sent alone. `Good` says which states of the instrument are good, and `kept` what reply

@@ -5,7 +5,6 @@ use Rattle.gc_lines.specs.Lines.{with_end}
 use Rattle.gc_values.specs.Decimals.{decimal}
 use Rattle.gc_values.specs.declared.decimal.Decimal.{Decimal}
 use Rattle.gc_catalogue.specs.declared.answer.Answer.TheVariants.{Long}
-use Rattle.gc_catalogue.specs.declared.answer.Reading.TheVariants.{Value}
 use Rattle.gc_catalogue.specs.declared.asked.Asked.{Asked}
 use Rattle.gc_catalogue.specs.declared.asked.Asked.TheVariants.{Table}
 use Rattle.gc_catalogue.specs.declared.call.Call.TheVariants.{Position, DoMeasure, SimpleMea}
@@ -29,7 +28,7 @@ use Rattle.gc_field.specs.Laws.{kept_of}
 use Rattle.gc_field.specs.Pointing.{AreStill}
 use Rattle.gc_field.specs.Runs.{IsInField}
 use Rattle.gc_field.specs.Shown.{Stretch}
-use Rattle.gc_field.specs.Witness.{plan, at, begun_with, eight_answered, replies, run_and_end}
+use Rattle.gc_field.specs.Witness.{plan, scope_saying, at, begun_with, eight_answered, replies, run_and_end}
 
 -- the horizontal direction of a target, in radians
 abbrev pub hz : Decimal
@@ -59,9 +58,9 @@ commands =
     ∷ plain_task (record { target = 7; call = reads_all }) 100 true
     ∷ []
 
--- the scope of this run: at most a hundred acts; every reply is taken to say a value, whichever
+-- the scope of this run: every reply is taken to say the number 0, whatever it says
 abbrev pub scope : Scope
-scope = record { turns = 100; reads = λ call line. Value (Long (pos 0)) }
+scope = scope_saying (Long (pos 0))
 
 -- the simulator's reply to the first command
 abbrev pub first_reply : List ℕ

@@ -3,8 +3,8 @@
 -- between them was executed; and the instrument's state was what these executions had made of it, apart from what it retains. A
 -- part is what a station sees of its run from one synchronization to the next, and a stretch what happens on the line meanwhile,
 -- once it has synchronized.
-use Rattle.std.specs.Prelude.{◌≡◌, ℕ, Bool, ◌+◌, ◌<◌, ◌≤◌, true, false, List, [], ◌∷◌, ◌++◌, Option, Some, slice_get}
-use Rattle.std.specs.List.{AllByRecursion}
+use Rattle.std.specs.Prelude.{◌≡◌, ℕ, Bool, ◌+◌, ◌<◌, ◌≤◌, true, false, List, [], ◌∷◌, ◌++◌, Option, Some, fold, slice_get}
+use Rattle.std.specs.List.{AllByRecursion, AllZip}
 use Rattle.gc_catalogue.specs.declared.answer.Reading.{Reading}
 use Rattle.gc_catalogue.specs.declared.asked.Asked.{Asked}
 use Rattle.gc_client.specs.declared.window.TheConstants.{WINDOW}
@@ -22,21 +22,20 @@ use Rattle.gc_station.specs.declared.plan.Plan.{Plan}
 use Rattle.gc_field.specs.World.{Ends, Sent, Up_deliver, Wire}
 use Rattle.gc_field.specs.Begin.{UnderWay}
 use Rattle.gc_field.specs.Beginnings.{Run}
-use Rattle.gc_field.specs.Begun as begun
 use Rattle.gc_field.specs.Begun.{WasMadeOn}
 use Rattle.gc_field.specs.Field.{Move, OnLine, Anew, Changes, Joins}
 use Rattle.gc_field.specs.Instrument.{IsAnInstrument, KeepsItsReply, AnyState}
 use Rattle.gc_field.specs.Once.{IsInOrder}
-use Rattle.gc_field.specs.Runs.{IsInField}
+use Rattle.gc_field.specs.Runs.{IsInField, world_at}
 use Rattle.gc_field.specs.Shown.{Stretch, stretches}
 
 -- What happens between two executions.
 
 -- no start of the instrument is among these moves
-abbrev pub HasNoStartBetween : {State : Type 0} → List (Move State) → Type 0
-HasNoStartBetween [] = Unit {0}
-HasNoStartBetween (Anew ∷ ms) = ⊥
-HasNoStartBetween (_ ∷ ms) = HasNoStartBetween ms
+abbrev pub HasNoStartAmong : {State : Type 0} → List (Move State) → Type 0
+HasNoStartAmong [] = Unit {0}
+HasNoStartAmong (Anew ∷ ms) = ⊥
+HasNoStartAmong (_ ∷ ms) = HasNoStartAmong ms
 
 -- among these moves the instrument neither starts again nor changes by itself, and no two requests reach it as one line (`Joins`)
 abbrev pub IsUndisturbed : {State : Type 0} → List (Move State) → Type 0
@@ -48,14 +47,7 @@ IsUndisturbed (_ ∷ ms) = IsUndisturbed ms
 
 -- these are the calls of the requests with these numbers, one for one, in order
 abbrev pub AreCalls : List Sent → List ℕ → List Asked → Type 0
-AreCalls sent [] [] = Unit {0}
-AreCalls sent (n ∷ ns) (call ∷ calls) = ((r : Sent) × (slice_get sent n ≡ Some r) × (r.call ≡ call)) × AreCalls sent ns calls
-AreCalls sent _ _ = ⊥
-
--- the instrument's state after these calls, one after the other, if executing a call changes the state by `effect`
-abbrev pub executing : {State : Type 0} → (State → Asked → State) → State → List Asked → State
-executing effect s [] = s
-executing effect s (call ∷ calls) = executing effect (effect s call) calls
+AreCalls sent ns calls = AllZip (λ n call. (r : Sent) × (slice_get sent n ≡ Some r) × (r.call ≡ call)) ns calls
 
 -- executing a call changes an instrument's state by `effect`, whatever id the request has, and a reply that is sent again
 -- changes nothing. Both are said of the state without what the instrument retains, which `apart` gives; and by `alike` the
@@ -67,7 +59,7 @@ pub record HasEffect {State : Type 0} (ends : Ends State) (apart : State → Sta
 
 -- the wire after these moves of a stretch
 abbrev pub stretch_wire : {State : Type 0} → Ends State → Stretch State → List (Move State) → Wire State
-stretch_wire ends s ms = (begun.behind WINDOW ends s.from ms).wire
+stretch_wire ends s ms = (world_at ends s ms).wire
 
 module _ {State : Type 0} (ends : Ends State) (Good : State → Type 0) (kept : State → Option KeptReply) where
   -- Two executions of a stretch.
@@ -88,7 +80,7 @@ module _ {State : Type 0} (ends : Ends State) (Good : State → Type 0) (kept : 
     -- if the instrument retains its reply to each request that it knows, and didn't start between, each of these was sent after
     -- m and before n
     pub strictly :
-        (knows : Asked → Bool) → KeepsItsReply ends Good kept knows → HasNoStartBetween between →
+        (knows : Asked → Bool) → KeepsItsReply ends Good kept knows → HasNoStartAmong between →
         AllByRecursion (λ x. (r : Sent) → slice_get (stretch_wire ends s s.moves).sent x ≡ Some r → knows r.call ≡ true → (m < x) × (x < n)) numbers
     -- if the instrument neither started nor changed by itself between, its state when n reached it is, apart from what it
     -- retains, the state in which m reached it, changed by executing m and then the requests between (`HasEffect`)
@@ -96,7 +88,7 @@ module _ {State : Type 0} (ends : Ends State) (Good : State → Type 0) (kept : 
     pub asked : AreCalls (stretch_wire ends s s.moves).sent numbers calls
     pub state :
         (apart : State → State) (effect : State → Asked → State) → HasEffect ends apart effect → IsUndisturbed between →
-        apart (stretch_wire ends s second.front).state ≡ apart (executing effect (stretch_wire ends s first.front).state (call_m ∷ calls))
+        apart (stretch_wire ends s second.front).state ≡ apart (fold effect (stretch_wire ends s first.front).state (call_m ∷ calls))
 
   -- A chain of a run.
 

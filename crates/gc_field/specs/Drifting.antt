@@ -8,7 +8,6 @@ use Rattle.gc_lines.specs.Lines.{with_end}
 use Rattle.gc_lines.specs.Replies.{reply_text}
 use Rattle.gc_catalogue.specs.Asked.{asked_line}
 use Rattle.gc_catalogue.specs.declared.answer.Answer.TheVariants.{Nothing}
-use Rattle.gc_catalogue.specs.declared.answer.Reading.TheVariants.{Value}
 use Rattle.gc_catalogue.specs.declared.asked.Asked.TheVariants.{Table, Raw}
 use Rattle.gc_catalogue.specs.declared.call.Call.TheVariants.{InstrumentNo}
 use Rattle.gc_catalogue.specs.declared.raw.RawCall.{RawCall}
@@ -31,17 +30,22 @@ use Rattle.gc_field.specs.Begun.{WasMadeOn}
 use Rattle.gc_field.specs.Field.{Move, Sends, Tells, Comes, OnLine, Anew, Changes}
 use Rattle.gc_field.specs.Instrument.{IsAnInstrument, AnyState, nothing}
 use Rattle.gc_field.specs.Runs.{IsInField}
-use Rattle.gc_field.specs.Witness.{null_lines, at, eight_answered, exchanged, replies, run_and_end}
+use Rattle.gc_field.specs.Witness.{scope_saying, null_lines, at, eight_answered, exchanged, replies, run_and_end}
 
--- the instrument: its state is the number that it measures, with which it answers every request; a start sets it to 0
-abbrev pub drifting : Ends ℕ
-drifting =
+-- an instrument that retains no reply, and answers every request with its state: `text` gives the parameters of the reply in a
+-- state, and `new` is the state after a start
+abbrev pub tells_its_state : {State : Type 0} → (text : State → List ℕ) → (new : State) → Ends State
+tells_its_state text new =
     record {
-      handed = λ s id call. record { state = s; reply = reply_text (record { rc_com = 0; id = Some id; rc = 0; params = decimal s }); executed = true };
-      restarted = λ s. 0;
+      handed = λ s id call. record { state = s; reply = reply_text (record { rc_com = 0; id = Some id; rc = 0; params = text s }); executed = true };
+      restarted = λ s. new;
       heard = heard;
       joint = false;
     }
+
+-- the instrument: its state is the number that it measures, with which it answers every request; a start sets it to 0
+abbrev pub drifting : Ends ℕ
+drifting = tells_its_state {State = ℕ} decimal 0
 
 -- the plan of this run: one request at a time, deadlines of 100 ms, one cycle, a quiet time of 10 ms, and three retries
 abbrev pub plan : Plan
@@ -54,9 +58,9 @@ commands raw =
     ∷ plain_task (record { target = 8; call = Raw raw }) 100 false
     ∷ []
 
--- the scope of this run: at most a hundred acts; the parameters of replies aren't read, so each reply says nothing
+-- the scope of this run: the parameters of replies aren't read, so each reply says nothing
 abbrev pub scope : Scope
-scope = record { turns = 100; reads = λ call line. Value Nothing }
+scope = scope_saying Nothing
 
 -- the replies to the null procedures: those of the simulator, each with the number 12 behind it
 abbrev pub null_replies : List (List ℕ)

@@ -13,6 +13,15 @@ use Rattle.gc_instrument.specs.State.{KeptReply}
 use Rattle.gc_field.specs.World.{Ends}
 use Rattle.gc_catalogue.specs.Asked.{is_of_table}
 
+-- what an instrument retains after a request with this id is `line`, its reply to that request, with the id; or nothing
+abbrev pub IsOwnOrNone : (id : ℕ) (line : List ℕ) → Option KeptReply → Type 0
+IsOwnOrNone id line after = (after ≡ None) ⊎ (after ≡ Some (record { id = id; line = line }))
+
+-- what an instrument retains after a request with this id is `line`, its reply to that request, or nothing (`IsOwnOrNone`); or,
+-- if it doesn't know the request (`known` is false), what it retained before
+abbrev pub IsKeptAfter : (known : Bool) (id : ℕ) (line : List ℕ) (before after : Option KeptReply) → Type 0
+IsKeptAfter known id line before after = IsOwnOrNone id line after ⊎ ((known ≡ false) × (after ≡ before))
+
 module _ {State : Type 0} (ends : Ends State) where
   -- The clauses on an instrument.
 
@@ -43,16 +52,14 @@ module _ {State : Type 0} (ends : Ends State) where
 
       -- after this request the instrument retains its reply to that request, or nothing
       abbrev pub KeepsItsOwn : State → ℕ → Asked → Type 0
-      KeepsItsOwn state id call =
-          (kept (ends.handed state id call).state ≡ None)
-          ⊎ (kept (ends.handed state id call).state ≡ Some (record { id = id; line = (ends.handed state id call).reply }))
+      KeepsItsOwn state id call = IsOwnOrNone id (ends.handed state id call).reply (kept (ends.handed state id call).state)
 
       -- after a request in a good state the instrument retains its reply to that request, or nothing; or, if it doesn't know the
       -- request (`knows`), what it retained before
       abbrev pub RetainsItsOwn : (Asked → Bool) → Type 0
       RetainsItsOwn knows =
           (state : State) (id : ℕ) (call : Asked) → Good state → id < IDS →
-          KeepsItsOwn state id call ⊎ ((knows call ≡ false) × (kept (ends.handed state id call).state ≡ kept state))
+          IsKeptAfter (knows call) id (ends.handed state id call).reply (kept state) (kept (ends.handed state id call).state)
 
       -- after a start from a good state the instrument retains what it retained before, or nothing
       abbrev pub RetainsOverStarts : Type 0

@@ -22,6 +22,7 @@ use Rattle.gc_field.specs.ChainWitness.{at_start}
 use Rattle.gc_field.specs.Field.{Move, Sends, Tells, Comes, OnLine}
 use Rattle.gc_field.specs.Laws.{kept_of}
 use Rattle.gc_field.specs.Runs.{IsInField}
+use Rattle.gc_field.specs.Witness as one
 use Rattle.gc_field.specs.Witness.{plan, scope, at, begun_with, eight_answered, replies, run_and_end}
 
 -- two requests for the instrument's number
@@ -31,9 +32,9 @@ commands =
     ∷ plain_task (record { target = 8; call = Table InstrumentNo }) 100 false
     ∷ []
 
--- the reply to the first request, which comes too late
+-- the reply to the first request, which comes too late: it has the bytes of the answer in the run of one command
 abbrev pub late : List ℕ
-late = codes "%R1P,0,0:0,123456"
+late = one.answer
 
 -- the reply to the second request
 abbrev pub answer : List ℕ

@@ -6,24 +6,21 @@ use Rattle.gc_catalogue.specs.declared.asked.Asked.{Asked}
 use Rattle.gc_catalogue.specs.declared.asked.Asked.TheVariants.{Raw}
 use Rattle.gc_catalogue.specs.declared.raw.RawCall.{RawCall}
 use Rattle.gc_client.specs.declared.window.TheConstants.{WINDOW, IDS}
-use Rattle.gc_client.specs.OneForOne.{Wanted, begun, course, of_settled, of_pending}
+use Rattle.gc_client.specs.OneForOne.{begun, course, of_settled, of_pending}
 use Rattle.gc_client.specs.Rule.{ById, Settlement, Answered, Late, settle}
 use Rattle.gc_instrument.specs.Replying.{IsReplied}
 pub use Rattle.gc_instrument.specs.Replying.{kept_of}
+pub use Rattle.gc_world.specs.Worlds.{of_sent as asked}
 use Rattle.gc_instrument.specs.State.{KeptReply, State, IsFittingState}
 use Rattle.gc_world.specs.Clients.{by_ids, by_numbers, ids_open, numbers_open}
 use Rattle.gc_field.specs.Simulator.{ends, handed}
 use Rattle.gc_world.specs.Record.{IsBooked, IsOneForOne}
-use Rattle.gc_field.specs.World.{Ends, Numbered, Sent, Wire, World}
+use Rattle.gc_field.specs.World.{Ends, Numbered, Wire, World}
 use Rattle.gc_field.specs.Field.{Move, Comes, IsField, moved, moves, seen}
 use Rattle.gc_field.specs.Made.{WasMadeOn}
 use Rattle.gc_field.specs.Instrument.{IsAnInstrument, KeepsItsReply, AnyState}
 use Rattle.gc_field.specs.Once.{ActsOnce, IsInOrder}
 use Rattle.gc_catalogue.specs.Asked.{asked_line, is_of_table}
-
--- whom a request was for, and what it asks for
-abbrev pub asked : Sent → Wanted Asked
-asked r = record { target = r.target; call = r.call }
 
 -- the request with this number is among those that were executed
 abbrev pub WasExecuted : List ℕ → ℕ → Type 0

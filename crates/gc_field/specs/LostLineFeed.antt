@@ -14,8 +14,7 @@ use Rattle.gc_world.specs.Clients.{by_ids}
 use Rattle.gc_field.specs.Simulator.{ends}
 use Rattle.gc_field.specs.World.{Up_deliver}
 use Rattle.gc_field.specs.Begin.{none_under_way}
-use Rattle.gc_field.specs.Begun as begun
-use Rattle.gc_field.specs.Begun.{ids_begun}
+use Rattle.gc_field.specs.Begun.{ids_begun, wire_over_empty_line}
 use Rattle.gc_field.specs.Field.{Move, Sends, Comes, OnLine, Joins, ArePossible}
 use Rattle.gc_field.specs.Laws.{kept_of}
 
@@ -43,9 +42,10 @@ pub record IsBookedJoined : Type 0 where
   pub reads : request_at joint ≡ Ok (record { rpc = 5003; id = Some 1; params = codes "%R1Q,0,2:" })
   pub possible : ArePossible ends IsFittingState kept_of (by_ids WINDOW ends) moves_before (ids_begun (none_under_way simulator_opening))
   -- the simulator, as it is by then, answers that line with this refusal, and nothing changes
-  pub replied : IsReplied (begun.behind WINDOW ends (none_under_way simulator_opening) moves_before).wire.state joint
-      (begun.behind WINDOW ends (none_under_way simulator_opening) moves_before).wire.state (Some refusal)
+  pub replied :
+      IsReplied (wire_over_empty_line ends simulator_opening moves_before).state joint (wire_over_empty_line ends simulator_opening moves_before).state (Some refusal)
   -- the reply is booked for the request that was cut, which wasn't executed
-  pub settled : slice_get (begun.behind WINDOW ends (none_under_way simulator_opening) (moves_before ++ moves_after)).wire.settled 9 ≡ Some
-      (record { target = 7; call = Table InstrumentNo; outcome = Answered refusal })
-  pub executed : (begun.behind WINDOW ends (none_under_way simulator_opening) (moves_before ++ moves_after)).wire.executed ≡ 8 ∷ []
+  pub settled :
+      slice_get (wire_over_empty_line ends simulator_opening (moves_before ++ moves_after)).settled 9
+      ≡ Some (record { target = 7; call = Table InstrumentNo; outcome = Answered refusal })
+  pub executed : (wire_over_empty_line ends simulator_opening (moves_before ++ moves_after)).executed ≡ 8 ∷ []

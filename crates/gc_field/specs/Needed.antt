@@ -16,7 +16,7 @@ use Rattle.gc_instrument.specs.State.{KeptReply}
 use Rattle.gc_world.specs.Clients.{by_ids}
 use Rattle.gc_field.specs.World.{Ends, Up_deliver, Up_repeat}
 use Rattle.gc_field.specs.Begin.{none_under_way}
-use Rattle.gc_field.specs.Begun.{IsClean, behind, ids_begun}
+use Rattle.gc_field.specs.Begun.{IsClean, ids_begun, wire_over_empty_line}
 use Rattle.gc_field.specs.Field.{Move, Sends, Comes, OnLine, Anew, Changes, ArePossible}
 use Rattle.gc_field.specs.Instrument.{IsAnInstrument, AnyState, ReadsByGrammar, RepliesWithItsId, RepeatsWhatIsRetained, RetainsItsOwn, RetainsOverStarts, StaysGoodOverRequests, StaysGoodOverStarts, nothing}
 use Rattle.gc_field.specs.Laws.{WasExecuted}
@@ -50,8 +50,8 @@ module _ {State : Type 0} (ends : Ends State) (Good : State → Type 0) (kept : 
     pub beyond : 8 ≤ m
     pub clean : IsClean Good kept (none_under_way state)
     pub field : ArePossible ends Good kept (by_ids WINDOW ends) ms (ids_begun (none_under_way state))
-    pub settled : slice_get (behind WINDOW ends (none_under_way state) ms).wire.settled m ≡ Some (record { target = 7; call = call; outcome = Answered line })
-    pub executed : WasExecuted (behind WINDOW ends (none_under_way state) ms).wire.executed m → ⊥
+    pub settled : slice_get (wire_over_empty_line ends state ms).settled m ≡ Some (record { target = 7; call = call; outcome = Answered line })
+    pub executed : WasExecuted (wire_over_empty_line ends state ms).executed m → ⊥
 
   -- the clause x is needed: this instrument meets every other one, and in these moves, from this good state on, the client books
   -- the instrument's line as the answer to request m, which the instrument never executed
@@ -134,13 +134,10 @@ nine_requests call =
 abbrev pub remembers : Ends Keeper
 remembers = record keeper { restarted = λ k. Some (1, 27) }
 
--- the moves of two requests, between which `remembers` starts
-abbrev pub start_between : List (Move Keeper)
-start_between = one_answered (Table NullProc) (giving 0 0) (Anew ∷ one_answered (Table InstrumentNo) (giving 1 27) [])
-
--- the moves of two requests, between which another client's request changes what the instrument retains
-abbrev pub changed_between : List (Move Keeper)
-changed_between = one_answered (Table NullProc) (giving 0 0) (Changes (Some (1, 27)) ∷ one_answered (Table InstrumentNo) (giving 1 27) [])
+-- the moves of two requests, each answered before the next one is sent, with this move between them; the answer to the second one
+-- is the reply that `remembers` retains after a start
+abbrev pub two_around : Move Keeper → List (Move Keeper)
+two_around between = one_answered (Table NullProc) (giving 0 0) (between ∷ one_answered (Table InstrumentNo) (giving 1 27) [])
 
 -- Instruments that retain no reply: their state says whether they are out of order.
 
@@ -149,13 +146,13 @@ abbrev pub other_id : ℕ → ℕ
 other_id zero = 0
 other_id (suc id) = id + 2
 
--- the id of a reply to a request with this id: another one if the instrument is out of order
+-- the id of a reply to a request with this id: the same; or what `other_id` makes of it, if the instrument is out of order
 abbrev pub id_of : Bool → ℕ → ℕ
 id_of false id = id
 id_of true id = other_id id
 
--- what an instrument that may be out of order does with a request: it executes the request, and its reply has the request's id,
--- or another one if the instrument is out of order (`broken`). `after` is its state afterwards
+-- what an instrument that may be out of order does with a request: it executes the request, and its reply has the id that `id_of`
+-- gives; `broken` says whether the instrument is out of order, and `after` is its state afterwards
 abbrev pub answers_in : Bool → ℕ → Bool → Handed Bool
 answers_in broken id after = record { state = after; reply = giving (id_of broken id) 0; executed = true }
 
@@ -167,7 +164,7 @@ IsUnbroken broken = broken ≡ false
 abbrev pub mistaken : Ends Bool
 mistaken = record { handed = λ b id call. answers_in true id b; restarted = λ b. b; heard = heard; joint = true }
 
--- an instrument in whose replies the client reads another id (`other_id`), not by the grammar of replies
+-- an instrument in whose replies the client doesn't read the id by the grammar of replies, but what `other_id` makes of that id
 abbrev pub misheard : Ends Bool
 misheard = record mistaken { handed = λ b id call. answers_in false id b; heard = λ line. option_map other_id (heard line) }
 
@@ -211,8 +208,8 @@ pub record IsExecutedTwice {State : Type 0} (ends : Ends State) (Good : State �
   pub clean : IsClean Good kept (none_under_way state)
   pub field : ArePossible ends Good kept (by_ids WINDOW ends) repeated_request (ids_begun (none_under_way state))
   pub twice :
-      ActsOnce is_of_table (behind WINDOW ends (none_under_way state) repeated_request).wire.sent (behind WINDOW ends (none_under_way state) repeated_request).wire.executed
-      (behind WINDOW ends (none_under_way state) repeated_request).wire.starts → ⊥
+      ActsOnce is_of_table (wire_over_empty_line ends state repeated_request).sent (wire_over_empty_line ends state repeated_request).executed
+      (wire_over_empty_line ends state repeated_request).starts → ⊥
 
 -- each clause of what is asked of an instrument (`IsAnInstrumentFor`) is needed; and so are the rule when a client sends, the
 -- limits of what may change by itself, and both clauses of `KeepsItsReply`
@@ -221,7 +218,7 @@ pub record IsAllNeeded : Type 0 where
   pub replies : IsNeeded mistaken AnyState nothing false Replies (one_answered (Table NullProc) (giving 0 0) (two_asked (giving 2 0))) 10 (Table InstrumentNo) (giving 2 0)
   pub repeats : IsNeeded pretends AnyState nothing false Repeats (one_answered (Table NullProc) (giving 0 0) (one_answered (Table InstrumentNo) (giving 1 0) [])) 9 (Table InstrumentNo) (giving 1 0)
   pub keeps : IsNeeded keeps_older AnyState kept None Keeps (nine_requests (Table InstrumentNo)) 16 (Table NullProc) (giving 0 0)
-  pub starts : IsNeeded remembers AnyState kept None Starts start_between 9 (Table InstrumentNo) (giving 1 27)
+  pub starts : IsNeeded remembers AnyState kept None Starts (two_around Anew) 9 (Table InstrumentNo) (giving 1 27)
   pub stays_good : IsNeeded wears_out IsUnbroken nothing false StaysGood (one_answered (Table NullProc) (giving 0 0) (two_asked (giving 2 0))) 10 (Table InstrumentNo) (giving 2 0)
   pub starts_good : IsNeeded starts_broken IsUnbroken nothing false StartsGood (one_answered (Table NullProc) (giving 0 0) (Anew ∷ two_asked (giving 2 0))) 10 (Table InstrumentNo) (giving 2 0)
   -- when a client sends is needed, too: an instrument meets every clause, and the last request, which wasn't sent after the
@@ -232,7 +229,7 @@ pub record IsAllNeeded : Type 0 where
   -- the new state has to be a good one. The moves keep to all other limits: `nothing` in place of what the instrument retains,
   -- and `AnyState` in place of its good states, leave out one limit each
   pub shared_is : IsAnInstrument keeper AnyState kept
-  pub changes_kept : IsBookedUnexecuted keeper AnyState nothing None changed_between 9 (Table InstrumentNo) (giving 1 27)
+  pub changes_kept : IsBookedUnexecuted keeper AnyState nothing None (two_around (Changes (Some (1, 27)))) 9 (Table InstrumentNo) (giving 1 27)
   pub sound_is : IsAnInstrument sound IsUnbroken nothing
   pub changes_good : IsBookedUnexecuted sound AnyState nothing false (one_answered (Table NullProc) (giving 0 0) (Changes true ∷ two_asked (giving 2 0))) 10 (Table InstrumentNo) (giving 2 0)
   -- an instrument that retains its reply executes a request that comes twice only once (`ActsOnce`), and both clauses on that

@@ -6,7 +6,7 @@ use Rattle.std.specs.Prelude.{◌≡◌, ℕ, ◌+◌, ◌<◌, ◌≤◌, Bool,
 use Rattle.std.specs.List.{AllByRecursion, AllZip}
 use Rattle.gc_catalogue.specs.declared.answer.Reading.{Reading}
 use Rattle.gc_catalogue.specs.declared.asked.Asked.{Asked}
-use Rattle.gc_client.specs.Beginning.{IsSubsequence, the_word}
+use Rattle.gc_client.specs.Beginning.{the_word}
 use Rattle.gc_client.specs.declared.window.TheConstants.{WINDOW}
 use Rattle.gc_client.specs.Rule.{ById, Answered, Late, Settlement, lost}
 use Rattle.gc_instrument.specs.State.{KeptReply, IsFittingState}
@@ -33,7 +33,7 @@ use Rattle.gc_field.specs.Simulator.{ends}
 use Rattle.gc_world.specs.Record.{IsReplyTo}
 use Rattle.gc_field.specs.World.{Ends, Numbered, Sent, World}
 use Rattle.gc_field.specs.Asking.{MeansTurns}
-use Rattle.gc_field.specs.Begin.{IsWellFormed, UnderWay, ids_under_way}
+use Rattle.gc_field.specs.Begin.{IsWellFormed, LacksTheWord, UnderWay}
 use Rattle.gc_field.specs.Beginnings.{AreOwn, AreRuns, Run}
 use Rattle.gc_field.specs.Begun.{IsFaithful, WasMadeOn, behind}
 use Rattle.gc_field.specs.Field.{Move, Sends, Tells, Comes}
@@ -49,10 +49,14 @@ times_out deadline (Tells now ∷ ms) = nat_le deadline now || times_out deadlin
 times_out deadline (_ ∷ ms) = times_out deadline ms
 
 module _ {State : Type 0} (ends : Ends State) where
-  -- the world after a stretch. Its requests 0 to 7 are the null procedures of the synchronization, and the client's come after
-  -- them
+  -- the world after these moves of a stretch. Its requests 0 to 7 are the null procedures of the synchronization, and the
+  -- client's come after them
+  abbrev pub world_at : Stretch State → List (Move State) → World (ById Asked) State
+  world_at s ms = behind WINDOW ends s.from ms
+
+  -- the world after a stretch
   abbrev pub world : Stretch State → World (ById Asked) State
-  world s = behind WINDOW ends s.from s.moves
+  world s = world_at s s.moves
 
   -- the requests of the client in a stretch, without the null procedures of the synchronization
   abbrev pub own_sent : Stretch State → List Sent
@@ -73,10 +77,10 @@ module _ {State : Type 0} (ends : Ends State) where
   IsInTime s =
       (before between later : List (Move State)) (target : ℕ) (call : Asked) (deadline : ℕ) (line : List ℕ) (rest : List (Numbered (List ℕ)))
       → s.moves ≡ (before ++ Sends target call deadline ∷ between) ++ Comes line ∷ later
-      → length (behind WINDOW ends s.from before).client.waiting < WINDOW
-      → (behind WINDOW ends s.from (before ++ Sends target call deadline ∷ between)).wire.down ≡ record { number = length (behind WINDOW ends s.from before).wire.sent; line = line } ∷ rest
-      → length (behind WINDOW ends s.from (before ++ Sends target call deadline ∷ between)).wire.settled ≤ length (behind WINDOW ends s.from before).wire.sent
-      → slice_get (world s).wire.settled (length (behind WINDOW ends s.from before).wire.sent)
+      → length (world_at s before).client.waiting < WINDOW
+      → (world_at s (before ++ Sends target call deadline ∷ between)).wire.down ≡ record { number = length (world_at s before).wire.sent; line = line } ∷ rest
+      → length (world_at s (before ++ Sends target call deadline ∷ between)).wire.settled ≤ length (world_at s before).wire.sent
+      → slice_get (world s).wire.settled (length (world_at s before).wire.sent)
       ≡ Some (record { target = target; call = call; outcome = if times_out deadline between then Late else Answered line })
 
   -- the records that a run with these parts and stretches records, with the moment 0, where `reads` gives what a line says of its
@@ -116,13 +120,13 @@ pub record HasRequest {State : Type 0} (commands : List Task) (ps : List Part) (
 
 module _ {State : Type 0} (ends : Ends State) (Good : State → Type 0) (kept : State → Option KeptReply) where
   -- a run of a station, and for each of its parts what happens on the line and to an instrument: first while it synchronizes,
-  -- then once it has synchronized. In flight at its start may be anything well formed (`IsWellFormed`) in which the word isn't
-  -- a subsequence of the ids; and each part is over what the one before it left. What these happenings show to the station and
-  -- its client are the turns and steps of its acts
+  -- then once it has synchronized. In flight at its start may be anything well formed (`IsWellFormed`) but the word
+  -- (`LacksTheWord`); and each part is over what the one before it left. What these happenings show to the station and its client
+  -- are the turns and steps of its acts
   pub record IsInField (plan : Plan) (commands : List Task) (scope : Scope) (acts : List Act) (u : UnderWay State) (rs : List (Run State)) : Type 0 where
     pub runs : Runs plan commands (opening plan scope) acts
     pub lines : IsWellFormed Good u
-    pub none : IsSubsequence the_word (ids_under_way u) → ⊥
+    pub none : LacksTheWord u
     pub shown : AreShownAs ends u rs (parts plan commands scope acts)
     pub possible : AreRuns WINDOW ends Good kept u rs
 

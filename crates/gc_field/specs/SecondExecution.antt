@@ -10,7 +10,7 @@ use Rattle.gc_world.specs.Clients.{by_ids}
 use Rattle.gc_field.specs.Simulator.{ends}
 use Rattle.gc_field.specs.World.{Up_deliver, Up_repeat, Down_lose}
 use Rattle.gc_field.specs.Begin.{none_under_way}
-use Rattle.gc_field.specs.Begun.{behind, ids_begun}
+use Rattle.gc_field.specs.Begun.{ids_begun, wire_over_empty_line}
 use Rattle.gc_field.specs.Field.{Move, Sends, Comes, OnLine, Anew, ArePossible}
 use Rattle.gc_field.specs.Laws.{kept_of}
 
@@ -37,7 +37,7 @@ moves =
 -- answer is the second execution's, in the state after the start
 pub record IsExecutedAgain : Type 0 where
   pub possible : ArePossible ends IsFittingState kept_of (by_ids WINDOW ends) moves (ids_begun (none_under_way simulator_opening))
-  pub executed : (behind WINDOW ends (none_under_way simulator_opening) moves).wire.executed ≡ 8 ∷ 9 ∷ 10 ∷ 10 ∷ []
+  pub executed : (wire_over_empty_line ends simulator_opening moves).executed ≡ 8 ∷ 9 ∷ 10 ∷ 10 ∷ []
   pub settled :
-      slice_get (behind WINDOW ends (none_under_way simulator_opening) moves).wire.settled 10
+      slice_get (wire_over_empty_line ends simulator_opening moves).settled 10
       ≡ Some (record { target = 7; call = Table GetPrism; outcome = Answered (codes "%R1P,0,2:0,0") })

@@ -2,6 +2,7 @@
 -- reply in flight, and a command is asked and answered. So what is said of all such runs is said of some.
 use Rattle.std.specs.Prelude.{◌≡◌, ℕ, true, false, List, [], ◌∷◌, codes, drop, pos, Some}
 use Rattle.gc_lines.specs.Lines.{with_end}
+use Rattle.gc_catalogue.specs.declared.answer.Answer.{Answer}
 use Rattle.gc_catalogue.specs.declared.answer.Answer.TheVariants.{Long}
 use Rattle.gc_catalogue.specs.declared.answer.Reading.TheVariants.{Value}
 use Rattle.gc_catalogue.specs.declared.asked.Asked.TheVariants.{Table}
@@ -16,7 +17,7 @@ use Rattle.gc_station.specs.declared.plan.Plan.{Plan}
 use Rattle.gc_links.specs.Acts.{Act, Told, Put, Gave, Closed, Opened}
 use Rattle.gc_station.specs.Progressing.{is_over}
 use Rattle.gc_station.specs.Runs.{state_after}
-use Rattle.gc_station.specs.Scopes.{Scope}
+use Rattle.gc_station.specs.Scopes.{Scope, scoped}
 use Rattle.gc_field.specs.Plain.{plain_task, plain_turn}
 use Rattle.gc_field.specs.Simulator.{ends}
 use Rattle.gc_field.specs.World.{Up_deliver}
@@ -40,9 +41,13 @@ plan = plan_of 1
 abbrev pub commands : List Task
 commands = plain_task (record { target = 7; call = Table InstrumentNo }) 100 false ∷ []
 
--- the scope of this run: at most a hundred acts; every reply is taken to say what the reply to the command says
+-- a scope of at most a hundred acts, in which every reply is taken to say this
+abbrev pub scope_saying : Answer → Scope
+scope_saying said = scoped 100 (λ call line. Value said)
+
+-- the scope of this run: every reply is taken to say what the reply to the command says
 abbrev pub scope : Scope
-scope = record { turns = 100; reads = λ call line. Value (Long (pos 123456)) }
+scope = scope_saying (Long (pos 123456))
 
 -- the moment at which both clocks show this number
 abbrev pub at : ℕ → Moment

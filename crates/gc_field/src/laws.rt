@@ -125,8 +125,8 @@ pub fn what_is_asked_is_needed()
 {}
 
 /// A request that is cut reaches the instrument complete or not at all: a front without the CR gives no line, though a line feed
-/// follows it; no line of what is left of it after a front is a request; and the front with the CR, with a line feed after it, is the
-/// whole request.
+/// follows it; no line of what is left of it after a front is a request; and the front with the CR, with a line feed after it, is
+/// the whole request.
 pub fn cut_requests_are_whole_or_nothing()
     ensures { CutRequestsAreWholeOrNothing }
 {}

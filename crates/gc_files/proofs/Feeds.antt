@@ -28,8 +28,8 @@ pub record Counted (xs : List ℕ) (count at : ℕ) : Type 0 where
   pub few : count ≤ at
   pub is : count ≡ feeds (take at xs)
 
--- where there are more than `at` bytes, `count`, at most `at`, is the number of line feeds among the first `at`, and `more` is 1
--- if the next byte is a line feed and else 0, `count + more` is the number of them among the first `at + 1` bytes (`Counted`)
+-- one more byte is counted: if `count` is the number of line feeds among the first `at` bytes, and `more` is 1 if the byte after
+-- them is a line feed, and else 0, then `count + more` is the number among the first `at + 1` bytes (`Counted`)
 pub counted_next : (xs : List ℕ) (count at more : ℕ)
     → at < length xs → count ≤ at → count ≡ feeds (take at xs) → more ≡ feed_of (slice_index xs at) → Counted xs (count + more) (at + 1)
 counted_next xs count at more less few is feed =

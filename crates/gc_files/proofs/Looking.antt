@@ -58,8 +58,8 @@ looked_not at k sign held rest is one two differ =
 pub looked_all : (at : ℕ) (sign held : List ℕ) → length held ≤ at → fits (drop at sign) (drop at held) ≡ true
 looked_all at sign held past = ap (fits (drop at sign)) (drop_all at held past) ∙ fits_none (drop at sign)
 
--- where the first `done` bytes of a buffer are the file's from place `at` on, and in place of the k bytes after them `ys` is put,
--- of which the first n are the file's bytes that follow, the first `done + n` bytes of the buffer are then the file's
+-- the first `done` bytes of a buffer are the file's from place `at` on; once `ys`, whose first n bytes are the next ones of the
+-- file, is put in place of the k bytes after these, the first `done + n` bytes of the buffer are the file's
 pub read_more : (done n at k : ℕ) (buf ys held : List ℕ) → done ≤ length buf → n ≤ length ys
     → take done buf ≡ take done (drop at held) → take n ys ≡ take n (drop (at + done) held)
     → take (done + n) (put_mid done k buf ys) ≡ take (done + n) (drop at held)

@@ -118,8 +118,8 @@ pub record Reached (held all least left : List ℕ) : Type 0 where
   pub is : left ≡ held ++ take count all
   pub enough : length least ≤ count
 
--- where `bytes` are a front of `all`, `held` and then the first k of `bytes` are `held` and then the first `count` of `all`, for
--- a `count` that is at least k or at least the length of `bytes`
+-- `held` and, after it, the first k of `bytes`, which are a front of `all`, is `held` and the first `count` of `all`, for some
+-- `count` that is at least k or at least the length of `bytes`
 pub front_take : (held all bytes : List ℕ) (k : ℕ) (f : IsFront bytes all)
     → (count : ℕ) × (k ≤ count ⊎ length bytes ≤ count) × (held ++ take k bytes ≡ held ++ take count all)
 front_take held all bytes k f = elim (cases_lt k (length bytes)) [

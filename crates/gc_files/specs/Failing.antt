@@ -1,6 +1,6 @@
 -- Files in which a sync failed: what the system may have lost of them, and what becomes of their rows. This project's own.
-use Rattle.std.specs.Prelude.{◌≡◌, ◌⊎◌, ℕ, Bool, true, false, List, [], ◌∷◌, ◌++◌, ◌+◌, ◌==◌, if◌then◌else◌, Option, Some}
-use Rattle.gc_files.specs.Files.{Step, Life, content, later_by, MayLeave}
+use Rattle.std.specs.Prelude.{◌≡◌, ◌⊎◌, ℕ, Bool, true, false, List, [], ◌∷◌, ◌++◌, ◌+◌, ◌==◌, if◌then◌else◌, Option}
+use Rattle.gc_files.specs.Files.{Step, Life, IfKnown, content, later_by, MayLeave}
 pub use Rattle.gc_files.specs.Files.{settled}
 use Rattle.gc_files.specs.Rows.{has_feed, table}
 use Rattle.gc_files.specs.Runs.{Run, IsHead, IsRun, HasRows}
@@ -16,7 +16,7 @@ feeds (b ∷ bs) = feed_of b + feeds bs
 
 -- `count` is how many line feeds are among the bytes that the file holds, if its life is known
 abbrev pub IsFeedCount : Option Life → (count : ℕ) → Type 0
-IsFeedCount life count = (known : Life) → life ≡ Some known → count ≡ feeds (content known)
+IsFeedCount life count = IfKnown life (λ known. count ≡ feeds (content known))
 
 -- The two sides of a file. What a read returns comes of one life, and what a crash may leave of the other. They are one until a
 -- sync fails, after which the system may have dropped bytes that it couldn't write, still return them, and count them as written;

@@ -58,9 +58,13 @@ content life = held_after life.start life.steps
 abbrev pub IsKept : Life → Type 0
 IsKept life = (left : List ℕ) → MayLeave life.start life.steps left → left ≡ content life
 
+-- if the life of a file is known, `claim` holds of it
+abbrev pub IfKnown : Option Life → (claim : Life → Type 0) → Type 0
+IfKnown life claim = (known : Life) → life ≡ Some known → claim known
+
 -- if the life of the file is known, a crash leaves what a read returns, and nothing else
 abbrev pub IsKeptFile : Option Life → Type 0
-IsKeptFile life = (known : Life) → life ≡ Some known → IsKept known
+IsKeptFile life = IfKnown life IsKept
 
 -- the same life with these steps added at its end
 abbrev pub later_by : List Step → Life → Life

@@ -1,7 +1,7 @@
 -- Files of rows, each ended by a line feed: what is whole of such a file, and what an opening makes of it. A head is what a new
 -- file gets first: a line, or nothing. `old` and `new` are a file's life before and after, where it is known. This project's own.
 use Rattle.std.specs.Prelude.{◌≡◌, ◌⊎◌, ℕ, ◌+◌, ◌==◌, ◌&&◌, Bool, true, false, List, [], ◌∷◌, ◌++◌, length, take, if◌then◌else◌, Option, Some}
-use Rattle.gc_files.specs.Files.{Step, Append, Cut, Sync, Life, Adds, content, later_by}
+use Rattle.gc_files.specs.Files.{Step, Append, Cut, Sync, Life, IfKnown, Adds, content, later_by}
 
 -- whether a line feed is among these bytes
 abbrev pub has_feed : List ℕ → Bool
@@ -102,34 +102,34 @@ PutsAll old new bytes = Did old new (λ held steps. Puts steps bytes)
 
 -- `len` is how many bytes the file holds
 abbrev pub IsLengthOf : Option Life → (len : ℕ) → Type 0
-IsLengthOf life len = (known : Life) → life ≡ Some known → len ≡ length (content known)
+IsLengthOf life len = IfKnown life (λ known. len ≡ length (content known))
 
 -- `end` is how many bytes the whole rows of the file have
 abbrev pub IsEndOfRows : Option Life → (end : ℕ) → Type 0
-IsEndOfRows life end = (known : Life) → life ≡ Some known → end ≡ length (whole (content known))
+IsEndOfRows life end = IfKnown life (λ known. end ≡ length (whole (content known)))
 
 -- `torn` is how many bytes follow the whole rows of the file
 abbrev pub IsTorn : Option Life → (torn : ℕ) → Type 0
-IsTorn life torn = (known : Life) → life ≡ Some known → length (content known) ≡ length (whole (content known)) + torn
+IsTorn life torn = IfKnown life (λ known. length (content known) ≡ length (whole (content known)) + torn)
 
 -- the file begins with the sign, or holds a front of it and nothing else (true), or neither (false)
 abbrev pub Fits : (sign : List ℕ) → Option Life → (is : Bool) → Type 0
-Fits sign life is = (known : Life) → life ≡ Some known → fits sign (content known) ≡ is
+Fits sign life is = IfKnown life (λ known. fits sign (content known) ≡ is)
 
 -- What was done to a file.
 
 -- the file was mended, by the steps of `mended`
 abbrev pub IsMended : (old new : Option Life) → Type 0
-IsMended old new = (known : Life) → old ≡ Some known → Adds old new (mended (content known))
+IsMended old new = IfKnown old (λ known. Adds old new (mended (content known)))
 
 -- the file was mended, whole, in part or not at all: the first of the steps of `mended` were done to it
 abbrev pub IsMendedInPart : (old new : Option Life) → Type 0
-IsMendedInPart old new = (known : Life) → old ≡ Some known → (count : ℕ) × Adds old new (take count (mended (content known)))
+IsMendedInPart old new = IfKnown old (λ known. (count : ℕ) × Adds old new (take count (mended (content known))))
 
 -- the file was not touched, if it neither begins with the sign nor is a front of it
 abbrev pub LeavesForeign : (sign : List ℕ) (old new : Option Life) → Type 0
-LeavesForeign sign old new = (known : Life) → old ≡ Some known → fits sign (content known) ≡ false → new ≡ old
+LeavesForeign sign old new = IfKnown old (λ known. fits sign (content known) ≡ false → new ≡ old)
 
 -- all that the file with the life `from` holds was appended to the file whose life was `old`, and is `new`
 abbrev pub CopiesAll : (from old new : Option Life) → Type 0
-CopiesAll from old new = (known : Life) → from ≡ Some known → PutsAll old new (content known)
+CopiesAll from old new = IfKnown from (λ known. PutsAll old new (content known))

@@ -1,6 +1,6 @@
 -- The runs of programs over one file, each ended by itself, by a kill or by a crash of the machine. This project's own.
 use Rattle.std.specs.Prelude.{◌≡◌, ◌⊎◌, ℕ, ◌≤◌, false, List, [], ◌∷◌, ◌++◌, length, take, Option, Some, None, if◌then◌else◌}
-use Rattle.std.specs.List.{AllByRecursion}
+use Rattle.std.specs.List.{AllByRecursion, flat_map}
 use Rattle.gc_files.specs.Files.{Step, Append, Cut, Sync, Life, settled, has_sync, content, later_by, MayLeave}
 use Rattle.gc_files.specs.Rows.{has_feed, line, table, start_of, Puts, MendedAndPut, IsFront, ComesTo}
 
@@ -21,8 +21,7 @@ pub record Run : Type 0 where
 
 -- the rows, each with its line feed, one after the other
 abbrev pub lines : List (List ℕ) → List ℕ
-lines [] = []
-lines (row ∷ rows) = line row ++ lines rows
+lines rows = flat_map line rows
 
 -- each of these texts is a row: none has a line feed
 abbrev pub AreRows : List (List ℕ) → Type 0
@@ -93,8 +92,8 @@ TablesLast = (head held : List ℕ) → IsHead head → (runs : List Run) → Ha
     → (left : List ℕ) → MayLeave (life_after (settled held) runs).start (life_after (settled held) runs).steps left
     → HasRows head (table head held) runs left
 
--- the first `count` rows of a run went out whole: what was appended after the mending, `bytes`, begins with them, and with the
--- head before them where the run wrote it, and is a front of that head and all rows of the run; or `count` is 0
+-- the first `count` rows of a run went out whole: what was appended after the mending (`bytes`) is a front of all that the run
+-- had to append, which is the head, where it wrote one, and its rows; and the first `count` rows are whole in it; or `count` is 0
 abbrev pub WereWritten : (head held : List ℕ) (rows : List (List ℕ)) (count : ℕ) → List Step → Type 0
 WereWritten head held rows count steps =
     (count ≡ 0)

@@ -1,10 +1,9 @@
 -- What the code wrote for a request is the reply that the definitions give to it (`AnswersRequest`, `IsReplied`, `handed`), and
 -- it reads as the outcome of carrying out the call (`IsAnswered`). Below, a state *fits* if `IsFittingState` holds of it, and a
 -- reply is *plain* if it has neither CR nor LF.
-use Rattle.std.proofs.Common.{◌≡◌, ◌≢◌, ◌⊎◌, inl, inr, ℕ, ◌<◌, arith, List, cond, ◌==◌, if◌then◌else◌, Some, None, refl, sym, ap, ◌∙◌, subst, Bool, [], true, false, Option}
-use Rattle.std.specs.Prelude.{unwrap_or}
+use Rattle.std.proofs.Common.{◌≡◌, ◌⊎◌, inl, inr, ℕ, ◌<◌, arith, List, ◌==◌, if◌then◌else◌, Some, None, refl, sym, ap, ◌∙◌, subst, [], true, false, Option}
 use Rattle.gc_lines.specs.Lines.{IsPlain}
-use Rattle.std.proofs.lemmas.Bool.{cases_eq, ne_eqb}
+use Rattle.std.proofs.lemmas.Bool.{cases_eq, cond-false, ne_eqb}
 use Rattle.gc_lines.specs.Answering.{AppendsAnswer}
 use Rattle.gc_lines.specs.Requests.{RequestFields, IsRequest, IsNoRequest}
 use Rattle.gc_lines.proofs.AnsweringLines.{appended_alone}
@@ -18,43 +17,28 @@ use Rattle.gc_catalogue.specs.declared.answer.Reading.{Reading}
 use Rattle.gc_catalogue.specs.declared.answer.Reading.TheVariants.{Value, Refused}
 use Rattle.gc_catalogue.specs.Calls.{IsCall, IsFitting, IsRefusal}
 use Rattle.gc_catalogue.specs.Readings.{IsReading}
-use Rattle.gc_catalogue.specs.Texts.{reply_line, reply_of, request_line, request_of}
+use Rattle.gc_catalogue.specs.Texts.{reply_of, request_line, request_of}
 use Rattle.gc_catalogue.specs.declared.answer.Answer.{Answer}
 use Rattle.gc_catalogue.specs.declared.fault.CallFault.{CallFault}
 use Rattle.gc_catalogue.specs.declared.call.Call.{Call}
 use Rattle.gc_instrument.proofs.Executions.{IsSoundOutcome, exec_outcome}
 use Rattle.gc_instrument.specs.State.{State, IsFittingState}
-use Rattle.gc_instrument.specs.Execution.{Executed, Executes, exec}
-use Rattle.gc_instrument.specs.Replying.{IsReplied, answers, AnswersCall, repeats, executes, AnswersRequest, refuses, answers_call, AppendsCall, AppendsReply, IsAnswered, IsExchanged, Handed, handed, again_or_new, kept_line, with_kept, reading_of, refusal_line, executed_line, reply_id}
-
--- the reply line written of the code and the answer that a call gave, with the precision after it, is
--- `executed_line` of the call's outcome
-pub executed_is : (before after : State) (call : Call) (number code places : ℕ) (answer : Answer) → Executes before call after code answer
-    → places ≡ after.precision → reply_line number code answer places ≡ executed_line number (exec before call)
-executed_is before after call number code places answer done precision =
-    ap (λ n. reply_line number code answer n) precision ∙ sym (ap (λ (x : Executed). executed_line number x) done)
+use Rattle.gc_instrument.specs.Execution.{Executed, exec}
+use Rattle.gc_instrument.specs.Replying.{IsReplied, answers, AnswersCall, repeats, executes, AnswersRequest, refuses, answers_call, IsReplyToCall, IsReplyToRequest, IsAnswered, IsExchanged, Handed, handed, again_or_new, kept_line, with_kept, reading_of, refusal_line, executed_line, reply_id}
 
 -- a request that names no call gets the refusal's line, with the id of its reply, and changes nothing
 pub refused_reply : (state : State) (q : RequestFields) (fault : CallFault) (number : ℕ) (line : List ℕ)
     → IsRefusal q.rpc q.params fault → number ≡ reply_id q → line ≡ refusal_line number fault → AnswersRequest state q state line
 refused_reply state q fault number line is same made = refuses fault is refl (made ∙ ap (λ n. refusal_line n fault) same)
 
--- a choice by whether n is 0 gives a, where n is 0
-at_zero : (n : ℕ) (a b : Reading) → n ≡ 0 → (if n == 0 then a else b) ≡ a
-at_zero n a b h = ap (λ (m : ℕ). if m == 0 then a else b) h
-
--- a choice by whether n is 0 gives b, where n isn't 0
-past_zero : (n : ℕ) (a b : Reading) → n ≢ 0 → (if n == 0 then a else b) ≡ b
-past_zero n a b h = ap (λ (t : Bool). cond t a b) (ne_eqb n 0 h)
-
 -- where the reply line of a call's outcome reads back as the outcome's reading, `IsAnswered` holds of that line
-reads_as : (before : State) (number : ℕ) (call : Call) (x : Executed) (reading : Reading) → exec before call ≡ x → reading_of x ≡ reading
-    → ReadsBackAnswer call number x.rc x.answer x.state.precision reading → IsAnswered before number call (executed_line number x)
-reads_as before number call x reading e same back = record {
+reads_as : (before : State) (number : ℕ) (call : Call) (x : Executed) → exec before call ≡ x
+    → ReadsBackAnswer call number x.rc x.answer x.state.precision (reading_of x) → IsAnswered before number call (executed_line number x)
+reads_as before number call x e back = record {
   fields = reply_of number x.rc x.answer x.state.precision;
   is_reply = reply_found (executed_line number x) (reply_of number x.rc x.answer x.state.precision) back.line;
   same_id = refl;
-  reading = subst (λ (r : Reading). IsReading call (reply_of number x.rc x.answer x.state.precision) r) (sym (ap reading_of e ∙ same)) back.is_reading;
+  reading = subst (λ (r : Reading). IsReading call (reply_of number x.rc x.answer x.state.precision) r) (sym (ap reading_of e)) back.is_reading;
 }
 
 -- where the reply line of a call's outcome reads back as the answer with its doubles rounded (`ReadsBackValue`), or as the
@@ -64,29 +48,23 @@ pub reads_executed : (before : State) (number : ℕ) (call : Call) (x : Executed
     → IsAnswered before number call (executed_line number x)
 reads_executed before number call x e back refused =
     let outcome : IsSoundOutcome before call x = subst (λ (y : Executed). IsSoundOutcome before call y) e (exec_outcome before call) in
+    let value : Reading = Value (rounded_answer x.state.precision x.answer) in
+    let ReadsBack : Reading → Type 0 = λ r. ReadsBackAnswer call number x.rc x.answer x.state.precision r in
     elim (cases_eq x.rc 0) [
-      | inl h ↦ reads_as before number call x (Value (rounded_answer x.state.precision x.answer)) e (at_zero x.rc _ _ h) (back call h (outcome.answers h))
-      | inr h ↦ reads_as before number call x (Refused x.rc) e (past_zero x.rc _ _ h) (refused call h)
+      | inl h ↦ reads_as before number call x e (subst ReadsBack (sym (ap (λ (n : ℕ). if n == 0 then value else Refused x.rc) h)) (back call h (outcome.answers h)))
+      | inr h ↦ reads_as before number call x e (subst ReadsBack (sym (cond-false (x.rc == 0) value (Refused x.rc) (ne_eqb x.rc 0 h))) (refused call h))
     ]
 
--- where the line written of the code and the answer that a call gave, with the precision after it, reads back as that answer with
--- its doubles rounded (`ReadsBackValue`), or as the refusal (`ReadsBackRefusal`), `IsAnswered` holds of that line
-pub made_answered : (before after : State) (call : Call) (number code places : ℕ) (answer : Answer) → Executes before call after code answer
-    → places ≡ after.precision → ReadsBackValue number code answer places → ReadsBackRefusal number code answer places
-    → IsAnswered before number call (reply_line number code answer places)
-made_answered before after call number code places answer done precision back refused =
-    let x : Executed = record { state = after; rc = code; answer = answer } in
-    let value = subst (λ (p : ℕ). ReadsBackValue number code answer p) precision back in
-    let refusal = subst (λ (p : ℕ). ReadsBackRefusal number code answer p) precision refused in
-    let whole : reply_line number code answer places ≡ executed_line number x = ap (λ (p : ℕ). reply_line number code answer p) precision in
-    subst (λ (l : List ℕ). IsAnswered before number call l) (sym whole) (reads_executed before number call x done value refusal)
+-- the request line of a call with values in range and an id below 8 reads as the call's request
+own_request : (id : ℕ) (call : Call) → id < 8 → IsFitting call → IsRequest (request_line (Some id) call) (request_of (Some id) call)
+own_request id call small fits = request_found (request_line (Some id) call) (request_of (Some id) call) (call_again (Some id) call small fits).line
 
 -- the request line of a call with values in range and an id below 8 reads as no request but the call's
 pub read_of : (line : List ℕ) (q : RequestFields) (id : ℕ) (call : Call) → id < 8 → IsFitting call → line ≡ request_line (Some id) call
     → IsRequest line q → q ≡ request_of (Some id) call
 read_of line q id call small fits e is =
     one_request line q (request_of (Some id) call) is
-    (subst (λ (x : List ℕ). IsRequest x (request_of (Some id) call)) (sym e) (request_found (request_line (Some id) call) (request_of (Some id) call) (call_again (Some id) call small fits).line))
+    (subst (λ (x : List ℕ). IsRequest x (request_of (Some id) call)) (sym e) (own_request id call small fits))
 
 -- for a request with the stored id, `handed` gives the stored line, leaves the state as it is, and counts no execution
 pub handed_again : (s : State) (id : ℕ) (call : Call) (line : List ℕ) → kept_line s.kept (Some id) ≡ Some line
@@ -112,26 +90,23 @@ handed_does before after id call text (executes e state line) =
       line ∙ sym (ap (λ (x : Handed State). x.reply) h),
     )
 
--- where a request names this call, and has this id, and the reply to the request was appended (`AppendsReply`), `IsExchanged`
--- holds of the call and that reply
-pub exchanged : (before after : State) (q : RequestFields) (id : ℕ) (call : Call) (old new : List ℕ) → q.id ≡ Some id
-    → IsCall q.rpc q.params call → (made : AppendsReply before q after old new) → IsExchanged before id call after (Some made.text)
-exchanged before after q id call old new same is made = by_answer made.answers where
-  -- the request names a call, so the instrument answered that one
-  by_answer : AnswersRequest before q after made.text → IsExchanged before id call after (Some made.text)
-  by_answer (refuses fault refusal state line) = absurd (no_refusal q.rpc q.params call fault is refusal)
-  by_answer (answers_call other is_other does) =
-      let one : other ≡ call = one_call q.rpc q.params other call is_other is in
-      let own : AnswersCall before (Some id) call after made.text = subst (λ (c : Call). AnswersCall before (Some id) c after made.text) one
-      (subst (λ (o : Option ℕ). AnswersCall before o other after made.text) same does) in
-      let h = handed_does before after id call made.text own in
+-- where a text is the reply (`IsReplyToRequest`) to the request of a call with values in range and an id below 8, `IsExchanged`
+-- holds of the call and that text
+pub exchanged : (before after : State) (id : ℕ) (call : Call) (text : List ℕ) → id < 8 → IsFitting call
+    → IsReplyToRequest before (request_of (Some id) call) after text → IsExchanged before id call after (Some text)
+exchanged before after id call text small fits is_reply = by_answer (call_again (Some id) call small fits).is_call is_reply.answers where
+  -- the request names the call, so the instrument answered that one
+  by_answer : IsCall (request_of (Some id) call).rpc (request_of (Some id) call).params call → AnswersRequest before (request_of (Some id) call) after text
+      → IsExchanged before id call after (Some text)
+  by_answer is (refuses fault refusal state line) = absurd (no_refusal _ (request_of (Some id) call).params call fault is refusal)
+  by_answer is (answers_call other is_other does) =
+      let one : other ≡ call = one_call _ (request_of (Some id) call).params other call is_other is in
+      let h = handed_does before after id call text (subst (λ (c : Call). AnswersCall before (Some id) c after text) one does) in
       record {
         state = h.0;
         line = ap (λ (l : List ℕ). Some l) h.1;
-        plain = subst IsPlain h.1 (made.plain call is);
-        answered = λ new_id.
-            subst (λ (l : List ℕ). IsAnswered before id call l) h.1
-            (subst (λ (n : ℕ). IsAnswered before n call made.text) (ap (λ (o : Option ℕ). unwrap_or o 0) same) (made.says call is (ap (kept_line before.kept) same ∙ new_id)));
+        plain = subst IsPlain h.1 (is_reply.plain call is);
+        answered = λ new. subst (λ (l : List ℕ). IsAnswered before id call l) h.1 (is_reply.says call is new);
       }
 
 -- in a state that fits, `IsAnswered` holds of the reply line of the outcome of a call with values in range and an id below 8
@@ -152,20 +127,6 @@ pub handed_answered : (s : State) (id : ℕ) (call : Call) → IsFittingState s 
     → IsAnswered s id call (handed s id call).reply
 handed_answered s id call good small fits new =
     subst (λ (h : Handed State). IsAnswered s id call h.reply) (sym (handed_new s id call new)) (executed_answered s id call good small fits)
-
--- the request line of a call with values in range and an id below 8 reads as the call's request
-own_request : (id : ℕ) (call : Call) → id < 8 → IsFitting call → IsRequest (request_line (Some id) call) (request_of (Some id) call)
-own_request id call small fits = request_found (request_line (Some id) call) (request_of (Some id) call) (call_again (Some id) call small fits).line
-
--- where a line is the request line of this call, with an id below 8 and values in range, and the reply to the request was
--- appended (`AppendsReply`), `IsExchanged` holds of the call and that reply
-pub line_exchanged : (before after : State) (line : List ℕ) (q : RequestFields) (id : ℕ) (call : Call) (old new : List ℕ)
-    → IsRequest line q → id < 8 → IsFitting call → line ≡ request_line (Some id) call → (made : AppendsReply before q after old new)
-    → IsExchanged before id call after (Some made.text)
-line_exchanged before after line q id call old new is small fits own made =
-    let q_is : q ≡ request_of (Some id) call = read_of line q id call small fits own is in
-    let call_is : IsCall q.rpc q.params call = subst (λ (p : RequestFields). IsCall p.rpc p.params call) (sym q_is) (call_again (Some id) call small fits).is_call in
-    exchanged before after q id call old new (ap (λ (p : RequestFields). p.id) q_is) call_is made
 
 -- a line that is no request isn't a call's request line: the premises contradict each other, so `IsExchanged` follows
 pub silence_exchanged : (state : State) (line : List ℕ) (id : ℕ) (call : Call) → IsNoRequest line → id < 8 → IsFitting call
@@ -193,7 +154,8 @@ pub handed_replied : (s : State) (id : ℕ) (call : Call) → id < 8 → IsFitti
 handed_replied s id call small fits =
     answers (request_of (Some id) call) (own_request id call small fits) (handed s id call).reply (answers_call call (call_again (Some id) call small fits).is_call (handed_answers s id call)) refl
 
--- where `new` is the empty text with a reply to a line (`IsReplied`) appended, `new` is this reply
+-- where `new` is the empty text with a reply to a line (`IsReplied`) appended, `new` is this reply. This lemma and the next are
+-- `appended_alone` with the predicate filled in, since the search doesn't find the predicate by itself
 pub replied_alone : (s t : State) (line new : List ℕ) → AppendsAnswer (IsReplied s line t) [] new true → IsReplied s line t (Some new)
 replied_alone s t line new h = appended_alone (IsReplied s line t) new h
 
@@ -202,13 +164,11 @@ pub exchanged_alone : (s t : State) (id : ℕ) (call : Call) (new : List ℕ) �
     → IsExchanged s id call t (Some new)
 exchanged_alone s t id call new h = appended_alone (IsExchanged s id call t) new h
 
--- where the reply to a call that a request names was appended (`AppendsCall`), the reply to the request was (`AppendsReply`)
-pub request_call : (before after : State) (q : RequestFields) (call : Call) (old new : List ℕ) → IsCall q.rpc q.params call
-    → AppendsCall before q.id call after old new → AppendsReply before q after old new
-request_call before after q call old new is h = record {
-  text = h.text;
-  appended = h.appended;
+-- the reply to a call (`IsReplyToCall`) is the reply to the request that names the call (`IsReplyToRequest`)
+pub request_call : (before after : State) (q : RequestFields) (call : Call) (text : List ℕ) → IsCall q.rpc q.params call
+    → IsReplyToCall before q.id call after text → IsReplyToRequest before q after text
+request_call before after q call text is h = record {
   answers = answers_call call is h.answers;
   plain = λ d other. h.plain;
-  says = λ d other none. subst (λ (c : Call). IsAnswered before (reply_id q) c h.text) (one_call q.rpc q.params call d is other) (h.says none);
+  says = λ d other none. subst (λ (c : Call). IsAnswered before (reply_id q) c text) (one_call q.rpc q.params call d is other) (h.says none);
 }

@@ -23,6 +23,8 @@ use Rattle.gc_instrument.specs.Replying.{IsReplied}
 use Rattle.gc_instrument.specs.Hearing.{Hears, replies_text}
 use Rattle.gc_instrument.specs.Serving.{AnswersFrame, ServesAll, ServesPart, Serves}
 
+-- Two lemmas of gc_lines with the instrument's rule filled in, since the search doesn't find the rule by itself.
+
 -- appending a line's reply, and CR LF after it, is how an instrument answers the frame of that line
 pub answered_line : (before after : State) (line old between new : List ℕ) → AppendsAnswer (IsReplied before line after) old between true
     → new ≡ between ++ 13 ∷ 10 ∷ []
@@ -34,6 +36,8 @@ pub unanswered_line : (before after : State) (line old new : List ℕ) → Appen
     → AppendsAnswer (AnswersFrame before (Line (record { items = line })) after) old new false
 unanswered_line before after line old new h = line_unanswered IsReplied before after line old new h
 
+-- What an instrument heard of frames.
+
 -- the lines of frames
 abbrev pub lines_of : List Frame → List (List ℕ)
 lines_of seen = filter_map line_in seen
@@ -44,51 +48,40 @@ option_to_list_map : {X Y : Type 0} (f : X → Y) (o : Option X) (xs : List X)
 option_to_list_map f None xs = refl
 option_to_list_map f (Some x) xs = refl
 
--- the lines among these frames take the instrument from s to t, and the texts are its replies, each with its CR LF
-record Heard (s t : State) (seen : List Frame) (texts : List (List ℕ)) : Type 0 where
+-- these lines take the instrument from s to t, and the texts are its replies, each with its CR LF
+record Heard (s t : State) (heard : List (List ℕ)) (texts : List (List ℕ)) : Type 0 where
   replies : List (List ℕ)
-  hears : Hears s (lines_of seen) t replies
+  hears : Hears s heard t replies
   texts_are : texts ≡ map with_end replies
 
--- where a line takes the instrument from s to u, and `Heard` holds of frames from u to t, it holds of the line and those frames
--- from s to t, with the line's reply, if there is one, in front
-heard_line : (s u t : State) (line : List ℕ) (reply text : Option (List ℕ)) (later : List Frame) (rest texts : List (List ℕ))
-    → IsReplied s line u reply → text ≡ option_map with_end reply
-    → Heard u t later rest → texts ≡ option_to_list text ++ rest → Heard s t (Line (record { items = line }) ∷ later) texts
-heard_line s u t line reply text later rest texts replied text_is h are = record {
-  replies = option_to_list reply ++ h.replies;
-  hears = (u, reply, h.replies, replied, h.hears, refl);
-  texts_are = are ∙ ap (λ (o : Option (List ℕ)). option_to_list o ++ rest) text_is
-      ∙ ap (λ (ts : List (List ℕ)). option_to_list (option_map with_end reply) ++ ts) h.texts_are ∙ option_to_list_map with_end reply h.replies;
-}
+-- Here the instrument answers a frame by `text`, and goes from s to u; `Heard` holds of the lines and texts behind, from u to t.
+module _ (s u t : State) (text : Option (List ℕ)) (heard rest : List (List ℕ)) (behind : Heard u t heard rest) where
+  -- if the frame is a line, `Heard` holds from s to t, with the line and its text in front
+  heard_line : (line : List ℕ) → AnswersFrame s (Line (record { items = line })) u text → Heard s t (line ∷ heard) (option_to_list text ++ rest)
+  heard_line line (reply, replied, text_is) = record {
+    replies = option_to_list reply ++ behind.replies;
+    hears = (u, reply, behind.replies, replied, behind.hears, refl);
+    texts_are = ap (λ (o : Option (List ℕ)). option_to_list o ++ rest) text_is
+        ∙ ap (λ (ts : List (List ℕ)). option_to_list (option_map with_end reply) ++ ts) behind.texts_are ∙ option_to_list_map with_end reply behind.replies;
+  }
 
--- where a frame that is no line takes the instrument from s to u, which is s, and has no text, and `Heard` holds of the frames
--- `seen` after it from u to t, `Heard` holds of these frames from s to t, with the same texts
-heard_silence : (s u t : State) (text : Option (List ℕ)) (seen : List Frame) (rest texts : List (List ℕ)) → u ≡ s → text ≡ None → Heard u t seen rest
-    → texts ≡ option_to_list text ++ rest → Heard s t seen texts
-heard_silence s u t text seen rest texts same none h are = record {
-  replies = h.replies;
-  hears = subst (λ (v : State). Hears v (lines_of seen) t h.replies) same h.hears;
-  texts_are = are ∙ ap (λ (o : Option (List ℕ)). option_to_list o ++ rest) none ∙ h.texts_are;
-}
-
--- where `Heard` holds of frames, it holds of other frames that have the same lines
-heard_same_lines : (s t : State) (seen more : List Frame) (texts : List (List ℕ)) → lines_of more ≡ lines_of seen → Heard s t seen texts
-    → Heard s t more texts
-heard_same_lines s t seen more texts same h = record {
-  replies = h.replies;
-  hears = subst (λ (heard : List (List ℕ)). Hears s heard t h.replies) (sym same) h.hears;
-  texts_are = h.texts_are;
-}
+  -- if the frame is no line, so that it changes nothing and has no text, `Heard` holds of the same lines from s to t
+  heard_silence : (u ≡ s) × (text ≡ None) → Heard s t heard (option_to_list text ++ rest)
+  heard_silence (same, none) = record {
+    replies = behind.replies;
+    hears = subst (λ (v : State). Hears v heard t behind.replies) same behind.hears;
+    texts_are = ap (λ (o : Option (List ℕ)). option_to_list o ++ rest) none ∙ behind.texts_are;
+  }
 
 -- where an instrument answered frames in order, with these texts, it heard the lines among them, and the texts are its replies
 -- (`Heard`)
-heard_frames : (s t : State) (seen : List Frame) (texts : List (List ℕ)) → AnswersInOrder State AnswersFrame s seen t texts → Heard s t seen texts
+heard_frames : (s t : State) (seen : List Frame) (texts : List (List ℕ)) → AnswersInOrder State Frame AnswersFrame s seen t texts
+    → Heard s t (lines_of seen) texts
 heard_frames s t [] texts h = record { replies = []; hears = (h.0, refl); texts_are = h.1 }
-heard_frames s t (Line line ∷ later) texts h = heard_line s h.0 t line.items h.3.0 h.1 later h.2 texts h.3.1 h.3.2 (heard_frames h.0 t later h.2 h.4) h.5
-heard_frames s t (Cleared ∷ later) texts h = heard_same_lines s t later (Cleared ∷ later) texts refl (heard_silence s h.0 t h.1 later h.2 texts h.3.0 h.3.1 (heard_frames h.0 t later h.2 h.4) h.5)
-heard_frames s t (Overlong ∷ later) texts h = heard_same_lines s t later (Overlong ∷ later) texts refl (heard_silence s h.0 t h.1 later h.2 texts h.3.0 h.3.1 (heard_frames h.0 t later h.2 h.4) h.5)
-heard_frames s t (More ∷ later) texts h = heard_same_lines s t later (More ∷ later) texts refl (heard_silence s h.0 t h.1 later h.2 texts h.3.0 h.3.1 (heard_frames h.0 t later h.2 h.4) h.5)
+heard_frames s t (Line line ∷ later) texts h = subst (Heard s t (line.items ∷ lines_of later)) (sym h.5) (heard_line s h.0 t h.1 (lines_of later) h.2 (heard_frames h.0 t later h.2 h.4) line.items h.3)
+heard_frames s t (Cleared ∷ later) texts h = subst (Heard s t (lines_of later)) (sym h.5) (heard_silence s h.0 t h.1 (lines_of later) h.2 (heard_frames h.0 t later h.2 h.4) h.3)
+heard_frames s t (Overlong ∷ later) texts h = subst (Heard s t (lines_of later)) (sym h.5) (heard_silence s h.0 t h.1 (lines_of later) h.2 (heard_frames h.0 t later h.2 h.4) h.3)
+heard_frames s t (More ∷ later) texts h = subst (Heard s t (lines_of later)) (sym h.5) (heard_silence s h.0 t h.1 (lines_of later) h.2 (heard_frames h.0 t later h.2 h.4) h.3)
 
 -- where frames were all answered, the lines among them were all served
 all_serves : (s t : Progress State) (seen : List Frame) → AnswersAll AnswersFrame s t seen → ServesAll s t (lines_of seen)

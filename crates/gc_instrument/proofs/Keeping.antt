@@ -1,6 +1,6 @@
 -- The stored reply: for which id it is found, that no call's outcome depends on it, and what is stored after an execution. Below,
 -- a line is *plain* if it has neither CR nor LF, and a state *fits* if `IsFittingState` holds of it.
-use Rattle.std.proofs.Common.{◌≡◌, ℤ, pos, ◌||◌, Bool, true, false, cond, ℕ, List, Option, Some, None, refl, sym, ap, ◌∙◌, subst, eqb, ◌+◌, ◌-◌, ◌++◌, length, take, drop, arith, length-append}
+use Rattle.std.proofs.Common.{◌≡◌, ℤ, pos, ◌||◌, Bool, true, false, cond, ℕ, List, Option, Some, None, refl, sym, ap, ◌∙◌, eqb, ◌+◌, ◌-◌, ◌++◌, length, take, drop, arith, length-append}
 use Rattle.std.specs.Prelude.{int_lt, unwrap_or}
 use Rattle.std.proofs.lemmas.List.{take_all}
 use Rattle.std.proofs.Math.Seq.{drop-append_seam}
@@ -14,8 +14,8 @@ use Rattle.gc_catalogue.specs.declared.call.Call.{Call}
 use Rattle.gc_catalogue.specs.declared.call.Call.TheVariants.{NullProc}
 use Rattle.gc_instrument.specs.Execution.{Executed, exec, done, refused, set_if, distance_outcome, commanded, searched, adjusted, measured, unmeasured}
 use Rattle.gc_instrument.specs.Laws.{ExecutesApart}
-use Rattle.gc_instrument.specs.Replying.{AppendsCall, AppendsExecuted, executes, IsAnswered, kept_after, kept_line, with_kept, executed_with}
-use Rattle.gc_instrument.specs.Seen.{IsPlainKept}
+use Rattle.gc_instrument.specs.Replying.{IsReplyToCall, IsReplyToExecuted, executes, IsAnswered, kept_after, kept_line, with_kept, executed_with}
+use Rattle.gc_instrument.specs.Seen.{IsSoundState}
 use Rattle.gc_instrument.specs.State.{State, KeptReply, IsFittingState, IsFittingKept, kept_in}
 use Rattle.gc_instrument.specs.Targets.{first_within}
 use Rattle.gc_instrument.specs.declared.target.Target.{Target}
@@ -127,32 +127,22 @@ appended_bytes old new text start is first =
 pub fits_kept : (s : State) (kept : Option KeptReply) → IsFittingState s → IsFittingKept kept → IsFittingState (with_kept kept s)
 fits_kept s kept h k = record { precision = h.precision; serial = h.serial; name = h.name; date = h.date; prism = h.prism; kept = k }
 
--- where a state fits, and its stored line, if there is one, is plain, and `line` is the plain reply to a call (`IsAnswered`) with
--- this id, or with 0 without one, the state still fits once `line` is stored as `kept_after` has it, and the line that is then
--- stored is plain
-pub sound_keeping : (s before : State) (id : Option ℕ) (kept : Option KeptReply) (call : Call) (line : List ℕ) → IsFittingState s
-    → IsPlainKept s.kept → kept ≡ kept_after s.kept id line → IsAnswered before (unwrap_or id 0) call line → IsPlain line
-    → IsFittingState (with_kept kept s) × IsPlainKept kept
-sound_keeping s before None kept call line h plain is says one =
-    (fits_kept s kept h (subst IsFittingKept (sym is) h.kept), subst IsPlainKept (sym is) plain)
-sound_keeping s before (Some n) kept call line h plain is says one = (
-  fits_kept s kept h (subst IsFittingKept (sym is) (record { fields = says.fields; is_reply = says.is_reply; same_id = says.same_id })),
-  subst IsPlainKept (sym is) one,
-)
+-- where a state is sound (`IsSoundState`), and `line` is the plain reply to a call (`IsAnswered`) with this id, or with 0 without
+-- one, the state is still sound once `line` is stored as `kept_after` has it
+pub sound_keeping : (s before : State) (id : Option ℕ) (call : Call) (line : List ℕ) → IsSoundState s
+    → IsAnswered before (unwrap_or id 0) call line → IsPlain line → IsSoundState (with_kept (kept_after s.kept id line) s)
+sound_keeping s before None call line sound says plain = sound
+sound_keeping s before (Some n) call line sound says plain =
+    (fits_kept s (kept_after s.kept (Some n) line) sound.0 (record { fields = says.fields; is_reply = says.is_reply; same_id = says.same_id }), plain)
 
--- carrying out a call for whose id no line is stored (`AppendsExecuted`), with the id or with 0 without one, and storing the
--- reply if there is an id (`kept_after`), is what `AppendsCall` says of that call
-pub kept_anew : (before after : State) (id : Option ℕ) (call : Call) (old new : List ℕ) (kept : Option KeptReply)
-    → kept_line before.kept id ≡ None → (h : AppendsExecuted before (unwrap_or id 0) call after old new)
-    → kept ≡ kept_after after.kept id h.text → AppendsCall before id call (with_kept kept after) old new
-kept_anew before after id call old new kept none h kept_is =
-    let state : after ≡ (exec before call).state = h.state in
-    let stays : after.kept ≡ before.kept = ap (λ (s : State). s.kept) state ∙ kept_stays before call in
-    let all : kept ≡ kept_after before.kept id h.text = kept_is ∙ ap (λ k. kept_after k id h.text) stays in
+-- carrying out a call for whose id no line is stored, with the id or with 0 without one, and storing the reply if there is an id
+-- (`kept_after`), makes of the reply (`IsReplyToExecuted`) that of the call (`IsReplyToCall`)
+pub kept_anew : (before after : State) (id : Option ℕ) (call : Call) (text : List ℕ) → kept_line before.kept id ≡ None
+    → IsReplyToExecuted before (unwrap_or id 0) call after text → IsReplyToCall before id call (with_kept (kept_after after.kept id text) after) text
+kept_anew before after id call text none h =
+    let stays : after.kept ≡ before.kept = ap (λ (s : State). s.kept) h.state ∙ kept_stays before call in
     record {
-      text = h.text;
-      appended = h.appended;
       plain = h.plain;
-      answers = executes none (ap (λ k. with_kept k after) all ∙ ap (with_kept (kept_after before.kept id h.text)) state) h.line;
-      says = λ new_id. h.says;
+      answers = executes none (ap (λ k. with_kept (kept_after k id text) after) stays ∙ ap (with_kept (kept_after before.kept id text)) h.state) h.line;
+      says = λ new. h.says;
     }

@@ -1,7 +1,6 @@
 pub mod Answering
 pub mod Executions
 pub mod HeardFrames
-pub mod Hearing
 pub mod Keeping
 pub mod Silence
 pub mod Turns

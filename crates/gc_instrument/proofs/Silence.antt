@@ -30,8 +30,8 @@ take_out s t (line ∷ foreign) later ps none h =
     let all : ps ≡ h.2 = h.5 ∙ ap (λ (reply : Option (List ℕ)). option_to_list reply ++ h.2) same.1 in
     subst (λ (qs : List (List ℕ)). Hears s later t qs) (sym all) (subst (λ (u : State). Hears u later t h.2) same.0 rest)
 
--- let ys lead to t, with the replies of xs, from each state from which xs lead to t: where `first ++ xs` leads from s to t, so
--- does `first ++ ys`, with the same replies
+-- lines may be exchanged behind others: if ys lead to t, with the same replies, from every state from which xs do, `first ++ ys`
+-- leads from s to t, with the same replies, where `first ++ xs` does
 lines_before : (s t : State) (first xs ys ps : List (List ℕ)) → ((u : State) (qs : List (List ℕ)) → Hears u xs t qs → Hears u ys t qs)
     → Hears s (first ++ xs) t ps → Hears s (first ++ ys) t ps
 lines_before s t [] xs ys ps change h = change s ps h

@@ -2,18 +2,20 @@
 -- and what is written for two streams, one after the other.
 use Rattle.std.proofs.Common.{◌≡◌, ℕ, List, [], ◌∷◌, ◌++◌, Option, Some, None, sym, ap, ◌∙◌, subst}
 use Rattle.std.specs.Option.{option_to_list}
+use Rattle.std.proofs.lemmas.Grind.{flat_map-append}
 use Rattle.gc_lines.specs.Frames.{lines, rest_of}
+use Rattle.gc_lines.specs.Lines.{with_end}
 use Rattle.gc_lines.specs.Requests.{RequestFields}
 use Rattle.gc_lines.proofs.AnsweringLines.{replies_once}
+use Rattle.gc_lines.proofs.InOrder.{in_order_then}
 use Rattle.gc_catalogue.specs.declared.fault.CallFault.{CallFault}
 use Rattle.gc_catalogue.specs.declared.call.Call.{Call}
 use Rattle.gc_catalogue.proofs.CallLaws.{one_call, one_refusal, no_refusal}
 use Rattle.gc_instrument.specs.Execution.{exec}
 use Rattle.gc_instrument.specs.Hearing.{Hears, IsOutput, replies_text}
 use Rattle.gc_instrument.specs.Laws.{OneReply}
-use Rattle.gc_instrument.specs.Replying.{AnswersCall, repeats, executes, AnswersRequest, refuses, answers_call, kept_after, with_kept, refusal_line, reply_id}
+use Rattle.gc_instrument.specs.Replying.{AnswersCall, repeats, executes, AnswersRequest, refuses, answers_call, IsReplied, kept_after, with_kept, refusal_line, reply_id}
 use Rattle.gc_instrument.specs.State.{State}
-use Rattle.gc_instrument.proofs.Hearing.{hears_then, replies_text-append}
 use Rattle.gc_instrument.proofs.HeardFrames.{lines-next}
 
 -- a state, an id or none, and a call determine the state after the call, and the reply
@@ -56,6 +58,6 @@ output_then s t u first next xs ys none h k =
     let parted = lines-next first next none in
     record {
       replies = h.replies ++ k.replies;
-      hears = subst (λ (heard : List (List ℕ)). Hears s heard u (h.replies ++ k.replies)) (sym parted) (hears_then s t u (lines first) (lines next) h.replies k.replies h.hears k.hears);
-      bytes_are = ap (λ (zs : List ℕ). zs ++ ys) h.bytes_are ∙ ap (λ (zs : List ℕ). replies_text h.replies ++ zs) k.bytes_are ∙ sym (replies_text-append h.replies k.replies);
+      hears = subst (λ (heard : List (List ℕ)). Hears s heard u (h.replies ++ k.replies)) (sym parted) (in_order_then IsReplied s t u (lines first) (lines next) h.replies k.replies h.hears k.hears);
+      bytes_are = ap (λ (zs : List ℕ). zs ++ ys) h.bytes_are ∙ ap (λ (zs : List ℕ). replies_text h.replies ++ zs) k.bytes_are ∙ sym (flat_map-append with_end h.replies k.replies);
     }

@@ -2,6 +2,7 @@
 use Rattle.std.specs.Prelude.{◌≡◌, ℕ, ℤ, pos, ◌&&◌, ◌||◌, Bool, true, false, Option, Some, None, int_le, int_lt, nat_le, unsigned_abs, if◌then◌else◌}
 use Rattle.std.specs.Ordering.{int_eq}
 use Rattle.std.specs.Option.{option_map}
+use Rattle.gc_values.specs.Directions.{is_up_to}
 use Rattle.gc_values.specs.declared.decimal.Decimal.{Decimal}
 use Rattle.gc_catalogue.specs.declared.call.Call.{Call}
 use Rattle.gc_catalogue.specs.declared.call.Call.TheVariants as call
@@ -41,11 +42,11 @@ distance_outcome s answer_with None = refused s 1285
 
 -- whether a precision can be this number of places: 0 to 15
 abbrev pub is_precision : ℤ → Bool
-is_precision n = int_le (pos 0) n && int_le n (pos 15)
+is_precision n = is_up_to (pos 15) n
 
 -- whether a prism type can have this number: a Long that is at least 0
 abbrev pub is_prism : ℤ → Bool
-is_prism n = int_le (pos 0) n && int_le n (pos 2147483647)
+is_prism n = is_up_to (pos 2147483647) n
 
 -- whether the clock can be set to this date and time: each value is in its range, with 31 days in every month
 abbrev pub is_date : DateTime → Bool

@@ -1,7 +1,7 @@
 -- Lines that are handed to an instrument one after the other, and what is written for a stream of bytes: this project's own.
-use Rattle.std.specs.Prelude.{◌≡◌, ℕ, List, [], ◌∷◌, ◌++◌, Option}
+use Rattle.std.specs.Prelude.{◌≡◌, ℕ, List}
 use Rattle.std.specs.List.{flat_map}
-use Rattle.std.specs.Option.{option_to_list}
+use Rattle.gc_lines.specs.Answering.{AnswersInOrder}
 use Rattle.gc_lines.specs.Lines.{with_end}
 use Rattle.gc_lines.specs.Frames.{lines}
 use Rattle.gc_instrument.specs.State.{State}
@@ -10,10 +10,7 @@ use Rattle.gc_instrument.specs.Replying.{IsReplied}
 -- the lines, one after the other, lead the instrument from the state `before` to `after`, and these are its replies in order;
 -- lines that get no reply have none in the list
 abbrev pub Hears : (before : State) → (heard : List (List ℕ)) → (after : State) → (replies : List (List ℕ)) → Type 0
-Hears before [] after replies = (after ≡ before) × (replies ≡ [])
-Hears before (line ∷ later) after replies =
-    (state : State) × (reply : Option (List ℕ)) × (rest : List (List ℕ))
-    × IsReplied before line state reply × Hears state later after rest × (replies ≡ option_to_list reply ++ rest)
+Hears before heard after replies = AnswersInOrder State (List ℕ) IsReplied before heard after replies
 
 -- replies as they are written, each with its CR LF
 abbrev pub replies_text : List (List ℕ) → List ℕ

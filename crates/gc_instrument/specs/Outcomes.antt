@@ -7,7 +7,7 @@ use Rattle.gc_catalogue.specs.declared.call.Call.{Call}
 use Rattle.gc_instrument.specs.Execution.{Executed}
 use Rattle.gc_instrument.specs.State.{State, IsFittingState, opening_of}
 
--- what holds of the outcome `x` of the call in the state `s`, whatever call and state these are
+-- the outcome `x` of the call in the state `s` is sound: all of the following holds of it
 pub record IsSoundOutcome (s : State) (call : Call) (x : Executed) : Type 0 where
   -- the serial number, the name and the scene stay
   pub same : opening_of x.state ≡ opening_of s

@@ -1,6 +1,6 @@
 -- The reply to a line: what the instrument does with each line that it gets. The communication codes are the manual's, the rest
 -- is this project's own. A parameter `number` is an id.
-use Rattle.std.specs.Prelude.{◌≡◌, ◌<◌, ℕ, List, [], ◌++◌, Bool, true, false, Option, Some, None, if◌then◌else◌, ◌==◌, nat_eq, unwrap_or}
+use Rattle.std.specs.Prelude.{◌≡◌, ◌<◌, ℕ, List, [], Bool, true, false, Option, Some, None, if◌then◌else◌, ◌==◌, nat_eq, unwrap_or}
 use Rattle.gc_lines.specs.Answering.{AppendsAnswer}
 use Rattle.gc_lines.specs.AnsweringLines.{RepliesTo}
 pub use Rattle.gc_lines.specs.AnsweringLines.{silent, answers}
@@ -17,6 +17,7 @@ use Rattle.gc_catalogue.specs.declared.answer.Reading.{Reading}
 use Rattle.gc_catalogue.specs.declared.answer.Reading.TheVariants.{Value, Refused}
 use Rattle.gc_catalogue.specs.declared.call.Call.{Call}
 use Rattle.gc_instrument.specs.State.{State, KeptReply}
+pub use Rattle.gc_instrument.specs.State.{kept_after}
 use Rattle.gc_instrument.specs.Execution.{Executed, exec}
 
 -- the id of the reply to a request: the request's, or 0 if it has none (the manual's)
@@ -42,12 +43,6 @@ abbrev pub kept_line : (kept : Option KeptReply) → (id : Option ℕ) → Optio
 kept_line None id = None
 kept_line (Some k) None = None
 kept_line (Some k) (Some id) = if nat_eq k.id id then Some k.line else None
-
--- the stored reply after an execution: the id and the reply line of the request if the request carried an id, and else what was
--- stored before (`kept`), a reply or none
-abbrev pub kept_after : (kept : Option KeptReply) → (id : Option ℕ) → (line : List ℕ) → Option KeptReply
-kept_after kept None line = kept
-kept_after kept (Some id) line = Some (record { id = id; line = line })
 
 -- the state, but with this stored reply, or none
 abbrev pub with_kept : Option KeptReply → State → State
@@ -126,30 +121,24 @@ pub record IsExchanged (before : State) (number : ℕ) (call : Call) (after : St
   pub plain : IsPlain (handed before number call).reply
   pub answered : kept_line before.kept (Some number) ≡ None → IsAnswered before number call (handed before number call).reply
 
--- the call was carried out, and its reply, with this id and without CR or LF, was appended to `old`; the reply reads as the
--- outcome of carrying out the call. The state `after` is that of the outcome, with the stored reply as it was
-pub record AppendsExecuted (before : State) (number : ℕ) (call : Call) (after : State) (old new : List ℕ) : Type 0 where
-  pub text : List ℕ
-  pub appended : new ≡ old ++ text
+-- the text is the reply, with this id, to a call that was carried out: it has neither CR nor LF, and reads as the outcome of the
+-- call. The state `after` is that of the outcome, with the stored reply as it was
+pub record IsReplyToExecuted (before : State) (number : ℕ) (call : Call) (after : State) (text : List ℕ) : Type 0 where
   pub plain : IsPlain text
   pub state : after ≡ (exec before call).state
   pub line : text ≡ executed_line number (exec before call)
   pub says : IsAnswered before number call text
 
--- the reply to a call (`AnswersCall`), without CR or LF, was appended to `old`; unless the request carries the stored id, the reply
--- reads as the outcome of carrying out the call
-pub record AppendsCall (before : State) (id : Option ℕ) (call : Call) (after : State) (old new : List ℕ) : Type 0 where
-  pub text : List ℕ
-  pub appended : new ≡ old ++ text
+-- the text is the reply to a call (`AnswersCall`), and has neither CR nor LF; unless the request carries the stored id, it reads
+-- as the outcome of carrying out the call
+pub record IsReplyToCall (before : State) (id : Option ℕ) (call : Call) (after : State) (text : List ℕ) : Type 0 where
   pub plain : IsPlain text
   pub answers : AnswersCall before id call after text
   pub says : kept_line before.kept id ≡ None → IsAnswered before (unwrap_or id 0) call text
 
--- the reply to a request (`AnswersRequest`) was appended to `old`; if the request names a call, the reply has neither CR nor LF,
--- and, unless the request carries the stored id, reads as the outcome of carrying out the call
-pub record AppendsReply (before : State) (q : RequestFields) (after : State) (old new : List ℕ) : Type 0 where
-  pub text : List ℕ
-  pub appended : new ≡ old ++ text
+-- the text is the reply to a request (`AnswersRequest`); if the request names a call, the text has neither CR nor LF, and, unless
+-- the request carries the stored id, reads as the outcome of carrying out the call
+pub record IsReplyToRequest (before : State) (q : RequestFields) (after : State) (text : List ℕ) : Type 0 where
   pub answers : AnswersRequest before q after text
   pub plain : (call : Call) → IsCall q.rpc q.params call → IsPlain text
   pub says : (call : Call) → IsCall q.rpc q.params call → kept_line before.kept q.id ≡ None → IsAnswered before (reply_id q) call text

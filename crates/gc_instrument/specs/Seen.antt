@@ -25,6 +25,11 @@ state_of i = record {
 abbrev pub IsPlainKept : Option KeptReply → Type 0
 IsPlainKept kept = IfSome kept (λ k. IsPlain k.line)
 
--- what is known of every instrument: its values are in range (`IsFittingState`), and its stored line has neither CR nor LF
+-- what is known of the state of every instrument: its values are in range (`IsFittingState`), and its stored line has neither CR
+-- nor LF
+abbrev pub IsSoundState : State → Type 0
+IsSoundState s = IsFittingState s × IsPlainKept s.kept
+
+-- what is known of every instrument: its state is sound
 abbrev pub IsSound : Inside → Type 0
-IsSound i = IsFittingState (state_of i) × IsPlainKept i.kept
+IsSound i = IsSoundState (state_of i)

@@ -19,10 +19,15 @@ pub record KeptReply : Type 0 where
   pub id : ℕ
   pub line : List ℕ
 
+-- the stored reply after an execution: the id and the reply line of the request if the request carried an id, and else what was
+-- stored before (`kept`), a reply or none
+abbrev pub kept_after : (kept : Option KeptReply) → (id : Option ℕ) → (line : List ℕ) → Option KeptReply
+kept_after kept None line = kept
+kept_after kept (Some id) line = Some (record { id = id; line = line })
+
 -- the stored reply with this id and this line; none without an id
 abbrev pub kept_in : (id : Option ℕ) → (line : List ℕ) → Option KeptReply
-kept_in None line = None
-kept_in (Some id) line = Some (record { id = id; line = line })
+kept_in id line = kept_after None id line
 
 -- the state of an instrument; lengths are in metres, angles in radians
 pub record State : Type 0 where

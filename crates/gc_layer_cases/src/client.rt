@@ -46,7 +46,7 @@ fn width_of(case: &Case<'_>) -> u8
     ensures least { 1 ≤ result }
     ensures most { result ≤ WINDOW }
 {
-    if case.has("width", "2") { 2 } else { 7 }
+    if case.is("width", "2") { 2 } else { 7 }
 }
 
 impl<W: Window<Asked = Call>> Rows for Clients<W> {

@@ -11,15 +11,15 @@ use std::io::{self, Write};
 
 /// A station's end of a connection.
 #[derive(Drop)]
-struct Station {
+struct StationEnd {
     client: Client<Slots>,
     assembler: Assembler,
 }
 
-impl Station {
+impl StationEnd {
     /// A station that has sent nothing, at the start of a line.
-    fn new() -> Station {
-        Station {
+    fn new() -> StationEnd {
+        StationEnd {
             client: Client::new(Slots::new()),
             assembler: Assembler::new(),
         }
@@ -43,8 +43,8 @@ impl Station {
     }
 
     /// Takes the bytes of one read, and the moment after it: times out the requests whose deadline has come, and reports in
-    /// `told` what the bytes settle. `Err`: memory ran out for `told`; the bytes after the line whose
-    /// report had no room aren't taken.
+    /// `told` what the bytes settle. `Err`: memory ran out for `told`; the bytes after the line whose report had no room aren't
+    /// taken.
     fn hear(&mut self, bytes: &[u8], now: u64, told: &mut String) -> Result<(), AllocError> {
         self.client.expire(now);
         let mut left = bytes;
@@ -107,7 +107,7 @@ fn tell_settlement(settlement: &Settlement<Call>, told: &mut String) -> Result<(
 /// What plays these rows: a station, and all bytes that it sent.
 #[derive(Drop)]
 pub struct Stations {
-    station: Station,
+    station: StationEnd,
     connection: Vec<u8>,
 }
 
@@ -115,7 +115,7 @@ impl Stations {
     /// A station that has sent nothing.
     pub fn new(alloc: Global) -> Stations {
         Stations {
-            station: Station::new(),
+            station: StationEnd::new(),
             connection: Vec::new(alloc),
         }
     }
@@ -136,8 +136,8 @@ impl Stations {
         }
     }
 
-    // Hands the station what a read gave at the moment `now` (0 if that is no number): what is in `bytes` after that word. `Err`:
-    // memory ran out.
+    // Hands the station the bytes of a read, which are those in `bytes` behind the word `now`, and the moment that this word
+    // writes (0 if it is no number). `Err`: memory ran out.
     fn hear(&mut self, now: &str, bytes: &[u8], told: &mut String) -> Result<(), AllocError> {
         let read = bytes_behind(now, bytes);
         self.station.hear(read, number_or(now, 0), told)

@@ -1,9 +1,10 @@
 -- A stream that is cut at its line feeds, piece by piece. r is what is before the bytes that are cut, since the last line
 -- feed.
-use Rattle.std.proofs.Common.{◌≡◌, ℕ, ◌+◌, ◌<◌, ◌≤◌, suc, Bool, true, false, not, cond, List, [], ◌∷◌, ◌++◌, length, take, drop, Some, None, refl, sym, ap, ◌∙◌, arith, append_assoc, map}
+use Rattle.std.proofs.Common.{◌≡◌, ◌≢◌, ℕ, ◌+◌, ◌<◌, ◌≤◌, suc, Bool, true, false, not, cond, List, [], ◌∷◌, ◌++◌, length, take, drop, Some, None, refl, sym, ap, ◌∙◌, arith, append_assoc, map, subst}
 use Rattle.std.specs.List.{prefix_len, position, flat_map, AllByRecursion}
 use Rattle.std.proofs.lemmas.List.{append-nil, map-append}
 use Rattle.std.proofs.lemmas.Bool.{ltb-true, ltb-false, eqb-true, eq-eqb, ne_eqb}
+use Rattle.std.proofs.Permutation.{every_append}
 use Rattle.std.proofs.Math.Dec.{ltb}
 use Rattle.std.proofs.Math.Numerals.{one-add}
 use Rattle.gc_lines.specs.Frames.{is_line_feed, pieces_behind, rest_behind, pieces, rest_of, HasNoLineFeed, IsCut, frame_of, frames}
@@ -93,34 +94,26 @@ cut_whole r (x ∷ xs) = elim (is_line_feed x) as (λ v. is_line_feed x ≡ v
 
 -- A stream has one such cutting.
 
--- where `part` has no line feed, and a line feed and then xs follow it, the first piece after r is `r ++ part`, and xs has the
--- other pieces and the rest
-pub cut_first : (r part xs : List ℕ) → HasNoLineFeed part
-    → (pieces_behind r (part ++ 10 ∷ xs) ≡ (r ++ part) ∷ pieces_behind [] xs) × (rest_behind r (part ++ 10 ∷ xs) ≡ rest_behind [] xs)
-cut_first r [] xs clean = (ap (λ p. p ∷ pieces_behind [] xs) (sym (append-nil r)), refl)
-cut_first r (b ∷ bs) xs clean =
-    let no = cut_first (r ++ b ∷ []) bs xs clean.1 in
+-- where xs has no line feed, `xs ++ ys` after r has the pieces and the rest that ys has after `r ++ xs`
+pub front_joins_piece : (r xs ys : List ℕ) → HasNoLineFeed xs
+    → (pieces_behind r (xs ++ ys) ≡ pieces_behind (r ++ xs) ys) × (rest_behind r (xs ++ ys) ≡ rest_behind (r ++ xs) ys)
+front_joins_piece r [] ys clean = (ap (λ p. pieces_behind p ys) (sym (append-nil r)), ap (λ p. rest_behind p ys) (sym (append-nil r)))
+front_joins_piece r (b ∷ bs) ys clean =
+    let more = front_joins_piece (r ++ b ∷ []) bs ys clean.1 in
     let same : is_line_feed b ≡ false = ne_eqb b 10 clean.0 in
-    (rw same (no.0 ∙ ap (λ p. p ∷ pieces_behind [] xs) (append_assoc r (b ∷ []) bs)), rw same no.1)
-
--- where xs has no line feed, as `HasNoLineFeed` has it, xs after r makes no piece, and `r ++ xs` is the rest
-cut_last : (r xs : List ℕ) → HasNoLineFeed xs → (pieces_behind r xs ≡ []) × (rest_behind r xs ≡ r ++ xs)
-cut_last r [] clean = (refl, sym (append-nil r))
-cut_last r (b ∷ bs) clean =
-    let no = cut_last (r ++ b ∷ []) bs clean.1 in
-    let same : is_line_feed b ≡ false = ne_eqb b 10 clean.0 in
-    (rw same no.0, rw same (no.1 ∙ append_assoc r (b ∷ []) bs))
+    (rw same (more.0 ∙ ap (λ p. pieces_behind p ys) (append_assoc r (b ∷ []) bs)), rw same (more.1 ∙ ap (λ p. rest_behind p ys) (append_assoc r (b ∷ []) bs)))
 
 -- where no part has a line feed, and `rest` has none, the parts, each with a line feed after it, and then `rest` are cut into
 -- just these parts as the pieces, and `rest` as the rest
 cut_parts : (parts : List (List ℕ)) (rest : List ℕ) → AllByRecursion HasNoLineFeed parts → HasNoLineFeed rest
     → (pieces_behind [] (flat_map (λ part. part ++ 10 ∷ []) parts ++ rest) ≡ parts)
     × (rest_behind [] (flat_map (λ part. part ++ 10 ∷ []) parts ++ rest) ≡ rest)
-cut_parts [] rest each last = cut_last [] rest last
+cut_parts [] rest each last =
+    subst (λ (xs : List ℕ). (pieces_behind [] xs ≡ []) × (rest_behind [] xs ≡ rest)) (append-nil rest) (front_joins_piece [] rest [] last)
 cut_parts (part ∷ parts) rest each last =
     let more = cut_parts parts rest each.1 last in
     let xs = flat_map (λ part. part ++ 10 ∷ []) parts ++ rest in
-    let here = cut_first [] part xs each.0 in
+    let here = front_joins_piece [] part (10 ∷ xs) each.0 in
     let same : flat_map (λ part. part ++ 10 ∷ []) (part ∷ parts) ++ rest ≡ part ++ 10 ∷ xs = append_assoc (part ++ 10 ∷ []) _ rest ∙ append_assoc part (10 ∷ []) xs in
     (ap (pieces_behind []) same ∙ here.0 ∙ ap (λ ps. part ∷ ps) more.0, ap (rest_behind []) same ∙ here.1 ∙ more.1)
 
@@ -131,12 +124,8 @@ cut_clean r (b ∷ bs) clean = elim (is_line_feed b) as (λ v. is_line_feed b �
     → AllByRecursion HasNoLineFeed (cond v (r ∷ pieces_behind [] bs) (pieces_behind (r ++ b ∷ []) bs))
     × HasNoLineFeed (cond v (rest_behind [] bs) (rest_behind (r ++ b ∷ []) bs))) [
       | true ↦ λ _. let more = cut_clean [] bs tt in ((clean, more.0), more.1)
-      | false ↦ λ e. cut_clean (r ++ b ∷ []) bs (clean_more r b clean e)
-    ] refl where
-      -- bytes without a line feed, and after them one that is none, have no line feed
-      clean_more : (r : List ℕ) (b : ℕ) → HasNoLineFeed r → is_line_feed b ≡ false → HasNoLineFeed (r ++ b ∷ [])
-      clean_more [] b clean e = ((λ same. let t = eq-eqb b 10 same in (cc)), tt)
-      clean_more (x ∷ xs) b clean e = (clean.0, clean_more xs b clean.1 e)
+      | false ↦ λ e. cut_clean (r ++ b ∷ []) bs (every_append (λ x. x ≢ 10) r (b ∷ []) clean ((λ same. let t = eq-eqb b 10 same in (cc)), tt))
+    ] refl
 
 -- where a stream is cut into parts and a rest, as `IsCut` has it, these are its pieces and its rest
 pub one_cut : (stream : List ℕ) (parts : List (List ℕ)) (rest : List ℕ) → IsCut stream parts rest → (parts ≡ pieces stream) × (rest ≡ rest_of stream)
@@ -147,15 +136,6 @@ one_cut stream parts rest cut =
 -- the pieces and the rest of a stream are a cutting of it, as `IsCut` has it
 pub is_cut_of : (stream : List ℕ) → IsCut stream (pieces stream) (rest_of stream)
 is_cut_of stream = let clean = cut_clean [] stream tt in record { whole = sym (cut_whole [] stream); each = clean.0; last = clean.1 }
-
--- where xs has no line feed, `xs ++ ys` after r has the pieces and the rest that ys has after `r ++ xs`
-front_joins_piece : (r xs ys : List ℕ) → HasNoLineFeed xs
-    → (pieces_behind r (xs ++ ys) ≡ pieces_behind (r ++ xs) ys) × (rest_behind r (xs ++ ys) ≡ rest_behind (r ++ xs) ys)
-front_joins_piece r [] ys clean = (ap (λ p. pieces_behind p ys) (sym (append-nil r)), ap (λ p. rest_behind p ys) (sym (append-nil r)))
-front_joins_piece r (b ∷ bs) ys clean =
-    let more = front_joins_piece (r ++ b ∷ []) bs ys clean.1 in
-    let same : is_line_feed b ≡ false = ne_eqb b 10 clean.0 in
-    (rw same (more.0 ∙ ap (λ p. pieces_behind p ys) (append_assoc r (b ∷ []) bs)), rw same (more.1 ∙ ap (λ p. rest_behind p ys) (append_assoc r (b ∷ []) bs)))
 
 -- the frames of `xs ++ ys` are those of xs, and then those of the rest of xs with ys after it; and the rest of `xs ++ ys` is that
 -- of the rest of xs with ys after it

@@ -10,11 +10,11 @@ use Rattle.gc_lines.specs.Answering.{AnswerRule, AnswersInOrder, AnswersAll, Ans
 use Rattle.gc_lines.specs.Passing.{Gathering, GathersPart, TakesTextsPart, whole_and_part}
 use Rattle.gc_lines.specs.Ports.{TakesFront}
 use Rattle.gc_lines.specs.declared.frame.Frame.{Frame}
-use Rattle.gc_lines.proofs.InOrder.{in_order_then, in_order_one, all_of-append, all_then, part_then, one_part}
-use Rattle.gc_lines.proofs.Known.{Appends-is}
+use Rattle.gc_lines.proofs.InOrder.{in_order_then, in_order_one, all_of-append, all_then, part_then, part_before, one_part}
+use Rattle.gc_lines.proofs.Known.{Appends-is, Appends-parts}
 
 -- where all frames `seen` were answered and their texts went out, `Gathering` is true of `seen`, with no text that waits
-pub gathering_start : {State : Type 0} (rule : AnswerRule State) (from to : Progress State) (seen : List Frame)
+pub gathering_start : {State : Type 0} (rule : AnswerRule State Frame) (from to : Progress State) (seen : List Frame)
     → AnswersAll rule from to seen → Gathering rule from to seen [] []
 gathering_start rule from to seen all = record {
   state = to.state;
@@ -40,20 +40,11 @@ pub record Joins (text lengths more text' lengths' : List ℕ) : Type 0 where
   pub counted : lengths' ≡ lengths ++ length more ∷ []
 
 -- Here `Gathering` is true of the frames `seen`, with the texts that wait in `text`, and their lengths in `lengths`.
-module _ {State : Type 0} (rule : AnswerRule State) (from to : Progress State) (seen : List Frame) (text lengths : List ℕ)
+module _ {State : Type 0} (rule : AnswerRule State Frame) (from to : Progress State) (seen : List Frame) (text lengths : List ℕ)
     (g : Gathering rule from to seen text lengths) where
-  -- where the list of the lengths is empty, so that no text waits, all of `seen` were answered and their texts went out
-  pub gathering_end : lengths ≡ [] → AnswersAll rule from to seen
-  gathering_end none =
-      let nothing : g.texts ≡ [] = no_texts g.texts (sym none ∙ g.lengths_are) in
-      let same : to.whole ≡ to.whole + 0 = omega arith in
-      let silent : AnswersAll rule (progress g.state to.taken to.whole) to g.held = record {
-        texts = [];
-        answers = subst (λ (ts : List (List ℕ)). AnswersInOrder State rule g.state g.held to.state ts) nothing g.holds;
-        counts = same;
-        took = Appends-nil to.taken;
-      } in
-      subst (λ (fs : List Frame). AnswersAll rule from to fs) (sym g.order) (all_then rule from (progress g.state to.taken to.whole) to g.done g.held g.all silent)
+  -- where the list of the lengths is empty, no text waits
+  no_text : lengths ≡ [] → text ≡ []
+  no_text none = g.text_is ∙ ap all_of (no_texts g.texts (sym none ∙ g.lengths_are))
 
   -- where the rule answers the next frame without a text, `Gathering` is true of `seen` and then that frame, with the same texts
   -- waiting, and with the state after that frame
@@ -104,42 +95,36 @@ module _ {State : Type 0} (rule : AnswerRule State) (from to : Progress State) (
       subst (λ (fs : List Frame). AnswersAll rule from (progress to.state after total) fs) (sym g.order)
       (all_then rule from (progress g.state to.taken to.whole) (progress to.state after total) g.done g.held g.all out)
 
+  -- where the list of the lengths is empty, so that no text waits, all of `seen` were answered and their texts went out
+  pub gathering_end : lengths ≡ [] → AnswersAll rule from to seen
+  gathering_end none =
+      gathering_written to.taken to.whole (Appends-is to.taken to.taken [] text (sym (no_text none)) (Appends-nil to.taken))
+      (omega (arith, ap (λ (ns : List ℕ). length ns) none))
+
 -- the first n bytes of the texts end within one of them: where the sink took just these, `AnswersPart` says which frames were
 -- answered, and `whole_and_part` gives its numbers
-record EndsWithin {State : Type 0} (rule : AnswerRule State) (from : State) (seen : List Frame) (texts : List (List ℕ)) (whole n : ℕ) : Type 0 where
+record EndsWithin {State : Type 0} (rule : AnswerRule State Frame) (from : State) (seen : List Frame) (texts : List (List ℕ)) (whole n : ℕ) : Type 0 where
   reached : State
   count : ℕ
   bytes : ℕ
-  part : AnswersPart rule (progress from (Some []) whole) (progress reached (Some (take n (all_of texts))) count) seen bytes
+  part : (old new : Option (List ℕ)) → Appends old new (take n (all_of texts)) → AnswersPart rule (progress from old whole) (progress reached new count) seen bytes
   counts : whole_and_part whole n (map length texts) ≡ (count, bytes)
 
 -- Here the rule answers the first frame with the first text.
-module _ {State : Type 0} (rule : AnswerRule State) (s u : State) (frame : Frame) (later : List Frame) (t : List ℕ) (rest : List (List ℕ)) (whole n : ℕ)
+module _ {State : Type 0} (rule : AnswerRule State Frame) (s u : State) (frame : Frame) (later : List Frame) (t : List ℕ) (rest : List (List ℕ)) (whole n : ℕ)
     (gives : rule s frame u (Some t)) where
   -- where the n bytes end within the first text, `EndsWithin` is true
   ends_in_first : nat_lt n (length t) ≡ true → EndsWithin rule s (frame ∷ later) (t ∷ rest) whole n
   ends_in_first e =
       let less : n < length t = ltb-true n (length t) e in
       let within : n ≤ length t = omega arith in
-      let same : whole ≡ whole + 0 = omega arith in
+      let front : take n (t ++ all_of rest) ≡ take n t = take-append-le n t (all_of rest) within in
       record {
         reached = u;
         count = whole;
         bytes = n;
-        part = record {
-          earlier = [];
-          frame = frame;
-          later = later;
-          order = refl;
-          state = s;
-          texts = [];
-          answers = (refl, refl);
-          text = t;
-          gives = gives;
-          counts = same;
-          not_all = less;
-          took = take-append-le n t (all_of rest) within;
-        };
+        part = λ old new took. part_before rule (progress s old whole) (progress u new whole) (frame ∷ []) later n
+            (one_part rule (progress s old whole) (progress u new whole) frame t n gives (less, Appends-is old new _ _ front took) refl);
         counts = ap (λ (b : Bool). cond b (whole, n) (whole_and_part (whole + 1) (n - length t) (map length rest))) e;
       }
 
@@ -150,86 +135,75 @@ module _ {State : Type 0} (rule : AnswerRule State) (s u : State) (frame : Frame
   ends_in_later e k =
       let more : length t ≤ n = ltb-false n (length t) e in
       let sizes : n ≡ length t + (n - length t) = omega arith in
-      let counted : (whole + 1) + length k.part.texts ≡ whole + length (t ∷ k.part.texts) = omega arith in
-      let front : take (n - length t) (all_of rest) ≡ all_of k.part.texts ++ take k.bytes k.part.text = k.part.took in
+      let front : take n (t ++ all_of rest) ≡ t ++ take (n - length t) (all_of rest) =
+      ap (λ (m : ℕ). take m (t ++ all_of rest)) sizes ∙ take-append-add t (all_of rest) (n - length t) in
       record {
         reached = k.reached;
         count = k.count;
         bytes = k.bytes;
-        part = record {
-          earlier = frame ∷ k.part.earlier;
-          frame = k.part.frame;
-          later = k.part.later;
-          order = ap (λ (fs : List Frame). frame ∷ fs) k.part.order;
-          state = k.part.state;
-          texts = t ∷ k.part.texts;
-          answers = (u, Some t, k.part.texts, gives, k.part.answers, refl);
-          text = k.part.text;
-          gives = k.part.gives;
-          counts = k.part.counts ∙ counted;
-          not_all = k.part.not_all;
-          took = ap (λ (m : ℕ). take m (t ++ all_of rest)) sizes ∙ take-append-add t (all_of rest) (n - length t) ∙ ap (λ (xs : List ℕ). t ++ xs) front
-              ∙ sym (append_assoc t (all_of k.part.texts) (take k.bytes k.part.text));
-        };
+        part = λ old new took.
+            let cut = Appends-parts old new t (take (n - length t) (all_of rest)) (Appends-is old new _ _ front took) in
+            let first : AnswersAll rule (progress s old whole) (progress u cut.0 (whole + 1)) (frame ∷ []) = record {
+              texts = t ∷ [];
+              answers = in_order_one rule s u frame (Some t) gives;
+              counts = omega arith;
+              took = Appends-is old cut.0 t (t ++ []) (sym (append-nil t)) cut.1;
+            } in
+            part_then rule (progress s old whole) (progress u cut.0 (whole + 1)) (progress k.reached new k.count) (frame ∷ []) later k.bytes first
+            (k.part cut.0 new cut.2);
         counts = ap (λ (b : Bool). cond b (whole, n) (whole_and_part (whole + 1) (n - length t) (map length rest))) e ∙ k.counts;
       }
 
--- where the rule answers a frame without a text, and `EndsWithin` is true of the later frames, `EndsWithin` is true of that frame
--- and the later ones, with the same texts and bytes
-ends_past_silent : {State : Type 0} (rule : AnswerRule State) (s u : State) (frame : Frame) (later : List Frame) (texts : List (List ℕ)) (whole n : ℕ)
-    → rule s frame u None → EndsWithin rule u later texts whole n → EndsWithin rule s (frame ∷ later) texts whole n
-ends_past_silent rule s u frame later texts whole n gives k = record {
-  reached = k.reached;
-  count = k.count;
-  bytes = k.bytes;
-  part = record {
-    earlier = frame ∷ k.part.earlier;
-    frame = k.part.frame;
-    later = k.part.later;
-    order = ap (λ (fs : List Frame). frame ∷ fs) k.part.order;
-    state = k.part.state;
-    texts = k.part.texts;
-    answers = (u, None, k.part.texts, gives, k.part.answers, refl);
-    text = k.part.text;
-    gives = k.part.gives;
-    counts = k.part.counts;
-    not_all = k.part.not_all;
-    took = k.part.took;
-  };
-  counts = k.counts;
-}
+-- Here a frame is answered before the later ones. n is a number of bytes, and `whole` counts the texts that went out before.
+module _ {State : Type 0} (rule : AnswerRule State Frame) (s u : State) (frame : Frame) (later : List Frame) (whole n : ℕ) where
+  -- where the rule answers the frame without a text, and `EndsWithin` is true of the later frames, `EndsWithin` is true of the frame
+  -- and the later ones, with the same texts and bytes
+  ends_past_silent : (texts : List (List ℕ)) → rule s frame u None → EndsWithin rule u later texts whole n → EndsWithin rule s (frame ∷ later) texts whole n
+  ends_past_silent texts gives k = record {
+    reached = k.reached;
+    count = k.count;
+    bytes = k.bytes;
+    part = λ old new took.
+        let first : AnswersAll rule (progress s old whole) (progress u old whole) (frame ∷ []) = record {
+          texts = [];
+          answers = in_order_one rule s u frame None gives;
+          counts = omega arith;
+          took = Appends-nil old;
+        } in
+        part_then rule (progress s old whole) (progress u old whole) (progress k.reached new k.count) (frame ∷ []) later k.bytes first (k.part old new took);
+    counts = k.counts;
+  }
 
--- where the rule answers a frame, with a text or without, n is less than the bytes that this text and the later ones have
--- together, and `EndsWithin` is true of the later frames and of each number of bytes that is less than those of the later texts,
--- `EndsWithin` is true of the frame and the later ones, and of n
-ends_at_text : {State : Type 0} (rule : AnswerRule State) (s u : State) (frame : Frame) (later : List Frame) (text : Option (List ℕ))
-    (rest : List (List ℕ)) (whole n : ℕ)
-    → rule s frame u text → n < length (all_of (option_to_list text ++ rest))
-    → ((w m : ℕ) → m < length (all_of rest) → EndsWithin rule u later rest w m)
-    → EndsWithin rule s (frame ∷ later) (option_to_list text ++ rest) whole n
-ends_at_text rule s u frame later None rest whole n gives less next = ends_past_silent rule s u frame later rest whole n gives (next whole n less)
-ends_at_text rule s u frame later (Some t) rest whole n gives less next = elim (nat_lt n (length t)) as (λ b. nat_lt n (length t) ≡ b → EndsWithin rule s (frame ∷ later) (t ∷ rest) whole n) [
-  | true ↦ λ e. ends_in_first rule s u frame later t rest whole n gives e
-  | false ↦ λ e. let more : length t ≤ n = ltb-false n (length t) e in
-      let left : n - length t < length (all_of rest) = omega (arith, less, more, length-append t (all_of rest)) in
-      ends_in_later rule s u frame later t rest whole n gives e (next (whole + 1) (n - length t) left)
-] refl
+  -- where the rule answers the frame, with a text or without, n is less than the bytes that this text and the later ones have
+  -- together, and `EndsWithin` is true of the later frames and of each number of bytes that is less than those of the later texts,
+  -- `EndsWithin` is true of the frame and the later ones, and of n
+  ends_at_text : (text : Option (List ℕ)) (rest : List (List ℕ)) → rule s frame u text
+      → n < length (all_of (option_to_list text ++ rest))
+      → ((w m : ℕ) → m < length (all_of rest) → EndsWithin rule u later rest w m)
+      → EndsWithin rule s (frame ∷ later) (option_to_list text ++ rest) whole n
+  ends_at_text None rest gives less next = ends_past_silent rest gives (next whole n less)
+  ends_at_text (Some t) rest gives less next = elim (nat_lt n (length t)) as (λ b. nat_lt n (length t) ≡ b → EndsWithin rule s (frame ∷ later) (t ∷ rest) whole n) [
+    | true ↦ λ e. ends_in_first rule s u frame later t rest whole n gives e
+    | false ↦ λ e. let more : length t ≤ n = ltb-false n (length t) e in
+        let left : n - length t < length (all_of rest) = omega (arith, less, more, length-append t (all_of rest)) in
+        ends_in_later rule s u frame later t rest whole n gives e (next (whole + 1) (n - length t) left)
+  ] refl
 
 -- where the frames were answered in order with these texts, `EndsWithin` is true of each n that is less than the bytes that the
 -- texts have together
-ends_within : {State : Type 0} (rule : AnswerRule State) (from to : State) (seen : List Frame) (texts : List (List ℕ)) (whole n : ℕ)
-    → AnswersInOrder State rule from seen to texts → n < length (all_of texts) → EndsWithin rule from seen texts whole n
+ends_within : {State : Type 0} (rule : AnswerRule State Frame) (from to : State) (seen : List Frame) (texts : List (List ℕ)) (whole n : ℕ)
+    → AnswersInOrder State Frame rule from seen to texts → n < length (all_of texts) → EndsWithin rule from seen texts whole n
 ends_within rule from to [] texts whole n h less =
     let none : length (all_of texts) ≡ 0 = ap (λ (ts : List (List ℕ)). length (all_of ts)) h.1 in
     let wrong : ⊥ = omega (arith, none, less) in
     absurd wrong
 ends_within rule from to (frame ∷ later) texts whole n h less =
     subst (λ (ts : List (List ℕ)). EndsWithin rule from (frame ∷ later) ts whole n) (sym h.5)
-    (ends_at_text rule from h.0 frame later h.1 h.2 whole n h.3 (subst (λ (ts : List (List ℕ)). n < length (all_of ts)) h.5 less) (λ w m fewer. ends_within rule h.0 to later h.2 w m h.4 fewer))
+    (ends_at_text rule from h.0 frame later whole n h.1 h.2 h.3 (subst (λ (ts : List (List ℕ)). n < length (all_of ts)) h.5 less) (λ w m fewer. ends_within rule h.0 to later h.2 w m h.4 fewer))
 
 -- Here `Gathering` is true of the frames `seen`, with the texts that wait in `text`, and their lengths in `lengths`. A second
 -- block, because the next one uses its lemma at other frames.
-module _ {State : Type 0} (rule : AnswerRule State) (from to : Progress State) (seen : List Frame) (text lengths : List ℕ)
+module _ {State : Type 0} (rule : AnswerRule State Frame) (from to : Progress State) (seen : List Frame) (text lengths : List ℕ)
     (g : Gathering rule from to seen text lengths) where
   -- where the sink took only a part of the texts that wait, as `TakesTextsPart` has it, `AnswersPart` is true: the frames were
   -- answered up to one whose text went out in part, with `total` texts whole and `bytes` bytes of that text
@@ -237,30 +211,18 @@ module _ {State : Type 0} (rule : AnswerRule State) (from to : Progress State) (
       → (reached : State) × AnswersPart rule from (progress reached after total) seen bytes
   gathering_part after total bytes (n, took, counts) =
       let k = ends_within rule g.state to.state g.held g.texts to.whole n g.holds (subst (λ (xs : List ℕ). n < length xs) g.text_is took.0) in
-      let front : take n (all_of g.texts) ≡ all_of k.part.texts ++ take k.bytes k.part.text = k.part.took in
       let same : (total, bytes) ≡ (k.count, k.bytes) = counts ∙ ap (λ (ns : List ℕ). whole_and_part to.whole n ns) g.lengths_are ∙ k.counts in
-      let out : AnswersPart rule (progress g.state to.taken to.whole) (progress k.reached after total) g.held bytes = record {
-        earlier = k.part.earlier;
-        frame = k.part.frame;
-        later = k.part.later;
-        order = k.part.order;
-        state = k.part.state;
-        texts = k.part.texts;
-        answers = k.part.answers;
-        text = k.part.text;
-        gives = k.part.gives;
-        counts = ap (λ (p : ℕ × ℕ). p.0) same ∙ k.part.counts;
-        not_all = rw (ap (λ (p : ℕ × ℕ). p.1) same) k.part.not_all;
-        took = Appends-is to.taken after _ _
-            (ap (λ (xs : List ℕ). take n xs) g.text_is ∙ front ∙ ap (λ (b : ℕ). all_of k.part.texts ++ take b k.part.text) (sym (ap (λ (p : ℕ × ℕ). p.1) same))) took.1;
-      } in (
+      let part : AnswersPart rule (progress g.state to.taken to.whole) (progress k.reached after k.count) g.held k.bytes =
+      k.part to.taken after (Appends-is to.taken after _ _ (ap (λ (xs : List ℕ). take n xs) g.text_is) took.1) in
+      let out : AnswersPart rule (progress g.state to.taken to.whole) (progress k.reached after total) g.held bytes =
+      subst (λ (p : ℕ × ℕ). AnswersPart rule (progress g.state to.taken to.whole) (progress k.reached after p.0) g.held p.1) (sym same) part in (
         k.reached,
         subst (λ (fs : List Frame). AnswersPart rule from (progress k.reached after total) fs bytes) (sym g.order)
             (part_then rule from (progress g.state to.taken to.whole) (progress k.reached after total) g.done g.held bytes g.all out),
       )
 
 -- The same as above. Both lemmas assume that no text waits unless texts are gathered.
-module _ {State : Type 0} (rule : AnswerRule State) (from to : Progress State) (seen : List Frame) (text lengths : List ℕ)
+module _ {State : Type 0} (rule : AnswerRule State Frame) (from to : Progress State) (seen : List Frame) (text lengths : List ℕ)
     (g : Gathering rule from to seen text lengths) where
   -- where the rule answers one more frame with the text `more`, which joins the texts that wait, and the sink took only a part of
   -- the texts that wait then, `GathersPart` is true of `seen` and then that frame
@@ -273,7 +235,7 @@ module _ {State : Type 0} (rule : AnswerRule State) (from to : Progress State) (
       record { reached = it.0; part = it.1; alone = λ e. cc }
   answered_part last frame more text' lengths' bytes false alone gives joins (n, took, counts) =
       let none = alone refl in
-      let nothing : text ≡ [] = g.text_is ∙ ap all_of (no_texts g.texts (sym none ∙ g.lengths_are)) in
+      let nothing : text ≡ [] = no_text rule from to seen text lengths g none in
       let took_more : TakesFront to.taken last.taken n more =
       subst (λ (xs : List ℕ). TakesFront to.taken last.taken n xs) (joins.longer ∙ ap (λ (xs : List ℕ). xs ++ more) nothing) took in
       let less : nat_lt n (length more) ≡ true = lt-ltb n (length more) took_more.0 in
@@ -296,6 +258,6 @@ module _ {State : Type 0} (rule : AnswerRule State) (from to : Progress State) (
       let it = gathering_part rule from to seen text lengths g after total bytes took in
       record { reached = it.0; part = it.1; alone = λ e. cc }
   rest_part after total bytes false alone (n, took, counts) =
-      let nothing : text ≡ [] = g.text_is ∙ ap all_of (no_texts g.texts (sym (alone refl) ∙ g.lengths_are)) in
+      let nothing : text ≡ [] = no_text rule from to seen text lengths g (alone refl) in
       let wrong : ⊥ = omega (arith, ap (λ (xs : List ℕ). length xs) nothing, took.0) in
       absurd wrong

@@ -108,10 +108,6 @@ header_found signature line h e =
     let same : (let f : HeaderFields = record { number = b.0.0; id = c.0.0; rest = d.0 } in f) ≡ h = cc in
     subst (λ (f : HeaderFields). IsHeader signature line f) same it
 
--- where `header_at` gives a header, the fields through the colon have their form, and the header's rest follows them
-pub header_past : (signature line : List ℕ) (h : HeaderFields) → header_at signature line ≡ Ok h → PastColon signature line h.rest
-header_past signature line h e = past_colon signature line h (header_found signature line h e)
-
 -- where `header_at` gives a fault, that fault names the first bad field of the line, whatever `Body` says of what follows the
 -- colon
 pub header_fault : (signature : List ℕ) (Body : List ℕ → Type 0) (line : List ℕ) (d : LineFault) → header_at signature line ≡ Err d
@@ -164,7 +160,7 @@ line_fault signature body Body reads line d e = elim (bind_err (header_at signat
   | inl h ↦ header_fault signature Body line d h
   | inr a ↦
       let bad = reads.named a.0 d a.2 in
-      let it : FirstBadField signature Body line Code = (a.0.rest, header_past signature line a.0 a.1, bad.1) in
+      let it : FirstBadField signature Body line Code = (a.0.rest, past_colon signature line a.0 (header_found signature line a.0 a.1), bad.1) in
       subst (λ (f : LineFault). FirstBadField signature Body line f) bad.0 it
 ]
 

@@ -1,5 +1,5 @@
--- Lists of frames that are answered one after the other: the state after them, and what is written. In the lemmas, in the
--- order of the run: s, t, u are the answerer's states, or how far the run has come (`Progress`).
+-- Lists of items, such as frames, that are answered one after the other: the state after them, and what is written. In the
+-- lemmas, in the order of the run: s, t, u are the answerer's states, or how far the run has come (`Progress`).
 use Rattle.std.proofs.Common.{◌≡◌, ℕ, ◌+◌, List, [], ◌∷◌, ◌++◌, take, Option, Some, refl, sym, ap, ◌∙◌, subst, arith, append_assoc, length-append}
 use Rattle.std.specs.Option.{option_to_list}
 use Rattle.std.proofs.lemmas.List.{append-nil}
@@ -10,13 +10,13 @@ use Rattle.gc_lines.specs.Ports.{TakesFront}
 use Rattle.gc_lines.specs.declared.frame.Frame.{Frame}
 use Rattle.gc_lines.proofs.Known.{Appends-is}
 
--- where answering the frames xs takes the state from s to t with the texts ps, and answering ys takes it from t to u with the
+-- where answering the items xs takes the state from s to t with the texts ps, and answering ys takes it from t to u with the
 -- texts qs, answering `xs ++ ys` takes it from s to u with the texts `ps ++ qs`
-pub in_order_then : {State : Type 0} (rule : AnswerRule State) (s t u : State) (xs ys : List Frame) (ps qs : List (List ℕ))
-    → AnswersInOrder State rule s xs t ps → AnswersInOrder State rule t ys u qs → AnswersInOrder State rule s (xs ++ ys) u (ps ++ qs)
-in_order_then {State} rule s t u [] ys ps qs first next =
-    rw first.1 (subst (λ (v : State). AnswersInOrder State rule v ys u qs) first.0 next)
-in_order_then {State} rule s t u (x ∷ xs) ys ps qs first next = (
+pub in_order_then : {State Item : Type 0} (rule : AnswerRule State Item) (s t u : State) (xs ys : List Item) (ps qs : List (List ℕ))
+    → AnswersInOrder State Item rule s xs t ps → AnswersInOrder State Item rule t ys u qs → AnswersInOrder State Item rule s (xs ++ ys) u (ps ++ qs)
+in_order_then {State} {Item} rule s t u [] ys ps qs first next =
+    rw first.1 (subst (λ (v : State). AnswersInOrder State Item rule v ys u qs) first.0 next)
+in_order_then {State} {Item} rule s t u (x ∷ xs) ys ps qs first next = (
   first.0,
   first.1,
   first.2 ++ qs,
@@ -25,22 +25,22 @@ in_order_then {State} rule s t u (x ∷ xs) ys ps qs first next = (
   ap (λ (zs : List (List ℕ)). zs ++ qs) first.5 ∙ append_assoc (option_to_list first.1) first.2 qs,
 )
 
--- where the rule answers one frame, the list of that frame alone is answered in order, with the frame's text, if there is one, as
+-- where the rule answers one item, the list of that item alone is answered in order, with the item's text, if there is one, as
 -- the only text
-pub in_order_one : {State : Type 0} (rule : AnswerRule State) (s t : State) (frame : Frame) (text : Option (List ℕ)) → rule s frame t text
-    → AnswersInOrder State rule s (frame ∷ []) t (option_to_list text)
-in_order_one rule s t frame text h = (t, text, [], h, (refl, refl), sym (append-nil (option_to_list text)))
+pub in_order_one : {State Item : Type 0} (rule : AnswerRule State Item) (s t : State) (item : Item) (text : Option (List ℕ)) → rule s item t text
+    → AnswersInOrder State Item rule s (item ∷ []) t (option_to_list text)
+in_order_one rule s t item text h = (t, text, [], h, (refl, refl), sym (append-nil (option_to_list text)))
 
 -- what is written of the texts `xs ++ ys` is what is written of xs, and then what is written of ys
 pub all_of-append : (xs ys : List (List ℕ)) → all_of (xs ++ ys) ≡ all_of xs ++ all_of ys
 all_of-append xs ys = flat_map-append (λ text. text) xs ys
 
 -- `AnswersAll` is true of no frames, where the progress is the same before and after
-pub all_none : {State : Type 0} (rule : AnswerRule State) (here : Progress State) → AnswersAll rule here here []
+pub all_none : {State : Type 0} (rule : AnswerRule State Frame) (here : Progress State) → AnswersAll rule here here []
 all_none rule here = record { texts = []; answers = (refl, refl); counts = omega arith; took = Appends-nil here.taken }
 
 -- where all frames xs were answered, and then all frames ys, all frames `xs ++ ys` were answered
-pub all_then : {State : Type 0} (rule : AnswerRule State) (s t u : Progress State) (xs ys : List Frame)
+pub all_then : {State : Type 0} (rule : AnswerRule State Frame) (s t u : Progress State) (xs ys : List Frame)
     → AnswersAll rule s t xs → AnswersAll rule t u ys → AnswersAll rule s u (xs ++ ys)
 all_then rule s t u xs ys first next = record {
   texts = first.texts ++ next.texts;
@@ -51,7 +51,7 @@ all_then rule s t u xs ys first next = record {
 
 -- where all frames xs were answered, and then the frames ys up to one whose text went out in part, the frames `xs ++ ys` were
 -- answered up to that one
-pub part_then : {State : Type 0} (rule : AnswerRule State) (s t u : Progress State) (xs ys : List Frame) (bytes : ℕ)
+pub part_then : {State : Type 0} (rule : AnswerRule State Frame) (s t u : Progress State) (xs ys : List Frame) (bytes : ℕ)
     → AnswersAll rule s t xs → AnswersPart rule t u ys bytes → AnswersPart rule s u (xs ++ ys) bytes
 part_then rule s t u xs ys bytes first part =
     let end = take bytes part.text in
@@ -73,7 +73,7 @@ part_then rule s t u xs ys bytes first part =
     }
 
 -- where `AnswersPart` is true of the frames xs, it is true of `xs ++ ys`: frames after the one whose text was cut change nothing
-pub part_before : {State : Type 0} (rule : AnswerRule State) (s u : Progress State) (xs ys : List Frame) (bytes : ℕ)
+pub part_before : {State : Type 0} (rule : AnswerRule State Frame) (s u : Progress State) (xs ys : List Frame) (bytes : ℕ)
     → AnswersPart rule s u xs bytes → AnswersPart rule s u (xs ++ ys) bytes
 part_before rule s u xs ys bytes part = record {
   earlier = part.earlier;
@@ -92,7 +92,7 @@ part_before rule s u xs ys bytes part = record {
 
 -- where the rule answers a frame with a text, of which the sink took only the first `bytes` bytes, and no more text went out
 -- whole, `AnswersPart` is true of the list of that frame alone
-pub one_part : {State : Type 0} (rule : AnswerRule State) (s u : Progress State) (frame : Frame) (text : List ℕ) (bytes : ℕ)
+pub one_part : {State : Type 0} (rule : AnswerRule State Frame) (s u : Progress State) (frame : Frame) (text : List ℕ) (bytes : ℕ)
     → rule s.state frame u.state (Some text) → TakesFront s.taken u.taken bytes text → u.whole ≡ s.whole → AnswersPart rule s u (frame ∷ []) bytes
 one_part rule s u frame text bytes gives took same = record {
   earlier = [];

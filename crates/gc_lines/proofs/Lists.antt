@@ -1,24 +1,9 @@
--- Lists of which a fact holds of each element (`AllByRecursion`), equal lists, and lists with more after them. `all_append`: what
--- holds of the elements of two lists holds of those of both, one after the other.
+-- Equal lists, lists with more after them, and a fact that holds of each element (`AllByRecursion`). `all_append`: what holds of
+-- the elements of two lists holds of those of both, one after the other.
 use Rattle.std.proofs.Common.{◌≡◌, ℕ, zero, suc, List, [], ◌∷◌, ◌++◌, length, Some, refl, subst}
 use Rattle.std.specs.Prelude.{slice_get}
 use Rattle.std.specs.List.{AllByRecursion}
 pub use Rattle.std.proofs.Permutation.{every_append as all_append}
-
--- what holds of all elements of two lists, one after the other, holds of those of the first
-pub all_front : {A : Type 0} (P : A → Type 0) (xs ys : List A) → AllByRecursion P (xs ++ ys) → AllByRecursion P xs
-all_front P [] ys all = tt
-all_front P (x ∷ xs) ys all = (all.0, all_front P xs ys all.1)
-
--- what holds of all elements of two lists, one after the other, holds of those of the second
-pub all_behind : {A : Type 0} (P : A → Type 0) (xs ys : List A) → AllByRecursion P (xs ++ ys) → AllByRecursion P ys
-all_behind P [] ys all = all
-all_behind P (x ∷ xs) ys all = all_behind P xs ys all.1
-
--- where P of an element implies Q of it, and P holds of all elements, Q holds of all elements
-pub all_on : {A : Type 0} (P Q : A → Type 0) (xs : List A) → ((x : A) → P x → Q x) → AllByRecursion P xs → AllByRecursion Q xs
-all_on P Q [] step p = tt
-all_on P Q (x ∷ xs) step p = (step x p.0, all_on P Q xs step p.1)
 
 -- what holds of each element of a list holds of the one at a place
 pub all_at : {A : Type 0} (P : A → Type 0) (xs : List A) (i : ℕ) (x : A) → AllByRecursion P xs → slice_get xs i ≡ Some x → P x

@@ -78,7 +78,7 @@ takes rest left used frame kept more whole = elim (position is_line_feed left) a
 
 -- of a piece that came after the bytes `rest`, only `left` isn't used yet: the frames that the used part completed were answered,
 -- texts of theirs may wait in the session, and its assembler stands for the bytes since the last line feed (`now`)
-pub record PieceAnswered {State : Type 0} (rule : AnswerRule State) (rest piece left : List ℕ) (from to : Progress State) (session : Session) : Type 0 where
+pub record PieceAnswered {State : Type 0} (rule : AnswerRule State Frame) (rest piece left : List ℕ) (from to : Progress State) (session : Session) : Type 0 where
   pub now : List ℕ
   pub answered : List Frame
   pub stands : StandsFor session.assembler now
@@ -88,7 +88,7 @@ pub record PieceAnswered {State : Type 0} (rule : AnswerRule State) (rest piece 
 
 -- `PieceAnswered` is true before the first frame, where the assembler stands for `rest`, nothing of the piece was used, and no
 -- text waits
-pub piece_start : {State : Type 0} (rule : AnswerRule State) (rest piece : List ℕ) (start : Progress State) (session : Session)
+pub piece_start : {State : Type 0} (rule : AnswerRule State Frame) (rest piece : List ℕ) (start : Progress State) (session : Session)
     → NoneWait session → StandsFor session.assembler rest → PieceAnswered rule rest piece piece start start session
 piece_start rule rest piece start session nothing s = record {
   now = rest;
@@ -105,7 +105,7 @@ seen_more : (answered frame later all left : List Frame) → all ≡ answered ++
 seen_more answered frame later all left e f = e ∙ ap (λ zs. answered ++ zs) f ∙ sym (append_assoc answered frame later)
 
 -- Here `PieceAnswered` is true, and the assembler takes more of the piece, as `Takes` has it.
-module _ {State : Type 0} (rule : AnswerRule State) (rest piece left : List ℕ) (from to : Progress State) (session : Session)
+module _ {State : Type 0} (rule : AnswerRule State Frame) (rest piece left : List ℕ) (from to : Progress State) (session : Session)
     (g : PieceAnswered rule rest piece left from to session) (used : ℕ) (frame : Frame) (kept : Kept) (taken : Takes g.now left used frame kept) where
   -- where the next session has this assembler, and `Gathering` is true, with the texts that wait in it, of the frames answered
   -- before and then the one that this completed, if any, `PieceAnswered` is true with what is left of the piece now
@@ -137,7 +137,7 @@ module _ {State : Type 0} (rule : AnswerRule State) (rest piece left : List ℕ)
 
 -- where `PieceAnswered` is true with nothing left of the piece, the assembler stands for what follows the last line feed of
 -- `rest` and the piece, and `Gathering` is true of all frames that the piece completes: they were answered, though texts may wait
-pub piece_end : {State : Type 0} (rule : AnswerRule State) (rest piece : List ℕ) (from to : Progress State) (session : Session)
+pub piece_end : {State : Type 0} (rule : AnswerRule State Frame) (rest piece : List ℕ) (from to : Progress State) (session : Session)
     → PieceAnswered rule rest piece [] from to session
     → StandsFor session.assembler (rest_behind rest piece) × Gathering rule from to (frames_behind rest piece) session.text.items session.lengths
 piece_end rule rest piece from to session g = (

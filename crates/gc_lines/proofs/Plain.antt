@@ -8,18 +8,14 @@ use Rattle.std.proofs.lemmas.Str.Parse.{digit_from_value}
 use Rattle.std.proofs.lemmas.List.Elements.{recursion_from_All, All-from_recursion, All-append}
 use Rattle.std.proofs.lemmas.List.{take_at}
 use Rattle.gc_lines.specs.declared.frame.Frame.TheVariants.{Line}
-use Rattle.gc_lines.specs.Lines.{IsPlain}
+use Rattle.gc_lines.specs.Lines.{IsPlainByte, IsPlain}
 use Rattle.gc_lines.specs.Frames.{HasNoLineFeed, frame_of, frames, rest_of}
 use Rattle.gc_lines.specs.Headers.{id_text}
 use Rattle.gc_lines.specs.Requests.{RequestFields, request_text}
 use Rattle.gc_lines.specs.Replies.{ReplyFields, reply_text, params_text}
 use Rattle.gc_lines.specs.Laws.{IsRequestInRange, IsReplyInRange}
-use Rattle.gc_lines.proofs.Cutting.{cut_first}
+use Rattle.gc_lines.proofs.Cutting.{front_joins_piece}
 use Rattle.gc_lines.proofs.Keeping.{line_frame, last-append}
-
--- a byte is neither CR nor LF
-abbrev pub IsPlainByte : ℕ → Type 0
-IsPlainByte b = (b ≢ 10) × (b ≢ 13)
 
 -- plain bytes xs and then plain bytes ys are plain together
 pub plain_append : (xs ys : List ℕ) → IsPlain xs → IsPlain ys → IsPlain (xs ++ ys)
@@ -93,6 +89,6 @@ plain_frame bytes fits =
 pub plain_line : (bytes : List ℕ) → IsPlain bytes → length bytes ≤ 512
     → (frames (bytes ++ 13 ∷ 10 ∷ []) ≡ Line (record { items = bytes }) ∷ []) × (rest_of (bytes ++ 13 ∷ 10 ∷ []) ≡ [])
 plain_line bytes h fits =
-    let cut = cut_first [] (bytes ++ 13 ∷ []) [] (plain_has_no_feed bytes (recursion_from_All IsPlainByte bytes h)) in
+    let cut = front_joins_piece [] (bytes ++ 13 ∷ []) (10 ∷ []) (plain_has_no_feed bytes (recursion_from_All IsPlainByte bytes h)) in
     let whole : bytes ++ 13 ∷ 10 ∷ [] ≡ (bytes ++ 13 ∷ []) ++ 10 ∷ [] = simp append_assoc in
     (ap frames whole ∙ ap (λ ps. map frame_of ps) cut.0 ∙ ap (λ f. f ∷ []) (sym (plain_frame bytes fits)), ap rest_of whole ∙ cut.1)

@@ -2,6 +2,7 @@
 use Rattle.std.proofs.Common.{◌≡◌, ℕ, ◌⊎◌, inl, inr, Bool, true, false, cond, List, Result, Ok, Err, IfOk, IfErr, refl, sym, ap, subst}
 use Rattle.gc_lines.specs.declared.fault.LineFault.{LineFault}
 use Rattle.gc_lines.specs.Headers.{Gives, GivesEach, FailsEach}
+use Rattle.gc_lines.specs.Laws.{ReadsExactly}
 use Rattle.gc_lines.specs.Readers.{◌>>=◌}
 
 -- a reader finds just what has the form, and has one fault
@@ -62,6 +63,15 @@ pub record ReadsLines {F : Type 0} (read : List ℕ → Result F LineFault) (Is 
   pub again : (line : List ℕ) (x : F) → Is line x → read line ≡ Ok x
   pub fault : (line : List ℕ) (d : LineFault) → read line ≡ Err d → Bad line d
   pub bad : (line : List ℕ) (d : LineFault) → Bad line d → read line ≡ Err d
+
+-- a reader of lines (`ReadsLines`) reads exactly by its grammar, as `ReadsExactly` has it
+pub reads_exactly : {F : Type 0} {read : List ℕ → Result F LineFault} {Is : List ℕ → F → Type 0} {Bad : List ℕ → LineFault → Type 0}
+    → ReadsLines read Is Bad → ReadsExactly read Is Bad
+reads_exactly reads = record {
+  found = λ line x. (reads.found line x, reads.again line x);
+  fault = λ line f. (reads.fault line f, reads.bad line f);
+  one = λ line x y is_x is_y. let a = reads.again line x is_x in let b = reads.again line y is_y in cc;
+}
 
 -- what a caller of a reader of lines learns, who sees the result by a view: a value has the grammar, a fault is the first bad
 -- field, and each of them is given wherever the line has it

@@ -7,7 +7,7 @@ use Rattle.gc_lines.specs.Numbers.{HasNumber, NoDigitFirst}
 use Rattle.gc_lines.specs.Headers.{id_text}
 use Rattle.gc_lines.specs.Replies.{ReplyFields, IsReply, HasCode, EndsCode, IsReplyBody, FirstBadOfReply, reply_signature}
 use Rattle.gc_lines.specs.Readers.{number_at, HeaderFields, header_at, ◌>>=◌, params_at, code_at, reply_at}
-use Rattle.gc_lines.proofs.Reading.{ReadsLines, ReadsField, none_means_fault, fault_means_none, bind_ok, bind_err, bind_on, guard_ok, guard_err}
+use Rattle.gc_lines.proofs.Reading.{ReadsLines, reads_exactly, ReadsField, none_means_fault, fault_means_none, bind_ok, bind_err, bind_on, guard_ok, guard_err}
 use Rattle.gc_lines.proofs.Fields.{number_reads}
 use Rattle.gc_lines.proofs.Headers.{header_found, header_again, ReadsBody, line_fault, line_bad}
 
@@ -131,11 +131,11 @@ pub reply_bad : (line : List ℕ) (f : LineFault) → FirstBadOfReply line f →
 unfolding reply_at
 reply_bad line f bad = line_bad reply_signature read_body IsReplyBody reads_body line f bad
 
--- a line has the grammar of a reply with at most one list of fields
-pub one_reply : (line : List ℕ) (p r : ReplyFields) → IsReply line p → IsReply line r → p ≡ r
-one_reply line p r is_p is_r = let a = reply_again line p is_p in let b = reply_again line r is_r in cc
-
 -- `reply_at` gives fields just where the line has the grammar of a reply with them, and a fault just where that fault names the
 -- first bad field
 pub reply_reads : ReadsLines reply_at IsReply FirstBadOfReply
 reply_reads = record { found = reply_found; again = reply_again; fault = reply_fault; bad = reply_bad }
+
+-- a line has the grammar of a reply with at most one list of fields
+pub one_reply : (line : List ℕ) (p r : ReplyFields) → IsReply line p → IsReply line r → p ≡ r
+one_reply = (reads_exactly reply_reads).one

@@ -3,7 +3,7 @@ use Rattle.std.proofs.Common.{◌≡◌, ℕ, List, Result, Ok, Err, subst}
 use Rattle.gc_lines.specs.declared.fault.LineFault.{LineFault}
 use Rattle.gc_lines.specs.Requests.{RequestFields, IsRequest, FirstBadOfRequest, request_signature}
 use Rattle.gc_lines.specs.Readers.{HeaderFields, header_at, request_at}
-use Rattle.gc_lines.proofs.Reading.{ReadsLines, bind_ok, bind_on}
+use Rattle.gc_lines.proofs.Reading.{ReadsLines, reads_exactly, bind_ok, bind_on}
 use Rattle.gc_lines.proofs.Headers.{header_found, header_again, ReadsBody, line_fault, line_bad}
 
 -- what `request_at` reads after a header: any bytes
@@ -41,11 +41,11 @@ pub request_bad : (line : List ℕ) (f : LineFault) → FirstBadOfRequest line f
 unfolding request_at
 request_bad line f bad = line_bad request_signature read_body (λ _. Unit {0}) reads_body line f bad
 
--- a line has the grammar of a request with at most one list of fields
-pub one_request : (line : List ℕ) (p q : RequestFields) → IsRequest line p → IsRequest line q → p ≡ q
-one_request line p q is_p is_q = let a = request_again line p is_p in let b = request_again line q is_q in cc
-
 -- `request_at` gives fields just where the line has the grammar of a request with them, and a fault just where that fault names
 -- the first bad field
 pub request_reads : ReadsLines request_at IsRequest FirstBadOfRequest
 request_reads = record { found = request_found; again = request_again; fault = request_fault; bad = request_bad }
+
+-- a line has the grammar of a request with at most one list of fields
+pub one_request : (line : List ℕ) (p q : RequestFields) → IsRequest line p → IsRequest line q → p ≡ q
+one_request = (reads_exactly request_reads).one

@@ -32,19 +32,19 @@ fault_text (Read _) = numbered 42
 fault_text (Write replies bytes) = numbered 43 ++ how_far replies bytes
 fault_text (TooManyReads _) = numbered 44
 
--- what answering may do: the state before a frame, the frame, the state after it, and the text that is written for it, if there
--- is one
-abbrev pub AnswerRule : Type 0 → Type 1
-AnswerRule State = State → Frame → State → Option (List ℕ) → Type 0
+-- what answering an item, such as a frame or a line, may do: the state before the item, the item, the state after it, and the
+-- text that answers it, if there is one
+abbrev pub AnswerRule : (State Item : Type 0) → Type 1
+AnswerRule State Item = State → Item → State → Option (List ℕ) → Type 0
 
--- by the rule, answering the frames one after the other takes the state from `before` to `after`, and these are the texts in
+-- by the rule, answering the items one after the other takes the state from `before` to `after`, and these are the texts in
 -- order
-abbrev pub AnswersInOrder : (State : Type 0) → AnswerRule State → (before : State) → List Frame → (after : State)
+abbrev pub AnswersInOrder : (State Item : Type 0) → AnswerRule State Item → (before : State) → List Item → (after : State)
     → (texts : List (List ℕ)) → Type 0
-AnswersInOrder State rule before [] after texts = (after ≡ before) × (texts ≡ [])
-AnswersInOrder State rule before (frame ∷ later) after texts =
+AnswersInOrder State Item rule before [] after texts = (after ≡ before) × (texts ≡ [])
+AnswersInOrder State Item rule before (item ∷ later) after texts =
     (state : State) × (text : Option (List ℕ)) × (rest : List (List ℕ))
-    × rule before frame state text × AnswersInOrder State rule state later after rest × (texts ≡ option_to_list text ++ rest)
+    × rule before item state text × AnswersInOrder State Item rule state later after rest × (texts ≡ option_to_list text ++ rest)
 
 -- texts as they are written, one after the other
 abbrev pub all_of : List (List ℕ) → List ℕ
@@ -62,15 +62,15 @@ abbrev pub progress : {State : Type 0} → State → (taken : Option (List ℕ))
 progress state taken whole = record { state = state; taken = taken; whole = whole }
 
 -- between the progress `from` and `to` all of the frames `seen` were answered by the rule, and the sink took all of their texts
-pub record AnswersAll {State : Type 0} (rule : AnswerRule State) (from to : Progress State) (seen : List Frame) : Type 0 where
+pub record AnswersAll {State : Type 0} (rule : AnswerRule State Frame) (from to : Progress State) (seen : List Frame) : Type 0 where
   pub texts : List (List ℕ)
-  pub answers : AnswersInOrder State rule from.state seen to.state texts
+  pub answers : AnswersInOrder State Frame rule from.state seen to.state texts
   pub counts : to.whole ≡ from.whole + length texts
   pub took : Appends from.taken to.taken (all_of texts)
 
 -- between the progress `from` and `to` the frames `seen` were answered by the rule up to one, `frame`, and including it. Of the
 -- text of `frame` the sink took only the first `bytes` bytes, and not all
-pub record AnswersPart {State : Type 0} (rule : AnswerRule State) (from to : Progress State) (seen : List Frame) (bytes : ℕ) : Type 0 where
+pub record AnswersPart {State : Type 0} (rule : AnswerRule State Frame) (from to : Progress State) (seen : List Frame) (bytes : ℕ) : Type 0 where
   -- the frames whose texts were taken whole, the one whose text was cut, and those after it
   pub earlier : List Frame
   pub frame : Frame
@@ -79,7 +79,7 @@ pub record AnswersPart {State : Type 0} (rule : AnswerRule State) (from to : Pro
   -- the state after the earlier frames, and their texts
   pub state : State
   pub texts : List (List ℕ)
-  pub answers : AnswersInOrder State rule from.state earlier state texts
+  pub answers : AnswersInOrder State Frame rule from.state earlier state texts
   -- the text that was cut
   pub text : List ℕ
   pub gives : rule state frame to.state (Some text)
@@ -90,7 +90,7 @@ pub record AnswersPart {State : Type 0} (rule : AnswerRule State) (from to : Pro
 -- which of the frames `seen`, all that were read, were answered, by the result of the run: all of them, or after a failed write
 -- those up to the one whose text was cut. That took the answerer from the state `from` to `to`, and what the sink has taken,
 -- where that is known, grew from `old` to `new`
-abbrev pub AnswersFrames : {State : Type 0} → AnswerRule State → (from to : State) → (seen : List Frame) → (old new : Option (List ℕ))
+abbrev pub AnswersFrames : {State : Type 0} → AnswerRule State Frame → (from to : State) → (seen : List Frame) → (old new : Option (List ℕ))
     → Result Served ServeFault → Type 0
 AnswersFrames rule from to seen old new (Ok served) = AnswersAll rule (progress from old 0) (progress to new served.replies) seen
 AnswersFrames rule from to seen old new (Err (Read count)) = AnswersAll rule (progress from old 0) (progress to new count) seen
@@ -157,14 +157,14 @@ pub record HasEnded (old new : Ports) (most : ℕ) (result : Result Served Serve
 
 -- the source gave at most 256 bytes a read, the frames of these bytes were answered, and the sink took the texts: how far,
 -- `AnswersFrames` says by the result. `old` and `new` are the ports before and after the run; `from` and `to` are as there
-abbrev pub AnswersGiven : {State : Type 0} → AnswerRule State → (from to : State) → (old new : Ports) → Result Served ServeFault → Type 0
+abbrev pub AnswersGiven : {State : Type 0} → AnswerRule State Frame → (from to : State) → (old new : Ports) → Result Served ServeFault → Type 0
 AnswersGiven rule from to old new result =
     (given : List ℕ) × Consumes old.remaining new.remaining given
     × (length given ≤ 256 * (new.reads - old.reads)) × AnswersFrames rule from to (frames given) old.taken new.taken result
 
 -- a run answered as `AnswersGiven` says, which took the answerer from the state `from` to one that it reached. Without `gathers`
 -- that is its state at the end, `to`; with `gathers` the answerer may have got later frames after it
-abbrev pub AnswersRun : {State : Type 0} → AnswerRule State → (from to : State) → (old new : Ports) → (gathers : Bool)
+abbrev pub AnswersRun : {State : Type 0} → AnswerRule State Frame → (from to : State) → (old new : Ports) → (gathers : Bool)
     → Result Served ServeFault → Type 0
 AnswersRun {State} rule from to old new gathers result =
     (reached : State) × AnswersGiven rule from reached old new result × (gathers ≡ false → reached ≡ to)
@@ -175,3 +175,9 @@ AnswersRun {State} rule from to old new gathers result =
 abbrev pub AppendsAnswer : (answered : Option (List ℕ) → Type 0) → (old new : List ℕ) → (appended : Bool) → Type 0
 AppendsAnswer answered old new true = (text : List ℕ) × answered (Some text) × (new ≡ old ++ text)
 AppendsAnswer answered old new false = answered None × (new ≡ old)
+
+-- `new` is `old` and then a text of which `Is` is true
+pub record AppendsText (Is : List ℕ → Type 0) (old new : List ℕ) : Type 0 where
+  pub text : List ℕ
+  pub appended : new ≡ old ++ text
+  pub is : Is text

@@ -1,13 +1,13 @@
 -- What an answerer of lines does with a line and with a frame: this project's own. `before` and `after` are its states.
 use Rattle.std.specs.Prelude.{◌≡◌, ℕ, List, Option, Some, None}
 use Rattle.std.specs.Option.{option_map}
+use Rattle.gc_lines.specs.Answering.{AnswerRule}
 use Rattle.gc_lines.specs.Lines.{with_end}
 use Rattle.gc_lines.specs.Requests.{RequestFields, IsRequest, IsNoRequest}
 use Rattle.gc_lines.specs.declared.frame.Frame.{Frame}
 use Rattle.gc_lines.specs.declared.frame.Frame.TheVariants.{Line, Cleared, Overlong, More}
 
--- what an answerer does with a line, and its reply, if there is one, where `does` says what it does with a request, and its reply
--- to that
+-- what an answerer does with a line, and its reply, if there is one. `does` says what it does with a request, and what it replies
 pub data RepliesTo {State : Type 0} (does : State → RequestFields → State → List ℕ → Type 0) (before : State) (line : List ℕ) (after : State)
     (reply : Option (List ℕ)) : Type 0 where
   -- the line is no request: nothing changes
@@ -18,7 +18,7 @@ pub data RepliesTo {State : Type 0} (does : State → RequestFields → State �
 
 -- what answering a line may do: the state before the line, the line, the state after it, and the reply, if there is one
 abbrev pub ReplyRule : Type 0 → Type 1
-ReplyRule State = State → List ℕ → State → Option (List ℕ) → Type 0
+ReplyRule State = AnswerRule State (List ℕ)
 
 -- a state and a line determine the state after the line, and the reply or that there is none, where `replies` says what an
 -- answerer does with a line

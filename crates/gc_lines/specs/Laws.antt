@@ -1,5 +1,5 @@
 -- What is claimed of the definitions themselves, apart from any call: this project's own.
-use Rattle.std.specs.Prelude.{◌≡◌, ◌↔◌, ℕ, ◌<◌, ◌≤◌, List, [], ◌∷◌, ◌++◌, length, Ok, Err}
+use Rattle.std.specs.Prelude.{◌≡◌, ◌↔◌, ℕ, ◌<◌, ◌≤◌, List, [], ◌∷◌, ◌++◌, length, Result, Ok, Err}
 use Rattle.gc_lines.specs.declared.fault.LineFault.{LineFault}
 use Rattle.gc_lines.specs.declared.frame.Frame.TheVariants.{Line}
 use Rattle.gc_lines.specs.Headers.{IsIdInRange}
@@ -25,19 +25,20 @@ abbrev pub PlainIsOneLine : Type 0
 PlainIsOneLine = (bytes : List ℕ) → IsPlain bytes → length bytes ≤ 512
     → (frames (bytes ++ 13 ∷ 10 ∷ []) ≡ Line (record { items = bytes }) ∷ []) × (rest_of (bytes ++ 13 ∷ 10 ∷ []) ≡ [])
 
--- reading gives fields exactly where the line has the grammar of a request with them, and a fault exactly where its field is
--- the first bad one; and a line has the grammar of a request with at most one list of fields
-pub record ReadsRequests : Type 0 where
-  pub found : (line : List ℕ) (q : RequestFields) → (request_at line ≡ Ok q) ↔ IsRequest line q
-  pub fault : (line : List ℕ) (f : LineFault) → (request_at line ≡ Err f) ↔ FirstBadOfRequest line f
-  pub one : (line : List ℕ) (p q : RequestFields) → IsRequest line p → IsRequest line q → p ≡ q
+-- a reader gives fields exactly where the line has the grammar with them, as `Is` says, and a fault exactly where its field is the
+-- first bad one, as `Bad` says; and a line has the grammar with at most one list of fields
+pub record ReadsExactly {F : Type 0} (read : List ℕ → Result F LineFault) (Is : List ℕ → F → Type 0) (Bad : List ℕ → LineFault → Type 0) : Type 0 where
+  pub found : (line : List ℕ) (x : F) → (read line ≡ Ok x) ↔ Is line x
+  pub fault : (line : List ℕ) (f : LineFault) → (read line ≡ Err f) ↔ Bad line f
+  pub one : (line : List ℕ) (x y : F) → Is line x → Is line y → x ≡ y
 
--- reading gives fields exactly where the line has the grammar of a reply with them, and a fault exactly where its field is
--- the first bad one; and a line has the grammar of a reply with at most one list of fields
-pub record ReadsReplies : Type 0 where
-  pub found : (line : List ℕ) (r : ReplyFields) → (reply_at line ≡ Ok r) ↔ IsReply line r
-  pub fault : (line : List ℕ) (f : LineFault) → (reply_at line ≡ Err f) ↔ FirstBadOfReply line f
-  pub one : (line : List ℕ) (p r : ReplyFields) → IsReply line p → IsReply line r → p ≡ r
+-- a line is read as a request exactly by the grammar of requests
+abbrev pub ReadsRequests : Type 0
+ReadsRequests = ReadsExactly request_at IsRequest FirstBadOfRequest
+
+-- a line is read as a reply exactly by the grammar of replies
+abbrev pub ReadsReplies : Type 0
+ReadsReplies = ReadsExactly reply_at IsReply FirstBadOfReply
 
 -- a request's number is below 65536, and its id, where it has one, below 8: a line can have them
 pub record IsRequestInRange (q : RequestFields) : Type 0 where
@@ -50,16 +51,18 @@ pub record IsReplyInRange (r : ReplyFields) : Type 0 where
   pub id : IsIdInRange r.id
   pub rc : r.rc < 65536
 
--- a request has a written line exactly where it is in range. Its text is then the one written line with its fields, reads back,
--- and is plain where the parameters are
-pub record WritesRequests : Type 0 where
-  pub written : (line : List ℕ) (q : RequestFields) → IsWrittenRequest line q ↔ (IsRequestInRange q × (line ≡ request_text q))
-  pub back : (q : RequestFields) → IsRequestInRange q → request_at (request_text q) ≡ Ok q
-  pub plain : (q : RequestFields) → IsRequestInRange q → IsPlain q.params → IsPlain (request_text q)
-
--- a reply has a written line exactly where it is in range. Its text is then the one written line with its fields, reads back, and
+-- fields have a written line exactly where they are in range. Their text is then the one written line with them, reads back, and
 -- is plain where the parameters are
-pub record WritesReplies : Type 0 where
-  pub written : (line : List ℕ) (r : ReplyFields) → IsWrittenReply line r ↔ (IsReplyInRange r × (line ≡ reply_text r))
-  pub back : (r : ReplyFields) → IsReplyInRange r → reply_at (reply_text r) ≡ Ok r
-  pub plain : (r : ReplyFields) → IsReplyInRange r → IsPlain r.params → IsPlain (reply_text r)
+pub record WritesOneLine {F : Type 0} (IsWritten : List ℕ → F → Type 0) (InRange : F → Type 0) (text : F → List ℕ)
+    (read : List ℕ → Result F LineFault) (params : F → List ℕ) : Type 0 where
+  pub written : (line : List ℕ) (x : F) → IsWritten line x ↔ (InRange x × (line ≡ text x))
+  pub back : (x : F) → InRange x → read (text x) ≡ Ok x
+  pub plain : (x : F) → InRange x → IsPlain (params x) → IsPlain (text x)
+
+-- a request in range, and no other, has one written line
+abbrev pub WritesRequests : Type 0
+WritesRequests = WritesOneLine IsWrittenRequest IsRequestInRange request_text request_at (λ q. q.params)
+
+-- a reply in range, and no other, has one written line
+abbrev pub WritesReplies : Type 0
+WritesReplies = WritesOneLine IsWrittenReply IsReplyInRange reply_text reply_at (λ r. r.params)

@@ -3,9 +3,13 @@ use Rattle.std.specs.Prelude.{◌≡◌, ◌≢◌, ℕ, ◌<◌, ◌≤◌, Lis
 use Rattle.gc_lines.specs.declared.fault.LineFault.{LineFault}
 use Rattle.gc_lines.specs.declared.fault.LineFault.TheVariants.{TooLong}
 
+-- the byte can be inside a line: it is neither CR nor LF
+abbrev pub IsPlainByte : ℕ → Type 0
+IsPlainByte b = (b ≢ 10) × (b ≢ 13)
+
 -- the bytes hold neither CR nor LF, so that they can be inside a line
 abbrev pub IsPlain : List ℕ → Type 0
-IsPlain bytes = All (λ b. (b ≢ 10) × (b ≢ 13)) bytes
+IsPlain bytes = All IsPlainByte bytes
 
 -- a line with its CR LF
 abbrev pub with_end : List ℕ → List ℕ

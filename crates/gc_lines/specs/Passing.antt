@@ -33,21 +33,21 @@ session_progress of_sink state sink session = progress state (of_sink.taken sink
 
 -- between the progress `from` and `to` the frames `seen` were answered; the texts of the first ones, `done`, went out, and those
 -- of the others, `held`, wait in `text`, with these lengths. `state` is the answerer's state after the frames `done`
-pub record Gathering {State : Type 0} (rule : AnswerRule State) (from to : Progress State) (seen : List Frame) (text lengths : List ℕ) : Type 0 where
+pub record Gathering {State : Type 0} (rule : AnswerRule State Frame) (from to : Progress State) (seen : List Frame) (text lengths : List ℕ) : Type 0 where
   pub state : State
   pub done : List Frame
   pub held : List Frame
   pub texts : List (List ℕ)
   pub order : seen ≡ done ++ held
   pub all : AnswersAll rule from (progress state to.taken to.whole) done
-  pub holds : AnswersInOrder State rule state held to.state texts
+  pub holds : AnswersInOrder State Frame rule state held to.state texts
   pub text_is : text ≡ all_of texts
   pub lengths_are : lengths ≡ map length texts
 
 -- between the progress `from` and `to` the frames `seen` were answered up to one of whose text the sink took only the first
 -- `bytes` bytes, as `AnswersPart` has it; `reached` is the answerer's state after that frame. Without `gathers` that is its state
 -- at the end; with `gathers` the answerer may have got later frames after it
-pub record GathersPart {State : Type 0} (rule : AnswerRule State) (from to : Progress State) (seen : List Frame) (bytes : ℕ)
+pub record GathersPart {State : Type 0} (rule : AnswerRule State Frame) (from to : Progress State) (seen : List Frame) (bytes : ℕ)
     (gathers : Bool) : Type 0 where
   pub reached : State
   pub part : AnswersPart rule from (progress reached to.taken to.whole) seen bytes
@@ -56,7 +56,7 @@ pub record GathersPart {State : Type 0} (rule : AnswerRule State) (from to : Pro
 -- one more frame was answered, or none where `frame` is `More`: if, from some `start`, `Gathering` was true of the frames `seen`
 -- before the call, then after the call `Gathering` is true, from that `start`, of `seen` and then `frame`, or of `seen` alone
 -- where `frame` is `More`
-abbrev pub GathersFrame : {State : Type 0} → AnswerRule State → (from to : Progress State) → (old new : Session) → Frame → Type 0
+abbrev pub GathersFrame : {State : Type 0} → AnswerRule State Frame → (from to : Progress State) → (old new : Session) → Frame → Type 0
 GathersFrame {State} rule from to old new frame =
     (start : Progress State) (seen : List Frame)
     → Gathering rule start from seen old.text.items old.lengths
@@ -65,7 +65,7 @@ GathersFrame {State} rule from to old new frame =
 -- one more frame was answered, or none where `frame` is `More`, and of some text the sink took only the first `bytes` bytes: if,
 -- from some `start`, `Gathering` was true of the frames `seen` before the call, then after the call `GathersPart` is true, from
 -- that `start`, of `seen` and then `frame`, or of `seen` alone where `frame` is `More`
-abbrev pub GathersFramePart : {State : Type 0} → AnswerRule State → (from to : Progress State) → (old : Session) → Frame → (bytes : ℕ) → Type 0
+abbrev pub GathersFramePart : {State : Type 0} → AnswerRule State Frame → (from to : Progress State) → (old : Session) → Frame → (bytes : ℕ) → Type 0
 GathersFramePart {State} rule from to old frame bytes =
     (start : Progress State) (seen : List Frame)
     → Gathering rule start from seen old.text.items old.lengths
@@ -74,7 +74,7 @@ GathersFramePart {State} rule from to old frame bytes =
 -- for whatever bytes `rest` the assembler stood for before the piece: all frames that the piece completes were answered, and all
 -- of their texts went out; and the assembler then stands for what follows the piece's last line feed, or, where the piece has
 -- none, for `rest` and then the whole piece
-abbrev pub AnswersPiece : {State : Type 0} → AnswerRule State → (from to : Progress State) → (old new : Session) → (piece : List ℕ) → Type 0
+abbrev pub AnswersPiece : {State : Type 0} → AnswerRule State Frame → (from to : Progress State) → (old new : Session) → (piece : List ℕ) → Type 0
 AnswersPiece rule from to old new piece =
     (rest : List ℕ) → StandsFor old.assembler rest
     → StandsFor new.assembler (rest_behind rest piece) × AnswersAll rule from to (frames_behind rest piece)
@@ -82,7 +82,7 @@ AnswersPiece rule from to old new piece =
 -- for whatever bytes `rest` the assembler stood for before the piece: the frames that the piece completes were answered up to one
 -- of whose text the sink took only the first `bytes` bytes; where texts are gathered, the answerer may also have got frames after
 -- that one (`GathersPart`)
-abbrev pub AnswersPiecePart : {State : Type 0} → AnswerRule State → (from to : Progress State) → (old : Session) → (piece : List ℕ)
+abbrev pub AnswersPiecePart : {State : Type 0} → AnswerRule State Frame → (from to : Progress State) → (old : Session) → (piece : List ℕ)
     → (bytes : ℕ) → Type 0
 AnswersPiecePart rule from to old piece bytes =
     (rest : List ℕ) → StandsFor old.assembler rest → GathersPart rule from to (frames_behind rest piece) bytes old.gathers

@@ -55,8 +55,8 @@ pub fn wire_on<'a, R: Files<File = File>>(
 
 impl<'a, R: Clock> Wire<'a, R> {
     /// Reads as `read` does, but waits no longer than about `millis` milliseconds, where 0 counts as 1. `None`: nothing came in that
-    /// time, or a read over TCP was interrupted. A device is looked at every 2 milliseconds, the last time before they end: what
-    /// comes after that, or at all within less than 2 milliseconds, is left for the next read.
+    /// time, or a read over TCP was interrupted. The first look at a device is at once, and there is one every 2 milliseconds; what
+    /// comes after the last look is left for the next read.
     pub fn read_within(&self, buf: &mut [u8], millis: u64) -> io::Result<Option<usize>>
         ensures { IfOk result (λ read. IfSome read (λ n. n ≤ length buf.new)) }
     {

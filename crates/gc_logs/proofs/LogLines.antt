@@ -26,30 +26,33 @@ pending_more : (p : Unwritten) (bs : List ℕ) (b : ℕ) → pending_behind p (b
 pending_more p [] b = refl
 pending_more p (c ∷ cs) b = pending_more (pending_at p c) cs b
 
--- the text of the lines `es ++ fs` is that of `es`, and after it that of `fs`
-text_more : (utc : ℕ) (es fs : List Entry) → log_text_of utc (es ++ fs) ≡ log_text_of utc es ++ log_text_of utc fs
-text_more utc es fs = flat_map-append (λ (e : Entry). log_line utc e.mark e.bytes) es fs
-
 -- if a log took one text, and then another, it took both as one
-pub takes_both : (a b c : Option (List ℕ)) (fa fb fc : Bool) (xs ys : List ℕ)
+takes_both : {a b c : Option (List ℕ)} {fa fb fc : Bool} (xs ys : List ℕ)
     → Takes a b fa fb xs → Takes b c fb fc ys → Takes a c fa fc (xs ++ ys)
-takes_both a b c fa fb fc xs ys one next = record {
+takes_both {a} {b} {c} {fa} {fb} {fc} xs ys one next = record {
   took = λ stands. Appends-trans a b c xs ys (one.took (next.stood stands)) (next.took stands);
   stood = λ stands. one.stood (next.stood stands);
 }
 
+-- if a log took the lines of one list, and then those of another, written at an equal moment, it took those of both
+pub takes_both_lists : {a b c : Option (List ℕ)} {fa fb fc : Bool} (utc now : ℕ) (es fs : List Entry)
+    → now ≡ utc → Takes a b fa fb (log_text_of utc es) → Takes b c fb fc (log_text_of now fs) → Takes a c fa fc (log_text_of utc (es ++ fs))
+takes_both_lists {a} {b} {c} {fa} {fb} {fc} utc now es fs same one next =
+    subst (Takes a c fa fc) (sym (flat_map-append (λ (e : Entry). log_line utc e.mark e.bytes) es fs))
+    (takes_both (log_text_of utc es) (log_text_of utc fs) one (subst (λ u. Takes b c fb fc (log_text_of u fs)) same next))
+
 -- one turn of the loop over the bytes `bs`, at byte i: `p` is pending before the loop, and `q` before this byte
 module _ (p q : Unwritten) (bs : List ℕ) (i : ℕ) (within : i < length bs) (behind : q ≡ pending_behind p (take i bs)) where
   -- if a log took the lines of the first i bytes, and then those of byte i, it took the lines of the first i + 1
-  pub took_more : (a b c : Option (List ℕ)) (fa fb fc : Bool) (utc : ℕ) (way : Direction)
+  pub took_more : {a b c : Option (List ℕ)} {fa fb fc : Bool} (utc : ℕ) (way : Direction)
       → Takes a b fa fb (log_text_of utc (entries way p (take i bs))) → Takes b c fb fc (log_text_of utc (entries_at way q (get_or bs i 0)))
       → Takes a c fa fc (log_text_of utc (entries way p (take (i + 1) bs)))
-  took_more a b c fa fb fc utc way one next =
+  took_more {a} {b} {c} {fa} {fb} {fc} utc way one next =
       let es = entries way p (take i bs) in
       let fs = entries_at way (pending_behind p (take i bs)) (get_or bs i 0) in
       let whole : es ++ fs ≡ entries way p (take (i + 1) bs) = sym (ap (entries way p) (take_more bs i 0 within) ∙ entries_more way p (take i bs) (get_or bs i 0)) in
       let last : Takes b c fb fc (log_text_of utc fs) = subst (λ z. Takes b c fb fc (log_text_of utc (entries_at way z (get_or bs i 0)))) behind next in
-      subst (Takes a c fa fc) (sym (text_more utc es fs) ∙ ap (log_text_of utc) whole) (takes_both a b c fa fb fc (log_text_of utc es) (log_text_of utc fs) one last)
+      subst (Takes a c fa fc) (ap (log_text_of utc) whole) (takes_both_lists utc utc es fs refl one last)
 
   -- if byte i makes `r` of what is pending before it, `r` is pending after the first i + 1
   pub is_behind : (r : Unwritten) → r ≡ pending_at q (get_or bs i 0) → r ≡ pending_behind p (take (i + 1) bs)
@@ -95,25 +98,13 @@ byte_wire way p b = elim (cases_Bool (b == 10)) [
   ])
 ]
 
--- the lines that bytes give, and what is pending then, stand for what was pending and those bytes: nothing is lost, and nothing
--- is added
-keeps : (way : Direction) (p : Unwritten) (bytes : List ℕ) → wire (entries way p bytes) ++ (pending_behind p bytes).bytes.items ≡ p.bytes.items ++ bytes
-keeps way p [] = sym (append-nil p.bytes.items)
-keeps way p (b ∷ bs) =
+-- the law: of the bytes of one direction nothing is lost, nothing is added, and nothing changes places
+pub keeps_all : LogKeepsAll
+keeps_all way p [] = append-nil p.bytes.items
+keeps_all way p (b ∷ bs) =
     let es = entries_at way p b in
     let q = pending_at p b in
     let fs = entries way q bs in
     let held = (pending_behind q bs).bytes.items in
-    ap (λ w. w ++ held) (flat_map-append (λ (e : Entry). wire_of e.mark e.bytes) es fs) ∙ append_assoc (wire es) (wire fs) held ∙ ap (λ w. wire es ++ w) (keeps way q bs)
-    ∙ sym (append_assoc (wire es) q.bytes.items bs) ∙ ap (λ w. w ++ bs) (byte_wire way p b) ∙ append_assoc p.bytes.items (b ∷ []) bs
-
--- the law: of the bytes of one direction nothing is lost, nothing is added, and nothing changes places
-pub keeps_all : LogKeepsAll
-keeps_all way p bytes = sym (keeps way p bytes)
-
--- if a log took the lines of one list, and then those of another, written at an equal moment, it took those of both
-pub takes_last : (a b c : Option (List ℕ)) (fa fb fc : Bool) (utc now : ℕ) (es fs : List Entry) → now ≡ utc → Takes a b fa fb (log_text_of utc es)
-    → Takes b c fb fc (log_text_of now fs) → Takes a c fa fc (log_text_of utc (es ++ fs))
-takes_last a b c fa fb fc utc now es fs same one next =
-    subst (Takes a c fa fc) (sym (text_more utc es fs))
-    (takes_both a b c fa fb fc (log_text_of utc es) (log_text_of utc fs) one (subst (λ u. Takes b c fb fc (log_text_of u fs)) same next))
+    sym (append_assoc p.bytes.items (b ∷ []) bs) ∙ ap (λ w. w ++ bs) (sym (byte_wire way p b)) ∙ append_assoc (wire es) q.bytes.items bs ∙ ap (λ w. wire es ++ w) (keeps_all way q bs)
+    ∙ sym (append_assoc (wire es) (wire fs) held) ∙ ap (λ w. w ++ held) (sym (flat_map-append (λ (e : Entry). wire_of e.mark e.bytes) es fs))

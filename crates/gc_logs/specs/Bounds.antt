@@ -6,17 +6,18 @@ use Rattle.gc_lines.specs.declared.ports.Sink.{Ghosts as Sink}
 use Rattle.gc_logs.specs.declared.bounded.Bounded.{Bounded}
 use Rattle.gc_logs.specs.declared.logged.Logged.{Logged}
 
--- the line that replaces `line`, the first that has no room: the moment of `line`, and words that say that the rest is left out
-abbrev pub full_line : List ℕ → List ℕ
-full_line line = take (min (length line) 24) line ++ codes " - full: what went or came from here on is left out\n"
+-- the notice that a log is full, in place of `line`, the first that has no room: a line with the moment of `line`, and words that say
+-- that the rest is left out
+abbrev pub full_notice : List ℕ → List ℕ
+full_notice line = take (min (length line) 24) line ++ codes " - full: what went or came from here on is left out\n"
 
 -- a sink took all of the text, or a front of it
-abbrev pub TakesSome : (old new : Option (List ℕ)) → (text : List ℕ) → Type 0
-TakesSome old new text = Appends old new text ⊎ ((n : ℕ) × TakesFront old new n text)
+abbrev pub TakesAllOrFront : (old new : Option (List ℕ)) → (text : List ℕ) → Type 0
+TakesAllOrFront old new text = Appends old new text ⊎ ((n : ℕ) × TakesFront old new n text)
 
--- a sink took all of the line that replaces `line`, or a front of that line
-abbrev pub TakesFull : (old new : Option (List ℕ)) → (line : List ℕ) → Type 0
-TakesFull old new line = TakesSome old new (full_line line)
+-- a sink took the notice that a log is full, in place of `line`, or a front of that notice
+abbrev pub TakesNotice : (old new : Option (List ℕ)) → (line : List ℕ) → Type 0
+TakesNotice old new line = TakesAllOrFront old new (full_notice line)
 
 -- what is seen of a sink with a bound: what the one below it took, how many more bytes have room, and whether it has ended
 pub record BoundSeen : Type 0 where
@@ -33,12 +34,12 @@ pub record TakesInRoom {E : Type 0} (old new : BoundSeen) (result : Result ℕ E
   pub took : TakesBytes old.taken new.taken result bytes
   pub left : IfOk result (λ n. new.left + n ≡ old.left)
 
--- a write of these bytes to a sink with a bound: if it has ended nothing is taken; bytes that have room go to the sink below; and in place
--- of bytes that have none that sink takes the line that says so, or a front of it
-pub record Bounds {E : Type 0} (old new : BoundSeen) (result : Result ℕ E) (bytes : List ℕ) : Type 0 where
+-- a write of these bytes to a sink with a bound: if it has ended, nothing is taken; else bytes that have room go to the sink
+-- below, and in place of bytes that don't have room that sink takes the notice that the log is full, or a front of the notice
+pub record KeepsBound {E : Type 0} (old new : BoundSeen) (result : Result ℕ E) (bytes : List ℕ) : Type 0 where
   pub ended : old.ended ≡ true → new.taken ≡ old.taken
   pub fits : old.ended ≡ false → length bytes ≤ old.left → TakesInRoom old new result bytes
-  pub full : old.ended ≡ false → old.left < length bytes → TakesFull old.taken new.taken bytes
+  pub full : old.ended ≡ false → old.left < length bytes → TakesNotice old.taken new.taken bytes
 
 -- whether a sink with a bound has ended, and takes nothing more
 abbrev pub has_ended : {K : Type 0} → Bounded K → Bool

@@ -1,9 +1,8 @@
 //! A sink with a bound: how many bytes a log may have, and the line that says that the rest is left out.
 
-ghost use Rattle.std.specs.Prelude.{◌≡◌, ◌+◌, ◌<◌, ◌≤◌, None, false, length, take, min, OnOk, IfErr};
-ghost use Rattle.std.specs.Io.KnownBytes.{Appends};
-ghost use Rattle.gc_lines.specs.Ports.{TakesBytes, TakesFront, Fails};
-ghost use Rattle.gc_logs.specs.Bounds.{full_line, bound_seen, TakesFull, Bounds};
+ghost use Rattle.std.specs.Prelude.{◌≡◌, ◌+◌, ◌<◌, ◌≤◌, None, false, length, take, min};
+ghost use Rattle.gc_lines.specs.Ports.{TakesBytes, Fails};
+ghost use Rattle.gc_logs.specs.Bounds.{full_notice, bound_seen, TakesNotice, KeepsBound};
 
 use arrayvec::ArrayVec;
 use gc_lines::{PortFailed, Sink, append, write_whole};
@@ -68,9 +67,10 @@ fn moment_of(line: &[u8]) -> &[u8]
     &line[..line.len().min(MOMENT)]
 }
 
-// The line that replaces `line`, the first that has no room: the moment of `line`, and words that say that the rest is left out.
-fn full_line(line: &[u8]) -> ArrayVec<u8, 100>
-    ensures { result.items ≡ full_line line.now }
+// The notice that the log is full, in place of `line`, the first that has no room: a line with the moment of `line`, and words that say
+// that the rest is left out.
+fn full_notice(line: &[u8]) -> ArrayVec<u8, 100>
+    ensures { result.items ≡ full_notice line.now }
 {
     let mut text = ArrayVec::new();
     append(&mut text, moment_of(line));
@@ -81,20 +81,11 @@ fn full_line(line: &[u8]) -> ArrayVec<u8, 100>
     text
 }
 
-// Writes the notice that the log is full, in place of `line`. `Err(n)`: the sink took the first n bytes of it, which aren't all, and
-// failed.
-fn write_notice<K: Sink>(sink: &mut K, line: &[u8]) -> Result<(), usize>
-    ensures ok { OnOk result (Appends (K.taken sink.old) (K.taken sink.new) (full_line line.now)) }
-    ensures err { IfErr result (λ n. TakesFront (K.taken sink.old) (K.taken sink.new) n (full_line line.now)) }
-{
-    write_whole(sink, &full_line(line))
-}
-
 // Writes the notice that the log is full, in place of `line`. If the sink fails at that, only a part of it is written, or nothing.
 fn note_full<K: Sink>(sink: &mut K, line: &[u8])
-    ensures { TakesFull (K.taken sink.old) (K.taken sink.new) line.now }
+    ensures { TakesNotice (K.taken sink.old) (K.taken sink.new) line.now }
 {
-    let _ = write_notice(sink, line);
+    let _ = write_whole(sink, &full_notice(line));
 }
 
 impl<K: Sink> Sink for Bounded<K> {
@@ -108,7 +99,7 @@ impl<K: Sink> Sink for Bounded<K> {
         requires { 0 < length bytes.now }
         ensures bytes { TakesBytes None None result bytes.now }
         ensures fails { Fails self.old.is_ended self.new.is_ended result }
-        ensures bounds { Bounds (bound_seen K.Sink self.old) (bound_seen K.Sink self.new) result bytes.now }
+        ensures bounds { KeepsBound (bound_seen K.Sink self.old) (bound_seen K.Sink self.new) result bytes.now }
     {
         if self.is_ended {
             return Err(PortFailed);

@@ -118,7 +118,7 @@ impl<L: Link, K: Sink> Link for Logged<L, K> {
     // Closes the link inside, and logs what was pending of both directions, and the close.
     fn close(&mut self)
         ensures tells { Tells (L.acts self.old.link) (L.acts self.new.link) (Closed ∷ []) }
-        ensures logs { Logs (log_seen K.Sink self.old.log) (log_seen K.Sink self.new.log) (Closed) }
+        ensures logs { Logs (log_seen K.Sink self.old.log) (log_seen K.Sink self.new.log) Closed }
     {
         self.link.close();
         self.log.flush();

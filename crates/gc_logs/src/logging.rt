@@ -2,9 +2,8 @@
 //! written into the log yet are pending.
 
 ghost use Rattle.std.specs.Prelude.{◌≡◌, ◌++◌, ◌≤◌, [], ◌∷◌, length, codes};
-ghost use Rattle.gc_logs.specs.Logging.{entry, line_mark, part_mark, nothing, entry_of_line, entries_at, pending_at, entries, pending_behind, entries_of_pending, TakesEntries};
+ghost use Rattle.gc_logs.specs.Logging.{entry, line_mark, part_mark, nothing, entry_of_line, entries_at, pending_at, entries, pending_behind, entries_of_pending, link_entry, TakesEntries};
 ghost use Rattle.gc_texts.specs.Logs.{log_line};
-ghost use Rattle.gc_texts.specs.declared.log_line.LogMark.TheVariants as mark;
 ghost use Rattle.gc_logs.specs.declared.logging.Direction.TheVariants.{Went, Came};
 
 use arrayvec::ArrayVec;
@@ -135,7 +134,7 @@ impl<K: Sink> Log<K> {
     // Writes a line that says, in these words of at most 514 bytes, what became of the connection.
     pub(crate) fn add_word(&mut self, word: &[u8])
         requires { length word.now ≤ 514 }
-        ensures took { TakesEntries K.Sink self.old.sink self.new.sink self.old.utc (entry mark.Link word.now ∷ []) }
+        ensures took { TakesEntries K.Sink self.old.sink self.new.sink self.old.utc (link_entry word.now ∷ []) }
         ensures went { self.new.went ≡ self.old.went }
         ensures came { self.new.came ≡ self.old.came }
         ensures utc { self.new.utc ≡ self.old.utc }
@@ -144,8 +143,8 @@ impl<K: Sink> Log<K> {
     }
 }
 
-// Logs bytes of this direction that come after the pending ones. Writes each line that they end, with the moment `utc`, and of a line with
-// more than 513 bytes before its line feed each 513 as a part, once a further one comes. The rest is pending then.
+// Logs bytes of this direction that come after the pending ones, in order, as `log_byte` does it: each line that they end is
+// written, and of a longer line each 513 bytes as a part. What isn't written is pending then.
 fn log_bytes<K: Sink>(sink: &mut K, utc: u64, way: Direction, pending: &mut Unwritten, bytes: &[u8])
     ensures took { TakesEntries K.Sink sink.old sink.new utc (entries way pending.old bytes.now) }
     ensures pending { pending.new ≡ pending_behind pending.old bytes.now }

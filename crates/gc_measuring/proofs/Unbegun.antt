@@ -1,6 +1,5 @@
--- A station that can't begin: its sink is as it was, and no log is lost.
-use Rattle.std.proofs.Common.{◌≡◌, Bool, true, false, Option, Some, None, Err, inl, inr, refl, sym, subst}
-use Rattle.std.proofs.lemmas.Bool.{false≢true}
+-- A station that can't begin: its sink is as it was.
+use Rattle.std.proofs.Common.{Bool, Option, Some, None, Err, inl, inr, refl, sym, subst}
 use Rattle.gc_measuring.specs.Stops.{fault_without_link}
 use Rattle.gc_measuring.specs.Telling.{CannotBegin}
 use Rattle.gc_links.specs.declared.device.Unusable.{Unusable}
@@ -21,7 +20,3 @@ pub sink_is_as_it_was : (has_log : Bool) (fault : RunFault) (failed : Bool) → 
 sink_is_as_it_was has_log fault failed (inl linkless) =
     subst (λ e. FailsAtOutput {X = Tally} failed failed (Err e)) (sym linkless.1) (no_link_keeps_sink linkless.0 failed)
 sink_is_as_it_was has_log fault failed (inr logless) = subst (λ e. FailsAtOutput {X = Tally} failed failed (Err e)) (sym logless.1) refl
-
--- of a run that lost no log (`false`) the field `logged` of `ReportsRun` holds: its premise, that the log was lost, is false
-pub logged_if_none_lost : (has_log : Bool) → false ≡ true → has_log ≡ true
-logged_if_none_lost has_log lost = absurd (false≢true lost)

@@ -1,6 +1,6 @@
 -- Why a station that measures the commands of a text stopped before its end, and how that is reported: this project's own.
 use Rattle.std.specs.Prelude.{◌≡◌, ℕ, List, ◌++◌, Option, Some, None, Result, Ok, Err, codes}
-use Rattle.gc_ask.specs.Places.{fault_of_reason}
+use Rattle.gc_ask.specs.Places.{fault_of_unusable}
 use Rattle.gc_measuring.specs.declared.stop.Stop.{Stop}
 use Rattle.gc_measuring.specs.declared.stop.Stop.TheVariants.{Text, Empty, Line, Run}
 use Rattle.gc_links.specs.declared.device.Unusable.{Unusable}
@@ -34,11 +34,11 @@ abbrev pub with_fault : {X : Type 0} → Result X Stop → Result X RunFault
 with_fault (Ok x) = Ok x
 with_fault (Err stop) = Err (fault_of_stop stop)
 
--- the fault if there is no link: what is wrong with the device, or that the clock can't be read
+-- the fault for which there is no link: what is wrong with the device. `None`: the clock can't be read
 abbrev pub fault_without_link : Option Unusable → RunFault
-fault_without_link (Some unusable) = fault_of_reason (Some unusable)
+fault_without_link (Some unusable) = fault_of_unusable unusable
 fault_without_link None = Clock
 
--- this is the fault if there is no link, for some reason
+-- this is a fault for which there is no link
 abbrev pub IsFaultWithoutLink : RunFault → Type 0
 IsFaultWithoutLink fault = (reason : Option Unusable) × (fault ≡ fault_without_link reason)

@@ -95,10 +95,15 @@ abbrev pub CannotBegin : (has_log : Bool) → RunFault → Type 0
 CannotBegin has_log fault = IsFaultWithoutLink fault ⊎ ((has_log ≡ true) × (fault ≡ Log))
 
 -- a run didn't begin, and ended with a fault for which it can't (`CannotBegin`); then there was no link, and nothing was read or written
-abbrev pub IsUnbegun : {S K E : Type 0} → (has_log : Bool) → (old new : Stage S K E) → (end : Result Tally Stop) → Type 0
-IsUnbegun has_log old new end = (fault : RunFault) × (end ≡ Err (Run fault)) × CannotBegin has_log fault
-    × (new.streams.input ≡ old.streams.input) × (new.streams.output ≡ old.streams.output) × (new.streams.messages ≡ old.streams.messages)
-    × (new.acts ≡ None) × (new.turns ≡ old.turns)
+pub record IsUnbegun {S K E : Type 0} (has_log : Bool) (old new : Stage S K E) (end : Result Tally Stop) : Type 0 where
+  pub fault : RunFault
+  pub is : end ≡ Err (Run fault)
+  pub cannot : CannotBegin has_log fault
+  pub input : new.streams.input ≡ old.streams.input
+  pub output : new.streams.output ≡ old.streams.output
+  pub messages : new.streams.messages ≡ old.streams.messages
+  pub acts : new.acts ≡ None
+  pub turns : new.turns ≡ old.turns
 
 -- a text was refused, or its commands were measured, from `old` to `new`, in a run that began at some moment, over a link that has
 -- then recorded the acts `told`. All records last; nothing is said of that if the text was refused or the sink failed

@@ -230,6 +230,7 @@ impl<'a, K: Durable, E: Write> Book for Records<'a, K, E> {
 
     // Syncs the sink: if that succeeds, what was written outlasts all that the sink is meant to outlast.
     fn sync(&mut self) -> Result<(), PortFailed> {
+        // For the proof: the book's clause `fails` follows from the sink's in each of the two cases.
         match self.sink.sync() {
             Ok(()) => Ok(()),
             Err(failed) => Err(failed),

@@ -11,7 +11,7 @@ use crate::logging::{LogSink, log_at, measure_logged};
 use crate::measure::run_station_text;
 use crate::spot::Spot;
 use crate::stop::Stop;
-use gc_ask::fault_of_reason;
+use gc_ask::fault_of_unusable;
 use gc_files::{RowsFile, SystemFile};
 use gc_lines::{Durable, Source};
 use gc_links::{Link, Moment, Place, PlacedLink, Telling, Unusable, Watched};
@@ -137,12 +137,12 @@ fn link_at<'a, R: Net<Listener = TcpListener, Stream = TcpStream> + Clock + File
     }
 }
 
-// The fault if there is no link: for `Some` by what is wrong with the device, and for `None` that the clock can't be read.
+// The fault for which there is no link: what is wrong with the device. `None`: the clock can't be read.
 fn fault_without_link(reason: Option<Unusable>) -> RunFault
     ensures { result ≡ fault_without_link reason }
 {
     match reason {
-        Some(unusable) => fault_of_reason(Some(unusable)),
+        Some(unusable) => fault_of_unusable(unusable),
         None => RunFault::Clock,
     }
 }

@@ -1,10 +1,10 @@
 -- Runs of a station, one after the other.
 use Rattle.std.proofs.Common.{◌≡◌, ℕ, List, [], ◌∷◌, ◌++◌, Option, Some, Result, Ok, Err, inl, inr, refl, sym, ap, subst, ◌∙◌, append_assoc, append-nil}
 use Rattle.std.specs.List.{AllByRecursion}
-use Rattle.gc_lines.proofs.Lists.{all_append, all_on}
+use Rattle.gc_station.proofs.Lists.{all_append, all_on}
 use Rattle.gc_links.specs.Acts.{Act, Closed}
 use Rattle.gc_rehearsal.specs.Carrying.{IsOfLine, IsQuiet}
-use Rattle.gc_rehearsed.specs.Rehearsals.{Station, RunsAndStops, AreAskable, RehearsalsInARowAreFaithful, acts_of_all}
+use Rattle.gc_rehearsed.specs.Rehearsals.{RehearsedStation, RunsAndStops, AreAskable, RehearsalsInARowAreFaithful, acts_of_all}
 use Rattle.gc_station.specs.Model.{Runs, opening}
 use Rattle.gc_station.specs.Records.{Record}
 use Rattle.gc_station.specs.Runs.{Ran}
@@ -21,7 +21,7 @@ pub no_runs : (commands : List Task) (acts : List Act) → AreRuns commands acts
 no_runs commands acts = record { stations = []; each = tt; told = sym (append-nil acts) }
 
 -- the acts of some runs and then of others are the acts of all of them in order
-acts_of_all_append : (xs ys : List Station) → acts_of_all (xs ++ ys) ≡ acts_of_all xs ++ acts_of_all ys
+acts_of_all_append : (xs ys : List RehearsedStation) → acts_of_all (xs ++ ys) ≡ acts_of_all xs ++ acts_of_all ys
 acts_of_all_append [] ys = refl
 acts_of_all_append (x ∷ xs) ys =
     ap (λ acts. x.acts ++ (x.after_run ++ acts)) (acts_of_all_append xs ys)
@@ -29,8 +29,8 @@ acts_of_all_append (x ∷ xs) ys =
     ∙ sym (append_assoc x.acts (x.after_run ++ acts_of_all xs) (acts_of_all ys))
 
 -- runs that made the acts from `old` to `mid`, and then others from `mid` to `new`, made those from `old` to `new`
-pub runs_behind : (commands : List Task) (old mid new : List Act) → AreRuns commands old mid → AreRuns commands mid new → AreRuns commands old new
-runs_behind commands old mid new first second = record {
+pub runs_then : (commands : List Task) (old mid new : List Act) → AreRuns commands old mid → AreRuns commands mid new → AreRuns commands old new
+runs_then commands old mid new first second = record {
   stations = first.stations ++ second.stations;
   each = all_append (IsRunOf commands) first.stations second.stations first.each second.each;
   told = second.told ∙ ap (λ acts. acts ++ acts_of_all second.stations) first.told ∙ append_assoc old (acts_of_all first.stations) (acts_of_all second.stations)
@@ -57,8 +57,6 @@ module _ (plan : Plan) (commands : List Task) (scope : Scope) (text : Record →
 -- runs that made all acts of a rehearsal's line, from the first on, are as `AreFaithfulRuns` says, by the law on rehearsals in a row
 pub faithful_runs : (commands : List Task) (acts : List Act) → RehearsalsInARowAreFaithful → IsOfLine acts → AreRuns commands [] acts → AreFaithfulRuns commands acts
 faithful_runs commands acts law line runs = record {
-  stations = runs.stations;
-  each = runs.each;
-  told = runs.told;
+  runs = runs;
   faithful = λ few. law runs.stations (subst IsOfLine runs.told line) (all_on (IsRunOf commands) RunsAndStops runs.stations (λ x run. run.1) runs.each) few;
 }

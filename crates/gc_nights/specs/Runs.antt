@@ -1,27 +1,25 @@
 -- The acts of runs of a station, one run after the other, over the line of a rehearsal: this project's own. An act is one call on the
 -- line, with its result.
-use Rattle.std.specs.Prelude.{◌≡◌, List, ◌++◌}
+use Rattle.std.specs.Prelude.{◌≡◌, List, [], ◌++◌}
 use Rattle.std.specs.List.{AllByRecursion}
 use Rattle.gc_links.specs.Acts.{Act}
-use Rattle.gc_rehearsed.specs.Rehearsals.{Station, RunsAndStops, AreRehearsed, FewEndUnbegun, acts_of_all}
+use Rattle.gc_rehearsed.specs.Rehearsals.{RehearsedStation, RunsAndStops, AreRehearsed, FewEndUnbegun, acts_of_all}
 use Rattle.gc_texts.specs.declared.tasks.Task.{Task}
 
 -- a run of a station with these commands, each of which is `IsAskable`; after the run and before the next one nothing was sent
 -- whole, and nothing came (`RunsAndStops`)
-abbrev pub IsRunOf : List Task → Station → Type 0
+abbrev pub IsRunOf : List Task → RehearsedStation → Type 0
 IsRunOf commands x = (x.commands ≡ commands) × RunsAndStops x
 
 -- runs of a station with these commands, one after the other, made the acts that `new` has after those of `old`
 pub record AreRuns (commands : List Task) (old new : List Act) : Type 0 where
-  pub stations : List Station
+  pub stations : List RehearsedStation
   pub each : AllByRecursion (IsRunOf commands) stations
   pub told : new ≡ old ++ acts_of_all stations
 
--- these acts are those of runs of a station with these commands, one after the other; and as long as fewer than six in a row end while
--- they synchronize, the runs are in the field and faithful: each recorded answer was made on executing the very request of its cycle and
--- place
+-- runs of a station with these commands, one after the other, made these acts; and as long as fewer than six runs in a row end
+-- while they synchronize, all of them are in the field and faithful: each recorded answer was made on executing the very request
+-- of its cycle and place
 pub record AreFaithfulRuns (commands : List Task) (acts : List Act) : Type 0 where
-  pub stations : List Station
-  pub each : AllByRecursion (IsRunOf commands) stations
-  pub told : acts ≡ acts_of_all stations
-  pub faithful : FewEndUnbegun 0 stations → AreRehearsed stations
+  pub runs : AreRuns commands [] acts
+  pub faithful : FewEndUnbegun 0 runs.stations → AreRehearsed runs.stations

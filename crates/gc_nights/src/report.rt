@@ -78,15 +78,15 @@ fn tell_cycles<E: Write>(
     tell_percent(whole, due, messages)?;
     write!(messages, "; milliseconds least ")?;
     let spans = summary.spans.as_slice();
-    let least = at(spans, 0);
-    let median = at(spans, spans.len() / 2);
+    let least = number_at(spans, 0);
+    let median = number_at(spans, spans.len() / 2);
     write!(messages, "{least} median {median} ")?;
-    let worst = at(spans, spans.len().saturating_sub(1));
+    let worst = number_at(spans, spans.len().saturating_sub(1));
     writeln!(messages, "worst {worst}")
 }
 
 // The number at a place; 0 if there is no such place.
-fn at(numbers: &[u64], place: usize) -> u64 {
+fn number_at(numbers: &[u64], place: usize) -> u64 {
     numbers.get(place).copied().unwrap_or(0)
 }
 
@@ -143,7 +143,7 @@ fn tell_cost<E: Write>(summary: &Summary, counts: Counts, messages: &mut E) -> i
         quotient(unanswered.saturating_mul(100), counts.lost),
         messages,
     )?;
-    let least = at(summary.spans.as_slice(), 0);
+    let least = number_at(summary.spans.as_slice(), 0);
     let longer = quotient(time_above(summary.spans.as_slice(), least), counts.lost);
     writeln!(
         messages,

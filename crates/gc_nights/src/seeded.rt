@@ -3,7 +3,7 @@
 use gc_fates::{Direction, Draws, Rules, fate_of, restarts_at};
 use gc_rehearsal::{Chance, Fate};
 
-// Of a request that is cut by a close fewer bytes than this are sent.
+// Of a request that a close cuts, fewer bytes than this are sent.
 const CUT_MAX: u64 = 512;
 
 // Which draw of a request gives the number of its bytes that are sent before such a close.

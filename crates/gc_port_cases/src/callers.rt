@@ -2,7 +2,7 @@
 //! served. What comes of a row is appended to `came`, and what isn't as the case expects to `wrong`.
 //!
 //!     do call %R1Q,0,0:\r\n    one more caller, and what it writes
-//!     do again 39 %R1Q,0,0:\r\n    the last caller writes this that many times more
+//!     do again 39 %R1Q,0,0:\r\n    the last caller writes this 39 times more
 //!     do shut, leave           the last caller writes no more, or goes away
 //!     do serve 2 9             so many callers are served, in that many reads each
 //!     do keep 3                so many callers are served at a kept port, which closes on one that is idle for a second
@@ -329,6 +329,7 @@ impl<'a> Played<'a> {
         }
         let _other = listener_at_1024(self.rt);
         tell_asked(self.rt, alloc, port, came);
+        came.text(", ");
         // Serving fails then: the port is in use, or this user can't bind it.
         let _taken = listen(self.rt, port);
         let end = serve_tcp(
@@ -408,7 +409,7 @@ fn ask_place(rt: &HostRuntime, alloc: Global, place: Place<'_>) -> Result<(), Ru
 }
 
 // Reports how it ends when no commands are asked at a port: first over `ask_tcp`, by the port's number, and then over `ask_at`, by a
-// place. A comma follows each, because the caller appends one more end.
+// place, with a comma between.
 fn tell_asked(rt: &HostRuntime, alloc: Global, port: u16, came: &mut Told)
     requires { 1 ≤ port }
 {
@@ -417,5 +418,4 @@ fn tell_asked(rt: &HostRuntime, alloc: Global, port: u16, came: &mut Told)
     tell_end(ask_tcp(rt, alloc, port, &mut none, &mut sink, 9), came);
     came.text(", ");
     tell_end(ask_place(rt, alloc, Place::Port(port)), came);
-    came.text(", ");
 }

@@ -110,7 +110,7 @@ fn add_ends(alloc: Global, case: &Case<'_>, messages: &[u8], missing: &mut Told)
 
 // Adds `length` if the messages have another number of bytes (`length`) than the case says, if it says one.
 fn add_length(case: &Case<'_>, length: u64, missing: &mut Told) {
-    if !case.has("length", "") && case.number("length", u64::MAX) != length {
+    if !case.is("length", "") && case.number("length", u64::MAX) != length {
         missing.text("length ");
     }
 }

@@ -19,12 +19,13 @@ use crate::far_end::{FarEnd, Seen, both_ends};
 use crate::said::{Said, tell_seen};
 use gc_cases::{Case, Player, Told, cut_word, input_of, port_of};
 use gc_console::{Oddities, Standard, Streams, run_program};
+use gc_links::listen;
 use std::alloc::{AllocError, Global};
 use std::cell::RefCell;
 use std::env::Args;
 use std::fs::{File, Files};
 use std::io::{self, ErrorKind, Read};
-use std::net::{Net, SocketAddr, TcpListener, TcpStream};
+use std::net::{Net, TcpListener, TcpStream};
 use std::time::Clock;
 
 // An hour in milliseconds: how long the monotonic clock of a far end can be read, if the case doesn't say `until`.
@@ -36,7 +37,7 @@ pub struct Program;
 impl Player for Program {
     // Plays a case with a port that was free, and is held meanwhile unless the case wants it free. `Err`: no port could be listened at.
     fn play(&self, rt: &HostRuntime, case: &Case<'_>, wrong: &mut Told) -> io::Result<()> {
-        let listener = TcpListener::bind(rt, SocketAddr::from(([127, 0, 0, 1], 0)))?;
+        let listener = listen(rt, 0)?;
         let port = port_of(&listener);
         let _held = held(case, listener);
         play_at(rt, case, port, wrong);
@@ -46,7 +47,7 @@ impl Player for Program {
 
 // The listener, for a caller that keeps its port in use; `None`, and the listener is closed, if the case wants the port free.
 fn held(case: &Case<'_>, listener: TcpListener) -> Option<TcpListener> {
-    if case.has("port", "free") {
+    if case.is("port", "free") {
         return None;
     }
     Some(listener)
@@ -81,8 +82,8 @@ fn run_case(rt: &HostRuntime, case: &Case<'_>, port: &str, seen: &RefCell<Seen>,
 // What the line of a case does to what is sent over it: `echoes`, `bare`, or nothing.
 fn oddities_of(case: &Case<'_>) -> Oddities {
     Oddities {
-        echoes: case.has("line", "echoes"),
-        bare: case.has("line", "bare"),
+        echoes: case.is("line", "echoes"),
+        bare: case.is("line", "bare"),
     }
 }
 
@@ -153,7 +154,7 @@ fn run_with_input<R: Net<Listener = TcpListener, Stream = TcpStream> + Clock + F
     let streams = Streams {
         input: Input {
             bytes: input,
-            is_broken: case.has("reads", "fail"),
+            is_broken: case.is("reads", "fail"),
         },
         output: &mut said.output,
         messages: &mut said.messages,
@@ -169,7 +170,7 @@ fn standard_of(case: &Case<'_>) -> Standard {
         input: !closed.contains("input"),
         output: !closed.contains("output"),
         messages: !closed.contains("messages"),
-        terminal: case.has("terminal", "yes"),
+        terminal: case.is("terminal", "yes"),
     }
 }
 

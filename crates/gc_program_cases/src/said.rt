@@ -46,7 +46,7 @@ impl Said {
     // The status in a digit, or `any` if the case takes any; or that there is none, which no case takes.
     fn status_text(&self, case: &Case<'_>) -> &'static str {
         match self.status {
-            Some(_) if case.has("status", "any") => "any",
+            Some(_) if case.is("status", "any") => "any",
             Some(status) => status_digit(status),
             None => "none, for an error of the system",
         }
@@ -54,10 +54,10 @@ impl Said {
 
     // What is compared with the case's `output`: the whole output, none of it if the case has `has`, and `any` if any will do.
     fn compared_output(&self, case: &Case<'_>) -> &[u8] {
-        if case.has("output", "any") {
+        if case.is("output", "any") {
             return b"any";
         }
-        if case.has("has", "") {
+        if case.is("has", "") {
             self.output.bytes.as_slice()
         } else {
             b""
@@ -68,9 +68,9 @@ impl Said {
     // end in `WAITS`, or, if it has a terminal, as they are. Messages that aren't UTF-8 are `no text`.
     fn append_messages(&self, alloc: Global, case: &Case<'_>, port: &str, told: &mut Told) {
         let messages = str::from_utf8(self.messages.as_slice()).unwrap_or("no text");
-        if case.has("far", "") {
+        if case.is("far", "") {
             append_with_port(alloc, messages, port, told);
-        } else if case.has("terminal", "yes") {
+        } else if case.is("terminal", "yes") {
             told.text(messages);
         } else {
             append_without_waits(messages, told);
@@ -145,7 +145,7 @@ pub fn tell_seen(alloc: Global, case: &Case<'_>, seen: &Seen, wrong: &mut Told) 
 
 // Compares what came with the case's value under this key, if it has one; `nothing` stands for no bytes.
 fn compare_if_asked(case: &Case<'_>, key: &str, came: &Told, wrong: &mut Told) {
-    if case.has(key, "") {
+    if case.is(key, "") {
         return;
     }
     if came.is("") {

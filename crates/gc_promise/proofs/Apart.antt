@@ -71,52 +71,56 @@ LacksAll ms keys = AllByRecursion (λ (key : List ℕ). find key ms ≡ None) ke
 abbrev pub early_names : List (List ℕ)
 early_names = codes "cycle" ∷ codes "place" ∷ codes "target" ∷ codes "procedure" ∷ codes "outcome" ∷ codes "rc_com" ∷ codes "rc" ∷ codes "values" ∷ codes "sent" ∷ []
 
--- no member for a quantity of this answer has one of the names of `early_names`. `came` are the parameters of the reply, as its
--- line has them
+-- `quality`, and the names of `early_names`
+abbrev pub early_or_quality : List (List ℕ)
+early_or_quality = codes "quality" ∷ early_names
+
+-- no member for a quantity of this answer has one of the names of `early_or_quality`. `came` are the parameters of the reply, as
+-- its line has them
 abbrev IsApart : Call → Answer → List ℕ → Type 0
-IsApart call answer came = LacksAll (values_members (column_of call answer) (answer_fields answer).values came) early_names
+IsApart call answer came = LacksAll (values_members (column_of call answer) (answer_fields answer).values came) early_or_quality
 
 -- `IsApart` holds of an answer that is a whole number
 long_apart : (call : Call) (n : ℤ) (came : List ℕ) → IsApart call (Long n) came
-long_apart GetFace n came = (refl, (refl, (refl, (refl, (refl, (refl, (refl, (refl, (refl, tt)))))))))
-long_apart GetPrism n came = (refl, (refl, (refl, (refl, (refl, (refl, (refl, (refl, (refl, tt)))))))))
-long_apart call n came = (refl, (refl, (refl, (refl, (refl, (refl, (refl, (refl, (refl, tt)))))))))
+long_apart GetFace n came = (refl, (refl, (refl, (refl, (refl, (refl, (refl, (refl, (refl, (refl, tt))))))))))
+long_apart GetPrism n came = (refl, (refl, (refl, (refl, (refl, (refl, (refl, (refl, (refl, (refl, tt))))))))))
+long_apart call n came = (refl, (refl, (refl, (refl, (refl, (refl, (refl, (refl, (refl, (refl, tt))))))))))
 
 -- `IsApart` holds of each answer
 answer_apart : (call : Call) (answer : Answer) (came : List ℕ) → IsApart call answer came
-answer_apart call Nothing came = (refl, (refl, (refl, (refl, (refl, (refl, (refl, (refl, (refl, tt)))))))))
-answer_apart call (Short n) came = (refl, (refl, (refl, (refl, (refl, (refl, (refl, (refl, (refl, tt)))))))))
-answer_apart call (Version release version subversion) came = (refl, (refl, (refl, (refl, (refl, (refl, (refl, (refl, (refl, tt)))))))))
+answer_apart call Nothing came = (refl, (refl, (refl, (refl, (refl, (refl, (refl, (refl, (refl, (refl, tt))))))))))
+answer_apart call (Short n) came = (refl, (refl, (refl, (refl, (refl, (refl, (refl, (refl, (refl, (refl, tt))))))))))
+answer_apart call (Version release version subversion) came = (refl, (refl, (refl, (refl, (refl, (refl, (refl, (refl, (refl, (refl, tt))))))))))
 answer_apart call (Long n) came = long_apart call n came
-answer_apart call (Name name) came = (refl, (refl, (refl, (refl, (refl, (refl, (refl, (refl, (refl, tt)))))))))
-answer_apart call (Date d) came = (refl, (refl, (refl, (refl, (refl, (refl, (refl, (refl, (refl, tt)))))))))
-answer_apart call (Temperature t) came = (refl, (refl, (refl, (refl, (refl, (refl, (refl, (refl, (refl, tt)))))))))
-answer_apart call (Place s) came = (refl, (refl, (refl, (refl, (refl, (refl, (refl, (refl, (refl, tt)))))))))
-answer_apart call (Height h) came = (refl, (refl, (refl, (refl, (refl, (refl, (refl, (refl, (refl, tt)))))))))
-answer_apart call (Angles hz v) came = (refl, (refl, (refl, (refl, (refl, (refl, (refl, (refl, (refl, tt)))))))))
-answer_apart call (Measured hz v distance) came = (refl, (refl, (refl, (refl, (refl, (refl, (refl, (refl, (refl, tt)))))))))
-answer_apart call (MeasuredMode hz v distance mode) came = (refl, (refl, (refl, (refl, (refl, (refl, (refl, (refl, (refl, tt)))))))))
+answer_apart call (Name name) came = (refl, (refl, (refl, (refl, (refl, (refl, (refl, (refl, (refl, (refl, tt))))))))))
+answer_apart call (Date d) came = (refl, (refl, (refl, (refl, (refl, (refl, (refl, (refl, (refl, (refl, tt))))))))))
+answer_apart call (Temperature t) came = (refl, (refl, (refl, (refl, (refl, (refl, (refl, (refl, (refl, (refl, tt))))))))))
+answer_apart call (Place s) came = (refl, (refl, (refl, (refl, (refl, (refl, (refl, (refl, (refl, (refl, tt))))))))))
+answer_apart call (Height h) came = (refl, (refl, (refl, (refl, (refl, (refl, (refl, (refl, (refl, (refl, tt))))))))))
+answer_apart call (Angles hz v) came = (refl, (refl, (refl, (refl, (refl, (refl, (refl, (refl, (refl, (refl, tt))))))))))
+answer_apart call (Measured hz v distance) came = (refl, (refl, (refl, (refl, (refl, (refl, (refl, (refl, (refl, (refl, tt))))))))))
+answer_apart call (MeasuredMode hz v distance mode) came = (refl, (refl, (refl, (refl, (refl, (refl, (refl, (refl, (refl, (refl, tt))))))))))
 
--- the member for a reply's items, if there is one, has none of the names of `early_names`
-items_apart : (items : Option (List (List ℕ))) → LacksAll (item_members items) early_names
-items_apart None = (refl, (refl, (refl, (refl, (refl, (refl, (refl, (refl, (refl, tt)))))))))
-items_apart (Some texts) = (refl, (refl, (refl, (refl, (refl, (refl, (refl, (refl, (refl, tt)))))))))
+-- the member for a reply's items, if there is one, has none of the names of `early_or_quality`
+items_apart : (items : Option (List (List ℕ))) → LacksAll (item_members items) early_or_quality
+items_apart None = (refl, (refl, (refl, (refl, (refl, (refl, (refl, (refl, (refl, (refl, tt))))))))))
+items_apart (Some texts) = (refl, (refl, (refl, (refl, (refl, (refl, (refl, (refl, (refl, (refl, tt))))))))))
 
--- no member for an answer's quantity or items has one of the names of `early_names`
-columns_apart : (asked : Asked) (answer : Answer) (line : List ℕ) → LacksAll (answer_members asked answer line) early_names
+-- no member for an answer's quantity or items has one of the names of `early_or_quality`
+columns_apart : (asked : Asked) (answer : Answer) (line : List ℕ) → LacksAll (answer_members asked answer line) early_or_quality
 columns_apart (Table call) answer line = answer_apart call answer (values_of line)
 columns_apart (Raw raw) answer line = items_apart (split_items (values_of line))
 
--- no member for a quantity or for items has one of the names of `early_names`
-pub quantities_apart : (call : Asked) (end : End) → LacksAll (quantity_members call end) early_names
+-- no member for a quantity or for items has one of the names of `early_or_quality`
+pub quantities_apart : (call : Asked) (end : End) → LacksAll (quantity_members call end) early_or_quality
 quantities_apart call (Answered quality (Some answer) line) = columns_apart call answer line
-quantities_apart call (Answered quality None line) = (refl, (refl, (refl, (refl, (refl, (refl, (refl, (refl, (refl, tt)))))))))
-quantities_apart call (Unreadable line fault) = (refl, (refl, (refl, (refl, (refl, (refl, (refl, (refl, (refl, tt)))))))))
-quantities_apart call (Elsewhere line) = (refl, (refl, (refl, (refl, (refl, (refl, (refl, (refl, (refl, tt)))))))))
-quantities_apart call Late = (refl, (refl, (refl, (refl, (refl, (refl, (refl, (refl, (refl, tt)))))))))
-quantities_apart call Lost = (refl, (refl, (refl, (refl, (refl, (refl, (refl, (refl, (refl, tt)))))))))
-quantities_apart call Skipped = (refl, (refl, (refl, (refl, (refl, (refl, (refl, (refl, (refl, tt)))))))))
-quantities_apart call Missed = (refl, (refl, (refl, (refl, (refl, (refl, (refl, (refl, (refl, tt)))))))))
+quantities_apart call (Answered quality None line) = (refl, (refl, (refl, (refl, (refl, (refl, (refl, (refl, (refl, (refl, tt))))))))))
+quantities_apart call (Unreadable line fault) = (refl, (refl, (refl, (refl, (refl, (refl, (refl, (refl, (refl, (refl, tt))))))))))
+quantities_apart call (Elsewhere line) = (refl, (refl, (refl, (refl, (refl, (refl, (refl, (refl, (refl, (refl, tt))))))))))
+quantities_apart call Late = (refl, (refl, (refl, (refl, (refl, (refl, (refl, (refl, (refl, (refl, tt))))))))))
+quantities_apart call Lost = (refl, (refl, (refl, (refl, (refl, (refl, (refl, (refl, (refl, (refl, tt))))))))))
+quantities_apart call Skipped = (refl, (refl, (refl, (refl, (refl, (refl, (refl, (refl, (refl, (refl, tt))))))))))
+quantities_apart call Missed = (refl, (refl, (refl, (refl, (refl, (refl, (refl, (refl, (refl, (refl, tt))))))))))
 
 -- the member for a quality, if there is one, has none of the names of `early_names`
 pub quality_apart : (word : List ℕ) → LacksAll (quality_members word) early_names
@@ -160,47 +164,6 @@ quality_found (Some quality.Warning) = refl
 quality_found (Some quality.Refused) = refl
 quality_found None = refl
 
--- no member for a whole number that answers a call has the name `quality`
-long_unqualified : (call : Call) (n : ℤ) (came : List ℕ) → find (codes "quality") (values_members (column_of call (Long n)) (answer_fields (Long n)).values came) ≡ None
-long_unqualified GetFace n came = refl
-long_unqualified GetPrism n came = refl
-long_unqualified call n came = refl
-
--- no member for an answer's quantities has the name `quality`
-answer_unqualified : (call : Call) (answer : Answer) (came : List ℕ) → find (codes "quality") (values_members (column_of call answer) (answer_fields answer).values came) ≡ None
-answer_unqualified call (Long n) came = long_unqualified call n came
-answer_unqualified call answer came = refl
-
--- the member for a reply's items, if there is one, hasn't the name `quality`
-items_unqualified : (items : Option (List (List ℕ))) → find (codes "quality") (item_members items) ≡ None
-items_unqualified None = refl
-items_unqualified (Some texts) = refl
-
--- no member for an answer's quantities or items has the name `quality`
-columns_unqualified : (asked : Asked) (answer : Answer) (line : List ℕ) → find (codes "quality") (answer_members asked answer line) ≡ None
-columns_unqualified (Table call) answer line = answer_unqualified call answer (values_of line)
-columns_unqualified (Raw raw) answer line = items_unqualified (split_items (values_of line))
-
--- no member for a quantity or for items has the name `quality`, however the command ended
-pub quantities_unqualified : (call : Asked) (end : End) → find (codes "quality") (quantity_members call end) ≡ None
-quantities_unqualified call (Answered quality (Some answer) line) = columns_unqualified call answer line
-quantities_unqualified call end = refl
-
--- no member on how a command ended has the name `quality`
-pub ending_unqualified : (end : End) → find (codes "quality") (ending_members end) ≡ None
-ending_unqualified (Answered quality answer line) = refl
-ending_unqualified (Unreadable line fault) = refl
-ending_unqualified (Elsewhere line) = refl
-ending_unqualified Late = refl
-ending_unqualified Lost = refl
-ending_unqualified Skipped = refl
-ending_unqualified Missed = refl
-
--- no member on a command has the name `quality`
-pub command_unqualified : (command : Wish) (name : List ℕ) → find (codes "quality") (command_members command name) ≡ None
-command_unqualified command [] = refl
-command_unqualified command (b ∷ bs) = refl
-
 -- the members on when and where: the moment a request was sent, if it was, the time, the cycle and the place
 abbrev pub moment_members : (sent : Option ℕ) → (time cycle place : List ℕ) → List Member
 moment_members sent time cycle place = sent_members sent ++ (Text (codes "time") time ∷ Number (codes "cycle") cycle ∷ Number (codes "place") place ∷ [])
@@ -210,15 +173,15 @@ pub moment_unqualified : (sent : Option ℕ) (time cycle place : List ℕ) → f
 moment_unqualified None time cycle place = refl
 moment_unqualified (Some utc) time cycle place = refl
 
--- no member on how a command ended has one of these five names
-pub ending_apart : (end : End) → LacksAll (ending_members end) (codes "cycle" ∷ codes "place" ∷ codes "target" ∷ codes "procedure" ∷ codes "sent" ∷ [])
-ending_apart (Answered quality answer line) = (refl, (refl, (refl, (refl, (refl, tt)))))
-ending_apart (Unreadable line fault) = (refl, (refl, (refl, (refl, (refl, tt)))))
-ending_apart (Elsewhere line) = (refl, (refl, (refl, (refl, (refl, tt)))))
-ending_apart Late = (refl, (refl, (refl, (refl, (refl, tt)))))
-ending_apart Lost = (refl, (refl, (refl, (refl, (refl, tt)))))
-ending_apart Skipped = (refl, (refl, (refl, (refl, (refl, tt)))))
-ending_apart Missed = (refl, (refl, (refl, (refl, (refl, tt)))))
+-- no member on how a command ended has one of these six names
+pub ending_apart : (end : End) → LacksAll (ending_members end) (codes "cycle" ∷ codes "place" ∷ codes "target" ∷ codes "procedure" ∷ codes "sent" ∷ codes "quality" ∷ [])
+ending_apart (Answered quality answer line) = (refl, (refl, (refl, (refl, (refl, (refl, tt))))))
+ending_apart (Unreadable line fault) = (refl, (refl, (refl, (refl, (refl, (refl, tt))))))
+ending_apart (Elsewhere line) = (refl, (refl, (refl, (refl, (refl, (refl, tt))))))
+ending_apart Late = (refl, (refl, (refl, (refl, (refl, (refl, tt))))))
+ending_apart Lost = (refl, (refl, (refl, (refl, (refl, (refl, tt))))))
+ending_apart Skipped = (refl, (refl, (refl, (refl, (refl, (refl, tt))))))
+ending_apart Missed = (refl, (refl, (refl, (refl, (refl, (refl, tt))))))
 
 -- no member on how a command ended has the name of a quantity
 pub ending_without : (end : End) → LacksAll (ending_members end) quantity_names
@@ -237,10 +200,10 @@ ending_without Skipped =
 ending_without Missed =
     (refl, (refl, (refl, (refl, (refl, (refl, (refl, (refl, (refl, (refl, (refl, (refl, (refl, (refl, (refl, (refl, (refl, (refl, (refl, (refl, (refl, (refl, (refl, (refl, tt))))))))))))))))))))))))
 
--- no member on a command has the name `cycle`, `place` or `sent`
-pub command_apart : (command : Wish) (name : List ℕ) → LacksAll (command_members command name) (codes "cycle" ∷ codes "place" ∷ codes "sent" ∷ [])
-command_apart command [] = (refl, (refl, (refl, tt)))
-command_apart command (b ∷ bs) = (refl, (refl, (refl, tt)))
+-- no member on a command has the name `cycle`, `place`, `sent` or `quality`
+pub command_apart : (command : Wish) (name : List ℕ) → LacksAll (command_members command name) (codes "cycle" ∷ codes "place" ∷ codes "sent" ∷ codes "quality" ∷ [])
+command_apart command [] = (refl, (refl, (refl, (refl, tt))))
+command_apart command (b ∷ bs) = (refl, (refl, (refl, (refl, tt))))
 
 -- no member on a command has the name of a quantity
 pub command_without : (command : Wish) (name : List ℕ) → LacksAll (command_members command name) quantity_names

@@ -30,7 +30,6 @@ use Rattle.gc_texts.specs.Logs.{escaped}
 use Rattle.gc_texts.specs.Stamps.{stamp_text}
 use Rattle.gc_texts.specs.declared.wish.Wish.{Wish}
 use Rattle.gc_texts.specs.declared.quality.Quality.{Quality}
-use Rattle.gc_texts.specs.declared.quality.Quality.TheVariants as quality
 use Rattle.gc_rows.specs.JsonLines.{Member, Text, ending_members, item_members, json_members, last_members, members_after_ending, quantity_members, attempt_members, values_members, command_members, when_members, without_zeros, quality_members}
 use Rattle.gc_rows.specs.Items.{split_items}
 use Rattle.gc_rows.specs.Laws.{record_read}
@@ -43,8 +42,8 @@ use Rattle.gc_station.proofs.Lists.{all_at}
 use Rattle.gc_promise.specs.Fields.{quantity_in, under}
 use Rattle.gc_promise.specs.Objects.{text_of}
 use Rattle.gc_promise.proofs.Names.{IsAnswerTo, texts_of, word_plain}
-use Rattle.gc_promise.proofs.Plain.{decimal_plain, digits_plain, plain_both}
-use Rattle.gc_promise.proofs.Apart.{find, later_none, find_both, LacksAll, early_names, quantities_apart, quality_apart, quality_without, lacks_both, attempt_apart, attempt_without, items_without, quality_found, quantities_unqualified, ending_unqualified, command_unqualified, moment_unqualified, ending_apart, ending_without, command_apart, command_without, moment_without, moment_found, moments_found, sent_found, command_found, outcome_found, line_found}
+use Rattle.gc_promise.proofs.Plain.{IsPlain, decimal_plain, digits_plain, plain_both}
+use Rattle.gc_promise.proofs.Apart.{find, later_none, find_both, LacksAll, early_names, quantities_apart, quality_apart, quality_without, lacks_both, attempt_apart, attempt_without, items_without, quality_found, moment_unqualified, ending_apart, ending_without, command_apart, command_without, moment_without, moment_found, moments_found, sent_found, command_found, outcome_found, line_found}
 
 -- A code without its zeros is the same number.
 
@@ -64,30 +63,26 @@ zeros_gone (b ∷ c ∷ rest) n is =
 -- Numbers are unchanged.
 
 -- escaping changes nothing in a minus sign, if there is one
-minus_plain : (negative : Bool) → escaped (minus_where negative) ≡ minus_where negative
+minus_plain : (negative : Bool) → IsPlain (minus_where negative)
 minus_plain true = refl
 minus_plain false = refl
 
 -- escaping changes nothing in a text in the form of a whole number
-whole_plain : (text : List ℕ) → HasWholeForm text → escaped text ≡ text
+whole_plain : (text : List ℕ) → HasWholeForm text → IsPlain text
 whole_plain text form =
-    subst (λ (t : List ℕ). escaped t ≡ t) (sym form.text_is)
+    subst IsPlain (sym form.text_is)
     (plain_both (minus_where form.negative) form.digits (minus_plain form.negative) (digits_plain form.digits form.digits_are.are_digits))
 
 -- escaping changes nothing in a point (46) and digits after it
-point_plain : (ds : List ℕ) → AreDigits ds → escaped (46 ∷ ds) ≡ 46 ∷ ds
+point_plain : (ds : List ℕ) → AreDigits ds → IsPlain (46 ∷ ds)
 point_plain ds are = ap (λ (l : List ℕ). 46 ∷ l) (digits_plain ds are)
 
 -- escaping changes nothing in a text in the form of a decimal
-fraction_plain : (text : List ℕ) → HasDecimalForm text → escaped text ≡ text
+fraction_plain : (text : List ℕ) → HasDecimalForm text → IsPlain text
 fraction_plain text form =
-    subst (λ (t : List ℕ). escaped t ≡ t) (sym form.text_is)
+    subst IsPlain (sym form.text_is)
     (plain_both (minus_where form.negative) (form.whole ++ 46 ∷ form.fraction) (minus_plain form.negative)
     (plain_both form.whole (46 ∷ form.fraction) (digits_plain form.whole form.whole_is.are_digits) (point_plain form.fraction form.fraction_is.are_digits)))
-
--- escaping changes nothing in this text
-abbrev pub IsPlain : List ℕ → Type 0
-IsPlain text = escaped text ≡ text
 
 -- escaping changes nothing in the text of a whole number
 pub signed_plain : (n : ℤ) → IsPlain (signed_text n)
@@ -268,7 +263,7 @@ module _ (when : When) (text : List ℕ) (command : Wish) (end : End) where
 
   -- no member for a quantity, for the quality or for the attempt has one of the names of `early_names`
   abbrev apart : LacksAll more early_names
-  apart = lacks_both quantities last early_names (quantities_apart command.call end)
+  apart = lacks_both quantities last early_names (quantities_apart command.call end).1
       (lacks_both on_quality (attempt_members when) early_names (quality_apart (quality_text (quality_of end))) (attempt_apart when))
 
   -- under `sent` the object has when the record's request was sent; nothing if it wasn't
@@ -338,8 +333,8 @@ module _ (when : When) (text : List ℕ) (command : Wish) (end : End) where
   pub member_quality : at_member (codes "quality") ≡ quality_text (quality_of end)
   member_quality =
       found_at (codes "quality") (find (codes "quality") last) None None None
-      (find_both (codes "quality") quantities last ∙ ap (later_or (find (codes "quality") last)) (quantities_unqualified command.call end) ∙ sym (later_none (find (codes "quality") last)))
-      (ending_unqualified end) (command_unqualified command text)
+      (find_both (codes "quality") quantities last ∙ ap (later_or (find (codes "quality") last)) (quantities_apart command.call end).0 ∙ sym (later_none (find (codes "quality") last)))
+      (ending_apart end).1.1.1.1.1.0 (command_apart command text).1.1.1.0
       (moment_unqualified when.stamp.sent (stamp_text when.stamp.utc) (decimal when.stamp.cycle) (decimal when.stamp.turn.place))
       ∙ ap text_of (last_found (find (codes "quality") last))
       ∙ ap text_of (find_both (codes "quality") on_quality (attempt_members when))

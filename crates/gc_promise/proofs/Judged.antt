@@ -39,11 +39,6 @@ module _ (reads : Asked → List ℕ → Reading) (are : AreReadings reads) (acc
   line_says : (x : Reading) → IsAskedReading call reply x → reads call line ≡ x
   line_says x is = are call line x (record { reply = reply; is_reply = is_reply; is_reading = is })
 
-  -- where x is what the fields of the reply, with return code 0, say of the call, `reads` gives x of the line with return code
-  -- 0 (`as_zero`)
-  zeroed_says : (x : Reading) → IsAskedReading call (record reply { rc = 0 }) x → reads call (as_zero line) ≡ x
-  zeroed_says x is = are call (as_zero line) x (zero_reads call line reply x is_reply is)
-
   -- q is the quality of an answer whose line says `said`, and `values` are the values of `told`, the reading from which a row
   -- has its quantities
   pub record IsJudged (q : Quality) (values : Option Answer) : Type 0 where
@@ -65,7 +60,8 @@ module _ (reads : Asked → List ℕ → Reading) (are : AreReadings reads) (acc
   judged quality.Warning values (code, refusal, listed, has) =
       let is : said ≡ reading.Refused code = sym (line_says said is_said) ∙ refusal in
       let warned : quality_in accepted said ≡ quality.Warning = ap (quality_in accepted) is ∙ ap (λ b. if b then quality.Warning else quality.Refused) listed in
-      let same : reads call (as_zero line) ≡ told = zeroed_says told (subst (λ (k : Quality). IsAskedReading call (quantity_source k reply) told) warned is_told) in
+      let zeroed : IsAskedReading call (record reply { rc = 0 }) told = subst (λ (k : Quality). IsAskedReading call (quantity_source k reply) told) warned is_told in
+      let same : reads call (as_zero line) ≡ told = are call (as_zero line) told (zero_reads call line reply told is_reply zeroed) in
       record { quality_is = sym warned; values_are = has ∙ ap answer_in same }
   judged quality.Refused values (none, refusal) =
       let is : reads call line ≡ said = line_says said is_said in

@@ -1,6 +1,6 @@
 -- The rows that are left of a run that was killed: what the run's contract says of its acts, and the laws on files of rows, put
 -- together.
-use Rattle.std.proofs.Common.{◌≡◌, ◌⊎◌, ℕ, ◌≤◌, Bool, true, false, List, [], ◌∷◌, ◌++◌, take, Option, Some, None, Result, inl, inr, refl, sym, ◌∙◌, ap, subst, append_assoc, append-nil}
+use Rattle.std.proofs.Common.{◌≡◌, ◌⊎◌, ℕ, ◌≤◌, Bool, true, false, List, [], ◌∷◌, ◌++◌, take, Option, Some, Result, inl, inr, refl, sym, ◌∙◌, ap, subst, append_assoc, append-nil}
 use Rattle.std.proofs.lemmas.List.{append_cancel_left}
 use Rattle.std.specs.Prelude.{not, if◌then◌else◌}
 use Rattle.std.specs.Io.KnownBytes.{Appends}
@@ -31,10 +31,12 @@ use Rattle.gc_lines.specs.declared.ports.Source.{Ghosts as Source}
 use Rattle.gc_lines.specs.declared.ports.Sink.{Ghosts as Sink}
 use Rattle.gc_measuring.specs.Measuring.{PortsSeen, Measures, survey_of, Survey, text_in, front_text, RunsAfterFront}
 use Rattle.std.proofs.lemmas.Option.{same_Some}
-use Rattle.gc_promise.specs.Lasting.{RunOfFile, IsRunOfFile, AppendsAreRuns, RunMoment, IsRunMoment, rows_by, AreLeft, OpensFile, RowsOutlastCrashes, doubted_by, Ending, Stopped, Unsynced, MayEnd, sides_ended, doubt_of, sides_from, RowsOutlastFailures}
+use Rattle.gc_promise.specs.Lasting.{RunOfFile, IsRunOfFile, AppendsAreRuns, RunMoment, IsRunMoment, rows_by, AreLeft, OpensFile, RowsOutlastCrashes, doubted_by, Ending, Stopped, Unsynced, MayEnd, sides_ended, doubt_of, sides_begun, RowsOutlastFailures}
+use Rattle.gc_promise.specs.Tables.{scope_of}
 use Rattle.gc_promise.proofs.Ended.{text_whole}
 use Rattle.gc_promise.proofs.Pieces.{pieces, rows_left, whole_rest}
 use Rattle.gc_promise.proofs.Seen.{IsKeptAt, kept_at, seen_at, Fronted, fronted, texts_whole}
+use Rattle.gc_promise.proofs.Taken.{appended_to_known}
 use Rattle.gc_promise.proofs.Staying.{run_by, is_run, happen_two, life_two, splits_at_run, cuts_first, occur_two, sides_two, runs_two}
 use Rattle.std.proofs.lemmas.Bool.{not-true}
 
@@ -42,10 +44,9 @@ use Rattle.std.proofs.lemmas.Bool.{not-true}
 
 -- nothing comes before the rows of a file whose header is there already
 between_is : (survey : Survey) (between : Option (List ℕ)) → survey.layout.headed ≡ true → Appends (Some []) between (front_text survey.layout) → between ≡ Some []
-between_is survey None headed front = absurd front
-between_is survey (Some bytes) headed front =
+between_is survey between headed front =
     let none : front_text survey.layout ≡ [] = rw (headed) refl in
-    ap (λ (l : List ℕ). Some l) (front ∙ none)
+    appended_to_known [] (front_text survey.layout) between front ∙ ap (λ (l : List ℕ). Some l) none
 
 -- What `append_at` reports is a run of a file.
 
@@ -84,13 +85,13 @@ appends_are_runs source sink K E taken lasts shown has_log station old new file 
         | inl none ↦ inl none
         | inr some ↦ inr (some.0, some.1, some.2, ran.is ∙ ap (λ (l : List Act). Some l) (sym some.3), some.4, some.5)
       ]
-  | inr unbegun ↦ inl unbegun.7
+  | inr unbegun ↦ inl unbegun.turns
 ]
 
 module _ {R : Type 0} (m : RunMoment R) (is : IsRunMoment m) (reads : Asked → List ℕ → Reading) (are : AreReadings reads) where
   -- the scope of the moment's run
   abbrev scope : Scope
-  scope = record { turns = m.run.survey.max_turns; reads = reads }
+  scope = scope_of m.run.survey reads
 
   -- the text of a record, as the moment's run writes it
   abbrev text : Record → List ℕ
@@ -243,17 +244,19 @@ event_of run (Unsynced read disk) = Failed run read disk
 -- table is the one that was there at first, rows of the earlier runs, the rows that are left of this run, and rows of the later
 -- ones
 pub rows_outlast_failures : {R : Type 0} → RowsOutlastFailures R
-rows_outlast_failures m is reads are head first heads earlier occur trusted steps opens ending ends later then_ found is_found =
-    let sides = sides_from first earlier in
-    let one_run : Run = run m is reads are steps in
-    let event = event_of one_run ending in
-    let now = runs_so m is reads are head (content sides.read) steps opens in
-    let behind = occurs head sides (doubted_by false earlier) one_run ending later trusted now ends then_ in
-    let all = occur_two head (same_sides (settled first)) false earlier (event ∷ later) occur behind in
-    let there = subst (λ (s : Sides). IsFound s found) (sym (sides_two (same_sides (settled first)) earlier (event ∷ later) ∙ event_sides sides one_run ending later)) is_found in
-    let has = tables_outlast_failures head first heads (earlier ++ event ∷ later) all found there in
-    let p = splits_at_run head (table head first) found (runs_of earlier) (runs_of later) one_run
-    (subst (λ (rs : List Run). HasRows head (table head first) rs found) (runs_two earlier (event ∷ later) ∙ ap (λ (rs : List Run). runs_of earlier ++ rs) (event_runs one_run ending later)) has) in
+rows_outlast_failures m is reads are x was =
+    let sides = sides_begun x in
+    let one_run : Run = run m is reads are x.opening in
+    let event = event_of one_run x.ending in
+    let now = runs_so m is reads are x.head (content sides.read) x.opening was.opens in
+    let behind = occurs x.head sides (doubted_by false x.earlier) one_run x.ending x.later was.trusted now was.ends was.occurs in
+    let all = occur_two x.head (same_sides (settled x.first)) false x.earlier (event ∷ x.later) was.occurred behind in
+    let there =
+    subst (λ (s : Sides). IsFound s x.found) (sym (sides_two (same_sides (settled x.first)) x.earlier (event ∷ x.later) ∙ event_sides sides one_run x.ending x.later)) was.is_found in
+    let has = tables_outlast_failures x.head x.first was.is_head (x.earlier ++ event ∷ x.later) all x.found there in
+    let p = splits_at_run x.head (table x.head x.first) x.found (runs_of x.earlier) (runs_of x.later) one_run
+    (subst (λ (rs : List Run). HasRows x.head (table x.head x.first) rs x.found)
+    (runs_two x.earlier (event ∷ x.later) ∙ ap (λ (rs : List Run). runs_of x.earlier ++ rs) (event_runs one_run x.ending x.later)) has) in
     (p.counts, lines (take p.count one_run.rows), p.counts', p.first, left_of m is reads are p.count p.least, p.others, p.is)
   where
     -- a run that ends in this way, in a file that isn't in doubt, and events that may occur after that, may occur as events

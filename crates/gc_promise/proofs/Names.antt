@@ -16,7 +16,6 @@ use Rattle.gc_lines.specs.Replies.{ReplyFields}
 use Rattle.gc_catalogue.specs.declared.call.Call.{Call}
 use Rattle.gc_catalogue.specs.declared.call.Call.TheVariants.{GetFace, GetPrism}
 use Rattle.gc_values.specs.ValueFault.{fault_number}
-use Rattle.gc_values.specs.declared.value.Value.TheVariants as value
 use Rattle.gc_texts.specs.Endings.{End, Answered, Unreadable, Elsewhere, Late, Lost, Skipped, Missed, word_of, fault_of, line_of, quality_of, quality_text}
 use Rattle.gc_texts.specs.Logs.{escaped}
 use Rattle.gc_texts.specs.Stamps.{stamp_text}
@@ -32,13 +31,13 @@ use Rattle.gc_rows.proofs.ProcedureQuantities.{have_their_names, quantities_fill
 use Rattle.gc_station.proofs.Lists.{all_at}
 use Rattle.gc_promise.specs.Fields.{under, quantity_in}
 use Rattle.gc_promise.specs.Tables.{header}
-use Rattle.gc_promise.proofs.Plain.{decimal_plain, moment_plain}
+use Rattle.gc_promise.proofs.Plain.{IsPlain, decimal_plain, moment_plain}
 use Rattle.std.proofs.lemmas.Bool.{not-false, or_parts}
 
 -- A row of a table.
 
 -- the word of an outcome appears unchanged in a field
-pub word_plain : (end : End) → escaped (word_of end) ≡ word_of end
+pub word_plain : (end : End) → IsPlain (word_of end)
 word_plain (Answered quality answer line) = refl
 word_plain (Unreadable line fault) = refl
 word_plain (Elsewhere line) = refl
@@ -48,7 +47,7 @@ word_plain Skipped = refl
 word_plain Missed = refl
 
 -- the word of a quality, or the empty text if there is none, appears unchanged in a field
-pub quality_plain : (o : Option Quality) → escaped (quality_text o) ≡ quality_text o
+pub quality_plain : (o : Option Quality) → IsPlain (quality_text o)
 quality_plain (Some quality.Fine) = refl
 quality_plain (Some quality.Warning) = refl
 quality_plain (Some quality.Refused) = refl
@@ -151,37 +150,27 @@ module _ (when : When) (name : List ℕ) (command : Wish) (end : End) where
       ap (under key (quantity_names ++ last_names)) (map-append escaped (quantity_fields command.call end) (last_fields when end))
       ∙ under_behind key quantity_names (map escaped (quantity_fields command.call end)) last_names (map escaped (last_fields when end)) (filled command.call end) other
 
-  -- in a row without quantities, the word of the quality, escaped, is under `quality`
-  last_alone : (line : Option (List ℕ)) → under (codes "quality") (header false) (map escaped (by_line false line)) ≡ escaped (quality_text (quality_of end))
-  last_alone None = refl
-  last_alone (Some line) = refl
+  -- in a row without quantities, the word of the quality is under `quality`, and the attempt under `attempt`, both escaped
+  last_alone : (line : Option (List ℕ)) → (under (codes "quality") (header false) (map escaped (by_line false line)) ≡ escaped (quality_text (quality_of end)))
+      × (under (codes "attempt") (header false) (map escaped (by_line false line)) ≡ escaped (decimal when.stamp.turn.attempt))
+  last_alone None = (refl, refl)
+  last_alone (Some line) = (refl, refl)
 
-  -- in a row with quantities, what is under `quality` is under it in the quantities and the last fields
-  last_behind : (line : Option (List ℕ)) → under (codes "quality") (header true) (map escaped (by_line true line))
-      ≡ under (codes "quality") (quantity_names ++ last_names) (map escaped (quantity_fields command.call end ++ last_fields when end))
-  last_behind None = refl
-  last_behind (Some line) = refl
+  -- in a row with quantities, what is under the name of a last column is under it in the quantities and the last fields
+  last_behind : (line : Option (List ℕ)) → AllByRecursion (λ (key : List ℕ). under key (header true) (map escaped (by_line true line))
+      ≡ under key (quantity_names ++ last_names) (map escaped (quantity_fields command.call end ++ last_fields when end))) last_names
+  last_behind None = (refl, (refl, tt))
+  last_behind (Some line) = (refl, (refl, tt))
 
   -- under `quality` a row has the word of the answer's quality; nothing if the record has no quality
   pub under_quality : (columns : Bool) → row_at columns (codes "quality") ≡ quality_text (quality_of end)
-  under_quality false = last_alone (line_of end) ∙ quality_plain (quality_of end)
-  under_quality true = last_behind (line_of end) ∙ behind_quantities (codes "quality") refl ∙ quality_plain (quality_of end)
-
-  -- in a row without quantities, the attempt, escaped, is under `attempt`
-  attempt_alone : (line : Option (List ℕ)) → under (codes "attempt") (header false) (map escaped (by_line false line)) ≡ escaped (decimal when.stamp.turn.attempt)
-  attempt_alone None = refl
-  attempt_alone (Some line) = refl
-
-  -- in a row with quantities, what is under `attempt` is under it in the quantities and the last fields
-  attempt_behind : (line : Option (List ℕ)) → under (codes "attempt") (header true) (map escaped (by_line true line))
-      ≡ under (codes "attempt") (quantity_names ++ last_names) (map escaped (quantity_fields command.call end ++ last_fields when end))
-  attempt_behind None = refl
-  attempt_behind (Some line) = refl
+  under_quality false = (last_alone (line_of end)).0 ∙ quality_plain (quality_of end)
+  under_quality true = (last_behind (line_of end)).0 ∙ behind_quantities (codes "quality") refl ∙ quality_plain (quality_of end)
 
   -- under `attempt` a row has the attempt of the record's chain
   pub under_attempt : (columns : Bool) → row_at columns (codes "attempt") ≡ decimal when.stamp.turn.attempt
-  under_attempt false = attempt_alone (line_of end) ∙ decimal_plain when.stamp.turn.attempt
-  under_attempt true = attempt_behind (line_of end) ∙ behind_quantities (codes "attempt") refl ∙ decimal_plain when.stamp.turn.attempt
+  under_attempt false = (last_alone (line_of end)).1 ∙ decimal_plain when.stamp.turn.attempt
+  under_attempt true = (last_behind (line_of end)).1.0 ∙ behind_quantities (codes "attempt") refl ∙ decimal_plain when.stamp.turn.attempt
 
   module _ (line : List ℕ) (is : line_of end ≡ Some line) where
     -- under any name a row has what it has with the line that ended the command
@@ -244,116 +233,56 @@ module _ (when : When) (text : List ℕ) (command : Wish) where
 abbrev pub texts_of : Answer → List (List ℕ)
 texts_of answer = map quantity_text (answer_fields answer).values
 
--- `texts` are put into the columns of quantities from the column `first` on. Then the field under `name` is the text, escaped,
--- that `name` has where `texts` stand under `names`; it is empty if `name` isn't among `names`
-abbrev IsPutUnder : (first : ℕ) (names texts : List (List ℕ)) (name : List ℕ) → Type 0
-IsPutUnder first names texts name = under name quantity_names (map escaped (spread first texts)) ≡ escaped (under name names texts)
-
--- if there are no texts, nothing is under any name of a quantity
-none_stand : AllByRecursion (IsPutUnder 0 [] []) quantity_names
-none_stand =
-    (refl, (refl, (refl, (refl, (refl, (refl, (refl, (refl, (refl, (refl, (refl, (refl, (refl, (refl, (refl, (refl, (refl, (refl, (refl, (refl, (refl, (refl, (refl, (refl, tt))))))))))))))))))))))))
-
--- `IsPutUnder` holds of two angles, from column 0 on, with each name of a quantity
-angles_stand : (a b : List ℕ) → AllByRecursion (IsPutUnder 0 (codes "hz_rad" ∷ codes "v_rad" ∷ []) (a ∷ b ∷ [])) quantity_names
-angles_stand a b =
-    (refl, (refl, (refl, (refl, (refl, (refl, (refl, (refl, (refl, (refl, (refl, (refl, (refl, (refl, (refl, (refl, (refl, (refl, (refl, (refl, (refl, (refl, (refl, (refl, tt))))))))))))))))))))))))
-
--- `IsPutUnder` holds of two angles and a distance, from column 0 on, with each name of a quantity
-angles_distance_stand : (a b c : List ℕ) → AllByRecursion (IsPutUnder 0 (codes "hz_rad" ∷ codes "v_rad" ∷ codes "distance_m" ∷ []) (a ∷ b ∷ c ∷ [])) quantity_names
-angles_distance_stand a b c =
-    (refl, (refl, (refl, (refl, (refl, (refl, (refl, (refl, (refl, (refl, (refl, (refl, (refl, (refl, (refl, (refl, (refl, (refl, (refl, (refl, (refl, (refl, (refl, (refl, tt))))))))))))))))))))))))
-
--- `IsPutUnder` holds of two angles, a distance and a mode, from column 0 on, with each name of a quantity
-angles_distance_mode_stand : (a b c d : List ℕ) → AllByRecursion (IsPutUnder 0 (codes "hz_rad" ∷ codes "v_rad" ∷ codes "distance_m" ∷ codes "mode" ∷ []) (a ∷ b ∷ c ∷ d ∷ [])) quantity_names
-angles_distance_mode_stand a b c d =
-    (refl, (refl, (refl, (refl, (refl, (refl, (refl, (refl, (refl, (refl, (refl, (refl, (refl, (refl, (refl, (refl, (refl, (refl, (refl, (refl, (refl, (refl, (refl, (refl, tt))))))))))))))))))))))))
-
--- `IsPutUnder` holds of the coordinates of a station and its instrument's height, from column 4 on, with each name of a
--- quantity
-place_stand : (a b c d : List ℕ) → AllByRecursion (IsPutUnder 4 (codes "easting_m" ∷ codes "northing_m" ∷ codes "height_m" ∷ codes "instrument_height_m" ∷ []) (a ∷ b ∷ c ∷ d ∷ [])) quantity_names
-place_stand a b c d =
-    (refl, (refl, (refl, (refl, (refl, (refl, (refl, (refl, (refl, (refl, (refl, (refl, (refl, (refl, (refl, (refl, (refl, (refl, (refl, (refl, (refl, (refl, (refl, (refl, tt))))))))))))))))))))))))
-
--- `IsPutUnder` holds of a reflector's height, from column 8 on, with each name of a quantity
-reflector_stands : (a : List ℕ) → AllByRecursion (IsPutUnder 8 (codes "reflector_height_m" ∷ []) (a ∷ [])) quantity_names
-reflector_stands a =
-    (refl, (refl, (refl, (refl, (refl, (refl, (refl, (refl, (refl, (refl, (refl, (refl, (refl, (refl, (refl, (refl, (refl, (refl, (refl, (refl, (refl, (refl, (refl, (refl, tt))))))))))))))))))))))))
-
--- `IsPutUnder` holds of a face, from column 9 on, with each name of a quantity
-face_stands : (a : List ℕ) → AllByRecursion (IsPutUnder 9 (codes "face" ∷ []) (a ∷ [])) quantity_names
-face_stands a =
-    (refl, (refl, (refl, (refl, (refl, (refl, (refl, (refl, (refl, (refl, (refl, (refl, (refl, (refl, (refl, (refl, (refl, (refl, (refl, (refl, (refl, (refl, (refl, (refl, tt))))))))))))))))))))))))
-
--- `IsPutUnder` holds of a prism type, from column 10 on, with each name of a quantity
-prism_stands : (a : List ℕ) → AllByRecursion (IsPutUnder 10 (codes "prism_type" ∷ []) (a ∷ [])) quantity_names
-prism_stands a =
-    (refl, (refl, (refl, (refl, (refl, (refl, (refl, (refl, (refl, (refl, (refl, (refl, (refl, (refl, (refl, (refl, (refl, (refl, (refl, (refl, (refl, (refl, (refl, (refl, tt))))))))))))))))))))))))
-
--- `IsPutUnder` holds of a temperature, from column 11 on, with each name of a quantity
-temperature_stands : (a : List ℕ) → AllByRecursion (IsPutUnder 11 (codes "temperature_c" ∷ []) (a ∷ [])) quantity_names
-temperature_stands a =
-    (refl, (refl, (refl, (refl, (refl, (refl, (refl, (refl, (refl, (refl, (refl, (refl, (refl, (refl, (refl, (refl, (refl, (refl, (refl, (refl, (refl, (refl, (refl, (refl, tt))))))))))))))))))))))))
-
--- `IsPutUnder` holds of a number of places, from column 12 on, with each name of a quantity
-places_stand : (a : List ℕ) → AllByRecursion (IsPutUnder 12 (codes "places" ∷ []) (a ∷ [])) quantity_names
-places_stand a =
-    (refl, (refl, (refl, (refl, (refl, (refl, (refl, (refl, (refl, (refl, (refl, (refl, (refl, (refl, (refl, (refl, (refl, (refl, (refl, (refl, (refl, (refl, (refl, (refl, tt))))))))))))))))))))))))
-
--- `IsPutUnder` holds of the three numbers of a version, from column 13 on, with each name of a quantity
-version_stands : (a b c : List ℕ) → AllByRecursion (IsPutUnder 13 (codes "release" ∷ codes "version" ∷ codes "subversion" ∷ []) (a ∷ b ∷ c ∷ [])) quantity_names
-version_stands a b c =
-    (refl, (refl, (refl, (refl, (refl, (refl, (refl, (refl, (refl, (refl, (refl, (refl, (refl, (refl, (refl, (refl, (refl, (refl, (refl, (refl, (refl, (refl, (refl, (refl, tt))))))))))))))))))))))))
-
--- `IsPutUnder` holds of a serial number, from column 16 on, with each name of a quantity
-serial_stands : (a : List ℕ) → AllByRecursion (IsPutUnder 16 (codes "serial" ∷ []) (a ∷ [])) quantity_names
-serial_stands a =
-    (refl, (refl, (refl, (refl, (refl, (refl, (refl, (refl, (refl, (refl, (refl, (refl, (refl, (refl, (refl, (refl, (refl, (refl, (refl, (refl, (refl, (refl, (refl, (refl, tt))))))))))))))))))))))))
-
--- `IsPutUnder` holds of an instrument's name, from column 17 on, with each name of a quantity
-name_stands : (a : List ℕ) → AllByRecursion (IsPutUnder 17 (codes "instrument" ∷ []) (a ∷ [])) quantity_names
-name_stands a =
-    (refl, (refl, (refl, (refl, (refl, (refl, (refl, (refl, (refl, (refl, (refl, (refl, (refl, (refl, (refl, (refl, (refl, (refl, (refl, (refl, (refl, (refl, (refl, (refl, tt))))))))))))))))))))))))
-
--- `IsPutUnder` holds of the six parts of a date and time, from column 18 on, with each name of a quantity
-date_stands : (a b c d e f : List ℕ)
-    → AllByRecursion (IsPutUnder 18 (codes "year" ∷ codes "month" ∷ codes "day" ∷ codes "hour" ∷ codes "minute" ∷ codes "second" ∷ []) (a ∷ b ∷ c ∷ d ∷ e ∷ f ∷ [])) quantity_names
-date_stands a b c d e f =
-    (refl, (refl, (refl, (refl, (refl, (refl, (refl, (refl, (refl, (refl, (refl, (refl, (refl, (refl, (refl, (refl, (refl, (refl, (refl, (refl, (refl, (refl, (refl, (refl, tt))))))))))))))))))))))))
-
--- where the texts of an answer to this call are put into the columns of quantities, the field under a name is as `IsPutUnder`
--- says
-abbrev AreUnderTheirNames : Call → Answer → List ℕ → Type 0
-AreUnderTheirNames call answer = IsPutUnder (column_of call answer) (names_from (column_of call answer) (answer_fields answer).values) (texts_of answer)
+-- where the texts of an answer to this call are put into the columns of quantities, the field under `name` is the text, escaped,
+-- that has this name among the answer's quantities; it is empty if none has
+abbrev AreUnderTheirNames : Call → Answer → (name : List ℕ) → Type 0
+AreUnderTheirNames call answer name =
+    under name quantity_names (map escaped (spread (column_of call answer) (texts_of answer)))
+    ≡ escaped (under name (names_from (column_of call answer) (answer_fields answer).values) (texts_of answer))
 
 -- `AreUnderTheirNames` holds of a whole number that answers this call, with each name of a quantity
 long_under_its_name : (call : Call) (n : ℤ) → AllByRecursion (AreUnderTheirNames call (Long n)) quantity_names
-long_under_its_name GetFace n = face_stands (quantity_text (value.Long n))
-long_under_its_name GetPrism n = prism_stands (quantity_text (value.Long n))
-long_under_its_name call n = serial_stands (quantity_text (value.Long n))
+long_under_its_name GetFace n =
+    (refl, (refl, (refl, (refl, (refl, (refl, (refl, (refl, (refl, (refl, (refl, (refl, (refl, (refl, (refl, (refl, (refl, (refl, (refl, (refl, (refl, (refl, (refl, (refl, tt))))))))))))))))))))))))
+long_under_its_name GetPrism n =
+    (refl, (refl, (refl, (refl, (refl, (refl, (refl, (refl, (refl, (refl, (refl, (refl, (refl, (refl, (refl, (refl, (refl, (refl, (refl, (refl, (refl, (refl, (refl, (refl, tt))))))))))))))))))))))))
+long_under_its_name call n =
+    (refl, (refl, (refl, (refl, (refl, (refl, (refl, (refl, (refl, (refl, (refl, (refl, (refl, (refl, (refl, (refl, (refl, (refl, (refl, (refl, (refl, (refl, (refl, (refl, tt))))))))))))))))))))))))
 
 -- `AreUnderTheirNames` holds of each answer to each call, with each name of a quantity
 answer_under_its_names : (call : Call) (answer : Answer) → AllByRecursion (AreUnderTheirNames call answer) quantity_names
-answer_under_its_names call Nothing = none_stand
-answer_under_its_names call (Short n) = places_stand (quantity_text (value.Short n))
-answer_under_its_names call (Version release version subversion) = version_stands (quantity_text (value.Short release)) (quantity_text (value.Short version)) (quantity_text (value.Short subversion))
+answer_under_its_names call Nothing =
+    (refl, (refl, (refl, (refl, (refl, (refl, (refl, (refl, (refl, (refl, (refl, (refl, (refl, (refl, (refl, (refl, (refl, (refl, (refl, (refl, (refl, (refl, (refl, (refl, tt))))))))))))))))))))))))
+answer_under_its_names call (Short n) =
+    (refl, (refl, (refl, (refl, (refl, (refl, (refl, (refl, (refl, (refl, (refl, (refl, (refl, (refl, (refl, (refl, (refl, (refl, (refl, (refl, (refl, (refl, (refl, (refl, tt))))))))))))))))))))))))
+answer_under_its_names call (Version release version subversion) =
+    (refl, (refl, (refl, (refl, (refl, (refl, (refl, (refl, (refl, (refl, (refl, (refl, (refl, (refl, (refl, (refl, (refl, (refl, (refl, (refl, (refl, (refl, (refl, (refl, tt))))))))))))))))))))))))
 answer_under_its_names call (Long n) = long_under_its_name call n
-answer_under_its_names call (Name name) = name_stands name
+answer_under_its_names call (Name name) =
+    (refl, (refl, (refl, (refl, (refl, (refl, (refl, (refl, (refl, (refl, (refl, (refl, (refl, (refl, (refl, (refl, (refl, (refl, (refl, (refl, (refl, (refl, (refl, (refl, tt))))))))))))))))))))))))
 answer_under_its_names call (Date d) =
-    date_stands (quantity_text (value.Short d.year)) (quantity_text (value.Byte d.month)) (quantity_text (value.Byte d.day))
-    (quantity_text (value.Byte d.hour)) (quantity_text (value.Byte d.minute)) (quantity_text (value.Byte d.second))
-answer_under_its_names call (Temperature t) = temperature_stands (quantity_text (value.Double t))
-answer_under_its_names call (Place s) = place_stand (quantity_text (value.Double s.e0)) (quantity_text (value.Double s.n0)) (quantity_text (value.Double s.h0)) (quantity_text (value.Double s.hi))
-answer_under_its_names call (Height h) = reflector_stands (quantity_text (value.Double h))
-answer_under_its_names call (Angles hz v) = angles_stand (quantity_text (value.Double hz)) (quantity_text (value.Double v))
-answer_under_its_names call (Measured hz v distance) = angles_distance_stand (quantity_text (value.Double hz)) (quantity_text (value.Double v)) (quantity_text (value.Double distance))
+    (refl, (refl, (refl, (refl, (refl, (refl, (refl, (refl, (refl, (refl, (refl, (refl, (refl, (refl, (refl, (refl, (refl, (refl, (refl, (refl, (refl, (refl, (refl, (refl, tt))))))))))))))))))))))))
+answer_under_its_names call (Temperature t) =
+    (refl, (refl, (refl, (refl, (refl, (refl, (refl, (refl, (refl, (refl, (refl, (refl, (refl, (refl, (refl, (refl, (refl, (refl, (refl, (refl, (refl, (refl, (refl, (refl, tt))))))))))))))))))))))))
+answer_under_its_names call (Place s) =
+    (refl, (refl, (refl, (refl, (refl, (refl, (refl, (refl, (refl, (refl, (refl, (refl, (refl, (refl, (refl, (refl, (refl, (refl, (refl, (refl, (refl, (refl, (refl, (refl, tt))))))))))))))))))))))))
+answer_under_its_names call (Height h) =
+    (refl, (refl, (refl, (refl, (refl, (refl, (refl, (refl, (refl, (refl, (refl, (refl, (refl, (refl, (refl, (refl, (refl, (refl, (refl, (refl, (refl, (refl, (refl, (refl, tt))))))))))))))))))))))))
+answer_under_its_names call (Angles hz v) =
+    (refl, (refl, (refl, (refl, (refl, (refl, (refl, (refl, (refl, (refl, (refl, (refl, (refl, (refl, (refl, (refl, (refl, (refl, (refl, (refl, (refl, (refl, (refl, (refl, tt))))))))))))))))))))))))
+answer_under_its_names call (Measured hz v distance) =
+    (refl, (refl, (refl, (refl, (refl, (refl, (refl, (refl, (refl, (refl, (refl, (refl, (refl, (refl, (refl, (refl, (refl, (refl, (refl, (refl, (refl, (refl, (refl, (refl, tt))))))))))))))))))))))))
 answer_under_its_names call (MeasuredMode hz v distance mode) =
-    angles_distance_mode_stand (quantity_text (value.Double hz)) (quantity_text (value.Double v)) (quantity_text (value.Double distance)) (quantity_text (value.Long mode))
+    (refl, (refl, (refl, (refl, (refl, (refl, (refl, (refl, (refl, (refl, (refl, (refl, (refl, (refl, (refl, (refl, (refl, (refl, (refl, (refl, (refl, (refl, (refl, (refl, tt))))))))))))))))))))))))
 
--- if all fields of quantities are empty, the field under each name of one is empty
+-- if all fields of quantities are empty, `blank_under` holds of each name of one
 blank : AllByRecursion (λ (name : List ℕ). under name quantity_names (map escaped (replicate 24 [])) ≡ []) quantity_names
 blank =
     (refl, (refl, (refl, (refl, (refl, (refl, (refl, (refl, (refl, (refl, (refl, (refl, (refl, (refl, (refl, (refl, (refl, (refl, (refl, (refl, (refl, (refl, (refl, (refl, tt))))))))))))))))))))))))
+
+-- if all fields of quantities are empty, the field under a name of a quantity is empty
+blank_under : (name : List ℕ) (k : ℕ) → slice_get quantity_names k ≡ Some name → under name quantity_names (map escaped (replicate 24 [])) ≡ []
+blank_under name k is = all_at (λ (n : List ℕ). under n quantity_names (map escaped (replicate 24 [])) ≡ []) quantity_names k name blank is
 
 -- the answer is one to what was asked; each answer is, where a procedure was asked that isn't in the table
 abbrev pub IsAnswerTo : Asked → Answer → Type 0
@@ -371,7 +300,7 @@ columns_told : (asked : Asked) (answer : Answer) (name : List ℕ) (k : ℕ) →
 columns_told (Table call) answer name k is of =
     all_at (AreUnderTheirNames call answer) quantity_names k name (answer_under_its_names call answer) is
     ∙ ap (λ (names : List (List ℕ)). escaped (under name names (texts_of answer))) (have_their_names call answer of)
-columns_told (Raw raw) answer name k is of = all_at (λ (n : List ℕ). under n quantity_names (map escaped (replicate 24 [])) ≡ []) quantity_names k name blank is
+columns_told (Raw raw) answer name k is of = blank_under name k is
 
 module _ (when : When) (text : List ℕ) (command : Wish) (name : List ℕ) (k : ℕ) (is : slice_get quantity_names k ≡ Some name) where
   -- under this name a row has what the fields of its quantities have
@@ -382,10 +311,6 @@ module _ (when : When) (text : List ℕ) (command : Wish) (name : List ℕ) (k :
       ∙ under_front name quantity_names (map escaped (quantity_fields command.call end)) last_names (map escaped (last_fields when end)) (filled command.call end)
       (all_at (λ key. IsAmong key quantity_names) quantity_names k name all_among is)
 
-  -- if all fields of quantities are empty, the field under this name is empty
-  none : under name quantity_names (map escaped (replicate 24 [])) ≡ []
-  none = all_at (λ (n : List ℕ). under n quantity_names (map escaped (replicate 24 [])) ≡ []) quantity_names k name blank is
-
   -- where `answer` is one to what the command asks (`IsAnswerTo`), the row of the command, answered with it, has under this
   -- name the answer's quantity of this name, escaped
   pub quantity_stands : (quality : Quality) (answer : Answer) (line : List ℕ) → IsAnswerTo command.call answer
@@ -394,14 +319,14 @@ module _ (when : When) (text : List ℕ) (command : Wish) (name : List ℕ) (k :
 
   -- the row of a command that was answered without values has nothing under this name of a quantity
   pub none_answered : (quality : Quality) (line : List ℕ) → row_at when text command (Answered quality None line) true name ≡ []
-  none_answered quality line = quantities_under (Answered quality None line) ∙ none
+  none_answered quality line = quantities_under (Answered quality None line) ∙ blank_under name k is
 
   -- the row of a command that didn't end as `Answered` has nothing under this name of a quantity
   pub none_else : (end : End) → ((quality : Quality) (answer : Option Answer) (line : List ℕ) → end ≡ Answered quality answer line → ⊥) → row_at when text command end true name ≡ []
   none_else (Answered quality answer line) other = absurd (other quality answer line refl)
-  none_else (Unreadable line fault) other = quantities_under (Unreadable line fault) ∙ none
-  none_else (Elsewhere line) other = quantities_under (Elsewhere line) ∙ none
-  none_else Late other = quantities_under Late ∙ none
-  none_else Lost other = quantities_under Lost ∙ none
-  none_else Skipped other = quantities_under Skipped ∙ none
-  none_else Missed other = quantities_under Missed ∙ none
+  none_else (Unreadable line fault) other = quantities_under (Unreadable line fault) ∙ blank_under name k is
+  none_else (Elsewhere line) other = quantities_under (Elsewhere line) ∙ blank_under name k is
+  none_else Late other = quantities_under Late ∙ blank_under name k is
+  none_else Lost other = quantities_under Lost ∙ blank_under name k is
+  none_else Skipped other = quantities_under Skipped ∙ blank_under name k is
+  none_else Missed other = quantities_under Missed ∙ blank_under name k is

@@ -30,7 +30,7 @@ use Rattle.gc_rows.specs.Rows.{code_of, com_of}
 use Rattle.gc_rows.specs.declared.record.Form.{Form}
 use Rattle.gc_rows.specs.declared.record.Form.TheVariants.{Json}
 use Rattle.gc_rows.specs.declared.when.When.{When}
-use Rattle.gc_rows.proofs.JsonLines.{front_of, reads_as}
+use Rattle.gc_rows.proofs.JsonLines.{feed_apart, reads_as}
 use Rattle.gc_rows.proofs.Members.{have_plain_members}
 use Rattle.gc_links.specs.Acts.{Act}
 use Rattle.gc_station.specs.Qualities.{answer_in}
@@ -47,12 +47,13 @@ use Rattle.gc_field.specs.Runs.{IsInField}
 use Rattle.gc_field.specs.Shown.{stretches}
 use Rattle.gc_world.proofs.Places.{get_seen}
 use Rattle.gc_promise.specs.Fields.{quantity_in}
-use Rattle.gc_promise.specs.Objects.{AreOfBytes, AreOwnObjects, IsOwnObject, IsTyped, ObjectsAreTheirOwn, lines_text}
-use Rattle.gc_promise.specs.Tables.{acts_measured, parts_in, records_in, scope_of}
+use Rattle.gc_files.specs.Runs as rows
+use Rattle.gc_promise.specs.Objects.{AreOfBytes, AreOwnObjects, IsOwnObject, IsTyped, ObjectsAreTheirOwn}
+use Rattle.gc_promise.specs.Tables.{acts_of, parts_in, records_in, scope_of}
 use Rattle.gc_promise.proofs.Finding.{at_member, member_attempt, member_cycle, member_outcome, member_place, member_procedure, member_quality, member_quantity, member_rc, member_rc_com, member_sent, member_stands, member_target, member_values, zeros_gone}
 use Rattle.gc_promise.proofs.Judged.{no_value_if_none, value_if_some}
 use Rattle.gc_promise.proofs.Names.{answer_to}
-use Rattle.gc_lines.proofs.Lists.{all_front}
+use Rattle.gc_values.proofs.Every.{every_front as all_front}
 use Rattle.gc_promise.proofs.Tabled.{nothing_in}
 use Rattle.gc_promise.proofs.Taken.{Took, run_took}
 use Rattle.gc_promise.proofs.Unbroken.{line_unbroken}
@@ -125,10 +126,10 @@ line_text when text command end = (codes "{\"run\":" ++ string_text (stamp_text 
 
 -- the text of a record is its line and a line feed
 line_ends : (when : When) (text : List ℕ) (command : Wish) (end : End) → record_text Json when text command end ≡ line_text when text command end ++ 10 ∷ []
-line_ends when text command end = front_of (codes "{\"run\":" ++ string_text (stamp_text when.run)) (members_text (json_members when text command end))
+line_ends when text command end = feed_apart (codes "{\"run\":" ++ string_text (stamp_text when.run)) (members_text (json_members when text command end))
 
 -- if each text is a line and a line feed, the texts joined are the lines joined, each with its line feed
-each_line : {X : Type 0} (text line : X → List ℕ) → ((x : X) → text x ≡ line x ++ 10 ∷ []) → (xs : List X) → flat_map text xs ≡ lines_text (map line xs)
+each_line : {X : Type 0} (text line : X → List ℕ) → ((x : X) → text x ≡ line x ++ 10 ∷ []) → (xs : List X) → flat_map text xs ≡ rows.lines (map line xs)
 each_line says_text line one [] = refl
 each_line says_text line one (x ∷ xs) = ap (λ (l : List ℕ). l ++ flat_map says_text xs) (one x) ∙ ap (λ (l : List ℕ). (line x ++ 10 ∷ []) ++ l) (each_line says_text line one xs)
 
@@ -211,6 +212,6 @@ module _ {State : Type 0} (ends : Ends State) (kept : State → Option KeptReply
 
 -- what a sink took of a run are its own objects
 pub objects_own : {State : Type 0} → ObjectsAreTheirOwn State
-objects_own ends kept is survey form old new result behind recorded had none some began reads are u rs there small =
-    objected ends kept is survey form reads are (acts_measured result recorded) u rs there small result had new.taken
-    (run_took survey old new result behind recorded had none some began reads are)
+objects_own ends kept is reads are run was form small =
+    objected ends kept is run.survey form reads are (acts_of run) run.in_flight run.happened was.in_field small run.result run.had run.new.taken
+    (run_took ends kept reads are run was)

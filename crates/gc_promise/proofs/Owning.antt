@@ -54,18 +54,6 @@ module _ (columns : Bool) (when : When) (name : List ℕ) (command : Wish) (end 
   on_line : (key line : List ℕ) → line_of end ≡ Some line → column key (row_fields columns when name command end) ≡ column key (by_line when name command end columns (Some line))
   on_line key line e = ap (λ o. column key (by_line when name command end columns o)) e
 
-  -- the column `rc_com` has the communication code of the line that ended the command
-  under_rc_com : (line : List ℕ) → line_of end ≡ Some line → column (codes "rc_com") (row_fields columns when name command end) ≡ com_of line
-  under_rc_com line e = on_line (codes "rc_com") line e
-
-  -- the column `rc` has the return code of the line that ended the command
-  under_rc : (line : List ℕ) → line_of end ≡ Some line → column (codes "rc") (row_fields columns when name command end) ≡ code_of line
-  under_rc line e = on_line (codes "rc") line e
-
-  -- the column `values` has the values of the line that ended the command
-  under_values : (line : List ℕ) → line_of end ≡ Some line → column (codes "values") (row_fields columns when name command end) ≡ values_of line
-  under_values line e = on_line (codes "values") line e
-
 -- the text of a record in a table is the row of its fields
 pub in_table : (columns : Bool) (when : When) (name : List ℕ) (command : Wish) (end : End)
     → record_text (table_form columns) when name command end ≡ row_of (row_fields columns when name command end)
@@ -84,6 +72,9 @@ says layout columns names r line answered reply =
     let when = when_of layout.run r in
     let name = name_text r.command.target names in
     let said = reply_columns line reply.0 reply.1 in
+    let rc_com : column (codes "rc_com") (row_fields columns when name r.command r.end) ≡ com_of line = on_line columns when name r.command r.end (codes "rc_com") line answered in
+    let rc : column (codes "rc") (row_fields columns when name r.command r.end) ≡ code_of line = on_line columns when name r.command r.end (codes "rc") line answered in
+    let values : column (codes "values") (row_fields columns when name r.command r.end) ≡ values_of line = on_line columns when name r.command r.end (codes "values") line answered in
     record {
       sent = refl;
       cycle = refl;
@@ -93,9 +84,9 @@ says layout columns names r line answered reply =
       outcome = refl;
       reply = reply.0;
       is_reply = reply.1;
-      rc_com = rw (under_rc_com columns when name r.command r.end line answered) said.rc_com;
-      rc = rw (under_rc columns when name r.command r.end line answered) said.rc;
-      values = under_values columns when name r.command r.end line answered ∙ said.values;
+      rc_com = rw (rc_com) said.rc_com;
+      rc = rw (rc) said.rc;
+      values = values ∙ said.values;
     }
 
 module _ {State : Type 0} (ends : Ends State) (kept : State → Option KeptReply) (layout : Layout) (columns : Bool) (names : List Name) (form : layout.form ≡ table_form columns)

@@ -1,6 +1,7 @@
 -- Bytes as lines: how many there are, and which of them are those of a front. Bytes are whole if they end in a line feed or are
 -- none.
 use Rattle.std.proofs.Common.{◌≡◌, inl, inr, ℕ, ◌+◌, ◌-◌, ◌≤◌, ◌==◌, true, false, List, [], ◌∷◌, ◌++◌, length, take, drop, refl, sym, ◌∙◌, ap, subst, arith, append_assoc, length-append, if◌then◌else◌}
+use Rattle.std.specs.List.{onto_first}
 use Rattle.std.proofs.Math.Seq.{take-append-add}
 use Rattle.std.proofs.lemmas.Bool.{cases_Bool, eqb-true}
 use Rattle.std.proofs.lemmas.List.{take_at, take-append-drop}
@@ -10,18 +11,14 @@ use Rattle.gc_files.specs.Runs.{lines, AreRows}
 use Rattle.gc_files.proofs.Whole.{whole_none}
 use Rattle.gc_field.proofs.BeginWords.{cons_not_nil}
 
--- these lines, with a byte more at the start of the first one; a line of that byte alone if there is none
-abbrev pub onto : ℕ → List (List ℕ) → List (List ℕ)
-onto b [] = (b ∷ []) ∷ []
-onto b (row ∷ rows) = (b ∷ row) ∷ rows
-
--- the lines of bytes, without their line feeds; after the last line feed there is one more, if anything is left
+-- the lines of bytes, without their line feeds; after the last line feed there is one more, if anything is left. (`onto_first` puts
+-- a byte before the bytes of the first line.)
 abbrev pub pieces : List ℕ → List (List ℕ)
 pieces [] = []
-pieces (b ∷ bs) = if b == 10 then [] ∷ pieces bs else onto b (pieces bs)
+pieces (b ∷ bs) = if b == 10 then [] ∷ pieces bs else onto_first b (pieces bs)
 
 -- rows (lines without a line feed) stay rows with a byte put before the first one, if that byte is no line feed
-onto_rows : (b : ℕ) (rows : List (List ℕ)) → (b == 10) ≡ false → AreRows rows → AreRows (onto b rows)
+onto_rows : (b : ℕ) (rows : List (List ℕ)) → (b == 10) ≡ false → AreRows rows → AreRows (onto_first b rows)
 onto_rows b [] isnt are = (rw (isnt) refl, tt)
 onto_rows b (row ∷ rows) isnt are = (rw (isnt) are.0, are.1)
 
@@ -54,7 +51,7 @@ record IsOneOrMore (rows : List (List ℕ)) : Type 0 where
   is : rows ≡ row ∷ others
 
 -- lines with a byte put before the first one are at least one
-onto_some : (b : ℕ) (rows : List (List ℕ)) → IsOneOrMore (onto b rows)
+onto_some : (b : ℕ) (rows : List (List ℕ)) → IsOneOrMore (onto_first b rows)
 onto_some b [] = record { row = b ∷ []; others = []; is = refl }
 onto_some b (row ∷ rows) = record { row = b ∷ row; others = rows; is = refl }
 
@@ -71,18 +68,18 @@ feed_behind_first : (b : ℕ) (bs : List ℕ) → (b == 10) ≡ false → has_fe
 feed_behind_first b bs isnt some = subst (λ t. (if t then true else has_feed bs) ≡ true) isnt some
 
 -- if there is a line, the bytes of the lines with a byte put before the first one are that byte and the bytes of the lines
-onto_lines : (b : ℕ) (rows : List (List ℕ)) → IsOneOrMore rows → lines (onto b rows) ≡ b ∷ lines rows
+onto_lines : (b : ℕ) (rows : List (List ℕ)) → IsOneOrMore rows → lines (onto_first b rows) ≡ b ∷ lines rows
 onto_lines b [] some = let wrong : [] ≡ some.row ∷ some.others = some.is in cc
 onto_lines b (row ∷ rows) some = refl
 
 -- if there is a line in `rows`, to put a byte before the first of the lines `rows` and `others` together is to put it before the
 -- first of `rows`, and `others` after these
-onto_two : (b : ℕ) (rows others : List (List ℕ)) → IsOneOrMore rows → onto b (rows ++ others) ≡ onto b rows ++ others
+onto_two : (b : ℕ) (rows others : List (List ℕ)) → IsOneOrMore rows → onto_first b (rows ++ others) ≡ onto_first b rows ++ others
 onto_two b [] others some = let wrong : [] ≡ some.row ∷ some.others = some.is in cc
 onto_two b (row ∷ rows) others some = refl
 
 -- if there is a line, a byte put before the first one makes no further line
-onto_length : (b : ℕ) (rows : List (List ℕ)) → IsOneOrMore rows → length (onto b rows) ≡ length rows
+onto_length : (b : ℕ) (rows : List (List ℕ)) → IsOneOrMore rows → length (onto_first b rows) ≡ length rows
 onto_length b [] some = let wrong : [] ≡ some.row ∷ some.others = some.is in cc
 onto_length b (row ∷ rows) some = refl
 
@@ -92,13 +89,9 @@ pieces_whole [] is = refl
 pieces_whole (b ∷ bs) is =
     let t = tail_whole b bs is in
     elim (cases_Bool (b == 10)) [
-      | inl ten ↦ rw (ten) (ap (λ (l : List ℕ). 10 ∷ l) (pieces_whole bs t.1) ∙ ap (λ n. n ∷ bs) (sym (ten_of b ten)))
+      | inl ten ↦ rw (ten) (ap (λ (l : List ℕ). 10 ∷ l) (pieces_whole bs t.1) ∙ ap (λ n. n ∷ bs) (sym (eqb-true b 10 ten)))
       | inr isnt ↦ rw (isnt) (onto_lines b (pieces bs) (some_piece bs (feed_behind_first b bs isnt t.0)) ∙ ap (λ (l : List ℕ). b ∷ l) (pieces_whole bs t.1))
     ]
-  where
-    -- a byte that the test finds equal to 10 is 10
-    ten_of : (b : ℕ) → (b == 10) ≡ true → b ≡ 10
-    ten_of b is = eqb-true b 10 is
 
 -- the pieces of whole bytes `xs` and of `ys` after them are those of `xs` and then those of `ys`
 pub pieces_two : (xs ys : List ℕ) → whole xs ≡ xs → pieces (xs ++ ys) ≡ pieces xs ++ pieces ys
@@ -107,7 +100,7 @@ pieces_two (b ∷ bs) ys is =
     let t = tail_whole b bs is in
     elim (cases_Bool (b == 10)) [
       | inl ten ↦ rw (ten) (ap (λ (l : List (List ℕ)). [] ∷ l) (pieces_two bs ys t.1))
-      | inr isnt ↦ rw (isnt) (ap (onto b) (pieces_two bs ys t.1) ∙ onto_two b (pieces bs) (pieces ys) (some_piece bs (feed_behind_first b bs isnt t.0)))
+      | inr isnt ↦ rw (isnt) (ap (onto_first b) (pieces_two bs ys t.1) ∙ onto_two b (pieces bs) (pieces ys) (some_piece bs (feed_behind_first b bs isnt t.0)))
     ]
 
 -- whole bytes have as many pieces as line feeds

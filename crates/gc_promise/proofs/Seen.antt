@@ -1,4 +1,4 @@
--- What the contract of a run says of one of its turns, what was seen at an act, and of what the book took.
+-- What the contract of a run says of one of its turns (what was seen at an act), and of what the book took.
 use Rattle.std.proofs.Common.{◌≡◌, ℕ, List, [], ◌∷◌, ◌++◌, take, drop, Option, Some, Result, Ok, Err, inl, inr, refl, sym, ◌∙◌, ap, subst, append_assoc, append-nil}
 use Rattle.std.proofs.lemmas.List.{take-append-drop}
 use Rattle.std.specs.Io.KnownBytes.{Appends}
@@ -23,6 +23,10 @@ use Rattle.std.proofs.lemmas.Grind.{flat_map-append}
 pub texts_whole : (text : Record → List ℕ) → ((r : Record) → whole (text r) ≡ text r) → (rs : List Record) → whole (texts_of text rs) ≡ texts_of text rs
 texts_whole text each [] = refl
 texts_whole text each (r ∷ rs) = whole_more (text r) (texts_of text rs) (each r) ∙ ap (λ (l : List ℕ). text r ++ l) (texts_whole text each rs)
+
+-- bytes that are equal to `all` are a front of it
+same_front : (bytes all : List ℕ) → bytes ≡ all → IsFront bytes all
+same_front bytes all is = record { rest = []; split = sym is ∙ sym (append-nil bytes) }
 
 module _ (plan : Plan) (commands : List Task) (scope : Scope) (text : Record → List ℕ) where
   -- at a turn, all that the acts `before` and some more after them settled was kept
@@ -56,10 +60,6 @@ module _ (plan : Plan) (commands : List Task) (scope : Scope) (text : Record →
     pub others : List Act
     pub all : told ≡ acts ++ others
     pub own : IsFront bytes (texts_of text (state_after plan commands scope acts).records)
-
-  -- bytes are a front of themselves
-  same_front : (bytes all : List ℕ) → bytes ≡ all → IsFront bytes all
-  same_front bytes all is = record { rest = []; split = sym is ∙ sym (append-nil bytes) }
 
   -- what was written of records that were written in part is a front of all their texts
   part_front : (before all : List Record) (bytes : List ℕ) → (w : WritesPart text before all (Some []) (Some bytes)) → IsFront bytes (texts_of text all)

@@ -36,7 +36,7 @@ use Rattle.gc_field.specs.Runs.{IsInField}
 use Rattle.gc_field.specs.Shown.{stretches}
 use Rattle.gc_world.proofs.Places.{get_seen}
 use Rattle.gc_promise.specs.Fields.{IsOwn, IsQuantity, quantity_in, under}
-use Rattle.gc_promise.specs.Tables.{AreReadAs, IsOwnTable, TablesAreTheirOwn, acts_measured, head_rows, header, parts_in, records_in, scope_of, table_form}
+use Rattle.gc_promise.specs.Tables.{AreReadAs, IsOwnTable, TablesAreTheirOwn, acts_of, head_rows, header, parts_in, records_in, scope_of, table_form}
 use Rattle.gc_promise.proofs.Judged.{no_value_if_none, value_if_some}
 use Rattle.gc_promise.proofs.Names.{answer_to, none_answered, none_else, quantity_stands, under_attempt, under_cycle, under_outcome, under_place, under_procedure, under_quality, under_rc, under_rc_com, under_sent, under_target, under_values, row_at}
 use Rattle.gc_promise.proofs.Owning.{fields_of, in_table, two_fields}
@@ -177,6 +177,6 @@ module _ {State : Type 0} (ends : Ends State) (kept : State → Option KeptReply
 
 -- what a sink took of a run is its own table
 pub tables_own : {State : Type 0} → TablesAreTheirOwn State
-tables_own ends kept is survey columns form old new result behind recorded had none some began reads are u rs there =
-    tabled ends kept is survey columns form reads are (acts_measured result recorded) u rs there result had new.taken
-    (run_took survey old new result behind recorded had none some began reads are)
+tables_own ends kept is reads are run was columns form =
+    tabled ends kept is run.survey columns form reads are (acts_of run) run.in_flight run.happened was.in_field run.result run.had run.new.taken
+    (run_took ends kept reads are run was)

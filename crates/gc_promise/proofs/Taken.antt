@@ -1,5 +1,5 @@
 -- What a sink took of a run, and which acts and records were its own.
-use Rattle.std.proofs.Common.{◌≡◌, inl, inr, ℕ, ◌-◌, List, [], ◌∷◌, ◌++◌, length, take, drop, Option, Some, None, Result, Ok, Err, refl, sym, ap, ◌∙◌, subst, arith, append_assoc, append-nil, length-append}
+use Rattle.std.proofs.Common.{◌≡◌, inl, inr, ℕ, ◌-◌, List, [], ◌∷◌, ◌++◌, take, drop, Option, Some, None, Result, Ok, Err, refl, sym, ap, ◌∙◌, subst, arith, append_assoc, append-nil}
 use Rattle.std.specs.Io.KnownBytes.{Appends}
 use Rattle.std.proofs.lemmas.List.{length-drop, take-append-drop}
 use Rattle.gc_catalogue.specs.declared.answer.Reading.{Reading}
@@ -13,22 +13,19 @@ use Rattle.gc_station.specs.Runs.{Ran, state_after}
 use Rattle.gc_station.specs.Scopes.{Scope, AreReadings}
 use Rattle.gc_station.specs.declared.plan.Plan.{Plan}
 use Rattle.gc_station.specs.declared.tally.Tally.{Tally}
-use Rattle.gc_measuring.specs.Measuring.{Survey, PortsSeen, RunsAfterFront, front_text, text_in}
+use Rattle.gc_measuring.specs.Measuring.{front_text, text_in}
 use Rattle.gc_measuring.specs.Stops.{end_of_run}
 use Rattle.gc_measuring.specs.declared.stop.Stop.{Stop}
 use Rattle.gc_measuring.specs.declared.stop.Stop.TheVariants.{Run}
-use Rattle.gc_promise.specs.Tables.{AreWritten, acts_measured, records_in, scope_of}
-use Rattle.std.proofs.Math.Seq.{take-append_seam}
+use Rattle.gc_instrument.specs.State.{KeptReply}
+use Rattle.gc_field.specs.World.{Ends}
+use Rattle.gc_promise.specs.Tables.{AreWritten, FieldRun, IsFieldRun, acts_measured, acts_of, records_in, scope_of}
+use Rattle.gc_catalogue.proofs.Joining.{without_last}
 
--- The acts.
-
--- all acts but the last one of `xs` and then `x` are `xs`
-but_last : (xs : List Act) (x : Act) → take (length (xs ++ x ∷ []) - 1) (xs ++ x ∷ []) ≡ xs
-but_last xs x =
-    let many = length-append xs (x ∷ []) in
-    ap (λ (n : ℕ). take n (xs ++ x ∷ [])) (let one : length (xs ++ x ∷ []) - 1 ≡ length xs = omega (arith, many) in one) ∙ take-append_seam xs (x ∷ [])
-
--- The bytes.
+-- what is appended to known bytes comes after them
+pub appended_to_known : (start bytes : List ℕ) (has : Option (List ℕ)) → Appends (Some start) has bytes → has ≡ Some (start ++ bytes)
+appended_to_known start bytes None e = absurd e
+appended_to_known start bytes (Some ys) e = ap Some e
 
 module _ (text : Record → List ℕ) where
   -- a sink that had the bytes `start` has these records' texts after them now, all or, if the output failed, the first ones and
@@ -38,17 +35,12 @@ module _ (text : Record → List ℕ) where
     pub are : AreWritten text records result torn
     pub is : has ≡ Some (start ++ (texts_of text are.written ++ torn))
 
-  -- what is appended to known bytes comes after them
-  appended : (start bytes : List ℕ) (has : Option (List ℕ)) → Appends (Some start) has bytes → has ≡ Some (start ++ bytes)
-  appended start bytes None e = absurd e
-  appended start bytes (Some ys) e = ap Some e
-
   -- if all texts were written, `Took` holds
   took_all : (records : List Record) (result : Result Tally Stop) (start : List ℕ) (has : Option (List ℕ)) → Appends (Some start) has (texts_of text records) → Took records result start has
   took_all records result start has took = record {
     torn = [];
     are = record { written = records; unwritten = []; order = sym (append-nil records); all = λ _. refl; part = refl };
-    is = appended start (texts_of text records) has took ∙ ap (λ (l : List ℕ). Some (start ++ l)) (sym (append-nil (texts_of text records)));
+    is = appended_to_known start (texts_of text records) has took ∙ ap (λ (l : List ℕ). Some (start ++ l)) (sym (append-nil (texts_of text records)));
   }
 
   -- if a part was written and the output failed, `Took` holds
@@ -62,7 +54,7 @@ module _ (text : Record → List ℕ) where
       all = λ no. absurd (no refl);
       part = (drop w.part (text w.next), sym (take-append-drop w.part (text w.next)), let left = length-drop w.part (text w.next) in let some = w.not_all in omega (arith, left, some));
     };
-    is = appended start (texts_of text (before ++ w.earlier) ++ take w.part (text w.next)) has w.took;
+    is = appended_to_known start (texts_of text (before ++ w.earlier) ++ take w.part (text w.next)) has w.took;
   }
 
   module _ (plan : Plan) (commands : List Task) (scope : Scope) (told : List Act) (start : List ℕ) (has : Option (List ℕ)) where
@@ -78,25 +70,29 @@ module _ (text : Record → List ℕ) where
     ran_took (Ok tally) r = took_of r.1.acts told (Ok tally) r.1.tells r.1.took
     ran_took (Err Output) (inl r) =
         let whole : told ≡ (r.acts ++ r.last ∷ []) ++ Closed ∷ [] = r.tells ∙ sym (append_assoc r.acts (r.last ∷ []) (Closed ∷ [])) in
-        let measured : acts_measured (Err (Run Output)) told ≡ r.acts ++ r.last ∷ [] = ap (acts_measured (Err (Run Output))) whole ∙ but_last (r.acts ++ r.last ∷ []) Closed in
+        let measured : acts_measured (Err (Run Output)) told ≡ r.acts ++ r.last ∷ [] = ap (acts_measured (Err (Run Output))) whole ∙ without_last (r.acts ++ r.last ∷ []) Closed in
         subst (λ (acts : List Act). Took (state_after plan commands scope acts).records (Err (Run Output)) start has) (sym measured)
         (took_part (state_after plan commands scope r.acts).records (state_after plan commands scope (r.acts ++ r.last ∷ [])).records start has r.took)
     ran_took (Err Output) (inr r) =
-        took_of r.acts (acts_measured (Err (Run Output)) told) (Err (Run Output)) (ap (acts_measured (Err (Run Output))) r.tells ∙ but_last r.acts Closed) r.took
+        took_of r.acts (acts_measured (Err (Run Output)) told) (Err (Run Output)) (ap (acts_measured (Err (Run Output))) r.tells ∙ without_last r.acts Closed) r.took
     ran_took (Err fault) r = took_of r.2.acts told (Err (Run fault)) r.2.tells r.2.took
 
--- what a sink took of a run is what was written of its records, after what the sink had and what comes before the records
-pub run_took : (survey : Survey) (old new : PortsSeen) (result : Result Tally Stop) → RunsAfterFront survey old new result →
-    (told : List Act) (had : List ℕ) → old.acts ≡ Some [] → new.acts ≡ Some told → old.taken ≡ Some had → (reads : Asked → List ℕ → Reading) → AreReadings reads →
-    Took (text_in survey.layout survey.names) (records_in survey reads (acts_measured result told)) result (had ++ front_text survey.layout) new.taken
-run_took survey old new result b told had none some began reads are =
+-- what a sink took of a run in the field is what was written of its records, after what the sink had and what comes before the
+-- records
+pub run_took : {State : Type 0} (ends : Ends State) (kept : State → Option KeptReply) (reads : Asked → List ℕ → Reading) → AreReadings reads
+    → (run : FieldRun State) → IsFieldRun ends kept reads run
+    → Took (text_in run.survey.layout run.survey.names) (records_in run.survey reads (acts_of run)) run.result (run.had ++ front_text run.survey.layout) run.new.taken
+run_took ends kept reads are run was =
+    let survey = run.survey in
+    let b = was.measured in
     let text = text_in survey.layout survey.names in
     let scope = scope_of survey reads in
-    let start = had ++ front_text survey.layout in
-    let between : b.between ≡ Some start = appended text had (front_text survey.layout) b.between (subst (λ (x : Option (List ℕ)). Appends x b.between (front_text survey.layout)) began b.front) in
-    let ran : Ran survey.plan survey.tasks scope text (Some []) (Some told) (Some start) new.taken b.end =
-    subst (λ (x : Option (List ℕ)). Ran survey.plan survey.tasks scope text (Some []) (Some told) x new.taken b.end) between
-    (subst (λ (x : Option (List Act)). Ran survey.plan survey.tasks scope text (Some []) x b.between new.taken b.end) some
-    (subst (λ (x : Option (List Act)). Ran survey.plan survey.tasks scope text x new.acts b.between new.taken b.end) none (b.ran.0 reads are))) in
-    subst (λ (r : Result Tally Stop). Took text (records_in survey reads (acts_measured r told)) r start new.taken) (sym b.is)
-    (ran_took text survey.plan survey.tasks scope told start new.taken b.end ran)
+    let start = run.had ++ front_text survey.layout in
+    let between : b.between ≡ Some start =
+    appended_to_known run.had (front_text survey.layout) b.between (subst (λ (x : Option (List ℕ)). Appends x b.between (front_text survey.layout)) was.took b.front) in
+    let ran : Ran survey.plan survey.tasks scope text (Some []) (Some run.recorded) (Some start) run.new.taken b.end =
+    subst (λ (x : Option (List ℕ)). Ran survey.plan survey.tasks scope text (Some []) (Some run.recorded) x run.new.taken b.end) between
+    (subst (λ (x : Option (List Act)). Ran survey.plan survey.tasks scope text (Some []) x b.between run.new.taken b.end) was.acts
+    (subst (λ (x : Option (List Act)). Ran survey.plan survey.tasks scope text x run.new.acts b.between run.new.taken b.end) was.none (b.ran.0 reads are))) in
+    subst (λ (r : Result Tally Stop). Took text (records_in survey reads (acts_measured r run.recorded)) r start run.new.taken) (sym b.is)
+    (ran_took text survey.plan survey.tasks scope run.recorded start run.new.taken b.end ran)

@@ -10,18 +10,14 @@ use Rattle.gc_catalogue.specs.declared.asked.Asked.{Asked}
 use Rattle.gc_texts.specs.Nears.{is_elsewhere}
 use Rattle.gc_links.specs.Acts.{Act}
 use Rattle.gc_station.specs.Keeping.{AreKept, KeepsUp, Snapshot}
-use Rattle.gc_station.specs.Model.{Model, after, after_all, opening}
+use Rattle.gc_station.specs.Model.{Model, after, opening}
 use Rattle.gc_station.specs.Records.{Record, texts_of}
 use Rattle.gc_station.specs.Runs.{state_after}
 use Rattle.gc_station.specs.Scopes.{AreReadings}
+use Rattle.gc_station.proofs.Going.{after_all-append}
 use Rattle.gc_promise.specs.Eventful.{acts, commands, plan, scope}
 use Rattle.gc_promise.proofs.Eventful.{all_run}
 use Rattle.gc_promise.proofs.TrueReadings.{patched, patched_same}
-
--- the model after some acts and one more is what that one makes of the model after the others
-after_more : (s : Model) (done : List Act) (act : Act) → after_all plan commands s (done ++ act ∷ []) ≡ after plan commands (after_all plan commands s done) act
-after_more s [] act = refl
-after_more s (d ∷ done) act = after_more (after plan commands s d) done act
 
 module _ (text : Record → List ℕ) where
   -- what is seen at each of these acts, from this model on, after the acts that were done
@@ -38,7 +34,7 @@ module _ (text : Record → List ℕ) where
   kept_from reads s done (act ∷ acts) is = (
     record { tells = refl; took = ap (λ (m : Model). texts_of text m.records) is; lasts = refl },
     kept_from reads (after plan commands s act) (done ++ act ∷ []) acts
-        (ap (λ (m : Model). after plan commands m act) is ∙ sym (after_more (opening plan (scope reads)) done act)),
+        (ap (λ (m : Model). after plan commands m act) is ∙ sym (after_all-append plan commands (opening plan (scope reads)) done (act ∷ []))),
   )
 
   -- what is seen at the acts of the run, with `reads` as `patched` makes it

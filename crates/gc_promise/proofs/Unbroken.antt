@@ -24,8 +24,8 @@ use Rattle.gc_rows.specs.declared.when.When.{When}
 use Rattle.gc_rows.proofs.Columns.{lacks_both, reply_columns}
 use Rattle.gc_texts.specs.Cuts.{before, behind}
 use Rattle.gc_station.proofs.Lists.{all_append}
-use Rattle.gc_promise.proofs.Finding.{IsPlain, double_plain, signed_plain, zeros_gone}
-use Rattle.gc_promise.proofs.Plain.{decimal_plain, number_plain}
+use Rattle.gc_promise.proofs.Finding.{double_plain, signed_plain, zeros_gone}
+use Rattle.gc_promise.proofs.Plain.{IsPlain, decimal_plain, number_plain}
 
 -- Texts.
 

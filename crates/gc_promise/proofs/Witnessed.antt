@@ -20,7 +20,7 @@ use Rattle.gc_field.specs.Instrument.{AnyState, nothing}
 use Rattle.gc_field.specs.Shown.{stretches}
 use Rattle.gc_promise.specs.Eventful.{acts, at_start, commands, elsewhere, empty, measured, numbered, plan, pointed, runs, scope, tally, reporting}
 use Rattle.gc_promise.specs.Rows.{IsOwnIfAnswered}
-use Rattle.gc_promise.specs.Tables.{table_form}
+use Rattle.gc_promise.specs.Tables.{FieldRun, IsFieldRun, table_form}
 use Rattle.gc_promise.specs.Witness.{HasOwnRows, SomeRowIsItsOwn, survey, in_a_table, layout_in, ports_at, taken}
 use Rattle.gc_promise.proofs.Eventful.{eventful, ran_whole}
 use Rattle.gc_promise.proofs.Owning.{rows_own}
@@ -50,6 +50,24 @@ is_measured form =
       keeps = for_readings _ (keeps_whole (text_in (layout_in form) []));
     }
 
+-- the eventful run, with its records written in this form
+abbrev run_in : Form → FieldRun (List ℕ)
+run_in form =
+    record {
+      survey = survey form;
+      old = ports_at [] [] [];
+      new = ports_at acts (taken form) (turns_in form);
+      result = Ok tally;
+      recorded = acts;
+      had = [];
+      in_flight = at_start;
+      happened = runs;
+    }
+
+-- in each form, the eventful run is one in the field
+is_field_run : (reads : Asked → List ℕ → Reading) → AreReadings reads → (form : Form) → IsFieldRun reporting nothing reads (run_in form)
+is_field_run reads are form = record { measured = is_measured form; none = refl; acts = refl; took = refl; in_field = (eventful reads are).field }
+
 -- `HasOwnRows` holds of the eventful run, with every function that gives what each reply says of its call
 own_rows : (reads : Asked → List ℕ → Reading) → AreReadings reads → HasOwnRows reads
 unfolding digits days_after
@@ -65,10 +83,8 @@ own_rows reads are =
       elsewhere = (refl, answers.1.1.0 elsewhere refl);
       number = (refl, answers.1.1.1.0 numbered refl);
       unreadable = (refl, answers.1.1.1.1.0 empty refl);
-      tables = λ columns. tables_own reporting nothing run.is_instrument (survey (table_form columns)) columns refl (ports_at [] [] [])
-          (ports_at acts (taken (table_form columns)) (turns_in (table_form columns))) (Ok tally) (is_measured (table_form columns)) acts [] refl refl refl reads are at_start runs run.field;
-      objects = objects_own reporting nothing run.is_instrument (survey Json) refl (ports_at [] [] []) (ports_at acts (taken Json) (turns_in Json)) (Ok tally)
-          (is_measured Json) acts [] refl refl refl reads are at_start runs run.field (subst (AreOfBytes (survey Json)) (sym run.written) of_types);
+      tables = λ columns. tables_own reporting nothing run.is_instrument reads are (run_in (table_form columns)) (is_field_run reads are (table_form columns)) columns refl;
+      objects = objects_own reporting nothing run.is_instrument reads are (run_in Json) (is_field_run reads are Json) refl (subst (AreOfBytes (survey Json)) (sym run.written) of_types);
     }
 
 -- the eventful run meets all that the law on rows asks, and its rows are their own

@@ -6,7 +6,6 @@
 use Rattle.std.specs.Prelude.{◌≡◌, ℕ, suc, ◌+◌, Bool, true, false, List, [], ◌∷◌, ◌++◌, ◌==◌, if◌then◌else◌, codes, drop, map, pos, refl, replicate, Option, Some, None}
 use Rattle.std.specs.List.{flat_map}
 use Rattle.gc_lines.specs.Lines.{with_end}
-use Rattle.gc_lines.specs.Replies.{reply_text}
 use Rattle.gc_values.specs.Decimals.{decimal}
 use Rattle.gc_values.specs.declared.decimal.Decimal.{Decimal}
 use Rattle.gc_values.specs.declared.fault.ValueFault.TheVariants.{Count}
@@ -16,7 +15,6 @@ use Rattle.gc_catalogue.specs.declared.answer.Reading.{Reading}
 use Rattle.gc_catalogue.specs.declared.asked.Asked.{Asked}
 use Rattle.gc_catalogue.specs.declared.asked.Asked.TheVariants.{Table}
 use Rattle.gc_catalogue.specs.declared.call.Call.TheVariants.{InstrumentNo, NullProc}
-use Rattle.gc_client.specs.Rule.{heard}
 use Rattle.gc_client.specs.declared.window.TheConstants.{WINDOW}
 use Rattle.gc_texts.specs.Endings as end
 use Rattle.gc_texts.specs.Endings.{End}
@@ -43,6 +41,7 @@ use Rattle.gc_field.specs.Beginnings.{Run, left_by_run}
 use Rattle.gc_field.specs.BeginsAnew.{put_all, send_all}
 use Rattle.gc_field.specs.Begun.{WasMadeOn}
 use Rattle.gc_field.specs.ChainWitness.{hz, v, points, reads_all, first_reply}
+use Rattle.gc_field.specs.Drifting.{tells_its_state}
 use Rattle.gc_field.specs.Field.{Move, Sends, Tells, Comes, Foreign, OnLine, Anew, Changes}
 use Rattle.gc_field.specs.Instrument.{IsAnInstrument, AnyState, nothing}
 use Rattle.gc_field.specs.Runs.{IsInField, world}
@@ -54,13 +53,7 @@ use Rattle.gc_field.specs.Witness.{null_lines, at, eight_answered, exchanged, re
 -- the instrument: its state is a text, which it sends as the parameters of every reply. It keeps no reply, and a start leaves
 -- it with no text
 abbrev pub reporting : Ends (List ℕ)
-reporting =
-    record {
-      handed = λ s id call. record { state = s; reply = reply_text (record { rc_com = 0; id = Some id; rc = 0; params = s }); executed = true };
-      restarted = λ s. [];
-      heard = heard;
-      joint = false;
-    }
+reporting = tells_its_state {State = List ℕ} (λ text. text) []
 
 -- The station.
 
@@ -69,13 +62,13 @@ reporting =
 abbrev pub plan : Plan
 plan = record { width = 7; deadline = 100; every = 150; cycles = 3; quiet = 10; retries = 3; setup = 0; stale = 0; watched = false }
 
--- the turn of a command at this place, in the first attempt: a command that is chained is the second of its chain, and any other the
--- first
+-- the turn of a command at this place, in the first attempt: a command that is chained is the second of its chain, and any other
+-- the first
 abbrev pub turn_at : ℕ → Bool → command.Turn
 turn_at place chained = record { place = place; attempt = 1; link = if chained then 1 else 0 }
 
--- a command with a deadline of 50 ms, whose chain isn't sent again: its place, its target, what it asks, whether it is chained to the
--- one before it, and where its target is, if its answer is compared with that
+-- a command with a deadline of 50 ms, whose chain isn't sent again: its place, its target, what it asks, whether it is chained to
+-- the one before it, and where its target is, if its answer is compared with that
 abbrev pub task : (place target : ℕ) → Asked → Bool → Option Near → Task
 task place target call chained near =
     record {
@@ -172,8 +165,9 @@ sends_all now deadline targets = send_all now deadline targets []
 abbrev pub at_start : UnderWay (List ℕ)
 at_start = record { up = record { id = 0; call = Table InstrumentNo } ∷ []; down = codes "%R1P,0,0:0,4" ∷ []; state = codes "5" }
 
--- no connection can be made at first. Over the first one the first null procedure is sent; its echo and the old reply come in
--- one piece; and the connection breaks. All eight null procedures are answered over the second one
+-- an attempt to connect fails. The first connection is made, and the first null procedure is sent over it. The null procedure's
+-- echo and the old reply come in one piece. The connection breaks. The second connection is made. Over it all eight null
+-- procedures are sent and answered
 abbrev pub begins_acts : List Act
 begins_acts =
     Unopened
@@ -209,9 +203,10 @@ begins_turns =
 
 -- The first cycle.
 
--- no reply to command 0 comes until its deadline, and the reply to a null procedure settles it as lost. So command 1, which is
--- chained to it, is skipped. Commands 2 to 6 are sent, and after their deadline two null procedures; no reply comes to any of
--- these seven. Meanwhile the line is dead: the connection is closed, and a third one is made
+-- command 0 is sent, and no reply to it comes until its deadline. A null procedure is sent, and its reply settles command 0 as
+-- lost. Command 1, which is chained to command 0, is skipped. Commands 2 to 6 are sent. After their deadline a null procedure is
+-- sent, and after its deadline another one. No reply comes to any of these seven requests, and the line is dead. The second
+-- connection is closed, and the third is made. The last of the seven requests times out
 abbrev pub breaks_acts : List Act
 breaks_acts =
     Told (at 40)
@@ -267,9 +262,11 @@ breaks_moves =
 
 -- The station resynchronizes.
 
--- the replies to commands 2 and 6 come, and that to command 6 answers the first null procedure, whose id it has. Then the reply
--- to the null procedure of before comes, with the id that command 0 will have; the first null procedure's own reply; and the
--- second one's. The connection ends, and the synchronization goes on over a fourth one
+-- the first null procedure is sent. The replies to commands 2 and 6 of the first cycle come; the one to command 6 has the id of
+-- the first null procedure, and so answers it. The second null procedure is sent. Three replies come in one piece: one to the
+-- last null procedure of the first cycle, which has the id 0; one to the first null procedure; and one to the second. The third
+-- null procedure is sent. The third connection ends, and the fourth is made. Over it the null procedures from the third on are
+-- sent and answered
 abbrev pub anew_acts : List Act
 anew_acts =
     Told (at 345)
@@ -304,10 +301,10 @@ anew_turns =
 -- The second cycle, and the third.
 
 -- the clock is read nine times: the second cycle begins and is missed, its seven commands are left out, and the third cycle
--- begins. Command 0 is answered, and the others are sent; the last request is cut after five bytes, and the connection is closed.
--- Over the fifth connection come noise, a second reply to command 0, and the replies to commands 1 to 4, that to command 3
--- twice. Commands 5 and 6 have timed out; the reply to command 5 comes late, and the reply to a null procedure settles command
--- 6 as lost
+-- begins. Command 0 is sent and answered. Commands 1 to 6 are sent; the request of command 6 is cut after five bytes. The fourth
+-- connection is closed, and the fifth is made. Over it noise comes, then a second reply to command 0, and then the replies to
+-- commands 1 to 4, the one to command 3 twice. Commands 5 and 6 time out. A null procedure is sent. The reply to command 5 comes,
+-- late. The reply to the null procedure comes, and settles command 6 as lost. The fifth connection is closed
 abbrev pub chain_acts : List Act
 chain_acts =
     map (λ now. Told (at now)) (replicate 9 385)
@@ -381,7 +378,7 @@ acts = given_up ++ (anew_acts ++ chain_acts)
 abbrev pub first_run : Run (List ℕ)
 first_run = record { turns = begins_turns; moves = breaks_moves }
 
--- the run as two: until the station resynchronizes, and from there on; and what is after its end, where nothing happens
+-- the run in its parts: until the station resynchronizes; from there on; and after its end, where nothing happens
 abbrev pub runs : List (Run (List ℕ))
 runs = first_run ∷ run_and_end anew_turns chain_moves
 

@@ -42,8 +42,9 @@ under name [] fields = []
 under name (n ∷ names) [] = []
 under name (n ∷ names) (field ∷ fields) = if pointwise nat_eq n name then field else under name names fields
 
--- the row has what its record says, however the command ended: when the request was sent, the cycle, the place and the attempt of the
--- turn, the target, the procedure and the outcome. Nothing is under `sent` if no request was sent. `at` gives the text under a name
+-- the row has what its record says, however the command ended: when the request was sent, the cycle, the place and the attempt of
+-- the turn, the target, the procedure and the outcome. Nothing is under `sent` if the record has no moment of sending. `at` gives
+-- the text under a name
 pub record IsRowOf (at : List ℕ → List ℕ) (r : Record) : Type 0 where
   pub sent : at (codes "sent") ≡ moment_text r.sent
   pub cycle : at (codes "cycle") ≡ decimal r.cycle
@@ -94,9 +95,10 @@ quantity_source Fine reply = reply
 quantity_source Warning reply = record reply { rc = 0 }
 quantity_source Refused reply = reply
 
--- the row of a command that this line ended has the line's codes, and its parameters, `escaped`. If the command is answered, the
--- row has the quality of the answer, by the return codes that are accepted of the command; and, if rows have quantities, those
--- of the line, `escaped`, which for a warning is read as if its return code were 0
+-- the row of a command that this line ended, in which `at` gives the text under each name, has the line's codes, and its
+-- parameters, `escaped`. If the command is answered, the row has the quality of the answer, by the return codes that are
+-- accepted of the command; and, if rows have quantities, it has those of the line, `escaped`. The quantities of a warning are
+-- those that the line would have if its return code were 0
 pub record HasReply (has_quantities : Bool) (at : List ℕ → List ℕ) (accepted : Codes) (call : Asked) (line : List ℕ) : Type 0 where
   pub reply : ReplyFields
   pub is_reply : IsReply line reply
@@ -116,11 +118,11 @@ pub record HasReply (has_quantities : Bool) (at : List ℕ → List ℕ) (accept
 
 module _ {State : Type 0} (ends : Ends State) (Good : State → Type 0) (kept : State → Option KeptReply) where
   -- the row of record `r`, in which `at` gives the text under each name, is its own: it has the record's moment of sending,
-  -- cycle, place, attempt, target, procedure and outcome. If no request was sent, nothing is under `sent`. If the command sets the
-  -- clock and its request was sent, that asked for the moment under `sent`, cut to seconds. If the outcome is that of a reply, the
-  -- row says what a line says that the instrument made on executing the request of that very cycle and place, in a run with the
-  -- parts `ps` and the stretches `ss`. If the outcome isn't `answered`, the row has no quality and, where rows have quantities
-  -- (`has_quantities`), none of these
+  -- cycle, place, attempt, target, procedure and outcome. If no request was sent, nothing is under `sent`. If the command sets
+  -- the clock and its request was sent, that asked for the moment under `sent`, cut to seconds. If the outcome is that of a
+  -- reply, the row says what a line says that the instrument made on executing the request of that very cycle and place, in a run
+  -- with the parts `ps` and the stretches `ss`. If the outcome isn't `answered`, the row has no quality and, where rows have
+  -- quantities (`has_quantities`), none of these
   pub record IsOwn (has_quantities : Bool) (at : List ℕ → List ℕ) (commands : List Task) (ps : List Part) (ss : List (Stretch State)) (r : Record) : Type 0 where
     pub is_of : IsRowOf at r
     pub clock : (task : Task) → slice_get commands r.place ≡ Some task → task.now ≡ true → went_out r.end ≡ true → IsSetTo at r

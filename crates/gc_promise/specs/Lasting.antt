@@ -36,8 +36,9 @@ pub record RunOfFile (R : Type 0) : Type 0 where
   pub file : Followed R
 
 -- a run of a file, as clause `told` of `append_at` says it of the file that it hands back: the output has its header already; the
--- link had recorded nothing before the run, and `recorded` are the acts that it has recorded since; what was taken since then is what was
--- appended to the file since it was opened; and what was seen before and after is that of a run of the survey (`RunsAfterFront`)
+-- link had recorded nothing before the run, and `recorded` are the acts that it has recorded since; what was taken since then is
+-- what was appended to the file since it was opened; and what was seen before and after is that of a run of the survey
+-- (`RunsAfterFront`)
 pub record IsRunOfFile {R : Type 0} (run : RunOfFile R) : Type 0 where
   pub headed : run.survey.layout.headed ≡ true
   pub none : run.old.acts ≡ Some []
@@ -46,10 +47,11 @@ pub record IsRunOfFile {R : Type 0} (run : RunOfFile R) : Type 0 where
   pub took : run.new.taken ≡ Some (bytes_in run.file)
   pub ran : RunsAfterFront run.survey run.old run.new run.end
 
--- what clause `told` of `append_at` says (`ReportsAppended`) comes to this: either no act was made (`turns' ≡ turns`), or there is a run of
--- this file, with these acts, which took the turns (what was seen at each act) from `turns` to `turns'`. `source` and `sink` are the
--- ghost members of the program's input and of such files as sinks; `K` and `E` are the types of the output and the messages. `lasts`
--- says whether a file is durable, `shown` gives the bytes written to the messages, and `has_log` says whether the run keeps a log
+-- what clause `told` of `append_at` says (`ReportsAppended`) comes to this: either no act was made (`turns' ≡ turns`), or there
+-- is a run of this file, with these acts, which took the turns (what was seen at each act) from `turns` to `turns'`. `source` and
+-- `sink` are the ghost members of the program's input and of such files as sinks; `K` and `E` are the types of the output and the
+-- messages. `lasts` says whether a file is durable, `shown` gives the bytes written to the messages, and `has_log` says whether
+-- the run keeps a log
 abbrev pub AppendsAreRuns : {S R : Type 0} → Source S → Sink (Followed R) → (K E : Type 0) → Type 0
 AppendsAreRuns {S = S} {R = R} source sink K E = (lasts : Followed R → Bool) (shown : E → Option (List ℕ)) (has_log : Bool) (station : Settings)
     (old new : Streams S K E) (file : Followed R) (acts : Option (List Act)) (turns turns' : List Snapshot) (status : ℕ)
@@ -77,8 +79,8 @@ pub record IsSeen {R : Type 0} (m : RunMoment R) : Type 0 where
   pub lasts : m.turn.lasts ≡ is_durable m.was.rows
   pub synced : asks_sync m.was.rows ≡ true
 
--- the moment's calls begin with those that the file had at the moment's act, and are the first of those that it has in the end. The
--- rows didn't go on in another file in between
+-- the moment's calls begin with those that the file had at the moment's act, and are the first of those that it has in the end.
+-- The rows didn't go on in another file in between
 pub record IsReached {R : Type 0} (m : RunMoment R) : Type 0 where
   pub left : m.run.file.earlier.steps ≡ m.was.earlier.steps
   pub since : List Step
@@ -164,21 +166,41 @@ abbrev pub doubt_of : Ending → Bool
 doubt_of Stopped = false
 doubt_of (Unsynced read disk) = true
 
--- the state of a file that held `first`, all of it on the disk, after these events
-abbrev pub sides_from : List ℕ → List Event → Sides
-sides_from first events = sides_after (same_sides (settled first)) events
+-- what happened to a file around a run: the head of its table; what the file held at first, all of it on the disk; the events
+-- before the run; the calls by which the run opened the file; how the run ended; the events after it; and what was found at last
+pub record FileHistory : Type 0 where
+  pub head : List ℕ
+  pub first : List ℕ
+  pub earlier : List Event
+  pub opening : List Step
+  pub ending : Ending
+  pub later : List Event
+  pub found : List ℕ
+
+-- the state of the file when the run began
+abbrev pub sides_begun : FileHistory → Sides
+sides_begun x = sides_after (same_sides (settled x.first)) x.earlier
+
+-- the state of the file when the run had ended, which made these calls after its opening
+abbrev pub sides_left : FileHistory → List Step → Sides
+sides_left x calls = sides_ended (sides_begun x) (x.opening ++ calls) x.ending
+
+-- all this may happen around a run that made these calls after its opening: the events before and after it, where no run goes on
+-- in a file in doubt (`IsTrusted`); the opening, in a file that isn't in doubt; the ending; and what was found
+pub record IsFileHistory (calls : List Step) (x : FileHistory) : Type 0 where
+  pub is_head : IsHead x.head
+  pub occurred : Occur IsTrusted x.head (same_sides (settled x.first)) false x.earlier
+  pub trusted : doubted_by false x.earlier ≡ false
+  pub opens : OpensFile x.head (content (sides_begun x).read) x.opening
+  pub ends : MayEnd (sides_begun x) (x.opening ++ calls) x.ending
+  pub occurs : Occur IsTrusted x.head (sides_left x calls) (doubt_of x.ending) x.later
+  pub is_found : IsFound (sides_after (sides_left x calls) x.later) x.found
 
 -- after events, in a file that isn't in doubt, a run that syncs (`IsRunMoment`) ends at any moment, by a kill or by a sync that
--- fails, and other events follow. Any may come before and after, but no run goes on in a file in doubt (`IsTrusted`). Whatever is
--- found then, the next start makes of it the table that was there at first, rows of the earlier runs, the rows that are left of
--- this run, and rows of the later ones: for every head of a table (`IsHead`), where `reads` gives what replies say of their calls
--- (`AreReadings`)
+-- fails, and other events follow (`IsFileHistory`). Whatever is found then, the next start makes of it the table that was there
+-- at first, rows of the earlier runs, the rows that are left of this run, and rows of the later ones: where `reads` gives what
+-- replies say of their calls (`AreReadings`)
 abbrev pub RowsOutlastFailures : Type 0 → Type 0
-RowsOutlastFailures R = (m : RunMoment R) → IsRunMoment m → (reads : Asked → List ℕ → Reading) → AreReadings reads
-    → (head first : List ℕ) → IsHead head → (earlier : List Event) → Occur IsTrusted head (same_sides (settled first)) false earlier → doubted_by false earlier ≡ false
-    → (opening : List Step) → OpensFile head (content (sides_from first earlier).read) opening
-    → (ending : Ending) → MayEnd (sides_from first earlier) (opening ++ m.calls) ending
-    → (later : List Event) → Occur IsTrusted head (sides_ended (sides_from first earlier) (opening ++ m.calls) ending) (doubt_of ending) later
-    → (found : List ℕ) → IsFound (sides_after (sides_ended (sides_from first earlier) (opening ++ m.calls) ending) later) found
-    → (counts : List ℕ) × (left : List ℕ) × (counts' : List ℕ) × AreRowCounts (runs_of earlier) counts × AreLeft m reads left × AreRowCounts (runs_of later) counts'
-    × (table head found ≡ ((table head first ++ rows_of (runs_of earlier) counts) ++ left) ++ rows_of (runs_of later) counts')
+RowsOutlastFailures R = (m : RunMoment R) → IsRunMoment m → (reads : Asked → List ℕ → Reading) → AreReadings reads → (x : FileHistory) → IsFileHistory m.calls x
+    → (counts : List ℕ) × (left : List ℕ) × (counts' : List ℕ) × AreRowCounts (runs_of x.earlier) counts × AreLeft m reads left × AreRowCounts (runs_of x.later) counts'
+    × (table x.head x.found ≡ ((table x.head x.first ++ rows_of (runs_of x.earlier) counts) ++ left) ++ rows_of (runs_of x.later) counts')

@@ -1,14 +1,15 @@
 -- What a station wrote of a run in the field as lines of JSON, as they are read: this project's own. Texts are taken to be
 -- bytes, and numbers to have 64 bits, as those of the program do. A part is what a station sees of its run from one
 -- synchronization to the next, and a stretch what happens on the line meanwhile, once it has synchronized.
-use Rattle.std.specs.Prelude.{◌≡◌, ℕ, ◌<◌, ◌^◌, true, List, ◌∷◌, [], ◌++◌, length, All, Option, Some, Result, slice_get}
-use Rattle.std.specs.List.{AllByRecursion, flat_map}
+use Rattle.std.specs.Prelude.{◌≡◌, ℕ, ◌<◌, ◌^◌, true, List, [], ◌++◌, length, All, Option, Some, Result, slice_get}
+use Rattle.std.specs.List.{AllByRecursion}
 use Rattle.json.specs.Find.{get_member}
 use Rattle.json.specs.Json as json
 use Rattle.json.specs.Json.{document}
 use Rattle.gc_catalogue.specs.declared.answer.Reading.{Reading}
 use Rattle.gc_catalogue.specs.declared.asked.Asked.{Asked}
 use Rattle.gc_instrument.specs.State.{KeptReply}
+use Rattle.gc_files.specs.Runs as rows
 use Rattle.gc_texts.specs.Cuts.{Lacks}
 use Rattle.gc_texts.specs.declared.name.Name.{Name}
 use Rattle.gc_texts.specs.declared.tasks.Task.{Task}
@@ -19,16 +20,13 @@ use Rattle.gc_station.specs.Parts.{Part}
 use Rattle.gc_station.specs.Records.{Record}
 use Rattle.gc_station.specs.Scopes.{AreReadings}
 use Rattle.gc_station.specs.declared.tally.Tally.{Tally}
-use Rattle.gc_measuring.specs.Measuring.{Survey, PortsSeen, RunsAfterFront, text_in, when_of}
+use Rattle.gc_measuring.specs.Measuring.{Survey, text_in, when_of}
 use Rattle.gc_measuring.specs.declared.stop.Stop.{Stop}
 use Rattle.gc_field.specs.World.{Ends}
-use Rattle.gc_field.specs.Begin.{UnderWay}
-use Rattle.gc_field.specs.Beginnings as field
 use Rattle.gc_field.specs.Instrument.{IsAnInstrument, AnyState}
-use Rattle.gc_field.specs.Runs.{IsInField}
 use Rattle.gc_field.specs.Shown.{Stretch, stretches}
 use Rattle.gc_promise.specs.Fields.{IsOwn}
-use Rattle.gc_promise.specs.Tables.{AreWritten, acts_measured, parts_in, records_in, scope_of}
+use Rattle.gc_promise.specs.Tables.{AreWritten, FieldRun, IsFieldRun, acts_of, parts_in, records_in}
 
 -- the record, of a run that began at the moment `run`, is in the types of the program: the numbers that are written of it have 64
 -- bits, and its texts are bytes
@@ -47,10 +45,6 @@ text_of (Some (json.number digits)) = digits
 text_of (Some (json.string bytes)) = bytes
 text_of _ = []
 
--- the bytes of these lines, in order, each followed by a line feed
-abbrev pub lines_text : List (List ℕ) → List ℕ
-lines_text lines = flat_map (λ line. line ++ 10 ∷ []) lines
-
 module _ {State : Type 0} (ends : Ends State) (Good : State → Type 0) (kept : State → Option KeptReply) where
   -- a line is a record's own object: the toolchain's reader of JSON takes it for an object, whose members are the record's own
   pub record IsOwnObject (line : List ℕ) (commands : List Task) (ps : List Part) (ss : List (Stretch State)) (r : Record) : Type 0 where
@@ -65,24 +59,19 @@ module _ {State : Type 0} (ends : Ends State) (Good : State → Type 0) (kept : 
     pub record AreOwnObjects (result : Result Tally Stop) (had : List ℕ) (has : Option (List ℕ)) : Type 0 where
       pub lines : List (List ℕ)
       pub torn : List ℕ
-      pub took : has ≡ Some (had ++ (lines_text lines ++ torn))
+      pub took : has ≡ Some (had ++ (rows.lines lines ++ torn))
       pub are : AreWritten (text_in survey.layout survey.names) (records_in survey reads acts) result torn
       pub unbroken : AllByRecursion (Lacks 10) lines
       pub as_many : length lines ≡ length are.written
       pub each : (n : ℕ) (line : List ℕ) → slice_get lines n ≡ Some line → (r : Record) × (slice_get are.written n ≡ Some r) × IsOwnObject line survey.tasks ps ss r
 
--- what a sink took of a run in the field (`IsInField`) are the run's own objects, if its records are in the types of the program
--- (`AreOfBytes`), and its link had recorded no act before: where `reads` gives what replies say of their calls (`AreReadings`),
--- for any instrument, all that a station measures and writes as lines of JSON, and all that the line and the instrument may do
--- meanwhile
+-- what a sink took of a run in the field (`IsFieldRun`) are the run's own objects, if its records are in the types of the program
+-- (`AreOfBytes`): where `reads` gives what replies say of their calls (`AreReadings`), for any instrument, all that a station
+-- measures and writes as lines of JSON, and all that the line and the instrument may do meanwhile
 abbrev pub ObjectsAreTheirOwn : Type 0 → Type 0
 ObjectsAreTheirOwn State =
     (ends : Ends State) (kept : State → Option KeptReply) → IsAnInstrument ends AnyState kept →
-    (survey : Survey) → survey.layout.form ≡ Json →
-    (old new : PortsSeen) (result : Result Tally Stop) → RunsAfterFront survey old new result →
-    (recorded : List Act) (had : List ℕ) → old.acts ≡ Some [] → new.acts ≡ Some recorded → old.taken ≡ Some had →
-    (reads : Asked → List ℕ → Reading) → AreReadings reads → (u : UnderWay State) (rs : List (field.Run State)) →
-    IsInField ends AnyState kept survey.plan survey.tasks (scope_of survey reads) (acts_measured result recorded) u rs →
-    AreOfBytes survey (records_in survey reads (acts_measured result recorded)) →
-    AreOwnObjects ends AnyState kept survey reads (acts_measured result recorded) (parts_in survey reads (acts_measured result recorded)) (stretches ends u rs)
-    result had new.taken
+    (reads : Asked → List ℕ → Reading) → AreReadings reads → (run : FieldRun State) → IsFieldRun ends kept reads run →
+    run.survey.layout.form ≡ Json → AreOfBytes run.survey (records_in run.survey reads (acts_of run)) →
+    AreOwnObjects ends AnyState kept run.survey reads (acts_of run) (parts_in run.survey reads (acts_of run)) (stretches ends run.in_flight run.happened)
+    run.result run.had run.new.taken

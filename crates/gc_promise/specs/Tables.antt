@@ -50,6 +50,32 @@ records_in survey reads acts = (state_after survey.plan survey.tasks (scope_of s
 abbrev pub parts_in : Survey → (Asked → List ℕ → Reading) → List Act → List Part
 parts_in survey reads acts = parts survey.plan survey.tasks (scope_of survey reads) acts
 
+-- a run of a station in the field: what it measures, what was seen of its ports at its start and at its end, how it ended, the
+-- acts that its link recorded, the bytes that its sink had before, what was in flight at its start, and what happened from there
+-- on, from one synchronization to the next
+pub record FieldRun (State : Type 0) : Type 0 where
+  pub survey : Survey
+  pub old : PortsSeen
+  pub new : PortsSeen
+  pub result : Result Tally Stop
+  pub recorded : List Act
+  pub had : List ℕ
+  pub in_flight : UnderWay State
+  pub happened : List (field.Run State)
+
+-- the acts of a run in the field (`acts_measured`)
+abbrev pub acts_of : {State : Type 0} → FieldRun State → List Act
+acts_of run = acts_measured run.result run.recorded
+
+-- where `reads` gives what replies say of their calls, the run is one as the contract of a station has it (`RunsAfterFront`), and
+-- one in the field (`IsInField`). Its link had recorded no act before, and its sink had taken the bytes `had`
+pub record IsFieldRun {State : Type 0} (ends : Ends State) (kept : State → Option KeptReply) (reads : Asked → List ℕ → Reading) (run : FieldRun State) : Type 0 where
+  pub measured : RunsAfterFront run.survey run.old run.new run.result
+  pub none : run.old.acts ≡ Some []
+  pub acts : run.new.acts ≡ Some run.recorded
+  pub took : run.old.taken ≡ Some run.had
+  pub in_field : IsInField ends AnyState kept run.survey.plan run.survey.tasks (scope_of run.survey reads) (acts_of run) run.in_flight run.happened
+
 -- What a sink took.
 
 -- these bytes are a front of the text of the first of these records, maybe empty, but not all of the text; if there is no record,
@@ -106,16 +132,13 @@ module _ {State : Type 0} (ends : Ends State) (Good : State → Type 0) (kept : 
       pub each : (n : ℕ) (row : List (List ℕ)) → slice_get rows n ≡ Some row
           → (r : Record) × (slice_get are.written n ≡ Some r) × IsOwn ends Good kept columns (λ name. under name (header columns) row) survey.tasks ps ss r
 
--- what a sink took of a run in the field (`IsInField`), whose link had recorded no act before, is the run's own table: where
--- `reads` gives what replies say of their calls (`AreReadings`), for any instrument, all that a station measures and writes as a
--- table, and all that the line and the instrument may do meanwhile
+-- what a sink took of a run in the field (`IsFieldRun`) is the run's own table: where `reads` gives what replies say of their
+-- calls (`AreReadings`), for any instrument, all that a station measures and writes as a table, and all that the line and the
+-- instrument may do meanwhile
 abbrev pub TablesAreTheirOwn : Type 0 → Type 0
 TablesAreTheirOwn State =
     (ends : Ends State) (kept : State → Option KeptReply) → IsAnInstrument ends AnyState kept →
-    (survey : Survey) (columns : Bool) → survey.layout.form ≡ table_form columns →
-    (old new : PortsSeen) (result : Result Tally Stop) → RunsAfterFront survey old new result →
-    (recorded : List Act) (had : List ℕ) → old.acts ≡ Some [] → new.acts ≡ Some recorded → old.taken ≡ Some had →
-    (reads : Asked → List ℕ → Reading) → AreReadings reads → (u : UnderWay State) (rs : List (field.Run State)) →
-    IsInField ends AnyState kept survey.plan survey.tasks (scope_of survey reads) (acts_measured result recorded) u rs →
-    IsOwnTable ends AnyState kept survey columns reads (acts_measured result recorded) (parts_in survey reads (acts_measured result recorded)) (stretches ends u rs)
-    result had new.taken
+    (reads : Asked → List ℕ → Reading) → AreReadings reads → (run : FieldRun State) → IsFieldRun ends kept reads run →
+    (columns : Bool) → run.survey.layout.form ≡ table_form columns →
+    IsOwnTable ends AnyState kept run.survey columns reads (acts_of run) (parts_in run.survey reads (acts_of run)) (stretches ends run.in_flight run.happened)
+    run.result run.had run.new.taken

@@ -56,8 +56,8 @@ survey form = record { plan = plan; tasks = commands; max_turns = 200; layout = 
 abbrev pub taken : Form → List ℕ
 taken form = texts_of (text_in (layout_in form) []) records
 
--- the ports of a station whose link recorded the acts `recorded` and whose sink took the bytes `taken`; `turns` is what was seen at each
--- act
+-- the ports of a station whose link recorded the acts `recorded` and whose sink took the bytes `taken`; `turns` is what was seen
+-- at each act
 abbrev pub ports_at : List Act → List ℕ → List Snapshot → PortsSeen
 ports_at recorded taken turns =
     record { input = record { remaining = None; reads = 0; ended = true; failed = false }; acts = Some recorded; taken = Some taken; messages = None; turns = turns }
@@ -70,8 +70,8 @@ module _ (reads : Asked → List ℕ → Reading) where
       × IsRowOfLine reporting AnyState nothing in_a_table [] commands (parts_of plan commands (opening plan (scope reads)) acts)
       (stretches reporting at_start runs) r line
 
-  -- the run is eventful, and the row of each command that a reply in time settled is its own: of both commands of the chain, of the
-  -- one that was measured elsewhere, of a number, and of one whose values don't read
+  -- the run is eventful, and the row of each command that a reply in time settled is its own: of both commands of the chain, of
+  -- the one that was measured elsewhere, of a number, and of one whose values don't read
   pub record HasOwnRows : Type 0 where
     pub run : IsEventful reads
     pub points : IsOwnText points_record points_row pointed

@@ -1,13 +1,13 @@
 -- The events on a line, and one more. That acts have come to lines (`HasComeTo`) says that they are the acts of events which lead
 -- to these lines.
 use Rattle.std.proofs.Common.{◌≡◌, inl, inr, ℕ, List, [], ◌∷◌, ◌++◌, None, refl, sym, ◌∙◌, ap, subst}
-use Rattle.std.proofs.lemmas.List.{map-append, append-nil}
+use Rattle.std.proofs.lemmas.List.{map_push, append-nil}
 use Rattle.gc_lines.specs.Lines.{with_end}
 use Rattle.gc_links.specs.Acts.{Act, Put, Gave}
 use Rattle.gc_links.specs.declared.link.Moment.{Moment}
 use Rattle.gc_scenes.specs.SceneState.{SceneState, scene_restarted, at_moment}
 use Rattle.gc_rehearsal.specs.Carrying.{Lines, Happening, Call, Reaches, Restarts, Passes, Repeats_up, Repeats_down, Loses_up, Loses_down, Loses_front, Does, IsQuiet, Leads, LeadAll, acts_of, HasComeTo}
-use Rattle.gc_rehearsal.specs.Queues.{texts, MayAddLine, MayRepeat, Answers}
+use Rattle.gc_rehearsal.specs.Queues.{texts, MayAddLine, MayRepeat, MayHandOver}
 use Rattle.gc_rehearsal.specs.declared.flight.Flight.{Flight}
 
 -- where the events `hs` lead from `l` to `m`, and one more leads from `m` to `n`, all of them lead from `l` to `n`
@@ -68,20 +68,16 @@ noted acts act l q c = one_more_happened acts (Call act) l l c (quiet_does act l
 pub put_lost : (acts : List Act) (bytes : List ℕ) (l : Lines) → HasComeTo acts l → HasComeTo (acts ++ Put bytes ∷ []) l
 put_lost acts bytes l c = one_more_happened acts (Call (Put bytes)) l l c (inl refl)
 
--- the lines of a queue with one more at its back are those of the queue, and then that one
-pub texts_on : (flights : List Flight) (flight : Flight) → texts (flights ++ flight ∷ []) ≡ texts flights ++ flight.line.items ∷ []
-texts_on flights flight = map-append (λ (f : Flight). f.line.items) flights (flight ∷ [])
-
 -- where acts have come to lines, these acts, and a write of these bytes after them, have come to the lines after the write: the
 -- queue up is the same, or has the written line at its back (`MayAddLine`)
-pub put_may : (acts : List Act) (bytes : List ℕ) (up up' : List Flight) (down : List (List ℕ)) (state : SceneState)
+pub put_may_arrive : (acts : List Act) (bytes : List ℕ) (up up' : List Flight) (down : List (List ℕ)) (state : SceneState)
     → MayAddLine up bytes up'
     → HasComeTo acts (lines (texts up) down state) → HasComeTo (acts ++ Put bytes ∷ []) (lines (texts up') down state)
-put_may acts bytes up up' down state (inl same) c =
+put_may_arrive acts bytes up up' down state (inl same) c =
     subst (λ x. HasComeTo (acts ++ Put bytes ∷ []) (lines (texts x) down state)) (sym same) (put_lost acts bytes (lines (texts up) down state) c)
-put_may acts bytes up up' down state (inr x) c =
+put_may_arrive acts bytes up up' down state (inr x) c =
     let l = lines (texts up) down state in
-    let new = ap texts x.2 ∙ texts_on up x.0 in
+    let new = ap texts x.2 ∙ map_push (λ (f : Flight). f.line.items) up x.0 in
     one_more_happened acts (Call (Put bytes)) l (lines (texts up') down state) c (inr (x.0.line.items, x.1, ap (λ q. lines q down state) new))
 
 -- acts that have come to lines have also come to those in which the last request may be there twice (`MayRepeat`)
@@ -123,8 +119,8 @@ passes acts moment up down state state' is c =
     one_more_unseen acts (Passes moment) (lines up down state) (lines up down state') refl c (ap (λ s. lines up down s) is)
 
 -- acts that have come to lines have also come to those in which the request in front may have been handed to the instrument
--- (`Answers`)
-pub reaches : (acts : List Act) (up down up' down' : List Flight) (state state' : SceneState) → Answers state up down state' up' down'
+-- (`MayHandOver`)
+pub reaches : (acts : List Act) (up down up' down' : List Flight) (state state' : SceneState) → MayHandOver state up down state' up' down'
     → HasComeTo acts (lines (texts up) (texts down) state) → HasComeTo acts (lines (texts up') (texts down') state')
 reaches acts up down up' down' state state' (inl same) c =
     subst (λ s. HasComeTo acts (lines (texts up') (texts down') s)) (sym same.0)

@@ -1,12 +1,11 @@
 -- What the functions of a queue of lines find: the line in bytes that end in CR LF, and the last line of the queue.
 use Rattle.std.proofs.Common.{◌≡◌, inl, inr, ℕ, suc, ◌-◌, ◌<◌, true, List, [], ◌∷◌, ◌++◌, drop, length, take, get_or, nat_eq, refl, sym, ◌∙◌, ap, arith}
 use Rattle.std.proofs.Math.Seq.{take-length, take-suc}
-use Rattle.std.proofs.lemmas.List.{take-append-drop}
+use Rattle.std.proofs.lemmas.List.{map_push, take-append-drop}
 use Rattle.std.specs.Cmp.Lexicographic.{pointwise, same_text}
 use Rattle.gc_lines.specs.Lines.{with_end}
 use Rattle.gc_rehearsal.specs.Queues.{MayAdd, MayRepeat, texts}
 use Rattle.gc_rehearsal.specs.declared.flight.Flight.{Flight}
-use Rattle.gc_rehearsal.proofs.Happened.{texts_on}
 
 -- bytes that end in CR LF are the line before these two bytes, with its CR LF
 pub line_found : (bytes line : List ℕ)
@@ -31,4 +30,5 @@ pub repeated : (old new : List Flight) (last again : Flight) → 0 < length old 
 repeated old new last again some is same (inl none) = inl none
 repeated old new last again some is same (inr more) =
     let front = take (length old - 1) old in
-    inr (texts front, last.line.items, ap texts (last_of old last some is) ∙ texts_on front last, ap texts more ∙ texts_on old again ∙ ap (λ x. texts old ++ x ∷ []) same)
+    let text : Flight → List ℕ = λ (f : Flight). f.line.items in
+    inr (texts front, last.line.items, ap texts (last_of old last some is) ∙ map_push text front last, ap texts more ∙ map_push text old again ∙ ap (λ x. texts old ++ x ∷ []) same)

@@ -23,8 +23,8 @@ abbrev pub MayRepeat : (old new : List Flight) → Type 0
 MayRepeat old new = (new ≡ old) ⊎ IsRepeated (texts old) (texts new)
 
 -- the lines of the queue are the same, or have this reply at their back, if it is one line of at most 512 bytes
-abbrev pub Sends : (old : List Flight) → (reply : List ℕ) → (new : List Flight) → Type 0
-Sends old reply new = MaySendOut (texts old) (Some reply) (texts new)
+abbrev pub MaySend : (old : List Flight) → (reply : List ℕ) → (new : List Flight) → Type 0
+MaySend old reply new = MaySendOut (texts old) (Some reply) (texts new)
 
 -- this request was handed to the instrument, whose state was `state` and is now `state'`. Its reply, if there is one, was put at the back
 -- of the replies in flight, which were `down` and are now `down'`, or is lost
@@ -35,7 +35,7 @@ pub record IsHandedOver (request : Flight) (state : SceneState) (down : List Fli
 
 -- nothing changes; or the request in front of the queue up is taken from it, and handed to the instrument (`IsHandedOver`). The instrument
 -- and both queues were `state`, `up` and `down`, and are now `state'`, `up'` and `down'`
-abbrev pub Answers : (state : SceneState) → (up down : List Flight) → (state' : SceneState) → (up' down' : List Flight) → Type 0
-Answers state up down state' up' down' =
+abbrev pub MayHandOver : (state : SceneState) → (up down : List Flight) → (state' : SceneState) → (up' down' : List Flight) → Type 0
+MayHandOver state up down state' up' down' =
     ((state' ≡ state) × (up' ≡ up) × (down' ≡ down))
     ⊎ ((request : Flight) × (up ≡ request ∷ up') × IsHandedOver request state down state' down')

@@ -4,7 +4,7 @@ ghost use Rattle.std.specs.Prelude.{◌≡◌, ◌≤◌, ◌+◌, [], ◌∷◌
 ghost use Rattle.gc_links.specs.Acts.{Act, Put, Gave};
 ghost use Rattle.gc_links.specs.Noted.{act_of};
 ghost use Rattle.gc_rehearsal.specs.Carrying.{IsOfLine, IsQuiet};
-ghost use Rattle.gc_rehearsal.specs.Queues.{Answers, Sends};
+ghost use Rattle.gc_rehearsal.specs.Queues.{MayHandOver, MaySend};
 
 use crate::flight::{Flight, Origin, add, add_request, due, len_with_end, repeat_last, write_into};
 use gc_lines::{Line, is_plain, line_from, read_request};
@@ -199,7 +199,7 @@ fn answer(
     lost: bool,
     arrives: u64,
 ) -> bool
-    ensures { Answers instrument.old up.old.items down.old.items instrument.new up.new.items down.new.items }
+    ensures { MayHandOver instrument.old up.old.items down.old.items instrument.new up.new.items down.new.items }
 {
     let Some(request) = up.pop_front() else {
         return false;
@@ -259,7 +259,7 @@ fn note_origin(
 // Puts a reply to the request `origin`, which arrives at the moment `arrives`, at the back of the queue `down`. The reply is lost
 // if `lost`, if it is no line because there is a CR or an LF in it, or if memory is refused for it.
 fn send(down: &mut VecDeque<Flight>, reply: Line, lost: bool, arrives: u64, origin: &Origin)
-    ensures { Sends down.old.items reply.items down.new.items }
+    ensures { MaySend down.old.items reply.items down.new.items }
 {
     if lost {
         return;

@@ -152,8 +152,8 @@ impl<C: Chance> Rehearsed<C> {
 
     // Hands the next request to the instrument at this moment, or now if that is later, and sends its reply with a fate of the
     // chance, which is taken and counted also if the instrument makes none. The instrument is restarted before the request
-    // reaches it, if the chance says so. Of a reply that isn't lost by its fate but can't be sent (`Carried::reach`) a repetition
-    // applies to the last reply that is in flight, if there is one.
+    // reaches it, if the chance says so. If the reply is to arrive twice, but can't be sent (`Carried::reach`), the last reply
+    // that is in flight arrives twice instead, if there is one.
     fn reach(&mut self, moment: u64)
         ensures { self.new.carried ≡ self.old.carried }
     {

@@ -1,6 +1,7 @@
 -- What happens on the line from a synchronization, or from a client that has synchronized, on; and the same with one thing more
 -- before it.
-use Rattle.std.proofs.Common.{◌≡◌, ◌⊎◌, inl, inr, ℕ, ◌+◌, ◌≤◌, Bool, true, false, List, [], ◌∷◌, ◌++◌, map, refl, sym, ◌∙◌, ap, subst, arith}
+use Rattle.std.proofs.Common.{◌≡◌, ◌⊎◌, inl, inr, ℕ, ◌+◌, ◌≤◌, Bool, true, false, List, [], ◌∷◌, ◌++◌, map, map-id, refl, sym, ◌∙◌, ap, subst, arith}
+use mathlib.Core.List.{map-map}
 use Rattle.gc_catalogue.specs.declared.asked.Asked.{Asked}
 use Rattle.gc_client.specs.OneForOne as client
 use Rattle.gc_client.specs.declared.window.TheConstants.{WINDOW}
@@ -13,7 +14,6 @@ use Rattle.gc_field.specs.Begin as begin
 use Rattle.gc_field.specs.Begin.{AreTurns, IsTurn, Model, UnderWay, begins, leaves, turned, turns}
 use Rattle.gc_field.specs.Beginnings.{ArePossibleIf, AreRuns, Run, killed_if, left_by_run, left_by_runs, left_if, on_line}
 use Rattle.gc_field.specs.Begun.{ids_begun}
-use Rattle.gc_field.specs.Field as field
 use Rattle.gc_field.specs.Field.{Move, ArePossible, IsPossible, moved, moves, seen}
 use Rattle.gc_field.specs.InARow.{AreFewKilledWithTurns, killed_by, killed_over}
 use Rattle.gc_rehearsed.specs.Rehearsals.{unbegun}
@@ -24,6 +24,7 @@ use Rattle.gc_rehearsal.specs.Carrying.{Lines}
 use Rattle.gc_rehearsed.proofs.Sides.{client_move, is_move, is_turn, leaves_turn, left_turn, line_move, move_of, seen_none, shows_none, turn_of}
 use Rattle.gc_rehearsed.proofs.Steps.{AreSteps, Holds, Step, all_stepped, flow}
 use Rattle.gc_field.proofs.InARow.{same_lines, run}
+use Rattle.gc_field.proofs.InTime.{seen_append}
 use Rattle.gc_field.proofs.BeginWords.{cons_not_nil}
 
 -- a world whose client knows ids, and whose instrument is that of a scene
@@ -108,22 +109,11 @@ steps_turn (x ∷ xs) b show steps others m done are on =
     (steps_turn xs (turns scene_ends b (turn_of x)) show steps others m done (subst (AreSteps xs) (sym one) are.1)
     (λ c e l. on c (e ∙ ap (all_stepped xs) one) (l ∙ left_turn b x))))
 
--- what the client sees of moves is what it sees of the first, and then what it sees of the others
-seen_first : (m : Move SceneState) (ms : List (Move SceneState)) → seen (m ∷ ms) ≡ seen (m ∷ []) ++ seen ms
-seen_first (field.Sends target call deadline) ms = refl
-seen_first (field.Tells now) ms = refl
-seen_first (field.Comes line) ms = refl
-seen_first (field.Foreign line) ms = refl
-seen_first (field.OnLine step) ms = refl
-seen_first field.Anew ms = refl
-seen_first (field.Changes state) ms = refl
-seen_first (field.Joins line) ms = refl
-
 -- if x is a possible move in the world w, and `FromClient` holds from the world after x, it holds from w, with what the client
 -- sees of x before the other steps
 pub move_first : (w : SceneWorld) (x : Move SceneState) (steps : List (client.Step Asked)) (others : List Part) (m : Lines) (done : Bool) → IsPossible RetainedReads scene_kept w x
     → FromClient (after_move w x) steps others m done → FromClient w (seen (x ∷ []) ++ steps) others m done
-move_first w x steps others m done is f = record { ms = x ∷ f.ms; rs = f.rs; see = seen_first x f.ms ∙ ap (λ l. seen (x ∷ []) ++ l) f.see; may = (is, f.may); later = f.later }
+move_first w x steps others m done is f = record { ms = x ∷ f.ms; rs = f.rs; see = seen_append (x ∷ []) f.ms ∙ ap (λ l. seen (x ∷ []) ++ l) f.see; may = (is, f.may); later = f.later }
 
 -- if `xs` are possible steps from what w has in flight, and `FromClient` holds from each world with what they leave in flight
 -- and with the client of w, it holds from w: the client sees nothing of the steps
@@ -141,8 +131,7 @@ steps_move (x ∷ xs) w steps others m done are on =
 
 -- lines that are given a number, without it, are the same lines
 without_number : {Line : Type 0} (xs : List Line) → map (λ (x : Numbered Line). x.line) (map (λ x. record { number = 7; line = x }) xs) ≡ xs
-without_number [] = refl
-without_number (x ∷ xs) = ap (λ l. x ∷ l) (without_number xs)
+without_number xs = map-map _ _ xs ∙ map-id xs
 
 -- a client that has just synchronized has in flight what the synchronization left
 pub begun_line : (u : UnderWay SceneState) → on_line (ids_begun u).wire ≡ u

@@ -22,9 +22,10 @@ use Rattle.gc_field.proofs.InARow.{in_a_row, run}
 use Rattle.gc_field.proofs.SceneField.{scene_is_an_instrument}
 use Rattle.gc_field.proofs.BeginJoin.{word_small}
 use Rattle.gc_rehearsal.specs.Carrying.{Lines, Happening, Call, Does, IsQuiet, LeadAll, acts_of}
-use Rattle.gc_rehearsed.specs.Rehearsals.{FewEndUnbegun, RunsAndStops, RehearsalsInARowAreFaithful, Station, has_begun_at_its_end, programs, acts_of_all, unbegun}
+use Rattle.gc_rehearsed.specs.Rehearsals.{FewEndUnbegun, RunsAndStops, RehearsalsInARowAreFaithful, RehearsedStation, has_begun_at_its_end, programs, acts_of_all, unbegun}
 use Rattle.gc_rehearsed.proofs.Courses.{FromBegin, begins_line, few_from, steps_turn}
-use Rattle.gc_rehearsed.proofs.Rehearsed.{OnBegin, first_and_others, first_part, none_kept, other_parts, shows_the_run, some_parts}
+use Rattle.gc_rehearsed.proofs.Rehearsed.{OnBegin, first_and_others, first_part, none_kept, other_parts, shows_the_run}
+use Rattle.gc_station.proofs.PartFronts.{some_parts}
 use Rattle.gc_rehearsed.proofs.Steps.{Holds, happens}
 use Rattle.gc_field.proofs.BeginWords.{cons_not_nil}
 
@@ -83,14 +84,14 @@ idle_first (h ∷ hs) b l n show steps more m done quiet holds all on =
 -- The stations in a row.
 
 -- stations in a row are in the field: there is a list of runs for each, and these are programs in a row
-record AreInTheField (n : ℕ) (u : UnderWay SceneState) (xs : List Station) : Type 0 where
+record AreInTheField (n : ℕ) (u : UnderWay SceneState) (xs : List RehearsedStation) : Type 0 where
   runs : List (List (Run SceneState))
   each : length runs ≡ length xs
   field : AreInARow scene_ends RetainedReads scene_kept n u (programs xs runs)
 
 -- if `FewEndUnbegun` holds of stations before which `n` in a row ended while they synchronized, it holds with k in place of n,
 -- where k is at most n
-fewer : (k n : ℕ) (xs : List Station) → k ≤ n → FewEndUnbegun n xs → FewEndUnbegun k xs
+fewer : (k n : ℕ) (xs : List RehearsedStation) → k ≤ n → FewEndUnbegun n xs → FewEndUnbegun k xs
 fewer k n [] less few = tt
 fewer k n (x ∷ xs) less few = let one = fewer_one (has_begun_at_its_end x) in
     ((let f = few.0 in omega (arith, one, f)), fewer (unbegun k (has_begun_at_its_end x)) (unbegun n (has_begun_at_its_end x)) xs one few.1) where
@@ -102,7 +103,7 @@ fewer k n (x ∷ xs) less few = let one = fewer_one (has_begun_at_its_end x) in
 
 -- stations one after the other over a rehearsed line, after acts `before` that are quiet, are in the field (`AreInTheField`),
 -- over what is in flight, if each of them is `RunsAndStops`, and `FewEndUnbegun` holds of them with n
-goes_in_a_row : (n : ℕ) (xs : List Station) (hs : List Happening) (before : List Act) (u : UnderWay SceneState) (l m : Lines) → AllByRecursion IsQuiet before → Holds u l → LeadAll l hs m
+goes_in_a_row : (n : ℕ) (xs : List RehearsedStation) (hs : List Happening) (before : List Act) (u : UnderWay SceneState) (l m : Lines) → AllByRecursion IsQuiet before → Holds u l → LeadAll l hs m
     → acts_of hs ≡ before ++ acts_of_all xs → AllByRecursion RunsAndStops xs → FewEndUnbegun n xs → AreInTheField n u xs
 goes_in_a_row n [] hs before u l m quiet holds all told lives few = record { runs = []; each = refl; field = tt }
 goes_in_a_row n (x ∷ xs) hs before u l m quiet holds all told lives few =

@@ -13,17 +13,18 @@ use Rattle.gc_station.specs.Beginnings.{unanswered_after}
 use Rattle.gc_station.specs.Begun.{heard_in}
 use Rattle.gc_station.specs.Deciding.{has_begun, is_none_left}
 use Rattle.gc_station.specs.Model.{Model, Performs, Runs, action_at, after, after_all, losing, moved, opening, waiting_of, with_progress}
-use Rattle.gc_station.specs.Parts.{MarksAsk, MarkAsks, Part, part_of_act, sync_part, client_part, ends_part, in_front, nothing, parts_of, put_part, client_after, course_at}
+use Rattle.gc_station.specs.Parts.{MarksAsk, MarkAsks, Part, sync_part, client_part, in_front, nothing, parts_of, put_part, client_after, course_at}
 use Rattle.gc_station.specs.Progressing.{is_over, loses_all, turned}
-use Rattle.gc_station.proofs.Asked.{FirstHasNoTurns, goes_begun, no_turns, word_of}
+use Rattle.gc_station.proofs.Asked.{FirstHasNoTurns, goes_begun, no_turns, word_empty}
 use Rattle.gc_station.proofs.Booking.{sends_with_room, sent_by}
 use Rattle.gc_station.proofs.EachRun.{invariant_after, invariant_opening}
 use Rattle.gc_station.proofs.Facts.{action_for}
 use Rattle.gc_station.proofs.Invariant.{Invariant}
 use Rattle.gc_station.proofs.Meant.{put_is}
 use Rattle.gc_station.proofs.Meant as meant
+use Rattle.gc_station.proofs.PartFronts.{HasSome, some_parts}
 use Rattle.gc_station.proofs.Parting.{keeps_action, leads}
-use Rattle.gc_station.proofs.Turns.{over_stays}
+use Rattle.gc_station.proofs.Turns.{no_act_once_over}
 use Rattle.gc_station.proofs.Lists.{all_at}
 use Rattle.gc_station.proofs.Beginnings.{word_if_resynchronizing}
 use Rattle.gc_field.specs.Begin as begin
@@ -60,27 +61,10 @@ abbrev pub other_parts : List Part → List Part
 other_parts [] = []
 other_parts (p ∷ ps) = ps
 
--- there is a part
-abbrev pub HasSome : List Part → Type 0
-HasSome [] = ⊥
-HasSome (p ∷ ps) = Unit {0}
-
 -- where there is a part, the parts are the first and the others
 pub first_and_others : (ps : List Part) → HasSome ps → ps ≡ first_part ps ∷ other_parts ps
 first_and_others [] some = absurd some
 first_and_others (p ∷ ps) some = refl
-
--- with one part before others there is a part
-some_front : (p : Part) (b : Bool) (ps : List Part) → HasSome (in_front p b ps)
-some_front p true ps = tt
-some_front p false [] = tt
-some_front p false (q ∷ ps) = tt
-
--- acts have a part, even if there are none
-pub some_parts : (plan : Plan) (commands : List Task) (s : Model) (acts : List Act) → HasSome (parts_of plan commands s acts)
-some_parts plan commands s [] = tt
-some_parts plan commands s (act ∷ acts) =
-    some_front (part_of_act plan commands s (action_at plan s) act) (ends_part plan commands s act) (parts_of plan commands (after plan commands s act) acts)
 
 -- `FromBegin` by parts: from the state b of a synchronization on, its run shows the first part, and later runs the others
 abbrev pub OnBegin : begin.Model SceneState → Lines → List Part → Bool → Type 0
@@ -249,10 +233,6 @@ module _ (plan : Plan) (commands : List Task) (askable : AreAskable commands) wh
 
   -- From a synchronization and from a client on.
 
-  -- once a station has synchronized, no id of its word is left
-  word_none : (s : Model) → has_begun s.progress ≡ true → s.progress.word ≡ []
-  word_none s begun = word_of s.progress.word begun
-
   -- if these parts are `FirstHasNoTurns`, the first of them has no turns
   first_none : (ps : List Part) → FirstHasNoTurns ps → (first_part ps).turns ≡ []
   first_none [] none = refl
@@ -261,7 +241,7 @@ module _ (plan : Plan) (commands : List Task) (askable : AreAskable commands) wh
   -- acts that are a run from a model t in which the run is over are none
   none_over : (t : Model) (acts : List Act) → is_over t.progress ≡ true → Runs plan commands t acts → acts ≡ []
   none_over t [] over runs = refl
-  none_over t (act ∷ acts) over runs = absurd (over_stays plan commands t act over runs.0)
+  none_over t (act ∷ acts) over runs = absurd (no_act_once_over plan commands t act over runs.0)
 
   -- from each state b of a synchronization on that agrees with the station's model s, which synchronizes, and with the line: what
   -- happens on the line shows the parts of the station's run by these acts
@@ -309,7 +289,7 @@ module _ (plan : Plan) (commands : List Task) (askable : AreAskable commands) wh
             let u = after plan commands s act in
             let ps = parts_of plan commands u (acts_of hs) in
             begun_from c (first_part ps).turns (first_part ps).steps (other_parts ps) m (has_begun (after_all plan commands u (acts_of hs)).progress)
-            (k ∙ word_none u e) (first_none ps (no_turns plan commands u (acts_of hs) e))
+            (k ∙ word_empty u.progress.word e) (first_none ps (no_turns plan commands u (acts_of hs) e))
             (later_client u (ids_begun (leaves c)) all.0 (invariant_after plan commands s act fine) to.0 e (sym (client_new s act fine runs.0 begins))
             (subst (λ v. Holds v all.0) (sym (begun_line (leaves c))) h) all.2 runs.1)
 

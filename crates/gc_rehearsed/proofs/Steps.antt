@@ -1,7 +1,7 @@
 -- What happens on a rehearsed line, as steps of what is in flight in the field: requests with their ids, replies, and the
 -- instrument.
 use Rattle.std.proofs.Common.{◌≡◌, inl, inr, ℕ, zero, suc, ◌<◌, ◌≤◌, List, [], ◌∷◌, ◌++◌, length, Option, Some, None, refl, sym, ◌∙◌, ap, subst}
-use Rattle.std.specs.List.{AllByRecursion}
+use Rattle.std.specs.List.{AllByRecursion, AllZip}
 use Rattle.gc_lines.specs.Lines.{IsPlain}
 use Rattle.gc_links.specs.Acts.{Act}
 use Rattle.gc_catalogue.specs.Asked.{asked_line, IsAskedFitting}
@@ -17,7 +17,8 @@ use Rattle.gc_field.specs.SceneField.{RetainedReads, scene_handed, scene_kept}
 use Rattle.gc_field.specs.World.{Request, without, doubled}
 use Rattle.gc_field.proofs.SceneField.{scene_is_an_instrument}
 use Rattle.gc_rehearsal.specs.Carrying.{Lines, Happening, Call, Reaches, Restarts, Passes, Repeats_up, Repeats_down, Loses_up, Loses_down, Loses_front, HasReached, Leads, MaySendOut}
-use Rattle.gc_lines.proofs.Lists.{all_behind, all_append}
+use Rattle.gc_lines.proofs.Lists.{all_append}
+use Rattle.gc_values.proofs.Every.{every_behind as all_behind}
 
 -- What is in flight.
 
@@ -29,9 +30,7 @@ pub record IsLineOf (r : Request) (line : List ℕ) : Type 0 where
 
 -- these are the lines of the requests, in order
 abbrev pub AreLinesOf : List Request → List (List ℕ) → Type 0
-AreLinesOf [] [] = Unit {0}
-AreLinesOf (r ∷ rs) (line ∷ lines) = IsLineOf r line × AreLinesOf rs lines
-AreLinesOf _ _ = ⊥
+AreLinesOf rs lines = AllZip IsLineOf rs lines
 
 -- these bytes are one line, without CR LF: plain bytes, at most 512
 abbrev pub IsOneLine : List ℕ → Type 0

@@ -19,8 +19,8 @@ use Rattle.gc_field.specs.Runs.{IsInField, IsRunFaithful}
 use Rattle.gc_field.specs.SceneField.{RetainedReads, scene_ends, scene_kept}
 use Rattle.gc_rehearsal.specs.Carrying.{IsOfLine, IsQuiet}
 
--- what a command asks is allowed, whenever it is sent: a call's numbers lie in their types, and a procedure that isn't in the table may be
--- asked with its parameters (`IsAskedFitting`)
+-- what a command asks is allowed, whenever it is sent: a call's numbers lie in their types, and a procedure that isn't in the
+-- table may be asked with its parameters (`IsAskedFitting`)
 abbrev pub IsAskable : Task → Type 0
 IsAskable task = (utc : ℕ) → IsAskedFitting (call_at task utc)
 
@@ -28,16 +28,17 @@ IsAskable task = (utc : ℕ) → IsAskedFitting (call_at task utc)
 abbrev pub AreAskable : List Task → Type 0
 AreAskable commands = AllByRecursion IsAskable commands
 
--- a run of a station over a rehearsed line, from its first act on, is one in the field: there are runs on a line of the field, over
--- the instrument of a scene, that show the station what it saw; and the run is faithful
+-- a run of a station over a rehearsed line, from its first act on, is one in the field: there are runs on a line of the field,
+-- over the instrument of a scene, that show the station what it saw; and the run is faithful
 pub record IsRehearsed (plan : Plan) (commands : List Task) (scope : Scope) (acts : List Act) : Type 0 where
   pub under_way : UnderWay SceneState
   pub runs : List (Run SceneState)
   pub field : IsInField scene_ends RetainedReads scene_kept plan commands scope acts under_way runs
   pub faithful : IsRunFaithful scene_ends RetainedReads scene_kept plan commands scope acts under_way runs
 
--- each run of a station over a rehearsed line on which nothing was in flight before, and whose instrument retained no reply then, is one in
--- the field, and so faithful, if its commands are `IsAskable`: nothing is asked of the line, of the station's moments or of its plan
+-- each run of a station over a rehearsed line on which nothing was in flight before, and whose instrument retained no reply then,
+-- is one in the field, and so faithful, if its commands are `IsAskable`: nothing is asked of the line, of the station's moments
+-- or of its plan
 abbrev pub RehearsalsAreFaithful : Type 0
 RehearsalsAreFaithful =
     (plan : Plan) (commands : List Task) (scope : Scope) (acts : List Act) → IsOfLine acts → AreAskable commands → Runs plan commands (opening plan scope) acts
@@ -45,9 +46,9 @@ RehearsalsAreFaithful =
 
 -- Stations one after the other.
 
--- a station that ran over a rehearsed line: its plan, its commands, its scope, and the acts of its link while it ran; and the acts
--- after that run and before the next (`after_run`), such as a close after the output failed
-pub record Station : Type 0 where
+-- a station that ran over a rehearsed line: its plan, its commands, its scope, and the acts of its link while it ran; and the
+-- acts after that run and before the next (`after_run`), such as a close after the output failed
+pub record RehearsedStation : Type 0 where
   pub plan : Plan
   pub commands : List Task
   pub scope : Scope
@@ -55,18 +56,19 @@ pub record Station : Type 0 where
   pub after_run : List Act
 
 -- the acts of the link while these stations ran, in order
-abbrev pub acts_of_all : List Station → List Act
+abbrev pub acts_of_all : List RehearsedStation → List Act
 acts_of_all [] = []
 acts_of_all (x ∷ xs) = x.acts ++ (x.after_run ++ acts_of_all xs)
 
--- a station's commands are `IsAskable`, its acts are a run of it, and after them nothing was sent whole and nothing came (`IsQuiet`)
-pub record RunsAndStops (x : Station) : Type 0 where
+-- a station's commands are `IsAskable`, its acts are a run of it, and after them nothing was sent whole and nothing came
+-- (`IsQuiet`)
+pub record RunsAndStops (x : RehearsedStation) : Type 0 where
   pub askable : AreAskable x.commands
   pub runs : Runs x.plan x.commands (opening x.plan x.scope) x.acts
   pub quiet : AllByRecursion IsQuiet x.after_run
 
 -- these stations as programs of the field, with what happens on the line in each of their runs: as many as there are of both
-abbrev pub programs : List Station → List (List (Run SceneState)) → List (Program SceneState)
+abbrev pub programs : List RehearsedStation → List (List (Run SceneState)) → List (Program SceneState)
 programs (x ∷ xs) (rs ∷ rss) = record { plan = x.plan; commands = x.commands; scope = x.scope; acts = x.acts; runs = rs } ∷ programs xs rss
 programs _ _ = []
 
@@ -77,17 +79,18 @@ unbegun n true = 0
 unbegun n false = n + 1
 
 -- whether a station has synchronized at the end of its acts: the eighth null procedure of its last synchronization is answered
-abbrev pub has_begun_at_its_end : Station → Bool
+abbrev pub has_begun_at_its_end : RehearsedStation → Bool
 has_begun_at_its_end x = has_begun (state_after x.plan x.commands x.scope x.acts).progress
 
--- fewer than six of these stations in a row end while they synchronize, counted with the `n` that ended so directly before the first
-abbrev pub FewEndUnbegun : ℕ → List Station → Type 0
+-- fewer than six of these stations in a row end while they synchronize, counted with the `n` that ended so directly before the
+-- first
+abbrev pub FewEndUnbegun : ℕ → List RehearsedStation → Type 0
 FewEndUnbegun n [] = Unit {0}
 FewEndUnbegun n (x ∷ xs) = (unbegun n (has_begun_at_its_end x) ≤ 5) × FewEndUnbegun (unbegun n (has_begun_at_its_end x)) xs
 
--- stations in a row are in the field, with nothing in flight before the first: with a list of runs for each, they are programs in a
--- row (`AreInARow`), and each of them is faithful
-pub record AreRehearsed (xs : List Station) : Type 0 where
+-- stations in a row are in the field, with nothing in flight before the first: with a list of runs for each, they are programs in
+-- a row (`AreInARow`), and each of them is faithful
+pub record AreRehearsed (xs : List RehearsedStation) : Type 0 where
   pub start : SceneState
   pub runs : List (List (Run SceneState))
   pub each : length runs ≡ length xs
@@ -99,4 +102,4 @@ pub record AreRehearsed (xs : List Station) : Type 0 where
 -- as fewer than six in a row end while they synchronize. Their commands are `IsAskable`, and between two of them nothing is sent
 -- whole and nothing comes (`RunsAndStops`)
 abbrev pub RehearsalsInARowAreFaithful : Type 0
-RehearsalsInARowAreFaithful = (xs : List Station) → IsOfLine (acts_of_all xs) → AllByRecursion RunsAndStops xs → FewEndUnbegun 0 xs → AreRehearsed xs
+RehearsalsInARowAreFaithful = (xs : List RehearsedStation) → IsOfLine (acts_of_all xs) → AllByRecursion RunsAndStops xs → FewEndUnbegun 0 xs → AreRehearsed xs

@@ -10,10 +10,10 @@ pub fn rehearsals_are_faithful()
     ensures { RehearsalsAreFaithful }
 {}
 
-/// Stations that run one after the other over a rehearsed line are stations in a row in the field, where each may be killed at any
-/// moment, and a close loses what is in flight or keeps it. As long as fewer than six in a row end while they synchronize, each
-/// of them is faithful. The first one's line and instrument, and the commands of each, are as in [`rehearsals_are_faithful`]; and
-/// between two stations nothing is sent whole and nothing comes.
+/// Stations that run one after the other over a rehearsed line are stations in a row in the field, where each may be killed at
+/// any moment, and a close loses what is in flight or keeps it. As long as fewer than six in a row end while they synchronize,
+/// each of them is faithful. The first one's line and instrument, and the commands of each, are as in
+/// [`rehearsals_are_faithful`]; and between two stations nothing is sent whole and nothing comes.
 pub fn rehearsals_in_a_row_are_faithful()
     ensures { RehearsalsInARowAreFaithful }
 {}

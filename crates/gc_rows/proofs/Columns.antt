@@ -4,6 +4,7 @@ use Rattle.std.proofs.Common.{◌≡◌, ◌≢◌, ℕ, ◌+◌, ◌<◌, List,
 use Rattle.std.specs.Str.Parse.{AllDigits}
 use Rattle.std.specs.Int.{IsInRange}
 use Rattle.std.proofs.lemmas.Str.Parse.{digit_from_value}
+use Rattle.gc_values.proofs.Every.{every_append}
 use Rattle.gc_texts.specs.Cuts.{Lacks}
 use Rattle.gc_lines.specs.Headers.{id_text}
 use Rattle.gc_lines.specs.Numbers.{IsNumber}
@@ -25,23 +26,21 @@ digits_lack mark (d ∷ ds) digits other = ((λ e. no_digit d mark e (digit_from
 
 -- a text lacks a mark that both its parts lack
 pub lacks_both : (mark : ℕ) (xs ys : List ℕ) → Lacks mark xs → Lacks mark ys → Lacks mark (xs ++ ys)
-lacks_both mark [] ys lx ly = ly
-lacks_both mark (x ∷ xs) ys lx ly = (lx.0, lacks_both mark xs ys lx.1 ly)
+lacks_both mark xs ys lx ly = every_append (λ b. b ≢ mark) xs ys lx ly
 
 -- the text of an id lacks a colon: it is a comma and an id below 8, or nothing if there is no id
 id_lacks : (id : Option ℕ) → IfSome id (λ i. i < 8) → Lacks 58 (id_text id)
 id_lacks None small = tt
 id_lacks (Some i) small = ((λ e. absurd (omega (arith, e))), ((λ e. absurd (omega (arith, e, small))), tt))
 
--- where `ds` lack a comma, `ds` are what comes before the first comma in `ds` and the text of an id after them; without an id
--- there is no comma, and `ds` are all
+-- in `ds`, which lack a comma, and the text of an id after them, `ds` are what comes before the first comma; they are all where
+-- there is no id, and so no comma
 number_first : (ds : List ℕ) (id : Option ℕ) → Lacks 44 ds → before 44 (ds ++ id_text id) ≡ ds
 number_first ds None lacks = ap (before 44) (append-nil ds) ∙ before_none 44 ds lacks
 number_first ds (Some i) lacks = before_mark 44 ds ((48 + i) ∷ []) lacks
 
--- where `ds` lack a comma, and `tail` is nothing, with no parameters, or a comma and the parameters (`EndsCode`), then in `ds`
--- and `tail` after them, `ds` are what comes before the first comma, and the parameters what comes after it; without a comma,
--- `ds` are all, and nothing comes after
+-- in `ds`, which lack a comma, and `tail` after them, which is a comma and the parameters, or nothing if there are none
+-- (`EndsCode`): `ds` are what comes before the first comma, and the parameters what comes after it
 code_first : (ds tail params : List ℕ) → Lacks 44 ds → EndsCode tail params → (before 44 (ds ++ tail) ≡ ds) × (behind 44 (ds ++ tail) ≡ params)
 code_first ds tail params lacks (inl none) =
     let whole : ds ++ tail ≡ ds = ap (λ l. ds ++ l) none.0 ∙ append-nil ds in

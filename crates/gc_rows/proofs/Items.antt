@@ -4,7 +4,7 @@ use Rattle.std.proofs.Common.{◌≡◌, ◌<◌, ◌≤◌, ◌+◌, ◌%◌, �
 use Rattle.std.specs.Prelude.{not, nat_lt, ◌&&◌}
 use Rattle.std.specs.List.{AllByRecursion}
 use Rattle.std.proofs.lemmas.Bool.{ne_eqb, eqb-true, eq-eqb, cond_both, lt-ltb, le-ltb, false≢true, false_from_ne_true}
-use Rattle.gc_values.specs.Params.{quotes, AreSpaces, HasCommasInQuotes, IsParam, IsPadded, ArePieces, joined, IsParams, bytes_in}
+use Rattle.gc_values.specs.Params.{quotes, quoted_after, AreSpaces, HasCommasInQuotes, IsParam, IsPadded, ArePieces, joined, IsParams, bytes_in}
 use Rattle.gc_values.specs.declared.fault.ValueFault.{ValueFault}
 use Rattle.gc_values.specs.declared.fault.ValueFault.TheVariants.{OpenQuote, TooMany}
 use Rattle.gc_values.proofs.ItemBytes.{bytes_in_next, bytes_in_front}
@@ -12,7 +12,7 @@ use Rattle.gc_values.proofs.ParamLists.{IsPiece, pieces_of, params_even}
 use Rattle.gc_values.proofs.Quotes.{quotes-append, quotes-cons}
 use Rattle.gc_values.proofs.Trimming.{param_is_trimmed, trimmed_is}
 use Rattle.gc_values.specs.Pieces.{without_front_spaces, put_before, without_end_spaces}
-use Rattle.gc_rows.specs.Items.{trimmed, onto, quoted_after, pieces, is_blank, items_of, split_items}
+use Rattle.gc_rows.specs.Items.{trimmed, onto, pieces, is_blank, items_of, split_items}
 use Rattle.gc_rows.specs.Laws.{ItemsAreTheGrammars}
 
 -- Spaces at the ends.

@@ -8,7 +8,7 @@ use Rattle.std.proofs.lemmas.Bool.{cases_Bool, lt-ltb}
 use Rattle.std.proofs.lemmas.Grind.{flat_map-append}
 use Rattle.std.proofs.lemmas.List.{drop_more}
 use Rattle.std.proofs.lemmas.List.Elements.{recursion_from_All}
-use Rattle.gc_lines.proofs.Lists.{all_on}
+use Rattle.gc_values.proofs.Every.{every_weaker as all_on}
 use Rattle.json.specs.Json as json
 use Rattle.json.specs.Json.{document}
 use Rattle.json.specs.Print.{escape, escape_byte, print, print_from}
@@ -62,8 +62,8 @@ all_members front ws hs es qs =
     ap (λ l. l ++ codes "}\n") (grouped ∙ ap (λ l. front ++ l) (sym joined))
 
 -- a, b and c, appended one after the other to `old`, are `old` and then one text, which is a, b and c with nothing after them
-pub three_members : (old a b c : List ℕ) → ((old ++ a) ++ b) ++ c ≡ old ++ (a ++ (b ++ (c ++ [])))
-three_members old a b c =
+pub three_appended : (old a b c : List ℕ) → ((old ++ a) ++ b) ++ c ≡ old ++ (a ++ (b ++ (c ++ [])))
+three_appended old a b c =
     append_assoc (old ++ a) b c ∙ append_assoc old a (b ++ c) ∙ ap (λ l. old ++ (a ++ (b ++ l))) (sym (append-nil c))
 
 -- a double quote and a backslash are escaped as a writer of JSON does it
@@ -196,8 +196,8 @@ started_as run below =
     escapes_as (escaped text) (recursion_from_All IsPrintableByte (escaped text) (escaped_prints text bytes))
 
 -- a and m, and then a brace and a line feed, are the text of a, m and the brace, and then the line feed
-pub front_of : (a m : List ℕ) → (a ++ m) ++ codes "}\n" ≡ (a ++ (m ++ codes "}")) ++ codes "\n"
-front_of a m =
+pub feed_apart : (a m : List ℕ) → (a ++ m) ++ codes "}\n" ≡ (a ++ (m ++ codes "}")) ++ codes "\n"
+feed_apart a m =
     append_assoc a m (codes "}\n") ∙ ap (λ l. a ++ l) (sym (append_assoc m (codes "}") (codes "\n"))) ∙ sym (append_assoc a (m ++ codes "}") (codes "\n"))
 
 -- the line of JSON of a run's moment and these members, without its line feed
@@ -226,7 +226,7 @@ reads_as run members below are =
 pub read_back : JsonLinesReadBack
 read_back run members below are = (
   object_text run members,
-  front_of (codes "{\"run\":" ++ string_text (stamp_text run)) (members_text members),
+  feed_apart (codes "{\"run\":" ++ string_text (stamp_text run)) (members_text members),
   reads_as run members below are,
 )
 

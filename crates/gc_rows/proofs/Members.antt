@@ -42,7 +42,8 @@ use Rattle.gc_rows.specs.Rows.{com_of, code_of, values_of, procedure_of}
 use Rattle.gc_texts.specs.Stamps.{stamp_text}
 use Rattle.gc_texts.specs.declared.wish.Wish.{Wish}
 use Rattle.gc_rows.specs.declared.when.When.{When}
-use Rattle.gc_lines.proofs.Lists.{all_append, all_on}
+use Rattle.gc_lines.proofs.Lists.{all_append}
+use Rattle.gc_values.proofs.Every.{every_weaker as all_on}
 use Rattle.gc_rows.specs.Items.{items_of, split_items}
 use Rattle.gc_rows.proofs.Columns.{reply_columns}
 use Rattle.gc_rows.proofs.Items.{AreOfBytes, items_bytes}

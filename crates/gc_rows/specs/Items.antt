@@ -1,8 +1,9 @@
 -- The items of a reply's values: what lies between the commas, if these aren't within double quotes, without the spaces round
 -- it. Commas and strings in double quotes are those of the GeoCOM manual's chapter on the ASCII protocol; the spaces and the
 -- limit of 16 are this project's own.
-use Rattle.std.specs.Prelude.{ℕ, ◌%◌, ◌==◌, ◌&&◌, Bool, true, false, not, nat_lt, List, [], ◌∷◌, length, map, Option, Some, None, if◌then◌else◌}
-use Rattle.gc_values.specs.Params.{quotes}
+use Rattle.std.specs.Prelude.{ℕ, ◌%◌, ◌==◌, ◌&&◌, Bool, false, not, nat_lt, List, [], ◌∷◌, length, map, Option, Some, None, if◌then◌else◌}
+use Rattle.std.specs.List.{list_all}
+use Rattle.gc_values.specs.Params.{quotes, quoted_after}
 use Rattle.gc_values.specs.Pieces.{without_front_spaces, without_end_spaces}
 
 -- a text without the spaces at both ends
@@ -14,10 +15,6 @@ abbrev pub onto : ℕ → List (List ℕ) → List (List ℕ)
 onto b [] = []
 onto b (piece ∷ pieces) = (b ∷ piece) ∷ pieces
 
--- whether a double quote is open after a byte; `quoted` says whether one is open before that byte
-abbrev pub quoted_after : ℕ → (quoted : Bool) → Bool
-quoted_after b quoted = if b == 34 then not quoted else quoted
-
 -- the pieces of a text, which is cut at each comma outside double quotes; `quoted` says whether a double quote is open before
 -- the text
 abbrev pub pieces : (quoted : Bool) → List ℕ → List (List ℕ)
@@ -26,8 +23,7 @@ pieces quoted (b ∷ bs) = if (b == 44) && not quoted then [] ∷ pieces false b
 
 -- whether a text has no byte but spaces
 abbrev pub is_blank : List ℕ → Bool
-is_blank [] = true
-is_blank (b ∷ bs) = (b == 32) && is_blank bs
+is_blank text = list_all (λ b. b == 32) text
 
 -- the items of a text; there is none if it is blank
 abbrev pub items_of : List ℕ → List (List ℕ)

@@ -109,10 +109,14 @@ when_members when =
     ∷ Number (codes "place") (decimal when.stamp.turn.place)
     ∷ [])
 
+-- the member with this name that is a string of these bytes; none if there are no bytes
+abbrev pub text_if_any : (name bytes : List ℕ) → List Member
+text_if_any name [] = []
+text_if_any name (b ∷ bs) = Text name (b ∷ bs) ∷ []
+
 -- the member of a target's name; none if the name is empty
 abbrev pub name_members : List ℕ → List Member
-name_members [] = []
-name_members (b ∷ bs) = Text (codes "name") (b ∷ bs) ∷ []
+name_members name = text_if_any (codes "name") name
 
 -- the members of a command's target, the target's name, and the number of the procedure
 abbrev pub command_members : Wish → List ℕ → List Member
@@ -169,8 +173,7 @@ quantity_members asked _ = []
 
 -- the member `quality`, which holds this word; none if the word is empty
 abbrev pub quality_members : List ℕ → List Member
-quality_members [] = []
-quality_members (b ∷ bs) = Text (codes "quality") (b ∷ bs) ∷ []
+quality_members word = text_if_any (codes "quality") word
 
 -- the member of the attempt: of a command's chain or, for a command of the setup, of the setup
 abbrev pub attempt_members : When → List Member

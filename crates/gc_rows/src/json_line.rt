@@ -8,8 +8,8 @@ ghost use Rattle.gc_rows.specs.Items.{split_items};
 ghost use Rattle.gc_values.specs.Params.{bytes_in};
 ghost use Rattle.gc_texts.specs.Endings.{ending_seen};
 ghost use Rattle.gc_texts.specs.Logs.{escaped};
-ghost use Rattle.gc_rows.specs.declared.json_line.TheConstants.{NAME_ROOM, VALUE_ROOM, STRINGS_ROOM, LIST_ROOM, ANSWER_ROOM, QUALITY_ROOM, LAST_ROOM, AFTER_ENDING_ROOM};
-ghost use Rattle.gc_rows.specs.JsonLines.{behind_backslash, in_quotes, named, string_text, text_member, number_member, comma_where, strings_text, items_list, item_members, members_text, without_zeros, sent_members, when_members, name_members, command_members, fault_members, reply_members, ending_members, value_members, values_members, answer_members, quantity_members, quality_members, attempt_members, last_members, members_after_ending, json_line, json_members};
+ghost use Rattle.gc_rows.specs.declared.json_line.TheConstants.{NAME_ROOM, VALUE_ROOM, STRINGS_ROOM, LIST_ROOM, ANSWER_ROOM, LAST_ROOM, AFTER_ENDING_ROOM};
+ghost use Rattle.gc_rows.specs.JsonLines.{behind_backslash, in_quotes, named, string_text, text_member, number_member, comma_where, strings_text, items_list, item_members, members_text, without_zeros, sent_members, when_members, text_if_any, command_members, fault_members, reply_members, ending_members, value_members, values_members, answer_members, quantity_members, attempt_members, last_members, members_after_ending, json_line, json_members};
 
 use crate::quantity::{answer_values, column_of, quantity_name, quantity_text};
 use crate::row::texts_of;
@@ -144,15 +144,16 @@ fn append_when<const N: usize>(line: &mut ArrayVec<u8, N>, when: &When)
     );
 }
 
-// Appends the member of a target's name; nothing if the name is empty. It has at most 640 bytes.
-fn append_target_name<const N: usize>(line: &mut ArrayVec<u8, N>, name: &[u8])
-    requires short { length name.now ≤ 64 }
-    requires room { array_vec_len line.old + 640 ≤ N }
-    ensures text { line.new.items ≡ line.old.items ++ members_text (name_members name.now) }
-    ensures room { array_vec_len line.new ≤ array_vec_len line.old + 640 }
+// Appends a member that is a string of these bytes, as `append_text` does; nothing if there are no bytes.
+fn append_text_if_any<const N: usize>(line: &mut ArrayVec<u8, N>, name: &[u8], bytes: &[u8])
+    requires named { length name.now ≤ 32 }
+    requires short { length bytes.now ≤ 514 }
+    requires room { array_vec_len line.old + 8 * length bytes.now + 43 ≤ N }
+    ensures text { line.new.items ≡ line.old.items ++ members_text (text_if_any name.now bytes.now) }
+    ensures room { array_vec_len line.new ≤ array_vec_len line.old + 8 * length bytes.now + 43 }
 {
-    if !name.is_empty() {
-        append_text(line, b"name", name);
+    if !bytes.is_empty() {
+        append_text(line, name, bytes);
     }
 }
 
@@ -165,7 +166,7 @@ fn append_command<const N: usize>(line: &mut ArrayVec<u8, N>, command: &Wish, na
 {
     let mut digits = Buffer::new();
     append_number(line, b"target", digits.format(command.target).as_bytes());
-    append_target_name(line, name);
+    append_text_if_any(line, b"name", name);
     append_number(
         line,
         b"procedure",
@@ -364,18 +365,6 @@ fn append_quantities<const N: usize>(line: &mut ArrayVec<u8, N>, asked: &Asked, 
     }
 }
 
-// Appends the member `quality`, which holds this word. If the word is empty, nothing is appended.
-fn append_quality<const N: usize>(line: &mut ArrayVec<u8, N>, word: &[u8])
-    requires short { length word.now ≤ 16 }
-    requires room { array_vec_len line.old + QUALITY_ROOM ≤ N }
-    ensures text { line.new.items ≡ line.old.items ++ members_text (quality_members word.now) }
-    ensures room { array_vec_len line.new ≤ array_vec_len line.old + QUALITY_ROOM }
-{
-    if !word.is_empty() {
-        append_text(line, b"quality", word);
-    }
-}
-
 // Appends the member of the answer's quality, if the ending is `Answered`, and the one of the attempt: of the command's chain or,
 // for a command of the setup, of the setup.
 fn append_last<const N: usize>(line: &mut ArrayVec<u8, N>, when: &When, ending: Ending<'_>)
@@ -383,7 +372,7 @@ fn append_last<const N: usize>(line: &mut ArrayVec<u8, N>, when: &When, ending: 
     ensures text { line.new.items ≡ line.old.items ++ members_text (last_members when.now (ending_seen ending.entry)) }
     ensures room { array_vec_len line.new ≤ array_vec_len line.old + LAST_ROOM }
 {
-    append_quality(line, ending.quality_text());
+    append_text_if_any(line, b"quality", ending.quality_text());
     append_number(
         line,
         b"attempt",

@@ -59,26 +59,17 @@ pub(crate) fn texts_of(line: &[u8]) -> ReplyTexts<'_>
     ensures values { result.values.now ≡ values_of line.now }
     ensures short { AreNoLonger result.com.now result.code.now result.values.now line.now }
 {
-    let (head, body) = parts(b':', behind(b',', line));
-    let (code, values) = parts(b',', body);
+    let codes = behind(b',', line);
+    let body = behind(b':', codes);
     ReplyTexts {
-        com: before(b',', head),
-        code,
-        values,
+        com: before(b',', before(b':', codes)),
+        code: before(b',', body),
+        values: behind(b',', body),
     }
 }
 
-// Cuts a text at the first mark: what is before the mark, and what is after it. Without a mark: all of the text, and an empty text.
-fn parts(mark: u8, text: &[u8]) -> (&[u8], &[u8])
-    ensures front { result.0.now ≡ before mark text.now }
-    ensures rest { result.1.now ≡ behind mark text.now }
-    ensures short { (length result.0.now ≤ length text.now) × (length result.1.now ≤ length text.now) }
-{
-    (before(mark, text), behind(mark, text))
-}
-
 // Whether a field has to be within quotes: it has a comma, a double quote, a CR or a line feed.
-fn is_special(text: &[u8]) -> bool
+fn needs_quotes(text: &[u8]) -> bool
     ensures { result ≡ list_any is_special text.now }
 {
     text.iter()
@@ -106,7 +97,7 @@ fn append_csv_field<const N: usize>(row: &mut ArrayVec<u8, N>, text: &[u8])
     ensures text { row.new.items ≡ row.old.items ++ csv_field text.now }
     ensures room { array_vec_len row.new ≤ array_vec_len row.old + 2 * length text.now + 2 }
 {
-    if is_special(text) {
+    if needs_quotes(text) {
         append(row, b"\"");
         append_doubled(row, text);
         append(row, b"\"");

@@ -101,7 +101,8 @@ unfolding plays
 same_repeats s rpc call (Some code) = refl
 same_repeats s rpc call None = refl
 
--- as `counted` below has it, by the line that is sent again for the id (`o`), if there is one
+-- `counted` below, for a call that was played as `p`, by whether a line is sent again for the id: `o` is that line, if there is
+-- one
 counted_by : (s : SceneState) (id : ℕ) (p : Played) (o : Option (List ℕ)) (new : ℕ) (xs : List ℕ) (n : ℕ) → resent_line s (Some id) ≡ o → p.state.repeats ≡ s.repeats
     → Notes s.repeats (kept_id s.base.kept) (kept_id (again_or_played s (Some id) p o).state.base.kept) (length xs) new
     → new ≡ length (cond (again_or_played s (Some id) p o).executed (xs ++ n ∷ []) xs)
@@ -135,7 +136,7 @@ counted s id call after old new xs n is h count =
     (subst (λ k. Notes s.repeats (kept_id s.base.kept) (kept_id after.base.kept) k new) count h))
 
 -- where `Notes` holds of r, b and a, it holds of values equal to these
-pub notes_are : (r repeats : Bool) (b before a after : Option ℕ) (old new : ℕ) → r ≡ repeats → b ≡ before → a ≡ after → Notes r b a old new
+pub notes_are : {r repeats : Bool} {b before a after : Option ℕ} {old new : ℕ} → r ≡ repeats → b ≡ before → a ≡ after → Notes r b a old new
     → Notes repeats before after old new
-notes_are r repeats b before a after old new er eb ea h =
+notes_are {r} {repeats} {b} {before} {a} {after} {old} {new} er eb ea h =
     subst (λ (x : Bool). Notes x before after old new) er (subst (λ (x : Option ℕ). Notes r x after old new) eb (subst (λ (x : Option ℕ). Notes r b x old new) ea h))

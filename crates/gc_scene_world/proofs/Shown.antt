@@ -295,8 +295,6 @@ module _ (width : ℕ) (s : Seen) (v : Streams (ById Call) SceneState) (h : AreS
         (ap (λ (f : Flight). f.gone) h.down) refl said left
         (down_changed k (doubled k s.down.texts) (doubled k v.world.wire.down) (ap (doubled k) down_are ∙ doubled_map (λ x. x.line) k v.world.wire.down) (doubled_past k s.down.texts))
 
-  -- Moments and restarts.
-
   -- Bytes.
 
   -- an event of 0 bytes, or of bytes while none are in flight, is only counted

@@ -1,22 +1,18 @@
 -- A turn of the loop that plays events.
-use Rattle.std.proofs.Common.{◌≡◌, ℕ, ◌+◌, ◌<◌, ◌^◌, List, length, take, ◌∙◌, ap, subst, arith, length-take}
+use Rattle.std.proofs.Common.{◌≡◌, ℕ, ◌<◌, ◌^◌, List, length, take, ◌∙◌, ap, arith, length-take}
 use Rattle.std.proofs.lemmas.List.{length-map}
-use Rattle.gc_scenes.specs.SceneState.{SceneState}
+use Rattle.gc_scenes.specs.SceneState.{SceneState, scene_restarted}
 use Rattle.gc_scene_world.specs.Lanes.{Flight}
 use Rattle.gc_scene_world.specs.SceneRuns.{scene_ends, scene_streamed, scene_played}
-use Rattle.gc_scene_world.specs.SceneStages.{Seen, AreStreamsOf, HasRoom, streams_at_start}
+use Rattle.gc_scene_world.specs.SceneStages.{Seen, AreStreamsOf, HasRoom}
 use Rattle.gc_scene_world.proofs.Shown.{text_of}
 use Rattle.gc_world.specs.declared.event.Event.{Event}
-use Rattle.gc_world.specs.Clients.{by_ids}
-use Rattle.gc_world.proofs.Counts.{IsWithin, within_all}
+use Rattle.gc_world.proofs.Counts.{IsWithin}
+use Rattle.gc_world.proofs.Turns.{run_within}
 
 -- none of the lists and counts of a run that `IsWithin` speaks of is above the count of its events
 played_within : (width : ℕ) (opening : SceneState) (events : List Event) → IsWithin (length events) (scene_played width opening events).wire
-played_within width opening events =
-    let e : 0 + length events ≡ length events = omega arith in
-    subst (λ n. IsWithin n (scene_played width opening events).wire) e
-    (within_all scene_ends (by_ids width scene_ends) events (streams_at_start opening) 0 (record
-    { sent = omega arith; executed = omega arith; made = omega arith; starts = omega arith; refused = omega arith; idle = omega arith }))
+played_within width opening events = run_within scene_ends width (scene_restarted opening) events
 
 -- after the first i of fewer than 2^64 events, the counts have room for event i
 pub has_room : (width : ℕ) (opening : SceneState) (events : List Event) (i : ℕ) (s : Seen) → i < length events → length events < 2 ^ 64

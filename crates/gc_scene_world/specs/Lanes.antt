@@ -20,8 +20,8 @@ losing k f = if is_begun k f.gone then f else record f { texts = without k f.tex
 abbrev pub repeating : ℕ → Flight → Flight
 repeating k f = if is_begun k f.gone then f else record f { texts = doubled k f.texts }
 
--- how many events weren't possible so far, counted after a loss or a repeat of line k: `idle`, which was the count before it, if
--- line k could be lost or repeated (`is_whole`), and else one more
+-- the count of events that weren't possible, after a loss or a repeat of line k: as it was before (`idle`) if line k could be
+-- lost or repeated (`is_whole`), and else one more
 abbrev pub idle_after : (k : ℕ) → Flight → (idle : ℕ) → ℕ
 idle_after k f idle = if is_whole k f then idle else idle + 1
 

@@ -82,19 +82,15 @@ pub record IsRemainder (d : Direction) (v : Streams (ById Call) SceneState) (n :
   pub left : n ≡ remaining (gone d v) (lines d v.world.wire)
   pub part : IsPart (gone d v) (lines d v.world.wire)
 
--- the count of executions doesn't overflow if each request in flight is executed
-abbrev pub HasRoomForExecutions : Counts → Flight → Type 0
-HasRoomForExecutions counts up = counts.executed + length up.texts < 2 ^ 64
-
--- the count of replies doesn't overflow if each request in flight gets a reply
-abbrev pub HasRoomForReplies : Counts → Flight → Type 0
-HasRoomForReplies counts up = counts.made + length up.texts < 2 ^ 64
+-- this count can go up by one for each request in flight
+abbrev pub HasRoomFor : (count : ℕ) → Flight → Type 0
+HasRoomFor count up = count + length up.texts < 2 ^ 64
 
 -- no count overflows at the next event; each request in flight may become an execution and a reply
 pub record HasRoom (s : Seen) : Type 0 where
   pub sent : s.counts.sent + 1 < 2 ^ 64
-  pub executed : HasRoomForExecutions s.counts s.up
-  pub made : HasRoomForReplies s.counts s.up
+  pub executed : HasRoomFor s.counts.executed s.up
+  pub made : HasRoomFor s.counts.made s.up
   pub refused : s.counts.refused_sends + 1 < 2 ^ 64
   pub idle : s.counts.idle_events + 1 < 2 ^ 64
 

@@ -8,7 +8,7 @@ ghost use Rattle.gc_world.specs.declared.event.Event.{Event};
 ghost use Rattle.gc_world.specs.Directions.{bytes, delivery};
 ghost use Rattle.gc_world.specs.Streams.{Streams};
 ghost use Rattle.gc_scene_world.specs.Lanes.{losing, repeating, idle_after};
-ghost use Rattle.gc_scene_world.specs.SceneStages.{streams_at_start, seen, Shows, IsShown, IsRemainder, Follows, FollowsBytes, HasMoreThan, HasRoom, HasRoomForExecutions, HasRoomForReplies};
+ghost use Rattle.gc_scene_world.specs.SceneStages.{streams_at_start, seen, Shows, IsShown, IsRemainder, Follows, FollowsBytes, HasMoreThan, HasRoom, HasRoomFor};
 
 use crate::lane::Lane;
 use crate::report::{Counts, SceneReport};
@@ -116,8 +116,8 @@ impl Stage {
     // Hands the front request to the instrument, and puts the reply at the back of the downward lane. If no request is in flight,
     // the event is only counted. `Err`: memory was refused.
     fn up_deliver(&mut self) -> Result<(), AllocError>
-        requires executed { HasRoomForExecutions self.old.counts self.old.up }
-        requires made { HasRoomForReplies self.old.counts self.old.up }
+        requires executed { HasRoomFor self.old.counts.executed self.old.up }
+        requires made { HasRoomFor self.old.counts.made self.old.up }
         requires idle { self.old.counts.idle_events + 1 < 2 ^ 64 }
         requires shown { IsShown self.old }
         ensures { OnOk result (Follows self.old Event.UpDeliver self.new) }
@@ -179,8 +179,8 @@ impl Stage {
     // Hands over what remains of the front line of a direction. If no line is in flight, the event is only counted. `Err`: memory was
     // refused.
     fn deliver(&mut self, direction: Direction) -> Result<(), AllocError>
-        requires executed { HasRoomForExecutions self.old.counts self.old.up }
-        requires made { HasRoomForReplies self.old.counts self.old.up }
+        requires executed { HasRoomFor self.old.counts.executed self.old.up }
+        requires made { HasRoomFor self.old.counts.made self.old.up }
         requires idle { self.old.counts.idle_events + 1 < 2 ^ 64 }
         requires shown { IsShown self.old }
         ensures { OnOk result (Follows self.old (delivery direction) self.new) }
@@ -289,11 +289,7 @@ fn note_execution(executed: &mut usize, repeats: bool, before: Option<u8>, after
     ensures another { (before ≡ after → ⊥) → executed.new ≡ executed.old + 1 }
     ensures never { repeats ≡ false → executed.new ≡ executed.old + 1 }
 {
-    if !repeats {
-        *executed += 1;
-        return;
-    }
-    if before != after {
+    if !repeats || before != after {
         *executed += 1;
     }
 }

@@ -1,7 +1,7 @@
 -- What the code appends for a request is what the definitions give.
 use Rattle.std.proofs.Common.{◌≡◌, ◌≢◌, ℕ, List, [], ◌∷◌, ◌++◌, Some, None, Option, true, false, refl, sym, ap, ◌∙◌, subst}
 use Rattle.std.specs.Prelude.{unwrap_or}
-use Rattle.gc_lines.specs.Answering.{AppendsAnswer}
+use Rattle.gc_lines.specs.Answering.{AppendsAnswer, AppendsText}
 use Rattle.gc_lines.specs.Requests.{RequestFields}
 use Rattle.gc_lines.specs.declared.frame.Frame.TheVariants.{Line}
 use Rattle.gc_lines.proofs.AnsweringLines.{appended_alone, line_answered, line_unanswered}
@@ -14,10 +14,10 @@ use Rattle.gc_catalogue.specs.declared.call.Call.{Call}
 use Rattle.gc_catalogue.specs.declared.fault.CallFault.TheVariants.{Unknown, Parameters}
 use Rattle.gc_instrument.specs.Execution.{Executed}
 use Rattle.gc_instrument.specs.Replying.{refusal_line, reply_id}
-use Rattle.gc_scenes.specs.Appending.{AppendsHanded, AppendsPlayed, AppendsReply}
+use Rattle.gc_scenes.specs.Appending.{AppendsHanded, AppendsPlayed}
 use Rattle.gc_scenes.specs.Rules.{fault_of, answer_of, noisy, noise_after}
 use Rattle.gc_scenes.specs.SceneExecution.{Played, Reports, plays, outcome, after_call, replied_answer, played_call, played_raw, unless_faulted_raw, scripted, counting, faulted}
-use Rattle.gc_scenes.specs.SceneReplying.{IsPlayed, executed_reply_line, names_call, unreadable, resent_line, again_or_played, handed_call, handed_raw, played_or_refused, holding, kept_if_repeating, played_line}
+use Rattle.gc_scenes.specs.SceneReplying.{IsPlayed, executed_reply_line, names_call, unreadable, AnswersRequest, resent_line, again_or_played, handed_call, handed_raw, played_or_refused, holding, kept_if_repeating, played_line}
 use Rattle.gc_scenes.specs.SceneServing.{PlaysFrame}
 use Rattle.gc_scenes.specs.SceneState.{SceneState}
 use Rattle.gc_scenes.specs.declared.rules.Noise.{Noise}
@@ -54,7 +54,7 @@ gave_call s after rpc id call old new h = h
 
 -- A request of a procedure that isn't in the table, by what the scene has for it.
 module _ (s after : SceneState) (rpc : ℕ) (id : Option ℕ) (old new : List ℕ) where
-  -- what `played_or_refused` says of `played_raw` of the request is what `handed_raw` says of the request
+  -- where `played_raw` gives `o` for the request, what `played_or_refused` says of `o` is what `handed_raw` says of the request
   by_played : (o : Option Played) → played_raw s rpc ≡ o → AppendsHanded (played_or_refused s rpc id o) after old new
       → AppendsHanded (handed_raw s rpc id) after old new
   unfolding handed_raw
@@ -92,9 +92,9 @@ noise_of_none None a is = is
 noise_of_none (Some n) a is = ap (noisy (Some n)) is
 
 -- with a return code other than 0 there is no answer, also with the noise
-pub refuses : (s t : SceneState) (call : Call) (code : ℕ) (said told : Answer) → Reports (outcome s call) code said
+pub unanswered_where_refused : (s t : SceneState) (call : Call) (code : ℕ) (said told : Answer) → Reports (outcome s call) code said
     → told ≡ noisy t.noise said → code ≢ 0 → told ≡ answer.Nothing
-refuses s t call code said told is noise some =
+unanswered_where_refused s t call code said told is noise some =
     noise ∙ noise_of_none t.noise said (sym (ap (λ (y : Executed). y.answer) is) ∙ (outcome_sound s call).refuses (λ none. some (sym (ap (λ (y : Executed). y.rc) is) ∙ none)))
 
 -- executing a call, adding the noise and appending the reply is what `plays` says of the call: `s` is the state before, `t`
@@ -122,22 +122,24 @@ executed s t u call number code said told old new is state noise drawn appended 
 
 -- Lines.
 
--- where a request names a call, and `AppendsHanded` holds of what `handed_call` gives for it, `AppendsReply` holds of the request
+-- where a request names a call, and `AppendsHanded` holds of what `handed_call` gives for it, the text that was appended is the
+-- reply to the request (`AnswersRequest`)
 pub call_reply : (before after : SceneState) (q : RequestFields) (call : Call) (old new : List ℕ) → IsCall q.rpc q.params call
     → AppendsHanded (handed_call before q.rpc q.id call) after old new
-    → AppendsReply before q after old new
+    → AppendsText (AnswersRequest before q after) old new
 call_reply before after q call old new is h =
-    record { text = (handed_call before q.rpc q.id call).reply; appended = h.appended; answers = names_call call is (record { state = h.state; line = refl }) }
+    record { text = (handed_call before q.rpc q.id call).reply; appended = h.appended; is = names_call call is (record { state = h.state; line = refl }) }
 
--- where a request's parameters can't be read, and their refusal was appended, with the state as it was, `AppendsReply` holds of
--- the request
+-- where a request's parameters can't be read, and their refusal was appended, with the state as it was, that refusal is the reply
+-- to the request (`AnswersRequest`)
 pub unread_reply : (s : SceneState) (q : RequestFields) (e : ValueFault) (number : ℕ) (old new : List ℕ)
     → IsRefusal q.rpc q.params (Parameters e) → number ≡ reply_id q
-    → new ≡ old ++ refusal_line number (Parameters e) → AppendsReply s q s old new
+    → new ≡ old ++ refusal_line number (Parameters e) → AppendsText (AnswersRequest s q s) old new
 unread_reply s q e number old new is same appended =
-    record { text = refusal_line number (Parameters e); appended = appended; answers = unreadable e is refl (ap (λ n. refusal_line n (Parameters e)) same) }
+    record { text = refusal_line number (Parameters e); appended = appended; is = unreadable e is refl (ap (λ n. refusal_line n (Parameters e)) same) }
 
--- where a reply to a line, as `IsPlayed` has it, was appended to the empty text, the text is then that reply
+-- where a reply to a line, as `IsPlayed` has it, was appended to the empty text, the text is then that reply. This lemma and the
+-- two below are lemmas of gc_lines with the rule filled in, which the search doesn't find by itself
 pub played_alone : (s t : SceneState) (line new : List ℕ) → AppendsAnswer (IsPlayed s line t) [] new true → IsPlayed s line t (Some new)
 played_alone s t line new h = appended_alone (IsPlayed s line t) new h
 

@@ -48,9 +48,8 @@ acted w now s asked = record {
   answer = (acted_faceless w now s asked).answer;
 }
 
--- whether the call is none of the four whose outcome a way or a running clock may change, apart from the face that `faced` sets:
--- `false` for each AUT_MakePositioning, AUT_ChangeFace, TMC_GetSimpleMea and CSV_GetDateTime, also where nothing changes its
--- outcome
+-- whether no way and no running clock can change the call's outcome, apart from the face that `faced` sets: `false` for
+-- AUT_MakePositioning, AUT_ChangeFace, TMC_GetSimpleMea and CSV_GetDateTime, `true` for every other call
 abbrev pub is_unchanged_by_ways : Call → Bool
 is_unchanged_by_ways (call.Position hz v pos_mode atr_mode dummy) = false
 is_unchanged_by_ways (call.ChangeFace pos_mode atr_mode dummy) = false

@@ -1,9 +1,8 @@
 -- What the code appends for a request: this project's own. `number` is an id; `old` and `new` are the bytes before and after.
 use Rattle.std.specs.Prelude.{◌≡◌, ℕ, List, ◌++◌}
-use Rattle.gc_lines.specs.Requests.{RequestFields}
 use Rattle.gc_instrument.specs.Replying.{Handed}
 use Rattle.gc_scenes.specs.SceneExecution.{Played}
-use Rattle.gc_scenes.specs.SceneReplying.{AnswersRequest, played_line}
+use Rattle.gc_scenes.specs.SceneReplying.{played_line}
 use Rattle.gc_scenes.specs.SceneState.{SceneState}
 
 -- the state after a request is that of `x`, and the reply of `x` was appended to `old`
@@ -15,9 +14,3 @@ pub record AppendsHanded (x : Handed SceneState) (after : SceneState) (old new :
 pub record AppendsPlayed (number : ℕ) (p : Played) (after : SceneState) (old new : List ℕ) : Type 0 where
   pub state : after ≡ p.state
   pub appended : new ≡ old ++ played_line number p
-
--- the reply to the request was appended to `old`, by `AnswersRequest`
-pub record AppendsReply (before : SceneState) (q : RequestFields) (after : SceneState) (old new : List ℕ) : Type 0 where
-  pub text : List ℕ
-  pub appended : new ≡ old ++ text
-  pub answers : AnswersRequest before q after text

@@ -5,8 +5,7 @@ use Rattle.std.specs.Option.{option_map}
 use Rattle.std.specs.Ordering.{int_eq}
 use Rattle.gc_values.specs.Decimals.{zero}
 use Rattle.gc_values.specs.declared.decimal.Decimal.{Decimal}
-use Rattle.gc_catalogue.specs.Answers.{answer_fields, rounded_answer}
-use Rattle.gc_catalogue.specs.Lists.{params_of}
+use Rattle.gc_catalogue.specs.Texts.{answer_params}
 use Rattle.gc_catalogue.specs.declared.answer.Answer.{Answer}
 use Rattle.gc_catalogue.specs.declared.answer.Answer.TheVariants as answer
 use Rattle.gc_catalogue.specs.declared.call.Call.{Call}
@@ -103,17 +102,13 @@ after_call s asked x = record s {
 abbrev pub replied_answer : (values : Bool) → Pointing → Call → (rc : ℕ) → Answer → Answer
 replied_answer values there asked rc answered = if values && is_warning rc then valued there asked zero else answered
 
--- the parameters of an answer, each double rounded to the places
-abbrev pub params_for : (places : ℕ) → Answer → List ℕ
-params_for places answered = params_of (answer_fields (rounded_answer places answered)).values
-
 -- what the instrument does with a call that has this outcome: the reply has its answer with the noise, or that of a warning
 -- (`replied_answer`), each double rounded to the precision after the call
 abbrev pub played_of : SceneState → Call → Executed → Played
 played_of s asked x = record {
   state = after_call s asked x;
   rc = x.rc;
-  params = params_for x.state.precision (replied_answer s.ways.values x.state.pointing asked x.rc (noisy s.noise x.answer));
+  params = answer_params x.state.precision (replied_answer s.ways.values x.state.pointing asked x.rc (noisy s.noise x.answer));
 }
 
 -- what the instrument does with a call that no fault answers
@@ -145,7 +140,7 @@ abbrev pub warned : SceneState → Call → (code : ℕ) → Played
 warned s asked code = record {
   state = s;
   rc = code;
-  params = params_for s.base.precision
+  params = answer_params s.base.precision
       (if s.ways.values && is_warning code then valued s.base.pointing asked (distance_in_warning s asked code) else answer.Nothing);
 }
 

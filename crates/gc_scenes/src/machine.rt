@@ -6,7 +6,7 @@ ghost use Rattle.std.specs.Prelude.{◌≡◌, ◌≤◌, List, None, Some, [], 
 ghost use Rattle.std.specs.Option.{option_map};
 ghost use Rattle.gc_instrument.specs.Execution.{exec, Gives, done, commanded, measured, unmeasured, pointed, turned_over, searched};
 ghost use Rattle.gc_instrument.specs.declared.face.Face.TheVariants.{Normal, Turned};
-ghost use Rattle.gc_instrument.specs.Replying.{kept_line, kept_after, with_kept};
+ghost use Rattle.gc_instrument.specs.Replying.{kept_line, kept_after, with_kept, without_kept};
 ghost use Rattle.gc_instrument.specs.State.{restarted, opening};
 ghost use Rattle.gc_instrument.specs.declared.target.Target.{Target};
 ghost use Rattle.gc_scenes.specs.Machine.{CarriesOut, is_passed_on, measured_in_mode, seeing, simply_measured};
@@ -163,7 +163,7 @@ impl Machine {
 
     /// Discards the stored reply.
     pub(crate) fn forget(&mut self)
-        ensures { self.new ≡ with_kept None self.old }
+        ensures { self.new ≡ without_kept self.old }
     {
         self.kept = None;
     }

@@ -3,13 +3,13 @@
 ghost use Rattle.std.specs.Prelude.{◌≡◌, ◌≢◌, ◌<◌, ◌≤◌, ◌+◌, ◌++◌, ℕ, List, Option, Some, None, length, unwrap_or, IfSome};
 ghost use Rattle.std.specs.Option.{ForSome, option_map};
 ghost use Rattle.arrayvec.specs.ArrayVec.{array_vec_len};
-ghost use Rattle.gc_lines.specs.Answering.{AppendsAnswer};
+ghost use Rattle.gc_lines.specs.Answering.{AppendsAnswer, AppendsText};
 ghost use Rattle.gc_lines.specs.Requests.{request_seen};
 ghost use Rattle.gc_instrument.specs.Replying.{Handed};
 ghost use Rattle.gc_catalogue.specs.Texts.{reply_line};
 ghost use Rattle.gc_scenes.specs.SceneExecution.{Played, plays, unless_faulted, warned};
 ghost use Rattle.gc_scenes.specs.SceneReplying.{IsPlayed, AnswersRequest, IsHanded, resent_line, executed_reply_line, handed_call, handed_raw, handed_unexecuted, played_line, line_with, kept_if_repeating, holding};
-ghost use Rattle.gc_scenes.specs.Appending.{AppendsHanded, AppendsPlayed, AppendsReply};
+ghost use Rattle.gc_scenes.specs.Appending.{AppendsHanded, AppendsPlayed};
 
 use crate::beside::push_reply_with_values;
 use crate::instrument::SceneInstrument;
@@ -68,7 +68,7 @@ impl SceneInstrument {
     fn reply_to<const N: usize>(&mut self, request: &Request<'_>, out: &mut ArrayVec<u8, N>)
         requires id { ForSome request.now.id (λ id. id < 8) }
         requires room { array_vec_len out.old + 512 ≤ N }
-        ensures replies { AppendsReply self.old (request_seen request.now) self.new out.old.items out.new.items }
+        ensures replies { AppendsText (AnswersRequest self.old (request_seen request.now) self.new) out.old.items out.new.items }
         ensures bound { length out.new.items ≤ length out.old.items + 512 }
     {
         let mut call = Call::NullProc;
@@ -147,14 +147,20 @@ impl SceneInstrument {
         ensures bound { length out.new.items ≤ length out.old.items + 512 }
     {
         match fault {
-            Some(rc) => self.warn_onto(id, call, rc, out),
+            Some(rc) => self.reply_faulted_onto(id, call, rc, out),
             None => self.execute_onto(id, call, out),
         }
     }
 
     // Appends the reply to a call that a fault answers with this code. It has values if the code is a warning, the instrument has values
     // with warnings, and the call answers angles.
-    fn warn_onto<const N: usize>(&self, id: u8, call: &Call, rc: u16, out: &mut ArrayVec<u8, N>)
+    fn reply_faulted_onto<const N: usize>(
+        &self,
+        id: u8,
+        call: &Call,
+        rc: u16,
+        out: &mut ArrayVec<u8, N>,
+    )
         requires id { id < 8 }
         requires room { array_vec_len out.old + 512 ≤ N }
         ensures line { out.new.items ≡ out.old.items ++ played_line id (warned self.now call.now rc) }

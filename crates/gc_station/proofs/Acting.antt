@@ -24,7 +24,7 @@ use Rattle.gc_station.specs.Marks.{commands_in}
 use Rattle.gc_station.specs.Progressing.{moment_noted, failing, after_failure, is_finished, is_spared, lines_synchronizing, quieted, drained, time_passed, silent, is_idle, closed}
 use Rattle.gc_station.specs.Model.{Model, with_progress, with_moment, with_rest, waiting_of, line_came, lines_completed, after_piece, is_heard, piece_noted, piece_at, after_clock, after_put, after_open, after_read, after_close}
 use Rattle.gc_station.proofs.Invariant.{is_bare, is_done, says_done}
-use Rattle.gc_station.proofs.Meets.{heard_left}
+use Rattle.gc_station.proofs.Meets.{hears_settles_oldest}
 use Rattle.gc_station.proofs.Midway.{Sound, ledger_at, Placed, PlacedAt, Mid, sound_moment, sound_settles, MidAt}
 use Rattle.gc_station.proofs.Walk.{asked_along, came_along, closed_along}
 use Rattle.gc_station.proofs.Facts.{finished_so}
@@ -57,22 +57,23 @@ mid_put plan commands requests f s act mid = mid
 -- the phase after a lost connection or a failed attempt is over as done if `done`, else a pause if `some` (a try is left, or none
 -- is needed), and else over for `why`. It is `Placed`, if `why` isn't `Done`, no bytes of a line are kept, and nothing is left to
 -- be sent where `done`
-again_placed : (why : Cause) (left unsent : ℕ) (rest : List ℕ) (marks : List (Option Mark)) (done some : Bool) → is_done why ≡ false → rest ≡ [] → (done ≡ true → (left ≡ 0) × (unsent ≡ 0))
+failure_phase_placed : (why : Cause) (left unsent : ℕ) (rest : List ℕ) (marks : List (Option Mark)) (done some : Bool) → is_done why ≡ false → rest ≡ [] → (done ≡ true → (left ≡ 0) × (unsent ≡ 0))
     → Placed (if done then Over cause.Done else if some then Pausing else Over why) left unsent rest marks
-again_placed why left unsent rest marks true some other none finished = record { empty = λ e. cc; finished = λ e. let it = finished refl in (it.0, it.1, inl refl) }
-again_placed why left unsent rest marks false true other none finished = record { empty = λ e. none; finished = λ e. cc }
-again_placed why left unsent rest marks false false other none finished = record { empty = λ e. cc; finished = λ e. absurd (both_ways (is_done why) other e) }
+failure_phase_placed why left unsent rest marks true some other none finished = record { empty = λ e. cc; finished = λ e. let it = finished refl in (it.0, it.1, inl refl) }
+failure_phase_placed why left unsent rest marks false true other none finished = record { empty = λ e. none; finished = λ e. cc }
+failure_phase_placed why left unsent rest marks false false other none finished = record { empty = λ e. cc; finished = λ e. absurd (both_ways (is_done why) other e) }
 
 -- if no bytes of a line are kept, the progress after a lost connection or a failed attempt, not for `Done`, is `PlacedAt`
-placed_again : (plan : Plan) (n : ℕ) (why : Cause) (p : Progress) (rest : List ℕ) (marks : List (Option Mark)) → is_done why ≡ false → rest ≡ [] → PlacedAt (after_failure plan n why p) rest marks
-placed_again plan n why p rest marks other none =
-    again_placed why p.left p.unsent rest marks (is_finished n p) (is_spared plan why p || nat_lt 0 p.tries) other none
+after_failure_placed : (plan : Plan) (n : ℕ) (why : Cause) (p : Progress) (rest : List ℕ) (marks : List (Option Mark)) → is_done why ≡ false → rest ≡ []
+    → PlacedAt (after_failure plan n why p) rest marks
+after_failure_placed plan n why p rest marks other none =
+    failure_phase_placed why p.left p.unsent rest marks (is_finished n p) (is_spared plan why p || nat_lt 0 p.tries) other none
     (λ finished. let it = finished_so n p finished in (it.0, it.1))
 
 -- an attempt to connect, made in the phase `Down`, preserves `Mid`
 pub mid_open : (plan : Plan) (commands : List Task) (s : Model) (act : Act) → s.progress.phase ≡ Down → Mid plan commands s → Mid plan commands (after_open plan s act)
 mid_open plan commands s Opened is mid = (mid.0, record { empty = λ e. mid.1.empty (ap is_bare is); finished = λ e. cc })
-mid_open plan commands s act is mid = (mid.0, placed_again plan (commands_in s.marks) cause.Open s.progress s.rest s.marks refl (mid.1.empty (ap is_bare is)))
+mid_open plan commands s act is mid = (mid.0, after_failure_placed plan (commands_in s.marks) cause.Open s.progress s.rest s.marks refl (mid.1.empty (ap is_bare is)))
 
 -- the phase of a run that is over for `why`, with no bytes of a line kept, is `Placed`, if nothing is left to be sent where `why`
 -- is `Done`
@@ -86,7 +87,7 @@ close_placed plan w cause.Clock p marks done = over_placed cause.Clock p marks (
 close_placed plan w cause.Turns p marks done = over_placed cause.Turns p marks (λ e. cc)
 close_placed plan w cause.Stale p marks done = over_placed cause.Stale p marks (λ e. cc)
 close_placed plan w cause.Stopped p marks done = over_placed cause.Stopped p marks (λ e. cc)
-close_placed plan w why p marks done = placed_again plan w.commands why p [] marks refl refl
+close_placed plan w why p marks done = after_failure_placed plan w.commands why p [] marks refl refl
 
 -- a close preserves `Sound`: it leaves the counts, the client, the marks and the records
 close_sound : (plan : Plan) (commands : List Task) (s : Model) (w : Waiting) (why : Cause) → Sound plan commands (ledger_at s s.progress)
@@ -108,7 +109,7 @@ listen_line : (plan : Plan) (commands : List Task) (s : Model) (line : List ℕ)
 listen_line plan commands s line l =
     let p = s.progress in
     let x = hears s.client line (heard line) in
-    let next : x.client.next ≡ s.client.next = (heard_left s.client line (heard line)).next in
+    let next : x.client.next ≡ s.client.next = (hears_settles_oldest s.client line (heard line)).next in
     record {
       sound = sound_settles s.reads plan commands (ledger_at s p) x.client p.moment.utc x.settlements
           (heard_parts s.client line (heard line)) (subst (λ (n : ℕ). n < 8) (sym next) l.sound.digit) l.sound;

@@ -31,7 +31,7 @@ use Rattle.gc_station.specs.Reasons.{HoldsBefore}
 use Rattle.gc_station.specs.Records.{Record}
 use Rattle.gc_station.specs.Runs.{state_after}
 use Rattle.gc_station.specs.ActKinds.{Puts, ReadsClock, IsOpening, IsReading}
-use Rattle.gc_station.specs.Model.{Model, opening, action_at, waiting_of, request_text, null_text, first_text, with_progress, is_heard, client_sent, asks_null, asks_first, asks_next, after_pass, with_passes, next_left_out, with_listed, listed_after_skip, with_records, unsent_record, first_unsent_record, after_clock, after_put, after_open, after_read, Performs, moved, Runs, cycle_length, place_to_send, text_or_null, asks_or_null, asks_setup}
+use Rattle.gc_station.specs.Model.{Model, opening, action_at, waiting_of, request_text, null_text, first_text, with_progress, is_heard, client_sent, asks_null, asks_first, asks_next, after_pass, with_more_passes, next_left_out, with_listed, listed_after_skip, with_more_records, unsent_record, first_unsent_record, after_clock, after_put, after_open, after_read, Performs, moved, Runs, cycle_length, place_to_send, text_or_null, asks_or_null, asks_setup}
 use Rattle.gc_station.specs.NextCommand.{mark_next, place_next, is_chained_after_next, others_after_next, is_chained_after, others_after, mark_setup}
 use Rattle.gc_station.proofs.EachRun.{invariant_holds}
 use Rattle.gc_station.proofs.Outs.{prepare_cycle, prepare_place, send_cycle, send_place, sending_asks}
@@ -41,7 +41,7 @@ use Rattle.gc_station.proofs.Going.{after_all-append}
 use Rattle.gc_station.proofs.Growing.{losing_records}
 use Rattle.gc_station.proofs.Lists.{all_append, all_on, AllRisingAt, rising_more}
 use Rattle.gc_station.proofs.Losing.{losing_honest}
-use Rattle.gc_station.proofs.Waiting.{Stayed, Waits, IsJustified, Honest, IsHonest, Marked, asked_more, asked_as, asked_among, stays_still, more_true, honest_untold, honest_told}
+use Rattle.gc_station.proofs.Waiting.{Stayed, Waits, IsJustified, Honest, IsHonest, Marked, asked_more, asked_as, asked_among, stays_still, all_true_more, honest_untold, honest_told}
 use Rattle.gc_station.proofs.Pieces.{piece_honest}
 use Rattle.gc_station.specs.Scopes.{Scope}
 use Rattle.gc_station.proofs.Midway.{client_behind}
@@ -59,137 +59,13 @@ puts_still bytes act o d = absurd o
 abbrev pub with_sent : ById Asked → ℕ → Asked → ℕ → ById Asked
 with_sent c target call deadline = record { next = (c.next + 1) % 8; waiting = c.waiting ++ pending_of target call deadline ∷ [] }
 
--- an act that reads no moment, and sends a request with room for it, preserves `Honest`, if the request waits as `Waits` says,
--- and each outstanding request has a mark: the request is then outstanding after the others
-sent_honest : (plan : Plan) (commands : List Task) (scope : Scope) (acts : List Act) (act : Act) (c : ById Asked) (marks : List (Option Mark))
-    (records : List Record) (target : ℕ) (call : Asked) (deadline : ℕ) (mark : Option Mark)
-    → (reads_none : (d : ℕ) → ReadsBefore d act) → (digit : c.next < 8) → (room : length c.waiting < 7) → (paired : length marks ≡ length c.waiting)
-    → Waits plan commands scope (acts ++ act ∷ []) ((c.next + 1) % 8) (length c.waiting + 1) (length acts) (length c.waiting) (pending_of target call deadline) mark
-    → Honest plan commands scope acts (acts ++ act ∷ []) c marks records
-    → Honest plan commands scope (acts ++ act ∷ []) (acts ++ act ∷ []) (with_sent c target call deadline) (marks ++ mark ∷ []) records
-sent_honest plan commands scope acts act c marks records target call deadline mark on digit room paired one h =
-    let ws = c.waiting in
-    let asked = pending_of target call deadline in
-    let next = (c.next + 1) % 8 in
-    let many : length (ws ++ asked ∷ []) ≡ length ws + 1 = length-append ws (asked ∷ []) in
-    let ids = sending c.next (length ws) digit room in
-    let W = Waits plan commands scope (acts ++ act ∷ []) next (length ws + 1) in
-    let end : length ws ≡ 0 + length ws = omega arith in
-    let from : 0 ≤ length acts = omega arith in
-    record {
-      waiting = subst (λ (n : ℕ). AllRisingAt (Waits plan commands scope (acts ++ act ∷ []) next n) 0 0 (ws ++ asked ∷ []) (marks ++ mark ∷ [])) (sym many)
-          (rising_more (Waits plan commands scope acts c.next (length ws)) W 0 0 (length acts) (length ws) ws marks asked mark end paired from
-          (λ n j p y low w.
-          let below : j < length ws = omega (arith, low) in (
-            asked_among plan commands scope acts Stayed n j _ p y w,
-            asked_as plan commands scope (acts ++ act ∷ []) Stayed n j j _ _ p y
-                (λ above. above) (ids.others j below) (asked_more plan commands scope acts act Stayed Stayed n j _ p y (stays_still act on) w),
-          )) h.waiting one);
-      written = h.written;
-    }
-
--- a request that is sent, with room for it, waits as `Waits` says, put as the last of the acts. Its mark is of the command that
--- is sent next (`Marked`), with the deadline that this command has, or it has none; and if other requests wait, a request of the
--- client is next (`IsAsking`)
-asked_here : (plan : Plan) (commands : List Task) (scope : Scope) (acts : List Act) (act : Act) (target : ℕ) (call : Asked) (deadline : ℕ) (mark : Option Mark)
-    → Invariant plan commands (state_after plan commands scope acts)
-    → (room : length (state_after plan commands scope acts).client.waiting < 7)
-    → (asks : 0 < length (state_after plan commands scope acts).client.waiting → IsAsking (action_at plan (state_after plan commands scope acts)))
-    → (marked : (m : Mark) → mark ≡ Some m → Marked plan commands scope acts m)
-    → (due : (m : Mark) → mark ≡ Some m → deadline ≡ deadline_after plan commands scope acts)
-    → (puts : Puts (request_text (state_after plan commands scope acts).client call) act)
-    → Waits plan commands scope (acts ++ act ∷ []) (((state_after plan commands scope acts).client.next + 1) % 8)
-    (length (state_after plan commands scope acts).client.waiting + 1) (length acts) (length (state_after plan commands scope acts).client.waiting)
-    (pending_of target call deadline) mark
-asked_here plan commands scope acts act target call deadline mark fine room asks its at puts =
-    let c = (state_after plan commands scope acts).client in
-    record {
-      before = acts;
-      request = act;
-      between = [];
-      order = refl;
-      many = refl;
-      asks = asks;
-      its = its;
-      id = (sending c.next (length c.waiting) fine.digit room).own;
-      put = puts;
-      deadline = at;
-      stays = tt;
-    }
-
--- an act that sends a command, with the mark of the one that is next (`Marked`) and with room for it, preserves `Honest`
-command_honest : (plan : Plan) (commands : List Task) (scope : Scope) (acts : List Act) (act : Act) (target : ℕ) (call : Asked) (mark : Mark)
-    → Invariant plan commands (state_after plan commands scope acts) → IsHonest plan commands scope acts (acts ++ act ∷ []) (state_after plan commands scope acts)
-    → (marked : Marked plan commands scope acts mark) → (room : length (state_after plan commands scope acts).client.waiting < 7)
-    → (puts : Puts (request_text (state_after plan commands scope acts).client call) act)
-    → Honest plan commands scope (acts ++ act ∷ []) (acts ++ act ∷ []) (with_sent (state_after plan commands scope acts).client target call (deadline_after plan commands scope acts))
-    ((state_after plan commands scope acts).marks ++ Some mark ∷ []) (state_after plan commands scope acts).records
-command_honest plan commands scope acts act target call mark fine h is room puts =
-    let s = state_after plan commands scope acts in
-    let c = s.client in
-    sent_honest plan commands scope acts act c s.marks s.records target call (deadline_after plan commands scope acts)
-    (Some mark) (puts_still _ act puts) fine.digit room fine.paired
-    (asked_here plan commands scope acts act target call (deadline_after plan commands scope acts) (Some mark) fine room (λ above. sending_asks plan s is.sends)
-    (λ m its. let same : mark ≡ m = cc in subst (λ (x : Mark). Marked plan commands scope acts x) same is) (λ m its. refl) puts) h
-
--- an act that sends the first of the commands `left`, those from the next one on, with the mark of that one (`Marked`) and with
--- room for it, preserves `IsHonest`
-first_honest : (plan : Plan) (commands : List Task) (scope : Scope) (acts : List Act) (act : Act) (next_is_chained : Bool) (next_others : ℕ) (left : List Task) (mark : Mark)
-    → Invariant plan commands (state_after plan commands scope acts) → IsHonest plan commands scope acts (acts ++ act ∷ []) (state_after plan commands scope acts)
-    → (marked : Marked plan commands scope acts mark) → (room : length (state_after plan commands scope acts).client.waiting < 7)
-    → (there : drop (place_to_send plan commands (state_after plan commands scope acts)) commands ≡ left)
-    → (puts : Puts (first_text mark.sent (state_after plan commands scope acts).client left) act)
-    → IsHonest plan commands scope (acts ++ act ∷ []) (acts ++ act ∷ [])
-    (with_progress (sent next_is_chained next_others) (asks_first mark left (with_progress turned (state_after plan commands scope acts))))
-first_honest plan commands scope acts act next_is_chained next_others [] mark fine h is room at puts =
-    honest_untold plan commands scope acts act _ _ _ (puts_still [] act puts) h
-first_honest plan commands scope acts act next_is_chained next_others (task ∷ others) mark fine h is room at puts =
-    let s = state_after plan commands scope acts in
-    let d : later s.progress.moment.elapsed task.deadline ≡ deadline_after plan commands scope acts = ap (λ (left : List Task). later s.progress.moment.elapsed (first_deadline left)) (sym at) in
-    subst (λ (c : ById Asked). Honest plan commands scope (acts ++ act ∷ []) (acts ++ act ∷ []) c (s.marks ++ Some mark ∷ []) s.records)
-    (sym (ap (λ (e : ℕ). client_sent s.client (sends WINDOW s.client task.command.target (call_at task mark.sent) e)) d
-    ∙ client_behind s.client task.command.target (call_at task mark.sent) (deadline_after plan commands scope acts) room))
-    (command_honest plan commands scope acts act task.command.target (call_at task mark.sent) mark fine h is room puts)
-
--- an act that sends a null procedure of the client, with room for it, preserves `IsHonest`; if other requests wait, a request of
--- the client is next (`IsAsking`)
-null_honest : (plan : Plan) (commands : List Task) (scope : Scope) (acts : List Act) (act : Act) (f : Progress → Progress)
-    → Invariant plan commands (state_after plan commands scope acts) → IsHonest plan commands scope acts (acts ++ act ∷ []) (state_after plan commands scope acts)
-    → (room : length (state_after plan commands scope acts).client.waiting < 7)
-    → (asks : 0 < length (state_after plan commands scope acts).client.waiting → IsAsking (action_at plan (state_after plan commands scope acts)))
-    → (puts : Puts (request_text (state_after plan commands scope acts).client (Table NullProc)) act)
-    → IsHonest plan commands scope (acts ++ act ∷ []) (acts ++ act ∷ []) (with_progress f (asks_null plan (with_progress turned (state_after plan commands scope acts))))
-null_honest plan commands scope acts act f fine h room asks puts =
-    let s = state_after plan commands scope acts in
-    let d = later s.progress.moment.elapsed plan.deadline in
-    subst (λ (c : ById Asked). Honest plan commands scope (acts ++ act ∷ []) (acts ++ act ∷ []) c (s.marks ++ None ∷ []) s.records) (sym (client_behind s.client 0 (Table NullProc) d room))
-    (sent_honest plan commands scope acts act s.client s.marks s.records 0 (Table NullProc) d None (puts_still _ act puts) fine.digit room fine.paired
-    (asked_here plan commands scope acts act 0 (Table NullProc) d None fine room asks (λ m its. absurd (never m its)) (λ m its. absurd (never m its)) puts) h) where
-      -- a null procedure has no mark
-      never : (m : Mark) → None ≡ Some m → ⊥
-      never m e = cc
-
--- an act that sends the first of the setup's commands `left`, those from the next one on, with the mark of that one (`Marked`),
--- or a null procedure if there is none, and with room for the request, preserves `IsHonest`
-setup_honest : (plan : Plan) (commands : List Task) (scope : Scope) (acts : List Act) (act : Act) (left : List Task) (mark : Mark)
-    → Invariant plan commands (state_after plan commands scope acts) → IsHonest plan commands scope acts (acts ++ act ∷ []) (state_after plan commands scope acts)
-    → (marked : Marked plan commands scope acts mark) → (room : length (state_after plan commands scope acts).client.waiting < 7)
-    → (there : drop (place_to_send plan commands (state_after plan commands scope acts)) commands ≡ left)
-    → (puts : Puts (text_or_null mark.sent (state_after plan commands scope acts).client left) act)
-    → IsHonest plan commands scope (acts ++ act ∷ []) (acts ++ act ∷ []) (with_progress (setup_sent plan) (asks_or_null plan mark left (with_progress turned (state_after plan commands scope acts))))
-setup_honest plan commands scope acts act [] mark fine h is room at puts =
-    null_honest plan commands scope acts act (setup_sent plan) fine h room (λ above. sending_asks plan (state_after plan commands scope acts) is.sends) puts
-setup_honest plan commands scope acts act (task ∷ others) mark fine h is room at puts = first_honest plan commands scope acts act false 0 (task ∷ others) mark fine h is room at puts
-
 -- `IsHonest` holds after a write, whole or cut, if it holds after a whole one
 put_honest : (plan : Plan) (commands : List Task) (scope : Scope) (acts : List Act) (requests : ℕ) (f : Model → Model) (t : Model) (act : Act)
     → IsHonest plan commands scope acts acts (f t) → IsHonest plan commands scope acts acts (after_put requests f t act)
 put_honest plan commands scope acts requests f t (Cut out n) h = h
 put_honest plan commands scope acts requests f t act h = h
 
--- A command that isn't sent is neither answered nor late nor lost.
-
--- the record of a command that isn't sent is true: it is neither an answer nor late nor lost
+-- a command that isn't sent is neither answered nor late nor lost, so its record is true
 unsent_true : (plan : Plan) (commands : List Task) (scope : Scope) (all : List Act) (missed : Bool) (utc : ℕ) (mark : Mark) (command : Wish)
     → IsJustified plan commands scope all (record
     { sent = None; utc = utc; cycle = mark.cycle; place = mark.place; turn = mark.expected.turn; command = command; end = if missed then Missed else Skipped })
@@ -207,109 +83,209 @@ skips_true : (plan : Plan) (commands : List Task) (scope : Scope) (all : List Ac
 skips_true plan commands scope all p (Told m) = skips_first_true plan commands scope all p m (mark_next plan commands p) (drop (place_next commands p) commands)
 skips_true plan commands scope all p act = tt
 
--- Each action.
-
--- an act that reads the clock preserves `IsHonest`
-clock_honest : (plan : Plan) (commands : List Task) (scope : Scope) (acts : List Act) (act : Act) (f : Moment → Progress → Progress) (s : Model)
-    → IsHonest plan commands scope acts (acts ++ act ∷ []) s → ReadsClock act
-    → IsHonest plan commands scope (acts ++ act ∷ []) (acts ++ act ∷ []) (after_clock f (with_progress turned s) act)
-clock_honest plan commands scope acts (Told m) f s h o = honest_told plan commands scope acts (Told m) m.elapsed _ _ _ (λ d low. low) (λ d past. past) h
-clock_honest plan commands scope acts Untold f s h o = honest_untold plan commands scope acts Untold _ _ _ (λ d. tt) h
-clock_honest plan commands scope acts act f s h o = absurd o
-
--- an act that leaves attempts out preserves `IsHonest`
-pass_honest : (plan : Plan) (commands : List Task) (scope : Scope) (acts : List Act) (act : Act) (s : Model)
-    → IsHonest plan commands scope acts (acts ++ act ∷ []) s → ReadsClock act
-    → IsHonest plan commands scope (acts ++ act ∷ []) (acts ++ act ∷ []) (after_pass plan commands (with_progress turned s) act)
-pass_honest plan commands scope acts (Told m) s h o =
-    let p = turned s.progress in
-    let n = p.next_others in
-    clock_honest plan commands scope acts (Told m) (λ m p'. early_noted plan (commands_in s.marks) (attempts_left_out (is_chained_after n commands p) (others_after n commands p) m p'))
-    (with_passes (next_left_out plan commands p) s) (record { waiting = h.waiting; written = h.written }) o
-pass_honest plan commands scope acts Untold s h o = clock_honest plan commands scope acts Untold (λ m p. p) s h o
-pass_honest plan commands scope acts act s h o = absurd o
-
--- an attempt to connect preserves `IsHonest`
-open_honest : (plan : Plan) (commands : List Task) (scope : Scope) (acts : List Act) (act : Act) (s : Model) → IsHonest plan commands scope acts (acts ++ act ∷ []) s → IsOpening act
-    → IsHonest plan commands scope (acts ++ act ∷ []) (acts ++ act ∷ []) (after_open plan (with_progress turned s) act)
-open_honest plan commands scope acts Opened s h o = honest_untold plan commands scope acts Opened _ _ _ (λ d. tt) h
-open_honest plan commands scope acts Unopened s h o = honest_untold plan commands scope acts Unopened _ _ _ (λ d. tt) h
-open_honest plan commands scope acts act s h o = absurd o
-
--- a read preserves `IsHonest`, whatever came of it. `tail` are the records that the loss of what is outstanding adds after it
-read_honest : (plan : Plan) (commands : List Task) (scope : Scope) (acts : List Act) (until : Until) (act : Act) (tail : List Record)
-    → Invariant plan commands (state_after plan commands scope acts) → IsHonest plan commands scope acts (acts ++ act ∷ []) (state_after plan commands scope acts)
-    → IsReading act
-    → (state_after plan commands scope (acts ++ act ∷ [])).records ≡ (after_read plan until (with_progress turned (state_after plan commands scope acts)) act).records ++ tail
-    → IsHonest plan commands scope (acts ++ act ∷ []) (acts ++ act ∷ []) (after_read plan until (with_progress turned (state_after plan commands scope acts)) act)
-read_honest plan commands scope acts until Untold tail fine h o ends = honest_untold plan commands scope acts Untold _ _ _ (λ d. tt) h
-read_honest plan commands scope acts until (Gave bytes m) tail fine h o ends =
-    let s = state_after plan commands scope acts in
-    piece_honest plan commands scope acts bytes m (is_heard s.progress.phase) s.progress.word tail ends (record { digit = fine.digit; few = fine.window }) h
-read_honest plan commands scope acts until (Silent m) tail fine h o ends = honest_told plan commands scope acts (Silent m) m.elapsed _ _ _ (λ d low. low) (λ d past. past) h
-read_honest plan commands scope acts until Ended tail fine h o ends = honest_untold plan commands scope acts Ended _ _ _ (λ d. tt) h
-read_honest plan commands scope acts until Broke tail fine h o ends = honest_untold plan commands scope acts Broke _ _ _ (λ d. tt) h
-read_honest plan commands scope acts until act tail fine h o ends = absurd o
-
 -- a close reads no moment
 close_still : (act : Act) → act ≡ Closed → (d : ℕ) → ReadsBefore d act
 close_still act is d = subst (λ (x : Act). ReadsBefore d x) (sym is) tt
 
--- an act of the action that is next, whose conditions hold, preserves `IsHonest`, before what is outstanding is lost. `tail` are
--- the records that this loss adds
-moved_honest : (plan : Plan) (commands : List Task) (scope : Scope) (acts : List Act) (action : Action) (act : Act) (tail : List Record)
-    → Invariant plan commands (state_after plan commands scope acts) → IsHonest plan commands scope acts (acts ++ act ∷ []) (state_after plan commands scope acts)
-    → (is_next : action_at plan (state_after plan commands scope acts) ≡ action)
-    → (needs : HoldsBefore plan (state_after plan commands scope acts).progress (waiting_of (state_after plan commands scope acts)) action)
-    → (performs : Performs commands (state_after plan commands scope acts) action act)
-    → (ends : (state_after plan commands scope (acts ++ act ∷ [])).records ≡ (moved plan commands action (with_progress turned (state_after plan commands scope acts)) act).records ++ tail)
-    → IsHonest plan commands scope (acts ++ act ∷ []) (acts ++ act ∷ []) (moved plan commands action (with_progress turned (state_after plan commands scope acts)) act)
-moved_honest plan commands scope acts actions.ReadClock act tail fine h is needs o ends =
-    let s = state_after plan commands scope acts in clock_honest plan commands scope acts act (λ m p. early_noted plan (commands_in s.marks) (moment_noted m p)) s h o
-moved_honest plan commands scope acts actions.Renew act tail fine h is needs o ends =
-    clock_honest plan commands scope acts act (λ m p. early_noted plan 0 (renewed plan m p)) (state_after plan commands scope acts) h o
-moved_honest plan commands scope acts actions.Begin act tail fine h is needs o ends = clock_honest plan commands scope acts act (cycle_begun plan (cycle_length plan commands))
-    (state_after plan commands scope acts) h o
-moved_honest plan commands scope acts actions.Open act tail fine h is needs o ends = open_honest plan commands scope acts act (state_after plan commands scope acts) h o
-moved_honest plan commands scope acts actions.Clear act tail fine h is needs o ends =
-    let s = state_after plan commands scope acts in
-    put_honest plan commands scope (acts ++ act ∷ []) _ (with_progress cleared) (with_progress turned s) act (honest_untold plan commands scope acts act _ _ _ (puts_still (10 ∷ []) act o) h)
-moved_honest plan commands scope acts actions.Ask act tail fine h is needs o ends =
-    let s = state_after plan commands scope acts in
-    put_honest plan commands scope (acts ++ act ∷ []) _ (with_progress (null_sent plan)) (with_progress turned s) act
-    (honest_untold plan commands scope acts act _ _ _ (puts_still (null_text s.progress.word) act o) h)
-moved_honest plan commands scope acts actions.Prepare act tail fine h is needs o ends =
-    let s = state_after plan commands scope acts in
-    put_honest plan commands scope (acts ++ act ∷ []) _ (λ (x : Model). with_progress (setup_sent plan) (asks_setup plan commands x)) (with_progress turned s) act
-    (setup_honest plan commands scope acts act (drop s.progress.prepared commands) (mark_setup commands s.progress) fine h
-    (record { sends = inr is; cycle = sym (prepare_cycle plan s is); place = sym (prepare_place plan commands s is); sent = refl }) needs.3.1
-    (ap (λ n. drop n commands) (prepare_place plan commands s is)) o)
-moved_honest plan commands scope acts actions.Send act tail fine h is needs o ends =
-    let s = state_after plan commands scope acts in
-    put_honest plan commands scope (acts ++ act ∷ []) _
-    (λ (x : Model). with_progress (sent (is_chained_after_next commands x.progress) (others_after_next commands x.progress)) (asks_next plan commands x))
-    (with_progress turned s) act
-    (first_honest plan commands scope acts act (is_chained_after_next commands s.progress) (others_after_next commands s.progress)
-    (drop (place_next commands s.progress) commands) (mark_next plan commands s.progress) fine h
-    (record { sends = inl is; cycle = sym (send_cycle plan s is); place = sym (send_place plan commands s is); sent = refl }) needs.3.1
-    (ap (λ n. drop n commands) (send_place plan commands s is)) o)
-moved_honest plan commands scope acts actions.Skip act tail fine h is needs o ends =
-    let s = state_after plan commands scope acts in
-    clock_honest plan commands scope acts act (λ m p. early_noted plan (commands_in s.marks) (skipped (is_chained_after_next commands s.progress) (others_after_next commands s.progress) m p))
-    (with_listed (listed_after_skip plan commands (with_progress turned s) act) (with_records (unsent_record plan commands s.progress act) s))
-    (record {
-      waiting = h.waiting;
-      written = all_append (IsJustified plan commands scope (acts ++ act ∷ [])) s.records
-          (unsent_record plan commands s.progress act) h.written (skips_true plan commands scope (acts ++ act ∷ []) s.progress act);
-    }) o
-moved_honest plan commands scope acts actions.Pass act tail fine h is needs o ends = pass_honest plan commands scope acts act (state_after plan commands scope acts) h o
-moved_honest plan commands scope acts actions.Flush act tail fine h is needs o ends =
-    let s = state_after plan commands scope acts in
-    put_honest plan commands scope (acts ++ act ∷ []) _ (λ (x : Model). with_progress request_noted (asks_null plan x)) (with_progress turned s) act
-    (null_honest plan commands scope acts act request_noted fine h needs.4.1 (λ above. subst IsAsking (sym is) tt) o)
-moved_honest plan commands scope acts (actions.Read until) act tail fine h is needs o ends = read_honest plan commands scope acts until act tail fine h o ends
-moved_honest plan commands scope acts (actions.Close why) act tail fine h is needs o ends = honest_untold plan commands scope acts act _ _ _ (close_still act o) h
-moved_honest plan commands scope acts (actions.Stop why) act tail fine h is needs o ends = absurd o
+-- One act more.
+
+module _ (plan : Plan) (commands : List Task) (scope : Scope) (acts : List Act) where
+  -- the model before the act
+  abbrev here : Model
+  here = state_after plan commands scope acts
+
+  -- `IsHonest` of a model before this act, whose records are true by the acts with this one
+  abbrev HonestBefore : Act → Model → Type 0
+  HonestBefore act s = IsHonest plan commands scope acts (acts ++ act ∷ []) s
+
+  -- `IsHonest` of a model after this act
+  abbrev HonestAfter : Act → Model → Type 0
+  HonestAfter act t = IsHonest plan commands scope (acts ++ act ∷ []) (acts ++ act ∷ []) t
+
+  -- this act puts the request for `call`, for which there is room. If the request has a mark, that is of the command that is sent
+  -- next (`Marked`), and the deadline is that command's; and if other requests wait, a request of the client is next (`IsAsking`)
+  record PutsRequest (act : Act) (call : Asked) (deadline : ℕ) (mark : Option Mark) : Type 0 where
+    room : length here.client.waiting < 7
+    asks : 0 < length here.client.waiting → IsAsking (action_at plan here)
+    marked : (m : Mark) → mark ≡ Some m → Marked plan commands scope acts m
+    due : (m : Mark) → mark ≡ Some m → deadline ≡ deadline_after plan commands scope acts
+    puts : Puts (request_text here.client call) act
+
+  -- a request that this act puts waits after it, as `Waits` says: behind the others, and put as the last of the acts
+  asked_here : (act : Act) (target : ℕ) (call : Asked) (deadline : ℕ) (mark : Option Mark) → Invariant plan commands here → PutsRequest act call deadline mark
+      → Waits plan commands scope (acts ++ act ∷ []) ((here.client.next + 1) % 8) (length here.client.waiting + 1) (length acts) (length here.client.waiting) (pending_of target call deadline) mark
+  asked_here act target call deadline mark fine r =
+      record {
+        before = acts;
+        request = act;
+        between = [];
+        order = refl;
+        many = refl;
+        asks = r.asks;
+        its = r.marked;
+        id = (sending here.client.next (length here.client.waiting) fine.digit r.room).own;
+        put = r.puts;
+        deadline = r.due;
+        stays = tt;
+      }
+
+  -- an act that puts a request preserves `Honest`: the request is then outstanding after the others
+  sent_honest : (act : Act) (target : ℕ) (call : Asked) (deadline : ℕ) (mark : Option Mark) → Invariant plan commands here → HonestBefore act here → PutsRequest act call deadline mark
+      → Honest plan commands scope (acts ++ act ∷ []) (acts ++ act ∷ []) (with_sent here.client target call deadline) (here.marks ++ mark ∷ []) here.records
+  sent_honest act target call deadline mark fine h r =
+      let c = here.client in
+      let ws = c.waiting in
+      let marks = here.marks in
+      let asked = pending_of target call deadline in
+      let next = (c.next + 1) % 8 in
+      let many : length (ws ++ asked ∷ []) ≡ length ws + 1 = length-append ws (asked ∷ []) in
+      let ids = sending c.next (length ws) fine.digit r.room in
+      let W = Waits plan commands scope (acts ++ act ∷ []) next (length ws + 1) in
+      let end : length ws ≡ 0 + length ws = omega arith in
+      let from : 0 ≤ length acts = omega arith in
+      record {
+        waiting = subst (λ (n : ℕ). AllRisingAt (Waits plan commands scope (acts ++ act ∷ []) next n) 0 0 (ws ++ asked ∷ []) (marks ++ mark ∷ [])) (sym many)
+            (rising_more (Waits plan commands scope acts c.next (length ws)) W 0 0 (length acts) (length ws) ws marks asked mark end fine.paired from
+            (λ n j p y low w.
+            let below : j < length ws = omega (arith, low) in (
+              asked_among plan commands scope acts Stayed n j _ p y w,
+              asked_as plan commands scope (acts ++ act ∷ []) Stayed n j j _ _ p y
+                  (λ above. above) (ids.others j below) (asked_more plan commands scope acts act Stayed Stayed n j _ p y (stays_still act (puts_still _ act r.puts)) w),
+            )) h.waiting (asked_here act target call deadline mark fine r));
+        written = h.written;
+      }
+
+  -- an act that sends the first of the commands `left`, those from the next one on, with the mark of that one (`Marked`) and with
+  -- room for it, preserves `IsHonest`
+  first_honest : (act : Act) (next_is_chained : Bool) (next_others : ℕ) (left : List Task) (mark : Mark) → Invariant plan commands here → HonestBefore act here
+      → (marked : Marked plan commands scope acts mark) → (room : length here.client.waiting < 7) → (there : drop (place_to_send plan commands here) commands ≡ left)
+      → (puts : Puts (first_text mark.sent here.client left) act)
+      → HonestAfter act (with_progress (sent next_is_chained next_others) (asks_first mark left (with_progress turned here)))
+  first_honest act next_is_chained next_others [] mark fine h is room at puts = honest_untold plan commands scope acts act _ _ _ (puts_still [] act puts) h
+  first_honest act next_is_chained next_others (task ∷ others) mark fine h is room at puts =
+      let s = here in
+      let limit = deadline_after plan commands scope acts in
+      let d : later s.progress.moment.elapsed task.deadline ≡ limit = ap (λ (left : List Task). later s.progress.moment.elapsed (first_deadline left)) (sym at) in
+      subst (λ (c : ById Asked). Honest plan commands scope (acts ++ act ∷ []) (acts ++ act ∷ []) c (s.marks ++ Some mark ∷ []) s.records)
+      (sym (ap (λ (e : ℕ). client_sent s.client (sends WINDOW s.client task.command.target (call_at task mark.sent) e)) d
+      ∙ client_behind s.client task.command.target (call_at task mark.sent) limit room))
+      (sent_honest act task.command.target (call_at task mark.sent) limit (Some mark) fine h
+      (record {
+        room = room;
+        asks = λ above. sending_asks plan s is.sends;
+        marked = λ m its. let same : mark ≡ m = cc in subst (λ (x : Mark). Marked plan commands scope acts x) same is;
+        due = λ m its. refl;
+        puts = puts;
+      }))
+
+  -- an act that sends a null procedure of the client, with room for it, preserves `IsHonest`; if other requests wait, a request
+  -- of the client is next (`IsAsking`)
+  null_honest : (act : Act) (f : Progress → Progress) → Invariant plan commands here → HonestBefore act here → (room : length here.client.waiting < 7)
+      → (asks : 0 < length here.client.waiting → IsAsking (action_at plan here)) → (puts : Puts (request_text here.client (Table NullProc)) act)
+      → HonestAfter act (with_progress f (asks_null plan (with_progress turned here)))
+  null_honest act f fine h room asks puts =
+      let s = here in
+      let d = later s.progress.moment.elapsed plan.deadline in
+      subst (λ (c : ById Asked). Honest plan commands scope (acts ++ act ∷ []) (acts ++ act ∷ []) c (s.marks ++ None ∷ []) s.records) (sym (client_behind s.client 0 (Table NullProc) d room))
+      (sent_honest act 0 (Table NullProc) d None fine h
+      (record { room = room; asks = asks; marked = λ m its. absurd (never m its); due = λ m its. absurd (never m its); puts = puts })) where
+        -- a null procedure has no mark
+        never : (m : Mark) → None ≡ Some m → ⊥
+        never m e = cc
+
+  -- an act that sends the first of the setup's commands `left`, those from the next one on, with the mark of that one (`Marked`),
+  -- or a null procedure if there is none, and with room for the request, preserves `IsHonest`
+  setup_honest : (act : Act) (left : List Task) (mark : Mark) → Invariant plan commands here → HonestBefore act here → (marked : Marked plan commands scope acts mark)
+      → (room : length here.client.waiting < 7) → (there : drop (place_to_send plan commands here) commands ≡ left) → (puts : Puts (text_or_null mark.sent here.client left) act)
+      → HonestAfter act (with_progress (setup_sent plan) (asks_or_null plan mark left (with_progress turned here)))
+  setup_honest act [] mark fine h is room at puts = null_honest act (setup_sent plan) fine h room (λ above. sending_asks plan here is.sends) puts
+  setup_honest act (task ∷ others) mark fine h is room at puts = first_honest act false 0 (task ∷ others) mark fine h is room at puts
+
+  -- Each action.
+
+  -- an act that reads the clock preserves `IsHonest`
+  clock_honest : (act : Act) (f : Moment → Progress → Progress) (s : Model) → HonestBefore act s → ReadsClock act → HonestAfter act (after_clock f (with_progress turned s) act)
+  clock_honest (Told m) f s h o = honest_told plan commands scope acts (Told m) m.elapsed _ _ _ (λ d low. low) (λ d past. past) h
+  clock_honest Untold f s h o = honest_untold plan commands scope acts Untold _ _ _ (λ d. tt) h
+  clock_honest act f s h o = absurd o
+
+  -- an act that leaves attempts out preserves `IsHonest`
+  pass_honest : (act : Act) (s : Model) → HonestBefore act s → ReadsClock act → HonestAfter act (after_pass plan commands (with_progress turned s) act)
+  pass_honest (Told m) s h o =
+      let p = turned s.progress in
+      let n = p.next_others in
+      clock_honest (Told m) (λ m p'. early_noted plan (commands_in s.marks) (attempts_left_out (is_chained_after n commands p) (others_after n commands p) m p'))
+      (with_more_passes (next_left_out plan commands p) s) (record { waiting = h.waiting; written = h.written }) o
+  pass_honest Untold s h o = clock_honest Untold (λ m p. p) s h o
+  pass_honest act s h o = absurd o
+
+  -- an attempt to connect preserves `IsHonest`
+  open_honest : (act : Act) (s : Model) → HonestBefore act s → IsOpening act → HonestAfter act (after_open plan (with_progress turned s) act)
+  open_honest Opened s h o = honest_untold plan commands scope acts Opened _ _ _ (λ d. tt) h
+  open_honest Unopened s h o = honest_untold plan commands scope acts Unopened _ _ _ (λ d. tt) h
+  open_honest act s h o = absurd o
+
+  -- a read preserves `IsHonest`, whatever came of it. `tail` are the records that the loss of what is outstanding adds after it
+  read_honest : (until : Until) (act : Act) (tail : List Record) → Invariant plan commands here → HonestBefore act here → IsReading act
+      → (state_after plan commands scope (acts ++ act ∷ [])).records ≡ (after_read plan until (with_progress turned here) act).records ++ tail
+      → HonestAfter act (after_read plan until (with_progress turned here) act)
+  read_honest until Untold tail fine h o ends = honest_untold plan commands scope acts Untold _ _ _ (λ d. tt) h
+  read_honest until (Gave bytes m) tail fine h o ends =
+      piece_honest plan commands scope acts bytes m (is_heard here.progress.phase) here.progress.word tail ends (record { digit = fine.digit; few = fine.window }) h
+  read_honest until (Silent m) tail fine h o ends = honest_told plan commands scope acts (Silent m) m.elapsed _ _ _ (λ d low. low) (λ d past. past) h
+  read_honest until Ended tail fine h o ends = honest_untold plan commands scope acts Ended _ _ _ (λ d. tt) h
+  read_honest until Broke tail fine h o ends = honest_untold plan commands scope acts Broke _ _ _ (λ d. tt) h
+  read_honest until act tail fine h o ends = absurd o
+
+  -- an act of the action that is next, whose conditions hold, preserves `IsHonest`, before what is outstanding is lost. `tail`
+  -- are the records that this loss adds
+  moved_honest : (action : Action) (act : Act) (tail : List Record) → Invariant plan commands here → HonestBefore act here → (is_next : action_at plan here ≡ action)
+      → (needs : HoldsBefore plan here.progress (waiting_of here) action) → (performs : Performs commands here action act)
+      → (ends : (state_after plan commands scope (acts ++ act ∷ [])).records ≡ (moved plan commands action (with_progress turned here) act).records ++ tail)
+      → HonestAfter act (moved plan commands action (with_progress turned here) act)
+  moved_honest actions.ReadClock act tail fine h is needs o ends = clock_honest act (λ m p. early_noted plan (commands_in here.marks) (moment_noted m p)) here h o
+  moved_honest actions.Renew act tail fine h is needs o ends = clock_honest act (λ m p. early_noted plan 0 (renewed plan m p)) here h o
+  moved_honest actions.Begin act tail fine h is needs o ends = clock_honest act (cycle_begun plan (cycle_length plan commands)) here h o
+  moved_honest actions.Open act tail fine h is needs o ends = open_honest act here h o
+  moved_honest actions.Clear act tail fine h is needs o ends =
+      let s = here in
+      put_honest plan commands scope (acts ++ act ∷ []) _ (with_progress cleared) (with_progress turned s) act (honest_untold plan commands scope acts act _ _ _ (puts_still (10 ∷ []) act o) h)
+  moved_honest actions.Ask act tail fine h is needs o ends =
+      let s = here in
+      put_honest plan commands scope (acts ++ act ∷ []) _ (with_progress (null_sent plan)) (with_progress turned s) act
+      (honest_untold plan commands scope acts act _ _ _ (puts_still (null_text s.progress.word) act o) h)
+  moved_honest actions.Prepare act tail fine h is needs o ends =
+      let s = here in
+      put_honest plan commands scope (acts ++ act ∷ []) _ (λ (x : Model). with_progress (setup_sent plan) (asks_setup plan commands x)) (with_progress turned s) act
+      (setup_honest act (drop s.progress.prepared commands) (mark_setup commands s.progress) fine h
+      (record { sends = inr is; cycle = sym (prepare_cycle plan s is); place = sym (prepare_place plan commands s is); sent = refl }) needs.3.1
+      (ap (λ n. drop n commands) (prepare_place plan commands s is)) o)
+  moved_honest actions.Send act tail fine h is needs o ends =
+      let s = here in
+      put_honest plan commands scope (acts ++ act ∷ []) _
+      (λ (x : Model). with_progress (sent (is_chained_after_next commands x.progress) (others_after_next commands x.progress)) (asks_next plan commands x))
+      (with_progress turned s) act
+      (first_honest act (is_chained_after_next commands s.progress) (others_after_next commands s.progress)
+      (drop (place_next commands s.progress) commands) (mark_next plan commands s.progress) fine h
+      (record { sends = inl is; cycle = sym (send_cycle plan s is); place = sym (send_place plan commands s is); sent = refl }) needs.3.1
+      (ap (λ n. drop n commands) (send_place plan commands s is)) o)
+  moved_honest actions.Skip act tail fine h is needs o ends =
+      let s = here in
+      clock_honest act (λ m p. early_noted plan (commands_in s.marks) (skipped (is_chained_after_next commands s.progress) (others_after_next commands s.progress) m p))
+      (with_listed (listed_after_skip plan commands (with_progress turned s) act) (with_more_records (unsent_record plan commands s.progress act) s))
+      (record {
+        waiting = h.waiting;
+        written = all_append (IsJustified plan commands scope (acts ++ act ∷ [])) s.records
+            (unsent_record plan commands s.progress act) h.written (skips_true plan commands scope (acts ++ act ∷ []) s.progress act);
+      }) o
+  moved_honest actions.Pass act tail fine h is needs o ends = pass_honest act here h o
+  moved_honest actions.Flush act tail fine h is needs o ends =
+      let s = here in
+      put_honest plan commands scope (acts ++ act ∷ []) _ (λ (x : Model). with_progress request_noted (asks_null plan x)) (with_progress turned s) act
+      (null_honest act request_noted fine h needs.4.1 (λ above. subst IsAsking (sym is) tt) o)
+  moved_honest (actions.Read until) act tail fine h is needs o ends = read_honest until act tail fine h o ends
+  moved_honest (actions.Close why) act tail fine h is needs o ends = honest_untold plan commands scope acts act _ _ _ (close_still act o) h
+  moved_honest (actions.Stop why) act tail fine h is needs o ends = absurd o
 
 -- acts of a run preserve `IsHonest`
 honest_along : (plan : Plan) (commands : List Task) (scope : Scope) (done acts : List Act)
@@ -323,13 +299,13 @@ honest_along plan commands scope done (act ∷ acts) h runs =
     let fine = invariant_holds plan commands scope done in
     let lost = losing_records (loses_all t.progress) t in
     let ends = ap (λ (x : Model). x.records) next ∙ lost.1 in
-    let prior : IsHonest plan commands scope done (done ++ act ∷ []) s = record { waiting = h.waiting; written = more_true plan commands scope done act s.records runs.0 h.written } in
+    let prior : IsHonest plan commands scope done (done ++ act ∷ []) s = record { waiting = h.waiting; written = all_true_more plan commands scope done act s.records runs.0 h.written } in
     let one = moved_honest plan commands scope done (action_at plan s) act lost.0 fine prior refl (action_for plan s.progress (waiting_of s)) runs.0 ends in
     let both = losing_honest plan commands scope done act fine runs.0 one in
-    let here = subst (λ (x : Model). IsHonest plan commands scope (done ++ act ∷ []) (done ++ act ∷ []) x) (sym next) both in
+    let one_more = subst (λ (x : Model). IsHonest plan commands scope (done ++ act ∷ []) (done ++ act ∷ []) x) (sym next) both in
     let goes_on = subst (λ (x : Model). Runs plan commands x acts) (sym next) runs.1 in
     subst (λ (xs : List Act). IsHonest plan commands scope xs xs (state_after plan commands scope xs)) (append_assoc done (act ∷ []) acts)
-    (honest_along plan commands scope (done ++ act ∷ []) acts here goes_on)
+    (honest_along plan commands scope (done ++ act ∷ []) acts one_more goes_on)
 
 -- what follows of each record that is true, whatever ending it has, holds of all records of a run
 all_true : (plan : Plan) (commands : List Task) (scope : Scope) (acts : List Act) (P : Record → Type 0) → ((r : Record) → IsJustified plan commands scope acts r → P r)

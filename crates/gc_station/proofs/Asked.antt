@@ -21,9 +21,9 @@ use Rattle.gc_station.specs.Parts.{Part, only_turns, sync_part, client_part, in_
 use Rattle.gc_station.specs.Progressing.{is_over, loses_all}
 use Rattle.gc_station.specs.Model.{Performs, Runs, Model, after, is_heard, lines_completed, action_at}
 use Rattle.gc_station.specs.NextCommand.{mark_next, place_next, mark_setup}
-use Rattle.gc_station.proofs.Beginnings.{word_after as word_left, word_if_resynchronizing}
-use Rattle.gc_station.proofs.Midway.{kept_for}
-use Rattle.gc_station.proofs.Turns.{over_stays}
+use Rattle.gc_station.proofs.Beginnings.{word_after, word_if_resynchronizing}
+use Rattle.gc_station.proofs.Midway.{none_lost_parts}
+use Rattle.gc_station.proofs.Turns.{no_act_once_over}
 use Rattle.gc_station.proofs.Words.{left_none}
 
 -- What is heard among turns.
@@ -47,9 +47,9 @@ heard_lines (line ∷ lines) = ap (λ l. line ∷ l) (heard_lines lines)
 -- What an act does while the station synchronizes.
 
 -- if no id is left, the word is empty
-pub word_of : (w : List ℕ) → is_none_left w ≡ true → w ≡ []
-word_of [] e = refl
-word_of (asked ∷ others) e = cc
+pub word_empty : (w : List ℕ) → is_none_left w ≡ true → w ≡ []
+word_empty [] e = refl
+word_empty (asked ∷ others) e = cc
 
 -- the lines heard by the turns of a piece are its lines if it is heard, and none if it is discarded
 heard_piece : (heard : Bool) (lines : List (List ℕ)) → heard_in (if heard then map part.Hears lines else []) ≡ (if heard then lines else [])
@@ -90,28 +90,28 @@ turns_none s o act h = refl
 
 module _ (plan : Plan) (commands : List Task) where
   -- after an act while the station synchronizes, the ids that are left are those that the lines of the act leave
-  pub word_after : (s : Model) (act : Act) → Performs commands s (action_at plan s) act → has_begun s.progress ≡ false
+  pub word_after_turns : (s : Model) (act : Act) → Performs commands s (action_at plan s) act → has_begun s.progress ≡ false
       → (after plan commands s act).progress.word ≡ unanswered_after s.progress.word (heard_in (sync_part s (action_at plan s) act).turns)
-  word_after s act obeys begins = word_left plan commands s act obeys begins ∙ ap (λ l. unanswered_after s.progress.word l) (sym (heard_by commands s (action_at plan s) act obeys))
+  word_after_turns s act obeys begins = word_after plan commands s act obeys begins ∙ ap (λ l. unanswered_after s.progress.word l) (sym (heard_by commands s (action_at plan s) act obeys))
 
 -- Each part synchronizes first.
 
 -- the part of an act while the station synchronizes has only turns
-pub only_of : (s : Model) (o : Action) (act : Act) → sync_part s o act ≡ only_turns (sync_part s o act).turns
-only_of s action.Ask (Put bytes) = refl
-only_of s action.Ask (Cut bytes count) = refl
-only_of s action.Ask act = refl
-only_of s (action.Read until) (Gave piece m) = refl
-only_of s (action.Read until) act = refl
-only_of s o act = refl
+pub sync_part_only_turns : (s : Model) (o : Action) (act : Act) → sync_part s o act ≡ only_turns (sync_part s o act).turns
+sync_part_only_turns s action.Ask (Put bytes) = refl
+sync_part_only_turns s action.Ask (Cut bytes count) = refl
+sync_part_only_turns s action.Ask act = refl
+sync_part_only_turns s (action.Read until) (Gave piece m) = refl
+sync_part_only_turns s (action.Read until) act = refl
+sync_part_only_turns s o act = refl
 
 -- the part of an act while the station synchronizes has no steps of the client
 pub steps_none : (s : Model) (o : Action) (act : Act) → (sync_part s o act).steps ≡ []
-steps_none s o act = ap (λ (p : Part). p.steps) (only_of s o act)
+steps_none s o act = ap (λ (p : Part). p.steps) (sync_part_only_turns s o act)
 
 -- the part of an act while the station synchronizes has no marks
 pub marks_none : (s : Model) (o : Action) (act : Act) → (sync_part s o act).marks ≡ []
-marks_none s o act = ap (λ (p : Part). p.marks) (only_of s o act)
+marks_none s o act = ap (λ (p : Part). p.marks) (sync_part_only_turns s o act)
 
 -- where two lists are empty, they are empty joined
 pub nil_both : {A : Type 0} (xs ys : List A) → xs ≡ [] → ys ≡ [] → xs ++ ys ≡ []
@@ -129,28 +129,28 @@ left_both word xs ys = ap (λ l. unanswered_after word l) (heard_append xs ys) �
 
 -- parts with p, which has no step of the client, joined to the front of the first one (or p alone, if there are none) have
 -- synchronized from `word` (`AreBegun`), if without p they have synchronized from the ids that the lines of p leave of `word`
-begun_on : (word : List ℕ) (p : Part) (ps : List Part) → p.steps ≡ [] → AreBegun (unanswered_after word (heard_in p.turns)) ps → AreBegun word (in_front p false ps)
-begun_on word p [] e h = inl e
-begun_on word p (q ∷ []) e (inl f) = inl (nil_both p.steps q.steps e f)
-begun_on word p (q ∷ []) e (inr f) = inr (left_both word p.turns q.turns ∙ f)
-begun_on word p (q ∷ r ∷ ps) e h = (left_both word p.turns q.turns ∙ h.0, h.1)
+begun_in_front : (word : List ℕ) (p : Part) (ps : List Part) → p.steps ≡ [] → AreBegun (unanswered_after word (heard_in p.turns)) ps → AreBegun word (in_front p false ps)
+begun_in_front word p [] e h = inl e
+begun_in_front word p (q ∷ []) e (inl f) = inl (nil_both p.steps q.steps e f)
+begun_in_front word p (q ∷ []) e (inr f) = inr (left_both word p.turns q.turns ∙ f)
+begun_in_front word p (q ∷ r ∷ ps) e h = (left_both word p.turns q.turns ∙ h.0, h.1)
 
 -- if the parts have synchronized with no id left (`AreBegun []`), they still have with p joined to the front of the first one;
 -- and so has p alone, if there are none
-begun_in : (p : Part) (ps : List Part) → AreBegun [] ps → AreBegun [] (in_front p false ps)
-begun_in p [] h = inr (left_none (heard_in p.turns))
-begun_in p (q ∷ []) h = inr (left_none (heard_in (p.turns ++ q.turns)))
-begun_in p (q ∷ r ∷ ps) h = (left_none (heard_in (p.turns ++ q.turns)), h.1)
+begun_joined : (p : Part) (ps : List Part) → AreBegun [] ps → AreBegun [] (in_front p false ps)
+begun_joined p [] h = inr (left_none (heard_in p.turns))
+begun_joined p (q ∷ []) h = inr (left_none (heard_in (p.turns ++ q.turns)))
+begun_joined p (q ∷ r ∷ ps) h = (left_none (heard_in (p.turns ++ q.turns)), h.1)
 
 -- where parts have synchronized from all eight ids, p and these parts after it have synchronized with no id left: p had
 -- synchronized already
-begun_out : (p : Part) (ps : List Part) → AreBegun the_word ps → AreBegun [] (p ∷ ps)
-begun_out p [] h = inr (left_none (heard_in p.turns))
-begun_out p (q ∷ ps) h = (left_none (heard_in p.turns), h)
+begun_with_more : (p : Part) (ps : List Part) → AreBegun the_word ps → AreBegun [] (p ∷ ps)
+begun_with_more p [] h = inr (left_none (heard_in p.turns))
+begun_with_more p (q ∷ ps) h = (left_none (heard_in p.turns), h)
 
 -- if `loses_all` says that nothing is lost, the station has synchronized
 pub goes_begun : (t : Model) → loses_all t.progress ≡ false → has_begun t.progress ≡ true
-goes_begun t e = (kept_for (has_begun t.progress) (is_over t.progress) e).0
+goes_begun t e = (none_lost_parts (has_begun t.progress) (is_over t.progress) e).0
 
 -- with a part p without turns before the parts `ps` (`in_front`), the first part has no turns; if p is joined to the first of
 -- `ps` (`ends` is false), that one has to have none either
@@ -180,36 +180,40 @@ module _ (plan : Plan) (commands : List Task) where
     -- if the run is over no act follows, so the parts are the one in which nothing happens
     none_over : (acts : List Act) → is_over t.progress ≡ true → Runs plan commands t acts → AreBegun the_word (parts_of plan commands t acts)
     none_over [] over runs = inl refl
-    none_over (act ∷ acts) over runs = absurd (over_stays plan commands t act over runs.0)
+    none_over (act ∷ acts) over runs = absurd (no_act_once_over plan commands t act over runs.0)
 
     -- the lemma above, by whether the station has synchronized (b): if it hasn't, its word is whole; if it has, the run is over
     by_case : (b : Bool) → has_begun t.progress ≡ b → (not b || is_over t.progress) ≡ true → AreBegun the_word (parts_of plan commands t acts)
     by_case true e over = none_over acts over runs
     by_case false e over = subst (λ w. AreBegun w (parts_of plan commands t acts)) (anew e) h
 
-  -- if the parts of the acts after `act` have synchronized from the ids left after it, the parts of `act` and these acts have
-  -- synchronized from the ids left before it. `begun` is whether the station had synchronized before the act, and `lost` whether
-  -- all that is outstanding is lost at its end
-  parts_begun_with : (s : Model) (act : Act) (acts : List Act) (begun lost : Bool) → (is_begun : has_begun s.progress ≡ begun) → (is_lost : loses_all (after plan commands s act).progress ≡ lost)
-      → (performs : Performs commands s (action_at plan s) act) → (runs : Runs plan commands (after plan commands s act) acts)
-      → AreBegun (after plan commands s act).progress.word (parts_of plan commands (after plan commands s act) acts)
-      → AreBegun s.progress.word (in_front (if begun then client_part plan commands s (action_at plan s) act else sync_part s (action_at plan s) act)
-      (begun && lost) (parts_of plan commands (after plan commands s act) acts))
-  parts_begun_with s act acts false lost e f obeys runs h =
-      let t = after plan commands s act in
-      begun_on s.progress.word (sync_part s (action_at plan s) act) (parts_of plan commands t acts) (steps_none s (action_at plan s) act)
-      (subst (λ w. AreBegun w (parts_of plan commands t acts)) (word_after plan commands s act obeys e) h)
-  parts_begun_with s act acts true false e f obeys runs h =
-      let t = after plan commands s act in
-      let p = client_part plan commands s (action_at plan s) act in
-      let goes : has_begun t.progress ≡ true = goes_begun t f in
-      subst (λ w. AreBegun w (in_front p false (parts_of plan commands t acts))) (sym (word_of s.progress.word e))
-      (begun_in p (parts_of plan commands t acts) (subst (λ w. AreBegun w (parts_of plan commands t acts)) (word_of t.progress.word goes) h))
-  parts_begun_with s act acts true true e f obeys runs h =
-      let t = after plan commands s act in
-      let p = client_part plan commands s (action_at plan s) act in
-      subst (λ w. AreBegun w (p ∷ parts_of plan commands t acts)) (sym (word_of s.progress.word e))
-      (begun_out p (parts_of plan commands t acts) (next_begun t acts f (λ begins. word_if_resynchronizing plan commands s act obeys e begins) runs h))
+  module _ (s : Model) (act : Act) (acts : List Act) where
+    -- the model after the act
+    abbrev t : Model
+    t = after plan commands s act
+
+    -- the parts of the acts after it
+    abbrev ps : List Part
+    ps = parts_of plan commands t acts
+
+    -- if these parts have synchronized from the ids left after the act, they have, with the act's part in front of them, from the
+    -- ids left before it. `begun` is whether the station had synchronized before the act, and `lost` whether all that is
+    -- outstanding is lost at its end
+    parts_begun_with : (begun lost : Bool) → (is_begun : has_begun s.progress ≡ begun) → (is_lost : loses_all t.progress ≡ lost) → (performs : Performs commands s (action_at plan s) act)
+        → (runs : Runs plan commands t acts) → AreBegun t.progress.word ps
+        → AreBegun s.progress.word (in_front (if begun then client_part plan commands s (action_at plan s) act else sync_part s (action_at plan s) act) (begun && lost) ps)
+    parts_begun_with false lost e f obeys runs h =
+        begun_in_front s.progress.word (sync_part s (action_at plan s) act) ps (steps_none s (action_at plan s) act)
+        (subst (λ w. AreBegun w ps) (word_after_turns plan commands s act obeys e) h)
+    parts_begun_with true false e f obeys runs h =
+        let p = client_part plan commands s (action_at plan s) act in
+        let goes : has_begun t.progress ≡ true = goes_begun t f in
+        subst (λ w. AreBegun w (in_front p false ps)) (sym (word_empty s.progress.word e))
+        (begun_joined p ps (subst (λ w. AreBegun w ps) (word_empty t.progress.word goes) h))
+    parts_begun_with true true e f obeys runs h =
+        let p = client_part plan commands s (action_at plan s) act in
+        subst (λ w. AreBegun w (p ∷ ps)) (sym (word_empty s.progress.word e))
+        (begun_with_more p ps (next_begun t acts f (λ begins. word_if_resynchronizing plan commands s act obeys e begins) runs h))
 
   -- the parts of a run from the model s on have synchronized from the ids left in s, as `AreBegun` says
   pub parts_begun : (s : Model) (acts : List Act) → Runs plan commands s acts → AreBegun s.progress.word (parts_of plan commands s acts)

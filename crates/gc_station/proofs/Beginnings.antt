@@ -56,9 +56,9 @@ lines_answered word [] ids h = h
 lines_answered word (line ∷ others) ids h = left_answered word line others ids (lines_answered (left_by word (heard line)) others ids h)
 
 -- a word of which no id is left is a subsequence of any ids
-none_left : (word ids : List ℕ) → is_none_left word ≡ true → IsSubsequence word ids
-none_left [] ids e = tt
-none_left (asked ∷ others) ids e = cc
+empty_word_among : (word ids : List ℕ) → is_none_left word ≡ true → IsSubsequence word ids
+empty_word_among [] ids e = tt
+empty_word_among (asked ∷ others) ids e = cc
 
 module _ (plan : Plan) (commands : List Task) where
   -- while the station synchronizes, an action whose conditions hold isn't `Renew`
@@ -87,14 +87,14 @@ module _ (plan : Plan) (commands : List Task) where
   word_before_act : (s : Model) (act : Act) (ids : List ℕ) (begun : Bool) → has_begun s.progress ≡ begun → Performs commands s (action_at plan s) act
       → IsSubsequence (after plan commands s act).progress.word ids
       → IsSubsequence s.progress.word (filter_map heard (lines_heard_at s act) ++ ids)
-  word_before_act s act ids true begun obeys h = none_left s.progress.word _ begun
+  word_before_act s act ids true begun obeys h = empty_word_among s.progress.word _ begun
   word_before_act s act ids false begins obeys h = lines_answered s.progress.word (lines_heard_at s act) ids (subst (λ (w : List ℕ). IsSubsequence w ids) (word_after s act obeys begins) h)
 
   -- if the station has synchronized after these acts, the word before them is a subsequence of the ids of the lines that are
   -- heard at them
   word_among_heard : (s : Model) (acts : List Act) → Runs plan commands s acts → has_begun (after_all plan commands s acts).progress ≡ true
       → IsSubsequence s.progress.word (filter_map heard (lines_heard plan commands s acts))
-  word_among_heard s [] runs begun = none_left s.progress.word [] begun
+  word_among_heard s [] runs begun = empty_word_among s.progress.word [] begun
   word_among_heard s (act ∷ acts) runs begun =
       let u = after plan commands s act in
       let ids = filter_map heard (lines_heard plan commands u acts) in

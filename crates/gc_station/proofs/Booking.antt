@@ -144,35 +144,34 @@ records_sent reads utc (Some mark ∷ ms) (s ∷ ss) =
     let rest = sent_of (records_of reads utc ms ss) in
     ap (λ (b : Bool). if b then r ∷ rest else rest) (ended_sent reads mark.expected s.call s.outcome) ∙ ap (λ rs. r ∷ rs) (records_sent reads utc ms ss)
 
--- of the records `rs` and those of settlements after them, the ones of commands that were sent are those of `rs`, and all of the
--- settlements'
-pub sent_records : (reads : Asked → List ℕ → Reading) (rs : List Record) (utc : ℕ) (ms : List (Option Mark)) (ss : List (Settlement Asked))
+-- among `rs` followed by records of settlements, the sent ones are the sent ones of `rs`, followed by all those records
+pub sent_of-append_records : (reads : Asked → List ℕ → Reading) (rs : List Record) (utc : ℕ) (ms : List (Option Mark)) (ss : List (Settlement Asked))
     → sent_of (rs ++ records_of reads utc ms ss) ≡ sent_of rs ++ records_of reads utc ms ss
-sent_records reads rs utc ms ss = filter-append _ rs (records_of reads utc ms ss) ∙ ap (λ xs. sent_of rs ++ xs) (records_sent reads utc ms ss)
+sent_of-append_records reads rs utc ms ss = filter-append _ rs (records_of reads utc ms ss) ∙ ap (λ xs. sent_of rs ++ xs) (records_sent reads utc ms ss)
 
 -- `MarksAsk` says of marks and requests, one for one, that each request is of the command that its mark names. If it holds of
 -- `ms` and `xs`, and of `ns` and `ys`, it holds of both joined
-pub of_append : (commands : List Task) (ms ns : List (Option Mark)) (xs ys : List (Wanted Asked)) → MarksAsk commands ms xs → MarksAsk commands ns ys → MarksAsk commands (ms ++ ns) (xs ++ ys)
-of_append commands [] ns [] ys h g = g
-of_append commands [] ns (x ∷ xs) ys h g = absurd h
-of_append commands (m ∷ ms) ns [] ys h g = absurd h
-of_append commands (m ∷ ms) ns (x ∷ xs) ys h g = (h.0, of_append commands ms ns xs ys h.1 g)
+pub marks_ask_append : (commands : List Task) (ms ns : List (Option Mark)) (xs ys : List (Wanted Asked)) → MarksAsk commands ms xs → MarksAsk commands ns ys → MarksAsk commands (ms ++ ns) (xs ++ ys)
+marks_ask_append commands [] ns [] ys h g = g
+marks_ask_append commands [] ns (x ∷ xs) ys h g = absurd h
+marks_ask_append commands (m ∷ ms) ns [] ys h g = absurd h
+marks_ask_append commands (m ∷ ms) ns (x ∷ xs) ys h g = (h.0, marks_ask_append commands ms ns xs ys h.1 g)
 
 -- where `MarksAsk` holds, there are as many marks as requests
-pub of_length : (commands : List Task) (ms : List (Option Mark)) (xs : List (Wanted Asked)) → MarksAsk commands ms xs → length ms ≡ length xs
-of_length commands [] [] h = refl
-of_length commands [] (x ∷ xs) h = absurd h
-of_length commands (m ∷ ms) [] h = absurd h
-of_length commands (m ∷ ms) (x ∷ xs) h = ap suc (of_length commands ms xs h.1)
+pub marks_ask_length : (commands : List Task) (ms : List (Option Mark)) (xs : List (Wanted Asked)) → MarksAsk commands ms xs → length ms ≡ length xs
+marks_ask_length commands [] [] h = refl
+marks_ask_length commands [] (x ∷ xs) h = absurd h
+marks_ask_length commands (m ∷ ms) [] h = absurd h
+marks_ask_length commands (m ∷ ms) (x ∷ xs) h = ap suc (marks_ask_length commands ms xs h.1)
 
 -- where `MarksAsk` holds, a mark at place n has a request at the same place, which asks what the mark says
-pub of_at : (commands : List Task) (ms : List (Option Mark)) (xs : List (Wanted Asked)) (n : ℕ) (mark : Option Mark) → MarksAsk commands ms xs
+pub marks_ask_at : (commands : List Task) (ms : List (Option Mark)) (xs : List (Wanted Asked)) (n : ℕ) (mark : Option Mark) → MarksAsk commands ms xs
     → slice_get ms n ≡ Some mark → (a : Wanted Asked) × (slice_get xs n ≡ Some a) × MarkAsks commands mark a
-of_at commands [] [] n mark h e = cc
-of_at commands [] (x ∷ xs) n mark h e = absurd h
-of_at commands (m ∷ ms) [] n mark h e = absurd h
-of_at commands (m ∷ ms) (x ∷ xs) zero mark h e = (x, refl, subst (λ (k : Option Mark). MarkAsks commands k x) (same_Some m mark e) h.0)
-of_at commands (m ∷ ms) (x ∷ xs) (suc n) mark h e = of_at commands ms xs n mark h.1 e
+marks_ask_at commands [] [] n mark h e = cc
+marks_ask_at commands [] (x ∷ xs) n mark h e = absurd h
+marks_ask_at commands (m ∷ ms) [] n mark h e = absurd h
+marks_ask_at commands (m ∷ ms) (x ∷ xs) zero mark h e = (x, refl, subst (λ (k : Option Mark). MarkAsks commands k x) (same_Some m mark e) h.0)
+marks_ask_at commands (m ∷ ms) (x ∷ xs) (suc n) mark h e = marks_ask_at commands ms xs n mark h.1 e
 
 -- if P holds of the record of each settlement with the command's mark at the same place, P holds of all records of the
 -- settlements `ss` with the marks `ms`; all records are of the moment `utc`
@@ -224,7 +223,7 @@ wrote_both reads commands ms ms1 ms2 more1 more2 rs rs1 rs2 ss1 ss2 asks1 asks2 
           ∙ ap (λ l. map timeless rs ++ (records_of reads 0 (ms ++ more1) ss1 ++ records_of reads 0 l ss2)) left
           ∙ ap (λ l. map timeless rs ++ (l ++ records_of reads 0 (drop (length ss1) all) ss2)) (sym (records_more reads (ms ++ more1) more2 ss1 h.count) ∙ ap (λ l. records_of reads 0 l ss1) whole)
           ∙ ap (λ l. map timeless rs ++ l) (sym (records-append reads 0 all ss1 ss2));
-      sent = of_append commands more1 more2 asks1 asks2 h.sent g.sent;
+      sent = marks_ask_append commands more1 more2 asks1 asks2 h.sent g.sent;
     }
 
 -- the steps of part `p` take client `c`, with its marks and records, to client `c'` with the last marks and records
@@ -336,10 +335,10 @@ IsSendBooked reads commands c ms rs target call mark o =
     × Wrote reads commands ms rs (mark ∷ []) ((sent_on (course_at c) target call o).settlements ++ []) ((sent_on (course_at c) target call o).sent ++ []) (ms ++ mark ∷ []) rs
 
 -- `IsSendBooked` holds of a send that isn't refused, if it asks for what its mark says
-sent_some : (reads : Asked → List ℕ → Reading) (commands : List Task) (c : ById Asked) (ms : List (Option Mark)) (rs : List Record) (target : ℕ) (call : Asked)
+some_send_booked : (reads : Asked → List ℕ → Reading) (commands : List Task) (c : ById Asked) (ms : List (Option Mark)) (rs : List Record) (target : ℕ) (call : Asked)
     (mark : Option Mark) (x : Sending (ById Asked)) → MarkAsks commands mark (record { target = target; call = call })
     → IsSendBooked reads commands c ms rs target call mark (Some x)
-sent_some reads commands c ms rs target call mark x is = (
+some_send_booked reads commands c ms rs target call mark x is = (
   refl,
   record {
     marks = refl;
@@ -356,5 +355,5 @@ pub books_send : (reads : Asked → List ℕ → Reading) (commands : List Task)
 books_send reads commands c ms rs target call deadline mark room is =
     let h : IsSendBooked reads commands c ms rs target call mark (sends 7 c target call deadline) =
     subst (IsSendBooked reads commands c ms rs target call mark) (sym (sends_with_room c target call deadline room))
-    (sent_some reads commands c ms rs target call mark (sending_of c target call deadline) is) in
+    (some_send_booked reads commands c ms rs target call mark (sending_of c target call deadline) is) in
     record { client = h.0; wrote = h.1 }

@@ -6,7 +6,7 @@ use Rattle.std.proofs.Common.{◌≡◌, ◌⊎◌, inl, inr, ℕ, ◌+◌, ◌-
 use Rattle.std.specs.List.{AllByRecursion}
 use Rattle.std.proofs.lemmas.List.{drop_all, length-drop, map-append, same_from_push}
 use Rattle.std.proofs.lemmas.Bool.{both_ways, or_right}
-use Rattle.gc_lines.proofs.Lists.{all_behind}
+use Rattle.gc_values.proofs.Every.{every_behind as all_behind}
 use Rattle.gc_catalogue.specs.declared.answer.Answer.{Answer}
 use Rattle.gc_texts.specs.declared.tasks.Task.{Task}
 use Rattle.gc_texts.specs.Endings.{End, Answered, line_of}
@@ -35,7 +35,7 @@ use Rattle.gc_station.specs.NextCommand.{place_next, cycles_begun, is_chained, i
 use Rattle.gc_station.proofs.Answers.{answers_true}
 use Rattle.gc_station.proofs.Counts.{ended_progress, ended_passes}
 use Rattle.gc_station.proofs.Each.{row_settled, sent_next, row}
-use Rattle.gc_station.proofs.Interleaving.{IsInFront, not_before_equal, drop_past, interleave_all, interleave_last, sent_before}
+use Rattle.gc_station.proofs.Interleaving.{IsInFront, before_not_after, drop_past, interleave_all, interleave_last, sent_before}
 use Rattle.gc_station.proofs.EachRun.{invariant_holds}
 use Rattle.gc_station.proofs.Row.{last_of_cycle, of_text_last}
 use Rattle.gc_station.proofs.Facts.{action_for}
@@ -49,27 +49,39 @@ use Rattle.gc_station.proofs.ChainSteps.{Still, Next, AtCycleStart, Past, Change
 
 -- What holds of each of some acts.
 
+-- P holds of each of these acts, with the model before it
+abbrev pub EachAct : (P : Model → Act → Type 0) → Plan → List Task → Model → List Act → Type 0
+EachAct P plan commands s [] = Unit {0}
+EachAct P plan commands s (act ∷ acts) = P s act × EachAct P plan commands (after plan commands s act) acts
+
+-- `EachAct` holds of two lists of acts, the second after the first, if it holds of each
+pub each_act_append : (P : Model → Act → Type 0) (plan : Plan) (commands : List Task) (s : Model) (xs ys : List Act) → EachAct P plan commands s xs
+    → EachAct P plan commands (after_all plan commands s xs) ys → EachAct P plan commands s (xs ++ ys)
+each_act_append P plan commands s [] ys h k = k
+each_act_append P plan commands s (x ∷ xs) ys h k = (h.0, each_act_append P plan commands (after plan commands s x) xs ys h.1 k)
+
+-- the station has synchronized after this act, made from the model s on
+abbrev pub IsBegunAfter : Plan → List Task → Model → Act → Type 0
+IsBegunAfter plan commands s act = has_begun (after plan commands s act).progress ≡ true
+
 -- the station has synchronized after each of these acts
 abbrev pub StaysBegun : Plan → List Task → Model → List Act → Type 0
-StaysBegun plan commands s [] = Unit {0}
-StaysBegun plan commands s (act ∷ acts) = (has_begun (after plan commands s act).progress ≡ true) × StaysBegun plan commands (after plan commands s act) acts
+StaysBegun plan commands s acts = EachAct (IsBegunAfter plan commands) plan commands s acts
 
 -- `StaysBegun` is preserved by one more act, if the station has synchronized after that act
-stays_more : (plan : Plan) (commands : List Task) (s : Model) (acts : List Act) (act : Act) → StaysBegun plan commands s acts
+stays_begun_more : (plan : Plan) (commands : List Task) (s : Model) (acts : List Act) (act : Act) → StaysBegun plan commands s acts
     → has_begun (after_all plan commands s (acts ++ act ∷ [])).progress ≡ true → StaysBegun plan commands s (acts ++ act ∷ [])
-stays_more plan commands s [] act h e = (e, tt)
-stays_more plan commands s (x ∷ acts) act h e = (h.0, stays_more plan commands (after plan commands s x) acts act h.1 e)
+stays_begun_more plan commands s acts act h e =
+    each_act_append (IsBegunAfter plan commands) plan commands s acts (act ∷ []) h
+    (ap (λ (x : Model). has_begun x.progress) (sym (after_all-append plan commands s acts (act ∷ []))) ∙ e, tt)
+
+-- this act, made from the model s on, sends no command of the setup
+abbrev pub SendsNoSetup : Plan → Model → Act → Type 0
+SendsNoSetup plan s act = action_at plan s ≡ Prepare → ⊥
 
 -- none of these acts sends a command of the setup
 abbrev pub PreparesNothing : Plan → List Task → Model → List Act → Type 0
-PreparesNothing plan commands s [] = Unit {0}
-PreparesNothing plan commands s (act ∷ acts) = (action_at plan s ≡ Prepare → ⊥) × PreparesNothing plan commands (after plan commands s act) acts
-
--- `PreparesNothing` holds of two lists of acts, the second after the first, if it holds of each
-pub prepares_none : (plan : Plan) (commands : List Task) (s : Model) (xs ys : List Act) → PreparesNothing plan commands s xs
-    → PreparesNothing plan commands (after_all plan commands s xs) ys → PreparesNothing plan commands s (xs ++ ys)
-prepares_none plan commands s [] ys h k = k
-prepares_none plan commands s (x ∷ xs) ys h k = (h.0, prepares_none plan commands (after plan commands s x) xs ys h.1 k)
+PreparesNothing plan commands s acts = EachAct (SendsNoSetup plan) plan commands s acts
 
 -- What an act leaves out, and what it does to the place and to `next_is_chained`.
 
@@ -232,12 +244,12 @@ module _ (plan : Plan) (commands : List Task) (scope : Scope) where
               passes = still_passes (at acts) (at (acts ++ act ∷ [])) (at w.before).passes (leaves_nothing_out acts act)
                   (ap (λ (x : Progress). x.chain_unbroken) there ∙ e) w.passes;
               keeps =
-                  stays_more plan commands (at w.before) (w.request ∷ w.between) act w.keeps
+                  stays_begun_more plan commands (at w.before) (w.request ∷ w.between) act w.keeps
                   (begun_there w.before (w.request ∷ (w.between ++ act ∷ [])) (acts ++ act ∷ []) q order there begun);
               no_setup =
                   let back = after_all-append plan commands (opening plan scope) w.before (w.request ∷ w.between) in
                   let here : after_all plan commands (at w.before) (w.request ∷ w.between) ≡ at acts = sym back ∙ ap at (sym w.order) in
-                  prepares_none plan commands (at w.before) (w.request ∷ w.between) (act ∷ []) w.no_setup
+                  each_act_append (SendsNoSetup plan) plan commands (at w.before) (w.request ∷ w.between) (act ∷ []) w.no_setup
                   (subst (λ (x : Model). PreparesNothing plan commands x (act ∷ [])) (sym here) (other, tt));
             };
       }
@@ -440,7 +452,7 @@ module _ (plan : Plan) (commands : List Task) (scope : Scope) where
         (commands_reached plan.setup commands cycle place) before.each
         (sent_before plan.setup commands cycle place within) in
         let kept = interleave_last one (of_text commands (map of_record s.records)) b_passes (commands_reached plan.setup commands cycle place) all
-        (λ xs e. not_before_equal cycle place cycle place (all_last (IsInFront cycle place) xs one (subst (AllByRecursion (IsInFront cycle place)) e front)) refl refl) in
+        (λ xs e. before_not_after cycle cycle place place (all_last (IsInFront cycle place) xs one (subst (AllByRecursion (IsInFront cycle place)) e front)) (inr (refl, omega arith))) in
         let split = map-append of_record l.earlier (l.answer ∷ []) in
         let listed_all : map of_record s.records ≡ map of_record l.earlier ++ of_record l.answer ∷ [] = ap (map of_record) l.last ∙ split in
         let of_a_cycle : 0 < l.answer.cycle = last_of_cycle plan commands scope acts runs settled it (map of_record l.earlier) (of_record l.answer) listed_all in

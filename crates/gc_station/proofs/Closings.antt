@@ -33,16 +33,16 @@ use Rattle.gc_station.proofs.Counts.{ended_progress}
 use Rattle.gc_station.proofs.EachRun.{invariant_holds}
 use Rattle.gc_station.proofs.Facts.{action_for, finished_so}
 use Rattle.gc_station.proofs.Invariant.{Invariant, says_done}
-use Rattle.gc_station.proofs.Going.{after_all-append}
-use Rattle.gc_station.proofs.Walk.{asked_along, came_along, quieted_along, sending, sending_setup, Putting, walk}
+use Rattle.gc_station.proofs.Going.{after_all-append, runs_front, runs_behind}
+use Rattle.gc_station.proofs.Walk.{asked_along, came_along, quieted_along, sending, sending_setup, HoldsAfterPut, walk}
 use Rattle.gc_station.proofs.Turns.{again_down, closed_down}
 use Rattle.gc_station.specs.Scopes.{Scope}
 
 -- the cause for which a phase closes the connection or ends the run, if it does
-abbrev pub end_of : Phase → Option Cause
-end_of (Closing why) = Some why
-end_of (Over why) = Some why
-end_of _ = None
+abbrev pub cause_in : Phase → Option Cause
+cause_in (Closing why) = Some why
+cause_in (Over why) = Some why
+cause_in _ = None
 
 -- an act between the phases `before` and `behind` shows that a call failed for this cause; and if there is no connection after
 -- it, there was none before
@@ -67,25 +67,25 @@ no_cause_shown P ended broke untold cut why act holds shows = shows
 -- a failure for `why`, which the act shows, sets the phase to closing if there is a connection (`up`) and to over if there is
 -- none. If that decides the end for the cause c, the act decides it: c is `why`
 fail_decides : {Other : Type 0} (before at : Phase) (up : Bool) (why c : Cause) (act : Act) → is_up at ≡ up → Shows why act
-    → (is_up at ≡ false → is_up before ≡ false) → end_of (if up then Closing why else Over why) ≡ Some c
+    → (is_up at ≡ false → is_up before ≡ false) → cause_in (if up then Closing why else Over why) ≡ Some c
     → Decides Other before (if up then Closing why else Over why) c act
 fail_decides before at true why c act is shows down e = let same : why ≡ c = cc in inl (λ d. cc, subst (λ (x : Cause). Shows x act) same shows)
 fail_decides before at false why c act is shows down e = let same : why ≡ c = cc in inl (λ d. down is, subst (λ (x : Cause). Shows x act) same shows)
 
 -- if a failure is noted that the act shows, and the end is decided then, the act decides it
-failed : {Other : Type 0} (s : Model) (why c : Cause) (act : Act) → Shows why act → end_of (with_progress (failing why) s).progress.phase ≡ Some c
+noted_failure_decides : {Other : Type 0} (s : Model) (why c : Cause) (act : Act) → Shows why act → cause_in (with_progress (failing why) s).progress.phase ≡ Some c
     → Decides Other s.progress.phase (with_progress (failing why) s).progress.phase c act
-failed s why c act shows e = fail_decides s.progress.phase s.progress.phase (is_up s.progress.phase) why c act refl shows (λ d. d) e
+noted_failure_decides s why c act shows e = fail_decides s.progress.phase s.progress.phase (is_up s.progress.phase) why c act refl shows (λ d. d) e
 
 -- if the end is decided where a pause ends (`ends`) or goes on, the phase is as it was
-paused_same : (at : Phase) (ends : Bool) (c : Cause) → end_of (if ends then Down else at) ≡ Some c → (if ends then Down else at) ≡ at
+paused_same : (at : Phase) (ends : Bool) (c : Cause) → cause_in (if ends then Down else at) ≡ Some c → (if ends then Down else at) ≡ at
 paused_same at true c e = cc
 paused_same at false c e = refl
 
 -- if the end is decided where a pause or a drain ends or goes on, the phase is as it was
-quiet_same : (plan : Plan) (phase : Phase) (p : Progress) (c : Cause) → end_of (quieted plan phase p).phase ≡ Some c → (quieted plan phase p).phase ≡ p.phase
+quiet_same : (plan : Plan) (phase : Phase) (p : Progress) (c : Cause) → cause_in (quieted plan phase p).phase ≡ Some c → (quieted plan phase p).phase ≡ p.phase
 quiet_same plan phase p c =
-    quieted_along (λ (q : Progress). end_of q.phase ≡ Some c → q.phase ≡ p.phase) plan phase p
+    quieted_along (λ (q : Progress). cause_in q.phase ≡ Some c → q.phase ≡ p.phase) plan phase p
     (λ e. paused_same p.phase (is_past p.pause p && not (is_idle plan p)) c e) (λ e. cc) (λ e. refl)
 
 -- a piece, whether it is heard or discarded, leaves the phase
@@ -95,22 +95,22 @@ came_phase heard word piece s =
     (asked_along (λ (q : Progress). q.phase ≡ s.progress.phase) (λ q line e. e) s.progress (lines_completed s.rest piece) refl) refl
 
 -- if the test is false that a new connection needs no try (`spared`) or a try is left, it needs one and none is left
-no_try : (spared : Bool) (tries : ℕ) → spared || nat_lt 0 tries ≡ false → (spared ≡ false) × (tries ≡ 0)
-no_try true tries e = cc
-no_try false tries e = (refl, grind (arith, nat_tests, e))
+no_try_left : (spared : Bool) (tries : ℕ) → spared || nat_lt 0 tries ≡ false → (spared ≡ false) × (tries ≡ 0)
+no_try_left true tries e = cc
+no_try_left false tries e = (refl, grind (arith, nat_tests, e))
 
 -- if the phase after a lost connection or a failed attempt ends the run, the cause is as `EndsAtFailure` says. `done`: nothing is
 -- left to be sent and none is outstanding; `some`: a try is left, or none is needed
 again_ends : (plan : Plan) (other c : Cause) (n : ℕ) (p : Progress) (done some : Bool) → is_finished n p ≡ done → (is_spared plan other p || nat_lt 0 p.tries) ≡ some
-    → end_of (if done then Over cause.Done else if some then Pausing else Over other) ≡ Some c → EndsAtFailure plan p n other c
+    → cause_in (if done then Over cause.Done else if some then Pausing else Over other) ≡ Some c → EndsAtFailure plan p n other c
 again_ends plan other c n p true some finished tries e = inl (cc, finished_so n p finished)
 again_ends plan other c n p false true finished tries e = cc
-again_ends plan other c n p false false finished tries e = let none = no_try (is_spared plan other p) p.tries tries in inr (cc, finished, none.0, none.1)
+again_ends plan other c n p false false finished tries e = let none = no_try_left (is_spared plan other p) p.tries tries in inr (cc, finished, none.0, none.1)
 
 -- if a close for the cause `other` ends the run, it ends as `EndsAfter` says, given that a close for `Done` is made only if all
 -- is done (`IsFinished`)
 closed_ends : (plan : Plan) (w : Waiting) (other c : Cause) (p : Progress) → (other ≡ cause.Done → IsFinished w.commands p)
-    → end_of (closed plan w other (turned p)).phase ≡ Some c → EndsAfter plan p w.commands other c
+    → cause_in (closed plan w other (turned p)).phase ≡ Some c → EndsAfter plan p w.commands other c
 closed_ends plan w cause.Done c p done e = (cc, done refl)
 closed_ends plan w cause.Clock c p done e = cc
 closed_ends plan w cause.Turns c p done e = cc
@@ -127,10 +127,10 @@ Gone plan s next behind c act = (is_up behind ≡ false) × EndsDisconnected pla
 -- if the end is decided after an act of this action, the act decided it, by a call that failed or a connection that is gone; or
 -- the phase is as before
 abbrev DecidesSo : Plan → Model → Action → Cause → Act → Model → Type 0
-DecidesSo plan s next c act t = end_of t.progress.phase ≡ Some c → Decides (Gone plan s next t.progress.phase c act) s.progress.phase t.progress.phase c act
+DecidesSo plan s next c act t = cause_in t.progress.phase ≡ Some c → Decides (Gone plan s next t.progress.phase c act) s.progress.phase t.progress.phase c act
 
 -- a line feed that was sent decides no end
-cleared_none : (begun : Bool) (c : Cause) → end_of (if begun then Draining else Ready) ≡ Some c → ⊥
+cleared_none : (begun : Bool) (c : Cause) → cause_in (if begun then Draining else Ready) ≡ Some c → ⊥
 cleared_none true c e = cc
 cleared_none false c e = cc
 
@@ -139,10 +139,10 @@ pub cleared_up : (begun : Bool) → is_up (if begun then Draining else Ready) �
 cleared_up true = refl
 cleared_up false = refl
 
--- `DecidesSo` holds after an act of the action `next` that puts these bytes (`Putting`), if the model t after a whole write has
--- the phase of the model s, from before the act
+-- `DecidesSo` holds after an act of the action `next` that puts these bytes (`HoldsAfterPut`), if the model t after a whole write
+-- has the phase of the model s, from before the act
 put_decides : (plan : Plan) (s : Model) (next : Action) (c : Cause) (requests : ℕ) (text : List ℕ) (t : Model) → t.progress.phase ≡ s.progress.phase
-    → Putting (DecidesSo plan s next c) requests text t
+    → HoldsAfterPut (DecidesSo plan s next c) requests text t
 put_decides plan s next c requests text t same = (
   λ m g. inr (inr same),
   λ n g. fail_decides s.progress.phase t.progress.phase (is_up t.progress.phase) (cause.Write requests n) c (Cut text n) refl (text, refl)
@@ -188,18 +188,18 @@ moved_decides plan commands (action.Read until) s act c o done e =
     walk plan commands (DecidesSo plan s (action.Read until) c) (action.Read until) t act o (
       λ bytes m g. inr (inr (came_phase (is_heard s.progress.phase) s.progress.word bytes (with_moment m (with_progress (moment_noted m) t)))),
       λ m g. inr (inr (quiet_same plan s.progress.phase (time_passed until m t.progress) c g)),
-      λ g. failed t cause.End c Ended refl g,
-      λ g. failed t cause.Read c Broke refl g,
-      λ g. failed t cause.Clock c Untold refl g,
+      λ g. noted_failure_decides t cause.End c Ended refl g,
+      λ g. noted_failure_decides t cause.Read c Broke refl g,
+      λ g. noted_failure_decides t cause.Clock c Untold refl g,
     ) e
 moved_decides plan commands (action.Close why) s act c o done e =
     inr (inl (closed_down plan (waiting_of s) why (turned s.progress), inl (why, o, refl, closed_ends plan (waiting_of s) why c s.progress (λ is. done (ap action.Close is)) e)))
 moved_decides plan commands (action.Stop why) s act c o done e = absurd o
 moved_decides plan commands next s act c o done e =
-    walk plan commands (DecidesSo plan s next c) next (with_progress turned s) act o (λ m g. inr (inr refl), λ n g. failed (with_progress turned s) cause.Clock c Untold refl g) e
+    walk plan commands (DecidesSo plan s next c) next (with_progress turned s) act o (λ m g. inr (inr refl), λ n g. noted_failure_decides (with_progress turned s) cause.Clock c Untold refl g) e
 
 -- if the end is decided, no act leaves the phase as it is: the connection is closed, and without a connection no act is made
-not_twice : (plan : Plan) (commands : List Task) (s : Model) (act : Act) (c : Cause) (phase : Phase) → s.progress.phase ≡ phase → end_of phase ≡ Some c
+not_twice : (plan : Plan) (commands : List Task) (s : Model) (act : Act) (c : Cause) (phase : Phase) → s.progress.phase ≡ phase → cause_in phase ≡ Some c
     → Performs commands s (action_in phase plan s.progress (waiting_of s)) act
     → (moved plan commands (action_in phase plan s.progress (waiting_of s)) (with_progress turned s) act).progress.phase ≡ phase → ⊥
 not_twice plan commands s act c (Closing why) is e o same = let down : true ≡ false = sym (ap is_up same) ∙ closed_down plan (waiting_of s) why (turned s.progress) in cc
@@ -215,7 +215,7 @@ Decided plan s behind c act = Failed s.progress.phase behind c act ⊎ Gone plan
 -- (`IsFinished`)
 pub after_decided : (plan : Plan) (commands : List Task) (s : Model) (act : Act) (c : Cause) → Performs commands s (action_at plan s) act
     → (action_at plan s ≡ action.Close cause.Done → IsFinished (commands_in s.marks) s.progress)
-    → end_of (after plan commands s act).progress.phase ≡ Some c → Decided plan s (after plan commands s act).progress.phase c act
+    → cause_in (after plan commands s act).progress.phase ≡ Some c → Decided plan s (after plan commands s act).progress.phase c act
 after_decided plan commands s act c o done e =
     subst (λ (behind : Phase). Decided plan s behind c act) (sym same) (pick (moved_decides plan commands (action_at plan s) s act c o done ends)) where
       -- the loss of what is outstanding, which comes last in an act, leaves the phase
@@ -223,8 +223,8 @@ after_decided plan commands s act c o done e =
       same = ap (λ (p : Progress). p.phase) (ended_progress (moved plan commands (action_at plan s) (with_progress turned s) act))
 
       -- so the end is decided before that, too
-      ends : end_of (moved plan commands (action_at plan s) (with_progress turned s) act).progress.phase ≡ Some c
-      ends = sym (ap end_of same) ∙ e
+      ends : cause_in (moved plan commands (action_at plan s) (with_progress turned s) act).progress.phase ≡ Some c
+      ends = sym (ap cause_in same) ∙ e
 
       -- `moved_decides` without the case that the phase is as before, which can't be
       pick : Decides (Gone plan s (action_at plan s) (moved plan commands (action_at plan s) (with_progress turned s) act).progress.phase c act) s.progress.phase
@@ -232,13 +232,12 @@ after_decided plan commands s act c o done e =
           → Decided plan s (moved plan commands (action_at plan s) (with_progress turned s) act).progress.phase c act
       pick (inl shows) = inl shows
       pick (inr (inl gone)) = inr gone
-      pick (inr (inr still)) = absurd (not_twice plan commands s act c s.progress.phase refl (ap end_of (sym still) ∙ ends) o still)
+      pick (inr (inr still)) = absurd (not_twice plan commands s act c s.progress.phase refl (ap cause_in (sym still) ∙ ends) o still)
 
 -- of a run, an act performs the action that was next, and the acts before it are a run
 pub runs_split : (plan : Plan) (commands : List Task) (s : Model) (earlier later : List Act) (act : Act) → Runs plan commands s (earlier ++ act ∷ later)
     → Runs plan commands s earlier × Performs commands (after_all plan commands s earlier) (action_at plan (after_all plan commands s earlier)) act
-runs_split plan commands s [] later act runs = (tt, runs.0)
-runs_split plan commands s (x ∷ xs) later act runs = let r = runs_split plan commands (after plan commands s x) xs later act runs.1 in ((runs.0, r.0), r.1)
+runs_split plan commands s earlier later act runs = (runs_front plan commands s earlier (act ∷ later) runs, (runs_behind plan commands s earlier (act ∷ later) runs).0)
 
 -- if a null procedure of a synchronization is next, nothing is outstanding and the client is new
 asks_when_fresh : (plan : Plan) (commands : List Task) (s : Model) (next : Action) → Invariant plan commands s → HoldsBefore plan s.progress (waiting_of s) next → HasFreshClient next s
@@ -288,14 +287,14 @@ done_sent plan commands scope acts is = by_needs (needs_of plan (state_after pla
 
 -- in a run whose end is decided, the last act decided it
 decided_last : (plan : Plan) (commands : List Task) (scope : Scope) (acts : List Act) (c : Cause) → Runs plan commands (opening plan scope) acts
-    → end_of (state_after plan commands scope acts).progress.phase ≡ Some c
+    → cause_in (state_after plan commands scope acts).progress.phase ≡ Some c
     → (earlier : List Act) × (last : Act) × (acts ≡ earlier ++ last ∷ []) × Decided plan (state_after plan commands scope earlier) (state_after plan commands scope acts).progress.phase c last
 decided_last plan commands scope acts c runs e = by_last (none_or_last acts) where
   -- the lemma above, if there is a last act; at the start of a run no end is decided
   by_last : ((acts ≡ []) ⊎ ((earlier : List Act) × (last : Act) × (acts ≡ earlier ++ last ∷ [])))
       → (earlier : List Act) × (last : Act) × (acts ≡ earlier ++ last ∷ [])
       × Decided plan (state_after plan commands scope earlier) (state_after plan commands scope acts).progress.phase c last
-  by_last (inl none) = let down : None ≡ Some c = sym (ap (λ (xs : List Act). end_of (state_after plan commands scope xs).progress.phase) none) ∙ e in cc
+  by_last (inl none) = let down : None ≡ Some c = sym (ap (λ (xs : List Act). cause_in (state_after plan commands scope xs).progress.phase) none) ∙ e in cc
   by_last (inr some) =
       let earlier = some.0 in
       let last = some.1 in
@@ -308,7 +307,7 @@ decided_last plan commands scope acts c runs e = by_last (none_or_last acts) whe
         last,
         some.2,
         subst (λ (phase : Phase). Decided plan s phase c last) (sym behind)
-            (after_decided plan commands s last c split.1 (done_sent plan commands scope earlier) (ap end_of (sym behind) ∙ e)),
+            (after_decided plan commands s last c split.1 (done_sent plan commands scope earlier) (ap cause_in (sym behind) ∙ e)),
       )
 
 -- if the phase says that the connection is to be closed for `why`, the last act shows that cause (`Shows`)
@@ -316,7 +315,7 @@ pub closing_shown : (plan : Plan) (commands : List Task) (scope : Scope) (acts :
     → (state_after plan commands scope acts).progress.phase ≡ Closing why
     → (earlier : List Act) × (last : Act) × (acts ≡ earlier ++ last ∷ []) × Shows why last
 closing_shown plan commands scope acts why runs phase =
-    let d = decided_last plan commands scope acts why runs (ap end_of phase) in (d.0, d.1, d.2, shows (state_after plan commands scope d.0) d.1 d.3) where
+    let d = decided_last plan commands scope acts why runs (ap cause_in phase) in (d.0, d.1, d.2, shows (state_after plan commands scope d.0) d.1 d.3) where
       -- if the last act decided the end, it shows the cause: the connection isn't closed yet, so it isn't gone
       shows : (before : Model) (last : Act) → Decided plan before (state_after plan commands scope acts).progress.phase why last → Shows why last
       shows before last (inl failed) = failed.1
@@ -361,5 +360,5 @@ stopped_for plan commands scope acts why runs stop =
       by_needs : (((state_after plan commands scope acts).progress.phase ≡ Over why) ⊎ ((why ≡ cause.Turns) × ((state_after plan commands scope acts).progress.turns ≡ 0)))
           → ((why ≡ cause.Turns) × ((state_after plan commands scope acts).progress.turns ≡ 0))
           ⊎ ((earlier : List Act) × (last : Act) × (acts ≡ earlier ++ last ∷ []) × Ends plan (state_after plan commands scope earlier) why last)
-      by_needs (inl phase) = let d = decided_last plan commands scope acts why runs (ap end_of phase) in inr (d.0, d.1, d.2, ends (state_after plan commands scope d.0) d.1 phase d.3)
+      by_needs (inl phase) = let d = decided_last plan commands scope acts why runs (ap cause_in phase) in inr (d.0, d.1, d.2, ends (state_after plan commands scope d.0) d.1 phase d.3)
       by_needs (inr none) = inl none

@@ -107,12 +107,12 @@ module _ (reads : Asked → List ℕ → Reading) (expected : Expected) (call : 
   ]
 
   -- a command whose line says anything but an answer or a refusal with an accepted code isn't answered well
-  unread_well : (said : Reading) → reads call line ≡ said → ((answer : Answer) → said ≡ reading.Value answer → ⊥)
+  unread_unwell : (said : Reading) → reads call line ≡ said → ((answer : Answer) → said ≡ reading.Value answer → ⊥)
       → ((code : ℕ) → said ≡ reading.Refused code → lists_code expected.accepted code ≡ false) → is_well (end_of reads expected call (Answered line)) ≡ false
-  unread_well (reading.Value answer) e none unlisted = absurd (none answer refl)
-  unread_well (reading.Refused code) e none unlisted = refused_unwell code e (unlisted code refl)
-  unread_well (reading.ComFault code) e none unlisted = ap is_well (ended (reading.ComFault code) e)
-  unread_well (reading.Unreadable fault) e none unlisted = ap is_well (ended (reading.Unreadable fault) e)
+  unread_unwell (reading.Value answer) e none unlisted = absurd (none answer refl)
+  unread_unwell (reading.Refused code) e none unlisted = refused_unwell code e (unlisted code refl)
+  unread_unwell (reading.ComFault code) e none unlisted = ap is_well (ended (reading.ComFault code) e)
+  unread_unwell (reading.Unreadable fault) e none unlisted = ap is_well (ended (reading.Unreadable fault) e)
 
   -- a reply with both codes 0 and an answer ends a command as answered with the quality `Fine`, or as elsewhere where its
   -- direction isn't near the target's place
@@ -145,7 +145,7 @@ accepted_codes = record {
     without = λ none well.
         let first = com_zero reads expected call line r are is well in
         (first, without_codes expected.accepted r.rc none (rc_zero reads expected call line r are is first well));
-    unread = λ said reading none unlisted. unread_well reads expected call line r are is said (says reads expected call line r are is said reading) none unlisted;
+    unread = λ said reading none unlisted. unread_unwell reads expected call line r are is said (says reads expected call line r are is said reading) none unlisted;
     found = λ answer has.
         ap is_well (value_ends reads expected call line r are is answer has) ∙ value_well quality.Fine refl answer line (is_elsewhere expected.near answer);
     away = λ answer has elsewhere. value_ends reads expected call line r are is answer has ∙ ap (λ b. value_as quality.Fine b answer line) elsewhere;

@@ -93,16 +93,16 @@ module _ (plan : Plan) (commands : List Task) (F : Progress → List Act → Typ
   FactBehind acts act t = F t.progress (acts ++ act ∷ [])
 
   -- `Silenced` gives the fact after a read that gave nothing, in any phase
-  silent_on : (until : Until) (m : Moment) (p : Progress) (at : Phase) (acts : List Act) → p.phase ≡ at → Silenced plan F until m p acts
+  holds_if_silent : (until : Until) (m : Moment) (p : Progress) (at : Phase) (acts : List Act) → p.phase ≡ at → Silenced plan F until m p acts
       → F (quieted plan at (time_passed until m p)) (acts ++ Silent m ∷ [])
-  silent_on until m p phase.Pausing acts is h =
+  holds_if_silent until m p phase.Pausing acts is h =
       unused _ (acts ++ Silent m ∷ []) (paused_alike is_in_use (is_past p.pause (time_passed until m p) && not (is_idle plan (time_passed until m p))) p.phase is refl)
-  silent_on until m p phase.Draining acts is h = by_test (is_quiet plan (time_passed until m p)) refl where
+  holds_if_silent until m p phase.Draining acts is h = by_test (is_quiet plan (time_passed until m p)) refl where
     -- the lemma above for a drain, whether it was long enough (`true`) or not
     by_test : (b : Bool) → is_quiet plan (time_passed until m p) ≡ b → F (if b then drained (time_passed until m p) else time_passed until m p) (acts ++ Silent m ∷ [])
     by_test true past = h.1 is past
     by_test false past = h.0
-  silent_on until m p at acts is h = h.0
+  holds_if_silent until m p at acts is h = h.0
 
   -- `OnLine` of an action gives the fact after an act of it: if the act leaves no connection in use, the fact holds anyway
   -- (`unused`)
@@ -118,7 +118,7 @@ module _ (plan : Plan) (commands : List Task) (F : Progress → List Act → Typ
       let up = is_up s.progress.phase in
       walk plan commands (FactBehind acts) (actions.Read until) (with_progress turned s) act o (
         h.0,
-        λ m. silent_on until m (turned s.progress) s.progress.phase acts refl (h.1 m),
+        λ m. holds_if_silent until m (turned s.progress) s.progress.phase acts refl (h.1 m),
         unused _ _ (failed_unused up cause.End),
         unused _ _ (failed_unused up cause.Read),
         unused _ _ (failed_unused up cause.Clock),

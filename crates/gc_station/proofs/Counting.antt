@@ -2,10 +2,9 @@
 -- exceeds 2^64 - 1 (`capped`).
 use Rattle.std.proofs.Common.{◌||◌, ◌&&◌, not, nat_eq, nat_lt, ◌≡◌, ℕ, suc, ◌+◌, Bool, true, false, List, [], ◌∷◌, if◌then◌else◌, refl, sym, ap, ◌∙◌, arith}
 use Rattle.gc_texts.specs.Endings.{End, Answered, Unreadable, Elsewhere, Late, Lost, Skipped, Missed}
-use Rattle.gc_station.specs.Counting.{is_followed, last_attempts, further_attempts, how_many, is_answered, is_unreadable, is_elsewhere, is_late, is_lost, is_skipped, is_missed, capped, TalliesCountRecords}
+use Rattle.gc_station.specs.Counting.{is_followed, last_attempts, further_attempts, how_many, is_answered, is_unreadable, is_elsewhere, is_late, is_lost, is_skipped, is_missed, TalliesCountRecords}
 use Rattle.gc_station.specs.Records.{Record}
-use Rattle.gc_station.specs.Tallies.{none_yet, one_more, counted, sum, nothing_yet, tallied, total, tally_of}
-use Rattle.gc_station.specs.Deciding.{later}
+use Rattle.gc_station.specs.Tallies.{none_yet, capped, one_more, counted, sum, nothing_yet, tallied, total, tally_of}
 use Rattle.gc_station.specs.declared.tally.Counts.{Counts}
 use Rattle.gc_station.specs.declared.tally.Tally.{Tally}
 
@@ -26,8 +25,8 @@ adds_nothing false before rest = refl
 
 -- once the next chain begins, the count of the last attempt (`attempt`) is among those of the chains before, and the attempt that
 -- begins, `followed` by another one or not, has none yet
-settled_then : (followed : Bool) (before attempt rest : ℕ) → capped (later before attempt + ((if followed then 0 else 0) + rest)) ≡ capped (before + (attempt + rest))
-settled_then followed before attempt rest = adds_nothing followed (later before attempt) rest ∙ omega arith
+settled_then : (followed : Bool) (before attempt rest : ℕ) → capped (capped (before + attempt) + ((if followed then 0 else 0) + rest)) ≡ capped (before + (attempt + rest))
+settled_then followed before attempt rest = adds_nothing followed (capped (before + attempt)) rest ∙ omega arith
 
 -- the counts `c` once an attempt begins, as `started` gives them: it is a further one (`true`), or the first one of its chain
 abbrev attempt_begun : Counts → Bool → Counts
@@ -67,7 +66,7 @@ counted_so Missed t = refl
 
 -- a count that grows by one for each command with this ending (`so`), stays for any other, adds up, and doesn't depend on `again`
 module _ (count : Tally → ℕ) (so : End → Bool) (step : (end : End) (t : Tally) → count (with_counted end t) ≡ (if so end then one_more (count t) else count t))
-    (adds : (a b : Tally) → count (sum a b) ≡ later (count a) (count b)) (none : count none_yet ≡ 0) (stays : (t : Tally) (n : ℕ) → count (record t { again = n }) ≡ count t) where
+    (adds : (a b : Tally) → count (sum a b) ≡ capped (count a + count b)) (none : count none_yet ≡ 0) (stays : (t : Tally) (n : ℕ) → count (record t { again = n }) ≡ count t) where
   -- if x is the count with r, the next command of an attempt, counted with that attempt (t), x is also the count with r counted
   -- among the records in its place, in front of `rs`. If the attempt is followed (q), r isn't counted either way
   counts_next : (x s : ℕ) (t : Tally) (r : Record) (rs : List Record) (q : Bool) → x ≡ capped (s + ((if q then 0 else count (counted r.end t)) + how_many so rs))
@@ -99,7 +98,7 @@ module _ (count : Tally → ℕ) (so : End → Bool) (step : (end : End) (t : Ta
     by_tests ih false true false =
         counts_next _ (count (sum c.settled c.attempt)) none_yet r (last_attempts rs) (is_followed rs) (ih (record { settled = sum c.settled c.attempt; attempt = counted r.end none_yet }))
         ∙ ap (λ n. capped (n + ((if is_followed rs then 0 else count none_yet) + how_many so (if is_followed rs then last_attempts rs else r ∷ last_attempts rs)))) (adds c.settled c.attempt)
-        ∙ ap (λ n. capped (later (count c.settled) (count c.attempt) + ((if is_followed rs then 0 else n) + how_many so (if is_followed rs then last_attempts rs else r ∷ last_attempts rs)))) none
+        ∙ ap (λ n. capped (capped (count c.settled + count c.attempt) + ((if is_followed rs then 0 else n) + how_many so (if is_followed rs then last_attempts rs else r ∷ last_attempts rs)))) none
         ∙ settled_then (is_followed rs) (count c.settled) (count c.attempt) _
 
   -- a count of a tally of all records is the number of records of last attempts with its ending, at most 2^64 - 1
@@ -124,7 +123,7 @@ again_counts c (r ∷ rs) none = by_tests (λ d n. again_counts d rs n) (nat_eq 
       ih (record { settled = record c.settled { again = one_more c.settled.again }; attempt = counted r.end none_yet }) (ap (λ (t : Tally). t.again) (counted_so r.end none_yet)) ∙ omega arith
   by_tests ih false true false =
       ih (record { settled = sum c.settled c.attempt; attempt = counted r.end none_yet }) (ap (λ (t : Tally). t.again) (counted_so r.end none_yet))
-      ∙ ap (λ n. capped (later c.settled.again n + further_attempts rs)) none ∙ omega arith
+      ∙ ap (λ n. capped (capped (c.settled.again + n) + further_attempts rs)) none ∙ omega arith
 
 -- each count of a tally is the number of the records of last attempts with its ending, and `again` is the number of further
 -- attempts; each at most 2^64 - 1

@@ -37,15 +37,16 @@ counted_passed p = record p { unsent = p.unsent - p.next_others }
 
 -- what an act of an action does to these counts, from p to q, where a cycle has `count` commands: it leaves them, begins a cycle,
 -- sends or skips a command, or leaves out some. If an action has two cases, the first is that the clock couldn't be read
-abbrev pub Counts : (count : ℕ) → Action → (p q : Progress) → Type 0
-Counts count Begin p q = KeepsCounts p q ⊎ KeepsCounts (counted_begun count p) q
-Counts count Send p q = KeepsCounts (counted_sent p) q
-Counts count Skip p q = KeepsCounts p q ⊎ KeepsCounts (counted_sent p) q
-Counts count Pass p q = KeepsCounts p q ⊎ KeepsCounts (counted_passed p) q
-Counts count _ p q = KeepsCounts p q
+abbrev pub ChangesCounts : (count : ℕ) → Action → (p q : Progress) → Type 0
+ChangesCounts count Begin p q = KeepsCounts p q ⊎ KeepsCounts (counted_begun count p) q
+ChangesCounts count Send p q = KeepsCounts (counted_sent p) q
+ChangesCounts count Skip p q = KeepsCounts p q ⊎ KeepsCounts (counted_sent p) q
+ChangesCounts count Pass p q = KeepsCounts p q ⊎ KeepsCounts (counted_passed p) q
+ChangesCounts count _ p q = KeepsCounts p q
 
--- each act does to the counts what `Counts` says
-pub moved_counts : (plan : Plan) (commands : List Task) (action : Action) (s : Model) (act : Act) → Counts (cycle_length plan commands) action s.progress (moved plan commands action s act).progress
+-- each act does to the counts what `ChangesCounts` says
+pub moved_counts : (plan : Plan) (commands : List Task) (action : Action) (s : Model) (act : Act)
+    → ChangesCounts (cycle_length plan commands) action s.progress (moved plan commands action s act).progress
 moved_counts plan commands Begin s (Told m) = inr (keeps_counts (counted_begun (cycle_length plan commands) s.progress) _ refl refl refl)
 moved_counts plan commands Begin s act = inl (keeps_counts s.progress _ refl refl refl)
 moved_counts plan commands Skip s (Told m) = inr (keeps_counts (counted_sent s.progress) _ refl refl refl)
@@ -79,9 +80,9 @@ ended_passes s = losing_passes (loses_all s.progress) s
 pub turns_kept : (plan : Plan) (commands : List Task) (action : Action) (s : Model) (act : Act) → (moved plan commands action s act).progress.turns ≡ s.progress.turns
 turns_kept plan commands action s act = ap (λ (x : Model). x.progress.turns) (moved_changed plan commands action s act)
 
--- where the counts change from p to q as `Counts` says, q has no more commands unsent than a cycle has (`count`), if p has no
--- more
-counts_within : (count : ℕ) (action : Action) (p q : Progress) → Counts count action p q → p.unsent ≤ count → q.unsent ≤ count
+-- where the counts change from p to q as `ChangesCounts` says, q has no more commands unsent than a cycle has (`count`), if p
+-- has no more
+counts_within : (count : ℕ) (action : Action) (p q : Progress) → ChangesCounts count action p q → p.unsent ≤ count → q.unsent ≤ count
 counts_within count Begin p q (inl same) h = omega (arith, same.unsent, h)
 counts_within count Begin p q (inr began) h = omega (arith, began.unsent)
 counts_within count Skip p q (inl same) h = omega (arith, same.unsent, h)

@@ -43,8 +43,8 @@ abbrev pub StaysAndTicks : Progress → Act → Progress → Type 0
 StaysAndTicks p act q = Stays p q × Ticks p act q
 
 -- a read that gave bytes stays in its cycle, and reads its moment as `Ticks` says
-gave_same : (plan : Plan) (commands : List Task) (until : Until) (s : Model) (bytes : List ℕ) (m : Moment) → StaysAndTicks s.progress (Gave bytes m) (piece_at plan until bytes m s).progress
-gave_same plan commands until s bytes m =
+gave_stays : (plan : Plan) (commands : List Task) (until : Until) (s : Model) (bytes : List ℕ) (m : Moment) → StaysAndTicks s.progress (Gave bytes m) (piece_at plan until bytes m s).progress
+gave_stays plan commands until s bytes m =
     let mid = with_moment m (with_progress (moment_noted m) s) in
     let heard_there = is_heard s.progress.phase in
     let is = moved_changed plan commands (actions.Read until) s (Gave bytes m) in (
@@ -54,17 +54,25 @@ gave_same plan commands until s bytes m =
           (asked_along (λ (q : Progress). (q.moment ≡ m) × (q.began ≡ min s.progress.began m.elapsed)) (λ q line e. e) mid.progress (lines_completed s.rest bytes) (refl, refl)) (refl, refl),
     )
 
+-- `StaysAndTicks` holds once a read that gave nothing is noted, whatever the phase, `alive` and `asked` are then
+noted_silent_stays : (p : Progress) (until : Until) (m : Moment) (phase : Phase) (alive : ℕ) (asked : Bool)
+    → StaysAndTicks p (Silent m) (record (time_passed until m p) { phase = phase; alive = alive; asked = asked })
+noted_silent_stays p until m phase alive asked = (stays p _ refl refl refl refl refl (inl refl), (refl, refl))
+
 -- a read that gave nothing stays in its cycle, and reads its moment as `Ticks` says
-silent_same : (plan : Plan) (at : Phase) (p : Progress) (until : Until) (m : Moment) → StaysAndTicks p (Silent m) (quieted plan at (time_passed until m p))
-silent_same plan at p until m =
+silent_stays : (plan : Plan) (at : Phase) (p : Progress) (until : Until) (m : Moment) → StaysAndTicks p (Silent m) (quieted plan at (time_passed until m p))
+silent_stays plan at p until m =
     quieted_along (λ (q : Progress). StaysAndTicks p (Silent m) q) plan at (time_passed until m p)
-    (stays p _ refl refl refl refl refl (inl refl), (refl, refl)) (stays p _ refl refl refl refl refl (inl refl), (refl, refl)) (stays p _ refl refl refl refl refl (inl refl), (refl, refl))
+    (noted_silent_stays p until m _ _ _)
+    (noted_silent_stays p until m _ _ _)
+    (noted_silent_stays p until m _ _ _)
 
 -- a close stays in its cycle, and reads no moment, as `Ticks` says
-closed_same : (plan : Plan) (s : Model) (why : Cause) → StaysAndTicks s.progress Closed (closed plan (waiting_of s) why s.progress)
-closed_same plan s why =
+closed_stays : (plan : Plan) (s : Model) (why : Cause) → StaysAndTicks s.progress Closed (closed plan (waiting_of s) why s.progress)
+closed_stays plan s why =
     closed_along (λ (q : Progress). StaysAndTicks s.progress Closed q) plan (waiting_of s) why s.progress
-    (stays s.progress _ refl refl refl refl refl (inr refl), (refl, refl)) (stays s.progress _ refl refl refl refl refl (inr refl), (refl, refl))
+    (stays s.progress _ refl refl refl refl refl (inr refl), (refl, refl))
+    (stays s.progress _ refl refl refl refl refl (inr refl), (refl, refl))
 
 -- What every run keeps of its cycles.
 
@@ -176,26 +184,6 @@ module _ (plan : Plan) (commands : List Task) (scope : Scope) (some : 0 < plan.e
         by_missed false is e above others =
             inr (above, ap is_chained (sym others) ∙ or_second p.missed (is_chained (drop (place_next commands p + count) commands)) e is)
 
-  -- `Cycling` holds after the act that begins a cycle at the moment m, if a cycle was left, and the cycle counts as begun at b,
-  -- which is its due moment and isn't later than m
-  pub begins_cycle : (acts : List Act) (m : Moment) (p : Progress) (n : ℕ) (b : ℕ) → (is_start : cycle_start plan m p ≡ b) → (past : b ≤ m.elapsed) → (number : cycles_begun plan p ≡ n)
-      → (unbegun : 0 < p.left) → (within : p.left ≤ plan.cycles)
-      → BeginsLate plan commands scope (acts ++ Told m ∷ []) n m (m.elapsed - b) → Cycling (acts ++ Told m ∷ []) (cycle_begun plan (cycle_length plan commands) m p)
-  begins_cycle acts m p n b is past number left within late = record {
-    earlier = n;
-    moment = m;
-    late = m.elapsed - b;
-    begins = late;
-    count = omega (arith, number, left, within);
-    fewer = omega (arith, left, within);
-    began = omega (arith, is, past);
-    past = omega (arith, is, past);
-    missed = and_second (nat_lt 0 plan.every) (nat_le plan.every (m.elapsed - cycle_start plan m p)) (lt-ltb 0 plan.every some) ∙ ap (λ (x : ℕ). nat_le plan.every (m.elapsed - x)) is;
-    due = ap (λ (x : ℕ). m.utc - (m.elapsed - x)) is;
-    held = λ e. (e, refl);
-    chained = λ e. inl e;
-  }
-
   -- of the acts up to the one that begins a cycle at the moment m, `BeginsAt` holds
   pub begins_here : (acts : List Act) (m : Moment) (n : ℕ) → action_at plan (at acts) ≡ actions.Begin
       → cycles_begun plan (at acts).progress ≡ n → BeginsAt plan commands scope (acts ++ Told m ∷ []) n m
@@ -210,6 +198,28 @@ module _ (plan : Plan) (commands : List Task) (scope : Scope) (some : 0 < plan.e
     pub past : start ≤ m.elapsed
     pub number : cycles_begun plan p ≡ earlier
     pub late : BeginsLate plan commands scope (acts ++ Told m ∷ []) earlier m (m.elapsed - start)
+
+  -- `Cycling` holds after the act that begins a cycle at the moment m, if a cycle was left, and the cycle has a `Start`
+  pub begins_cycle : (acts : List Act) (m : Moment) (p : Progress) → (unbegun : 0 < p.left) → (within : p.left ≤ plan.cycles) → Start acts m p
+      → Cycling (acts ++ Told m ∷ []) (cycle_begun plan (cycle_length plan commands) m p)
+  begins_cycle acts m p left within x =
+      let is = x.is in
+      let past = x.past in
+      let number = x.number in
+      record {
+        earlier = x.earlier;
+        moment = m;
+        late = m.elapsed - x.start;
+        begins = x.late;
+        count = omega (arith, number, left, within);
+        fewer = omega (arith, left, within);
+        began = omega (arith, is, past);
+        past = omega (arith, is, past);
+        missed = and_second (nat_lt 0 plan.every) (nat_le plan.every (m.elapsed - cycle_start plan m p)) (lt-ltb 0 plan.every some) ∙ ap (λ (x : ℕ). nat_le plan.every (m.elapsed - x)) is;
+        due = ap (λ (x : ℕ). m.utc - (m.elapsed - x)) is;
+        held = λ e. (e, refl);
+        chained = λ e. inl e;
+      }
 
   -- the first cycle has a `Start`: it is due at the moment at which it begins
   pub start_first : (acts : List Act) (m : Moment) (p : Progress) → action_at plan (at acts) ≡ actions.Begin
@@ -261,15 +271,6 @@ module _ (plan : Plan) (commands : List Task) (scope : Scope) (some : 0 < plan.e
   starts acts m p is same due rises (inl none) = start_first acts m p is same none.0
   starts acts m p is same due rises (inr c) = start_more acts m p is same due rises c
 
-  -- if `Begun` holds, `Cycling` holds after the act that begins a cycle when it is due, if the clock doesn't go back
-  pub begun_begins : (acts : List Act) (m : Moment) (p : Progress) → (begins : action_at plan (at acts) ≡ actions.Begin)
-      → (same : cycles_begun plan (at acts).progress ≡ cycles_begun plan p)
-      → (due : is_due plan p ≡ true) → (unbegun : 0 < p.left) → (within : p.left ≤ plan.cycles) → (rises : ClockRises p.moment.elapsed (Told m ∷ [])) → Begun acts p
-      → Cycling (acts ++ Told m ∷ []) (cycle_begun plan (cycle_length plan commands) m p)
-  begun_begins acts m p is same due left within rises h =
-      let x = starts acts m p is same due rises h in
-      begins_cycle acts m p x.earlier x.start x.is x.past x.number left within x.late
-
   -- Acts.
 
   -- from p to q, over an act after these acts: the moment read last is the act's if it reads one, else p's; and `Begun` holds
@@ -282,8 +283,8 @@ module _ (plan : Plan) (commands : List Task) (scope : Scope) (some : 0 < plan.e
   KeepsBegunOf acts p act t = KeepsBegun acts p act t.progress
 
   -- an act that stays in its cycle, as `StaysAndTicks` says, does what `KeepsBegun` says
-  pub on_same : (acts : List Act) (p : Progress) (act : Act) (q : Progress) → Begun acts p → StaysAndTicks p act q → KeepsBegun acts p act q
-  on_same acts p act q h same = (last_ticks p q act same.1, λ rises. begun_stays acts act p q same.0 same.1 rises h)
+  pub on_stays : (acts : List Act) (p : Progress) (act : Act) (q : Progress) → Begun acts p → StaysAndTicks p act q → KeepsBegun acts p act q
+  on_stays acts p act q h same = (last_ticks p q act same.1, λ rises. begun_stays acts act p q same.0 same.1 rises h)
 
   -- where `Begun` holds, an act that only notes a failure does what `KeepsBegunOf` says, if `Ticks` holds of the act with the
   -- progress as it was
@@ -317,22 +318,22 @@ module _ (plan : Plan) (commands : List Task) (scope : Scope) (some : 0 < plan.e
   on_moved acts actions.ReadClock act is o fine needs h =
       let s = with_progress turned (at acts) in
       walk plan commands (KeepsBegunOf acts s.progress) actions.ReadClock s act o
-      (λ m. on_same acts s.progress (Told m) _ h (stays s.progress _ refl refl refl refl refl (inl refl), (refl, refl)), λ n. begun_after_failure acts s Untold cause.Clock h (refl, refl))
+      (λ m. on_stays acts s.progress (Told m) _ h (stays s.progress _ refl refl refl refl refl (inl refl), (refl, refl)), λ n. begun_after_failure acts s Untold cause.Clock h (refl, refl))
   on_moved acts actions.Renew act is o fine needs h =
       let s = with_progress turned (at acts) in
       walk plan commands (KeepsBegunOf acts s.progress) actions.Renew s act o
-      (λ m. on_same acts s.progress (Told m) _ h (stays s.progress _ refl refl refl refl refl (inr refl), (refl, refl)), λ n. begun_after_failure acts s Untold cause.Clock h (refl, refl))
+      (λ m. on_stays acts s.progress (Told m) _ h (stays s.progress _ refl refl refl refl refl (inr refl), (refl, refl)), λ n. begun_after_failure acts s Untold cause.Clock h (refl, refl))
   on_moved acts actions.Begin act is o fine needs h =
       let s = with_progress turned (at acts) in
       walk plan commands (KeepsBegunOf acts s.progress) actions.Begin s act o (
-        λ m. (refl, λ rises. inr (begun_begins acts m s.progress is refl (begin_due plan (at acts).progress (waiting_of (at acts)) is) needs.4 fine.left rises h)),
+        λ m. (refl, λ rises. inr (begins_cycle acts m s.progress needs.4 fine.left (starts acts m s.progress is refl (begin_due plan (at acts).progress (waiting_of (at acts)) is) rises h))),
         λ n. begun_after_failure acts s Untold cause.Clock h (refl, refl),
       )
   on_moved acts actions.Open act is o fine needs h =
       let s = with_progress turned (at acts) in
       walk plan commands (KeepsBegunOf acts s.progress) actions.Open s act o (
-        λ m. on_same acts s.progress Opened _ h (stays s.progress _ refl refl refl refl refl (inl refl), (refl, refl)),
-        λ n. on_same acts s.progress Unopened _
+        λ m. on_stays acts s.progress Opened _ h (stays s.progress _ refl refl refl refl refl (inl refl), (refl, refl)),
+        λ n. on_stays acts s.progress Unopened _
             h (stays s.progress _ refl refl refl refl refl (inr refl), (refl, refl)),
       )
   on_moved acts actions.Send act is o fine needs h =
@@ -345,8 +346,8 @@ module _ (plan : Plan) (commands : List Task) (scope : Scope) (some : 0 < plan.e
   on_moved acts actions.Prepare act is o fine needs h =
       let s = with_progress turned (at acts) in
       walk plan commands (KeepsBegunOf acts s.progress) actions.Prepare s act o (
-        λ m. on_same acts s.progress _ _ h (stays s.progress _ refl refl refl refl refl (inr refl), (refl, refl)),
-        λ n. on_same acts s.progress _ _ h (stays s.progress _ refl refl refl refl refl (inr refl), (refl, refl)),
+        λ m. on_stays acts s.progress _ _ h (stays s.progress _ refl refl refl refl refl (inr refl), (refl, refl)),
+        λ n. on_stays acts s.progress _ _ h (stays s.progress _ refl refl refl refl refl (inr refl), (refl, refl)),
       )
   on_moved acts actions.Skip act is o fine needs h =
       let s = with_progress turned (at acts) in
@@ -367,21 +368,21 @@ module _ (plan : Plan) (commands : List Task) (scope : Scope) (some : 0 < plan.e
   on_moved acts (actions.Read until) act is o fine needs h =
       let s = with_progress turned (at acts) in
       walk plan commands (KeepsBegunOf acts s.progress) (actions.Read until) s act o (
-        λ bytes m. on_same acts s.progress (Gave bytes m) (piece_at plan until bytes m s).progress h (gave_same plan commands until s bytes m),
-        λ m. on_same acts s.progress (Silent m) (moved plan commands (actions.Read until) s (Silent m)).progress h (silent_same plan s.progress.phase s.progress until m),
+        λ bytes m. on_stays acts s.progress (Gave bytes m) (piece_at plan until bytes m s).progress h (gave_stays plan commands until s bytes m),
+        λ m. on_stays acts s.progress (Silent m) (moved plan commands (actions.Read until) s (Silent m)).progress h (silent_stays plan s.progress.phase s.progress until m),
         begun_after_failure acts s Ended cause.End h (refl, refl),
         begun_after_failure acts s Broke cause.Read h (refl, refl),
         begun_after_failure acts s Untold cause.Clock h (refl, refl),
       )
   on_moved acts (actions.Close why) act is o fine needs h =
       let s = with_progress turned (at acts) in
-      walk plan commands (KeepsBegunOf acts s.progress) (actions.Close why) s act o (on_same acts s.progress Closed _ h (closed_same plan s why))
+      walk plan commands (KeepsBegunOf acts s.progress) (actions.Close why) s act o (on_stays acts s.progress Closed _ h (closed_stays plan s why))
   on_moved acts (actions.Stop why) act is o fine needs h = absurd o
   on_moved acts next act is o fine needs h =
       let s = with_progress turned (at acts) in
       walk plan commands (KeepsBegunOf acts s.progress) next s act o (
-        λ m. on_same acts s.progress _ _ h (stays s.progress _ refl refl refl refl refl (inl refl), (refl, refl)),
-        λ n. on_same acts s.progress _ _ h
+        λ m. on_stays acts s.progress _ _ h (stays s.progress _ refl refl refl refl refl (inl refl), (refl, refl)),
+        λ n. on_stays acts s.progress _ _ h
             (stays s.progress _ refl refl refl refl refl (inl refl), (refl, refl)),
       )
 

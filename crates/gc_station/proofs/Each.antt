@@ -9,7 +9,6 @@ use Rattle.gc_client.specs.declared.pending.Pending.{Pending}
 use Rattle.gc_client.specs.Rule.{Settlement, expired}
 use Rattle.gc_client.specs.OneForOne.{Wanted, of_settled, of_pending}
 use Rattle.gc_client.proofs.OneForOne.{expired_parts}
-use Rattle.gc_texts.specs.declared.near.Expected.{Expected}
 use Rattle.gc_texts.specs.declared.tasks.Task.{Task}
 use Rattle.gc_station.specs.declared.mark.Mark.{Mark}
 use Rattle.gc_station.specs.EachOnce.{Request, requests, of_task, all_cycles, commands_reached, of_record, of_waiting, still_waiting, of_cycles, of_text, in_text}
@@ -206,15 +205,15 @@ sent_next setup commands begun place task others at within some =
     ∙ sent_past setup commands begun place 1 (place + 1) within (omega (arith, left)) some (inl refl)
 
 -- if `EachIs` holds of the requests `kept`, and each outstanding request has a mark, it holds after the next command of a cycle
--- is sent, with the request of that command after `kept`
-pub each_sent : (commands : List Task) (begun place utc : ℕ) (expected : Expected) (ms : List (Option Mark)) (ws : List (Pending Asked)) (p : Pending Asked) (rs : List Record)
-    (task : Task) (others : List Task)
-    → (paired : length ms ≡ length ws) → (there : drop place commands ≡ task ∷ others) → (asks : of_pending p ≡ asked_at utc task) → (above : 0 < begun)
-    → (kept : List Request) → EachIs commands ms ws rs kept
-    → EachIs commands (ms ++ Some (record { cycle = begun; place = place; sent = utc; expected = expected }) ∷ []) (ws ++ p ∷ []) rs (kept ++ requests begun place (of_task task ∷ []))
-each_sent commands begun place utc expected ms ws p rs task others paired at is some kept h =
+-- is sent with this mark, with the request of that command after `kept`
+pub each_sent : (commands : List Task) (mark : Mark) (ms : List (Option Mark)) (ws : List (Pending Asked)) (p : Pending Asked) (rs : List Record) (task : Task) (others : List Task)
+    → (paired : length ms ≡ length ws) → (there : drop mark.place commands ≡ task ∷ others) → (asks : of_pending p ≡ asked_at mark.sent task) → (above : 0 < mark.cycle)
+    → (kept : List Request) → EachIs commands ms ws rs kept → EachIs commands (ms ++ Some mark ∷ []) (ws ++ p ∷ []) rs (kept ++ requests mark.cycle mark.place (of_task task ∷ []))
+each_sent commands mark ms ws p rs task others paired at is some kept h =
+    let begun = mark.cycle in
+    let place = mark.place in
+    let utc = mark.sent in
     let front = map of_record rs in
-    let mark : Mark = record { cycle = begun; place = place; sent = utc; expected = expected } in
     let one = requests begun place (asked_at utc task ∷ []) in
     let waits = still_waiting ms ws in
     ap (of_text commands) (ap (λ xs. front ++ xs) (more_waiting ms ws (Some mark) p paired ∙ ap (λ a. waits ++ requests begun place (a ∷ [])) is)

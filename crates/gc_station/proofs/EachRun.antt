@@ -30,7 +30,7 @@ use Rattle.gc_station.specs.Records.{Record}
 use Rattle.gc_station.specs.Runs.{state_after}
 use Rattle.gc_station.specs.Tasked.{EachRecordIsOfItsTask}
 use Rattle.gc_texts.specs.Endings.{Skipped, Missed}
-use Rattle.gc_station.specs.Model.{Model, opening, action_at, waiting_of, with_progress, asks_null, asks_first, asks_next, next_left_out, with_passes, with_listed, listed_after_skip, after_pass, with_records, unsent_record, first_unsent_record, after_clock, moved, after, after_all, cycle_length, asks_or_null, asks_setup}
+use Rattle.gc_station.specs.Model.{Model, opening, action_at, waiting_of, with_progress, asks_null, asks_first, asks_next, next_left_out, with_more_passes, with_listed, listed_after_skip, after_pass, with_more_records, unsent_record, first_unsent_record, after_clock, moved, after, after_all, cycle_length, asks_or_null, asks_setup}
 use Rattle.gc_station.specs.NextCommand.{place_next, expected_first, mark_next, is_chained_after_next, others_after_next, is_chained_after, others_after, mark_setup, cycles_begun}
 use Rattle.gc_station.proofs.Acting.{mid_fail, mid_moment, mid_clock, mid_put, mid_open, mid_close, mid_read}
 use Rattle.gc_station.proofs.Each.{row_empty, sent_whole}
@@ -42,7 +42,7 @@ use Rattle.gc_station.proofs.Walk.{acts_along}
 use Rattle.gc_station.specs.Scopes.{Scope}
 
 -- `Mid` is preserved if no record is added
-mid_nothing : (plan : Plan) (commands : List Task) (s : Model) → Mid plan commands s → Mid plan commands (with_records [] s)
+mid_nothing : (plan : Plan) (commands : List Task) (s : Model) → Mid plan commands s → Mid plan commands (with_more_records [] s)
 mid_nothing plan commands s mid = subst (λ (rs : List Record). Mid plan commands (record s { records = rs })) (sym (append-nil s.records)) mid
 
 -- the phase `Ready` is `Placed`: it says nothing of the counts, the kept bytes and the marks
@@ -76,29 +76,6 @@ mid_flushed plan commands s is room mid =
       ready_placed p.phase p.left p.unsent s.rest (asks_null plan s).marks is,
     )
 
--- `left` are the commands from the cycle's next one on. To send the first of them preserves `Mid`, in the phase `Ready`, if a
--- command is unsent and there is room for a request
-mid_first : (plan : Plan) (commands : List Task) (next_is_chained : Bool) (next_others : ℕ) (s : Model) (left : List Task) → (there : drop (place_next commands s.progress) commands ≡ left)
-    → (is_ready : s.progress.phase ≡ Ready) → (some : 0 < s.progress.unsent) → (room : length s.client.waiting < 7) → Mid plan commands s
-    → Mid plan commands (with_progress (sent next_is_chained next_others) (asks_first (mark_next plan commands s.progress) left s))
-mid_first plan commands next_is_chained next_others s [] at is some room mid =
-    let sound = mid.0 in
-    let n : length commands - place_next commands s.progress ≡ 0 = sym (length-drop (place_next commands s.progress) commands) ∙ ap length at in
-    absurd (omega (arith, n, some, sound.unsents))
-mid_first plan commands next_is_chained next_others s (task ∷ others) at is some room mid =
-    let p = s.progress in
-    let t = asks_first (mark_next plan commands p) (task ∷ others) s in (
-      sound_sent plan commands (ledger_at s p) p.moment.utc (later p.moment.elapsed task.deadline)
-          (expected_first (drop (place_next commands p) commands)) task others room some at mid.0,
-      ready_placed p.phase p.left (p.unsent - 1) s.rest t.marks is,
-    )
-
--- to send the next command of a cycle preserves `Mid`, in the phase `Ready`, if a command is unsent and there is room for a
--- request
-mid_sent : (plan : Plan) (commands : List Task) (next_is_chained : Bool) (next_others : ℕ) (s : Model) → s.progress.phase ≡ Ready → 0 < s.progress.unsent
-    → length s.client.waiting < 7 → Mid plan commands s → Mid plan commands (with_progress (sent next_is_chained next_others) (asks_next plan commands s))
-mid_sent plan commands next_is_chained next_others s is some room mid = mid_first plan commands next_is_chained next_others s (drop (place_next commands s.progress) commands) refl is some room mid
-
 -- `left` are the commands from the setup's next one on. To send the first of them, or a null procedure if there is none,
 -- preserves `Mid`, in the phase `Ready`, if there is room for a request
 mid_prepares : (plan : Plan) (commands : List Task) (s : Model) (left : List Task) → drop s.progress.prepared commands ≡ left → s.progress.phase ≡ Ready
@@ -113,35 +90,55 @@ mid_prepares plan commands s (task ∷ others) at is room mid =
       ready_placed p.phase p.left p.unsent s.rest t.marks is,
     )
 
--- `left` are the commands from the cycle's next one on. To record the first of them without sending it preserves `Mid`, in the
--- phase `Ready`, if a command is unsent and none is outstanding
-mid_skips : (plan : Plan) (commands : List Task) (next_is_chained : Bool) (next_others : ℕ) (s : Model) (m : Moment) (left : List Task)
-    → (there : drop (place_next commands s.progress) commands ≡ left)
-    → (is_ready : s.progress.phase ≡ Ready) → (some : 0 < s.progress.unsent) → (settled : commands_in s.marks ≡ 0) → Mid plan commands s
-    → Mid plan commands (with_progress (λ p. early_noted plan (commands_in s.marks) (skipped next_is_chained next_others m p))
-    (with_records (first_unsent_record s.progress m (mark_next plan commands s.progress) left) s))
-mid_skips plan commands next_is_chained next_others s m [] at is some none mid =
-    let sound = mid.0 in
-    let n : length commands - place_next commands s.progress ≡ 0 = sym (length-drop (place_next commands s.progress) commands) ∙ ap length at in
-    absurd (omega (arith, n, some, sound.unsents))
-mid_skips plan commands next_is_chained next_others s m (task ∷ others) at is some none mid =
-    let p = s.progress in (
-      sound_skipped plan commands (ledger_at s p) (skipped_at m p) (if p.missed then Missed else Skipped)
-          (mark_next plan commands p).expected.turn task others none some at (unsent_end p.missed) mid.0,
-      ready_placed p.phase p.left (p.unsent - 1) s.rest s.marks is,
-    )
+-- the next command of a cycle has its turn: `next_is_chained` and `next_others` are what the progress then says of the one
+-- after it
+module _ (plan : Plan) (commands : List Task) (next_is_chained : Bool) (next_others : ℕ) (s : Model) where
+  -- `left` are the commands from the cycle's next one on. To send the first of them preserves `Mid`, in the phase `Ready`, if a
+  -- command is unsent and there is room for a request
+  mid_first : (left : List Task) → (there : drop (place_next commands s.progress) commands ≡ left)
+      → (is_ready : s.progress.phase ≡ Ready) → (some : 0 < s.progress.unsent) → (room : length s.client.waiting < 7) → Mid plan commands s
+      → Mid plan commands (with_progress (sent next_is_chained next_others) (asks_first (mark_next plan commands s.progress) left s))
+  mid_first [] at is some room mid =
+      let sound = mid.0 in
+      let n : length commands - place_next commands s.progress ≡ 0 = sym (length-drop (place_next commands s.progress) commands) ∙ ap length at in
+      absurd (omega (arith, n, some, sound.unsents))
+  mid_first (task ∷ others) at is some room mid =
+      let p = s.progress in
+      let t = asks_first (mark_next plan commands p) (task ∷ others) s in (
+        sound_sent plan commands (ledger_at s p) p.moment.utc (later p.moment.elapsed task.deadline)
+            (expected_first (drop (place_next commands p) commands)) task others room some at mid.0,
+        ready_placed p.phase p.left (p.unsent - 1) s.rest t.marks is,
+      )
 
--- an act that is to record the next command of a cycle without sending it preserves `Mid`, in the phase `Ready`, with a command
--- unsent and none outstanding
-mid_skip : (plan : Plan) (commands : List Task) (next_is_chained : Bool) (next_others : ℕ) (s : Model) (act : Act) → s.progress.phase ≡ Ready → 0 < s.progress.unsent
-    → commands_in s.marks ≡ 0 → Mid plan commands s
-    → Mid plan commands (after_clock (λ m p. early_noted plan (commands_in s.marks) (skipped next_is_chained next_others m p))
-    (with_listed (listed_after_skip plan commands s act) (with_records (unsent_record plan commands s.progress act) s)) act)
-mid_skip plan commands next_is_chained next_others s (Told m) is some none mid =
-    mid_moment plan commands (with_progress (λ p. early_noted plan (commands_in s.marks) (skipped next_is_chained next_others m p))
-    (with_listed (listed_after_skip plan commands s (Told m)) (with_records (unsent_record plan commands s.progress (Told m)) s))) m
-    (mid_skips plan commands next_is_chained next_others s m (drop (place_next commands s.progress) commands) refl is some none mid)
-mid_skip plan commands next_is_chained next_others s act is some none mid = mid_fail plan commands (with_records [] s) cause.Clock refl (mid_nothing plan commands s mid)
+  -- `left` are the commands from the cycle's next one on. To record the first of them without sending it preserves `Mid`, in the
+  -- phase `Ready`, if a command is unsent and none is outstanding
+  mid_skips : (m : Moment) (left : List Task)
+      → (there : drop (place_next commands s.progress) commands ≡ left)
+      → (is_ready : s.progress.phase ≡ Ready) → (some : 0 < s.progress.unsent) → (settled : commands_in s.marks ≡ 0) → Mid plan commands s
+      → Mid plan commands (with_progress (λ p. early_noted plan (commands_in s.marks) (skipped next_is_chained next_others m p))
+      (with_more_records (first_unsent_record s.progress m (mark_next plan commands s.progress) left) s))
+  mid_skips m [] at is some none mid =
+      let sound = mid.0 in
+      let n : length commands - place_next commands s.progress ≡ 0 = sym (length-drop (place_next commands s.progress) commands) ∙ ap length at in
+      absurd (omega (arith, n, some, sound.unsents))
+  mid_skips m (task ∷ others) at is some none mid =
+      let p = s.progress in (
+        sound_skipped plan commands (ledger_at s p) (skipped_at m p) (if p.missed then Missed else Skipped)
+            (mark_next plan commands p).expected.turn task others none some at (unsent_end p.missed) mid.0,
+        ready_placed p.phase p.left (p.unsent - 1) s.rest s.marks is,
+      )
+
+  -- an act that is to record the next command of a cycle without sending it preserves `Mid`, in the phase `Ready`, with a command
+  -- unsent and none outstanding
+  mid_skip : (act : Act) → s.progress.phase ≡ Ready → 0 < s.progress.unsent
+      → commands_in s.marks ≡ 0 → Mid plan commands s
+      → Mid plan commands (after_clock (λ m p. early_noted plan (commands_in s.marks) (skipped next_is_chained next_others m p))
+      (with_listed (listed_after_skip plan commands s act) (with_more_records (unsent_record plan commands s.progress act) s)) act)
+  mid_skip (Told m) is some none mid =
+      mid_moment plan commands (with_progress (λ p. early_noted plan (commands_in s.marks) (skipped next_is_chained next_others m p))
+      (with_listed (listed_after_skip plan commands s (Told m)) (with_more_records (unsent_record plan commands s.progress (Told m)) s))) m
+      (mid_skips m (drop (place_next commands s.progress) commands) refl is some none mid)
+  mid_skip act is some none mid = mid_fail plan commands (with_more_records [] s) cause.Clock refl (mid_nothing plan commands s mid)
 
 -- an act that leaves out the further attempts of a chain preserves `Mid`, in the phase `Ready`, if a command is unsent
 mid_pass : (plan : Plan) (commands : List Task) (s : Model) (act : Act) → s.progress.phase ≡ Ready → 0 < s.progress.unsent → Mid plan commands s → Mid plan commands (after_pass plan commands s act)
@@ -149,7 +146,7 @@ mid_pass plan commands s (Told m) is some mid =
     let p = s.progress in
     let n = p.next_others in
     mid_moment plan commands (with_progress (λ q. early_noted plan (commands_in s.marks) (attempts_left_out (is_chained_after n commands p) (others_after n commands p) m q))
-    (with_passes (next_left_out plan commands p) s)) m (
+    (with_more_passes (next_left_out plan commands p) s)) m (
       sound_passed plan commands (ledger_at s p) n some mid.0,
       ready_placed p.phase p.left (p.unsent - n) s.rest s.marks is,
     )
@@ -186,7 +183,8 @@ mid_moved plan commands s action.Prepare act fine is =
 mid_moved plan commands s action.Send act fine is =
     let t = with_progress turned s in
     mid_put plan commands _ (λ (x : Model). with_progress (sent (is_chained_after_next commands x.progress) (others_after_next commands x.progress)) (asks_next plan commands x)) t act
-    (mid_sent plan commands (is_chained_after_next commands t.progress) (others_after_next commands t.progress) t is.0 is.2 is.3.1 (mid_of plan commands s fine))
+    (mid_first plan commands (is_chained_after_next commands t.progress) (others_after_next commands t.progress) t (drop (place_next commands t.progress) commands) refl
+    is.0 is.2 is.3.1 (mid_of plan commands s fine))
 mid_moved plan commands s action.Skip act fine is =
     let t = with_progress turned s in
     let next_is_chained = is_chained_after_next commands t.progress in

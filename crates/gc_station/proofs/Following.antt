@@ -17,7 +17,7 @@ use Rattle.gc_station.specs.Parts.{Turn, Part, nothing, joined, part_of_act, in_
 use Rattle.gc_station.specs.Progressing.{turned, loses_all}
 use Rattle.gc_station.specs.Records.{Record}
 use Rattle.gc_station.specs.Model.{Model, action_at, waiting_of, with_progress, moved, losing, after, after_all, Runs, ended}
-use Rattle.gc_station.proofs.Booking.{Books, books_both, books_nothing, books_restart, sent_records, restarting}
+use Rattle.gc_station.proofs.Booking.{Books, books_both, books_nothing, books_restart, sent_of-append_records, restarting}
 use Rattle.gc_station.proofs.Counts.{losing_progress}
 use Rattle.gc_station.proofs.EachRun.{invariant_after, mid_moved}
 use Rattle.gc_station.proofs.Facts.{action_for}
@@ -64,7 +64,7 @@ follows_on reads commands c c1 ms ms1 rs rs1 p (q ∷ next ∷ ps) end h g =
 leads_lost : (commands : List Task) (t : Model) (all : Bool) → all ≡ true → Paired t → Leads commands t restarting (losing all t)
 leads_lost commands t true is paired =
     subst (λ (rs : List Record). Books t.reads commands t.client t.marks (sent_of t.records) restarting fresh
-    (drop (length (map lost t.client.waiting)) t.marks) rs) (sym (sent_records t.reads t.records t.progress.moment.utc t.marks (map lost t.client.waiting)))
+    (drop (length (map lost t.client.waiting)) t.marks) rs) (sym (sent_of-append_records t.reads t.records t.progress.moment.utc t.marks (map lost t.client.waiting)))
     (books_restart t.reads commands t.client t.marks (sent_of t.records) t.progress.moment.utc paired)
 leads_lost commands t false is paired = cc
 
@@ -74,9 +74,9 @@ lost_fresh t true is = refl
 lost_fresh t false is = cc
 
 -- if nothing is lost, the model stays
-kept_same : (t : Model) (all : Bool) → all ≡ false → losing all t ≡ t
-kept_same t true is = cc
-kept_same t false is = refl
+losing_none : (t : Model) (all : Bool) → all ≡ false → losing all t ≡ t
+losing_none t true is = cc
+losing_none t false is = refl
 
 -- if the client is new, nothing is outstanding, so the part in which nothing happens leads to the marks and the records after the
 -- loss of what is outstanding
@@ -106,35 +106,41 @@ leads_by reads commands s p t is h = subst (λ (r : Asked → List ℕ → Readi
 module _ (plan : Plan) (commands : List Task) (reads : Asked → List ℕ → Reading) where
   -- if `LeadsBy` holds from s to t, and the client of t is new, as while the station synchronizes, `LeadsBy` holds from s to the
   -- model after the loss, too
-  leads_idly : (s : Model) (p : Part) (t : Model) → t.reads ≡ reads → t.client ≡ fresh → LeadsBy reads commands s p t → LeadsBy reads commands s p (ended t)
-  leads_idly s p t same is h =
+  leads_to_ended : (s : Model) (p : Part) (t : Model) → t.reads ≡ reads → t.client ≡ fresh → LeadsBy reads commands s p t → LeadsBy reads commands s p (ended t)
+  leads_to_ended s p t same is h =
       let u = ended t in
       subst (λ (x : Part). LeadsBy reads commands s x u) (joined_nothing p)
       (books_both reads commands s.client t.client u.client s.marks t.marks u.marks (sent_of s.records) (sent_of t.records) (sent_of u.records) p nothing h
       (leads_by reads commands t nothing u same (idle_lost commands t (loses_all t.progress) is)))
 
-  -- an act leads from the model s to t by its part p, and the parts `ps` of later acts lead from the model after the act to
-  -- `end`: then p and `ps` lead from s to `end` (`BooksInParts`). p is a part of its own if the station had synchronized and
-  -- all that is outstanding is lost, and else the front of the first part of `ps`
-  follows_act : (s : Model) (p : Part) (t : Model) (ps : List Part) (end : Model) (begun lost_all : Bool) → (same_reads : t.reads ≡ reads) → (is_begun : has_begun s.progress ≡ begun)
-      → (is_lost : loses_all t.progress ≡ lost_all)
-      → (fine_after : Invariant plan commands (ended t)) → (paired : Paired t)
-      → (led : LeadsBy reads commands s p t) → (led_idle : has_begun s.progress ≡ false → LeadsBy reads commands s p (ended t))
-      → (let u = ended t in BooksInParts reads commands u.client u.marks (sent_of u.records) ps end)
+  -- an act leads from the model s to t, before what is outstanding is lost, by its part p; while the station synchronizes, by p
+  -- also to the model after the loss. `Invariant` holds after the act, and each outstanding request of t has a mark
+  record LeadsOn (s : Model) (p : Part) (t : Model) : Type 0 where
+    same_reads : t.reads ≡ reads
+    fine : Invariant plan commands (ended t)
+    paired : Paired t
+    led : LeadsBy reads commands s p t
+    led_idle : has_begun s.progress ≡ false → LeadsBy reads commands s p (ended t)
+
+  -- where `LeadsOn` holds of an act's part p, and the parts `ps` of later acts lead from the model after the act to `end`, p
+  -- and `ps` lead from s to `end` (`BooksInParts`). p is a part of its own if the station had synchronized and all that is
+  -- outstanding is lost, and else the front of the first part of `ps`
+  follows_act : (s : Model) (p : Part) (t : Model) (ps : List Part) (end : Model) (begun lost_all : Bool) → (is_begun : has_begun s.progress ≡ begun) → (is_lost : loses_all t.progress ≡ lost_all)
+      → LeadsOn s p t → (let u = ended t in BooksInParts reads commands u.client u.marks (sent_of u.records) ps end)
       → BooksInParts reads commands s.client s.marks (sent_of s.records) (in_front p (begun && lost_all) ps) end
-  follows_act s p t ps end false lost_all same w l later paired h k others =
+  follows_act s p t ps end false lost_all w l a others =
       let u = ended t in
-      follows_on reads commands s.client u.client s.marks u.marks (sent_of s.records) (sent_of u.records) p ps end (k w) others
-  follows_act s p t ps end true false same w l later paired h k others =
-      let kept = kept_same t (loses_all t.progress) l in
-      follows_on reads commands s.client t.client s.marks t.marks (sent_of s.records) (sent_of t.records) p ps end h
+      follows_on reads commands s.client u.client s.marks u.marks (sent_of s.records) (sent_of u.records) p ps end (a.led_idle w) others
+  follows_act s p t ps end true false w l a others =
+      let kept = losing_none t (loses_all t.progress) l in
+      follows_on reads commands s.client t.client s.marks t.marks (sent_of s.records) (sent_of t.records) p ps end a.led
       (subst (λ (u : Model). BooksInParts reads commands u.client u.marks (sent_of u.records) ps end) kept others)
-  follows_act s p t ps end true true same w l later paired h k others =
+  follows_act s p t ps end true true w l a others =
       let u = ended t in
       let new : u.client ≡ fresh = lost_fresh t (loses_all t.progress) l in
-      let none : u.marks ≡ [] = nil_from_length u.marks (later.paired ∙ ap (λ (c : ById Asked). length c.waiting) new) in
-      let lost_here = leads_by reads commands t restarting u same (leads_lost commands t (loses_all t.progress) l paired) in
-      let both = books_both reads commands s.client t.client u.client s.marks t.marks u.marks (sent_of s.records) (sent_of t.records) (sent_of u.records) p restarting h lost_here in
+      let none : u.marks ≡ [] = nil_from_length u.marks (a.fine.paired ∙ ap (λ (c : ById Asked). length c.waiting) new) in
+      let lost_here = leads_by reads commands t restarting u a.same_reads (leads_lost commands t (loses_all t.progress) l a.paired) in
+      let both = books_both reads commands s.client t.client u.client s.marks t.marks u.marks (sent_of s.records) (sent_of t.records) (sent_of u.records) p restarting a.led lost_here in
       follows_cut reads commands s.client s.marks (sent_of s.records) (sent_of u.records) p ps end
       (subst (λ (ms : List (Option Mark)). Books reads commands s.client s.marks (sent_of s.records) (joined p restarting) fresh ms (sent_of u.records)) none
       (subst (λ (c : ById Asked). Books reads commands s.client s.marks (sent_of s.records) (joined p restarting) c u.marks (sent_of u.records)) new both))
@@ -157,6 +163,12 @@ module _ (plan : Plan) (commands : List Task) (reads : Asked → List ℕ → Re
       let same : t.reads ≡ reads = moved_reads plan commands o (with_progress turned s) act ∙ is_so in
       let h = leads_by reads commands s p t is_so (leads plan commands s o act fine is runs.0) in
       subst (λ b. BooksInParts reads commands s.client s.marks (sent_of s.records) (in_front p (has_begun s.progress && b) ps) end) (sym (ap loses_all (losing_progress (loses_all t.progress) t)))
-      (follows_act s p t ps end (has_begun s.progress) (loses_all t.progress) same refl refl later (mid_moved plan commands s o act fine is).0.paired h
-      (λ w. leads_idly s p t same (keeps_action plan commands s o act is runs.0 w (fine.begins w)).0 h)
+      (follows_act s p t ps end (has_begun s.progress) (loses_all t.progress) refl refl
+      (record {
+        same_reads = same;
+        fine = later;
+        paired = (mid_moved plan commands s o act fine is).0.paired;
+        led = h;
+        led_idle = λ w. leads_to_ended s p t same (keeps_action plan commands s o act is runs.0 w (fine.begins w)).0 h;
+      })
       (follows u acts (losing_reads (loses_all t.progress) t ∙ same) later runs.1))

@@ -14,7 +14,7 @@ use Rattle.gc_station.specs.Reasons.{HoldsBefore}
 use Rattle.gc_station.specs.Runs.{state_after}
 use Rattle.gc_station.specs.Model.{Model, cycle_length, opening, action_at, waiting_of, with_progress, moved, after, after_all}
 use Rattle.gc_station.proofs.Going.{after_all-append}
-use Rattle.gc_station.proofs.Counts.{KeepsCounts, Counts, moved_counts, ended_progress}
+use Rattle.gc_station.proofs.Counts.{KeepsCounts, ChangesCounts, moved_counts, ended_progress}
 use Rattle.gc_station.proofs.EachRun.{invariant_holds}
 use Rattle.gc_station.proofs.Facts.{action_for}
 use Rattle.gc_station.proofs.Invariant.{Invariant}
@@ -29,9 +29,9 @@ NotBack p q = (q.left < p.left) ⊎ ((q.left ≡ p.left) × (q.unsent ≤ p.unse
 not_back_if_kept : (p t q : Progress) → t.left ≡ p.left → t.unsent ≡ p.unsent → KeepsCounts t q → NotBack p q
 not_back_if_kept p t q left unsent k = inr (k.left ∙ left, omega (arith, k.unsent, unsent))
 
--- an act of an action whose conditions hold at p, and that changes the counts of t as `Counts` says, doesn't go back from p,
--- where t is in the cycle of p with as many commands unsent (it is p once the turn was taken)
-not_back_by_counts : (plan : Plan) (count : ℕ) (w : Waiting) (o : Action) (p t q : Progress) → t.left ≡ p.left → t.unsent ≡ p.unsent → HoldsBefore plan p w o → Counts count o t q → NotBack p q
+-- an act of an action whose conditions hold at p, and that changes the counts of t as `ChangesCounts` says, doesn't go back
+-- from p, where t is in the cycle of p with as many commands unsent (it is p once the turn was taken)
+not_back_by_counts : (plan : Plan) (count : ℕ) (w : Waiting) (o : Action) (p t q : Progress) → t.left ≡ p.left → t.unsent ≡ p.unsent → HoldsBefore plan p w o → ChangesCounts count o t q → NotBack p q
 not_back_by_counts plan count w action.Begin p t q left unsent needs (inl k) = not_back_if_kept p t q left unsent k
 not_back_by_counts plan count w action.Begin p t q left unsent needs (inr k) = inl (omega (arith, k.left, left, needs.4))
 not_back_by_counts plan count w action.Send p t q left unsent needs k = inr (k.left ∙ left, omega (arith, k.unsent, unsent))

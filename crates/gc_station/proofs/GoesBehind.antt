@@ -24,10 +24,10 @@ use Rattle.gc_station.specs.Deciding.{has_begun, is_none_left}
 use Rattle.gc_station.specs.Parts.{Part, joined, put_part, first_request_part, heard_steps, client_part, sync_part, part_of_act, in_front, parts_of, request_or_null_part, client_after}
 use Rattle.gc_station.specs.Progressing.{one_more_in_window, turned, time_passed, loses_all}
 use Rattle.gc_station.specs.Reasons.{HoldsBefore}
-use Rattle.gc_station.specs.Model.{Model, opening, action_at, waiting_of, is_heard, with_progress, with_rest, line_came, lines_came, lines_completed, after_piece, moved, losing, after, Performs, Runs, ended}
+use Rattle.gc_station.specs.Model.{Model, SendsCommand, opening, action_at, waiting_of, is_heard, with_progress, with_rest, line_came, lines_came, lines_completed, after_piece, moved, losing, after, Performs, Runs, ended}
 use Rattle.gc_station.specs.NextCommand.{place_next, mark_next, mark_setup}
 use Rattle.gc_station.proofs.Behind.{behind_by, CountsBehind, counts_steps, near_so, reached, course_append}
-use Rattle.gc_station.proofs.Booking.{sent_by, course_sent, course_client, sent_append, of_length}
+use Rattle.gc_station.proofs.Booking.{sent_by, course_sent, course_client, sent_append, marks_ask_length}
 use Rattle.gc_station.proofs.Counts.{losing_progress}
 use Rattle.gc_station.proofs.EachRun.{invariant_after, invariant_opening}
 use Rattle.gc_station.proofs.Facts.{action_for}
@@ -127,10 +127,6 @@ one_step : (x : Step Asked) (front later : List (Step Asked)) (target : ℕ) (ca
 one_step x [] later target call deadline e = refl
 one_step x (f ∷ []) later target call deadline e = cc
 one_step x (f ∷ g ∷ front) later target call deadline e = cc
-
--- this action sends a command: of a cycle, or of the setup
-abbrev SendsCommand : Action → Type 0
-SendsCommand o = (o ≡ action.Send) ⊎ (o ≡ action.Prepare)
 
 module _ (plan : Plan) (commands : List Task) (s : Model) (k : ById Asked) (more : List (Option Mark)) (front later : List (Step Asked)) (target : ℕ) (call : Asked) (deadline : ℕ) (mark : Mark) where
   -- in this part, with the marks `more` of later requests after its own, a command with the mark `mark` is sent after the steps
@@ -246,7 +242,7 @@ module _ (plan : Plan) (commands : List Task) (s : Model) (o : Action) (act : Ac
 
   -- the part of the act has as many marks as its steps send requests
   as_many : length p.marks ≡ length (sent_by (reached done).client p.steps)
-  as_many = of_length commands p.marks (sent_by s.client p.steps) led.wrote.sent ∙ ap (λ (c : ById Asked). length (sent_by c p.steps)) client
+  as_many = marks_ask_length commands p.marks (sent_by s.client p.steps) led.wrote.sent ∙ ap (λ (c : ById Asked). length (sent_by c p.steps)) client
 
   -- `IsNear` holds of the act's part joined with a part q, if it holds of q after the steps of the act
   joined_near : (q : Part) → IsNear (done ++ p.steps) q → IsNear done (joined p q)
@@ -277,8 +273,8 @@ module _ (plan : Plan) (commands : List Task) (s : Model) (o : Action) (act : Ac
   front_near (q ∷ ps) h = (joined_near q h.0, h.1)
 
 -- a new client has sent nothing, so `CountsBehind` holds of it with any count
-none_sent : (b : ℕ) → CountsBehind (reached []) b
-none_sent b low = inl (omega arith)
+none_sent_counts : (b : ℕ) → CountsBehind (reached []) b
+none_sent_counts b low = inl (omega arith)
 
 -- a client that is new stays new, whether what is outstanding is lost or not
 new_client : (t : Model) (all : Bool) → t.client ≡ fresh → (losing all t).client ≡ fresh
@@ -325,12 +321,12 @@ module _ (plan : Plan) (commands : List Task) (s : Model) (act : Act) (done : Li
 
   -- if `AreNear` holds of the parts after the act, it holds with the act's part before them; by whether the station had
   -- synchronized before the act (`started`), and whether what is outstanding is lost at its end (`all`)
-  by_case : (started all : Bool) → has_begun s.progress ≡ started → loses_all t.progress ≡ all
+  near_with_part : (started all : Bool) → has_begun s.progress ≡ started → loses_all t.progress ≡ all
       → ((later : List (Step Asked)) → u.client ≡ (reached later).client → (has_begun u.progress ≡ false → later ≡ []) → CountsBehind (reached later) u.progress.behind → AreNear later ps)
       → AreNear done (in_front part (started && all) ps)
-  by_case true true w l next =
-      (alone_near plan commands s o act done fine its obeys client counts, near_all ps (next [] (ap (λ b. (losing b t).client) l) (λ e. refl) (none_sent u.progress.behind)))
-  by_case true false w l next =
+  near_with_part true true w l next =
+      (alone_near plan commands s o act done fine its obeys client counts, near_all ps (next [] (ap (λ b. (losing b t).client) l) (λ e. refl) (none_sent_counts u.progress.behind)))
+  near_with_part true false w l next =
       let same : u ≡ t = ap (λ b. losing b t) l in
       let still = goes_begun t l in
       front_near plan commands s o act done fine its obeys client counts ps
@@ -338,13 +334,13 @@ module _ (plan : Plan) (commands : List Task) (s : Model) (act : Act) (done : Li
       (λ e. absurd (both_ways (has_begun t.progress) (ap (λ (x : Model). has_begun x.progress) (sym same) ∙ e) still))
       (subst (λ (x : Model). CountsBehind (reached (done ++ part.steps)) x.progress.behind) (sym same)
       (subst (λ (n : ℕ). CountsBehind (reached (done ++ part.steps)) n) (sym (part_counted w still)) (counts_steps done part.steps s.progress.behind counts))))
-  by_case false all w l next =
+  near_with_part false all w l next =
       let kept = keeps_action plan commands s o act its obeys w (fine.begins w) in
       let steps : part.steps ≡ [] = part_is false w ∙ steps_none s o act in
       let none_done : done ++ part.steps ≡ [] = ap (λ l. l ++ part.steps) (new w) ∙ steps in
       front_near plan commands s o act done fine its obeys client counts ps
       (subst (λ (l : List (Step Asked)). AreNear l ps) (sym none_done)
-      (next [] (new_client t (loses_all t.progress) kept.0) (λ e. refl) (none_sent u.progress.behind)))
+      (next [] (new_client t (loses_all t.progress) kept.0) (λ e. refl) (none_sent_counts u.progress.behind)))
 
 module _ (plan : Plan) (commands : List Task) where
   -- `AreNear` holds of the parts of a run from the model s on, if s has the client of the course after the steps `done`, its
@@ -356,7 +352,7 @@ module _ (plan : Plan) (commands : List Task) where
       let t = moved plan commands (action_at plan s) (with_progress turned s) act in
       let ps = parts_of plan commands (after plan commands s act) acts in
       subst (λ b. AreNear done (in_front (part_of_act plan commands s (action_at plan s) act) (has_begun s.progress && b) ps)) (sym (ap loses_all (losing_progress (loses_all t.progress) t)))
-      (by_case plan commands s act done fine runs.0 client new counts ps (has_begun s.progress) (loses_all t.progress) refl refl
+      (near_with_part plan commands s act done fine runs.0 client new counts ps (has_begun s.progress) (loses_all t.progress) refl refl
       (λ later. near_from (after plan commands s act) acts later (invariant_after plan commands s act fine) runs.1))
 
 -- the law: wherever a command is sent, one of the seven requests before it is a call of the table that a reply ended, or the last

@@ -44,51 +44,52 @@ pub on_then : (action : Action) (claim other : Type 0) → (claim → other) →
 on_then (Stop cause) claim other step on = tt
 on_then action claim other step on = step on
 
--- a turn is an act and then, if the station has to, the loss of what is outstanding. If the act was made (`Makes`), and the
--- loss wrote its records or the book failed at one of them (`ComesTo`), the whole turn was made, or the book failed in it
--- (`Made`)
-pub makes_step : {X E : Type 0} (plan : Plan) (commands : List Task) (action : Action) (text : Record → List ℕ) (told told' : Option (List Act))
-    (taken taken' taken'' : Option (List ℕ)) (station mid new : Station) (p : Progress) (result : Result X E)
-    → p ≡ turned station.progress → Does plan commands action (seen told text taken (record station { progress = p })) (seen told' text taken' mid)
-    → Becomes ended text taken' taken'' mid new result → Steps plan commands action (seen told text taken station) (seen told' text taken'' new) result
-makes_step plan commands action text told told' taken taken' taken'' station mid new p (Ok r) e makes ends = record {
-  act = makes.act;
-  tells = makes.tells;
-  goes = λ s start stands so.
-      let one = makes.goes (with_progress turned s) start (refines_with station p turned s stands e) so in
-      let end = ends (moved plan commands action (with_progress turned s) makes.act) start one.1 one.2 in
-      (turn_obeys commands action s makes.act one.0, end.0, end.1);
-}
-makes_step plan commands action text told told' taken taken' taken'' station mid new p (Err r) e makes ends = record {
-  act = makes.act;
-  tells = makes.tells;
-  goes = λ s start stands so.
-      let one = makes.goes (with_progress turned s) start (refines_with station p turned s stands e) so in
-      let mid : Model = moved plan commands action (with_progress turned s) makes.act in
-      let part = ends mid start one.1 one.2 in (
-        turn_obeys commands action s makes.act one.0,
-        λ are. part_grew text s.records mid.records (ended mid).records start taken''
-            (moved_grew plan commands action (with_progress turned s) makes.act) (part are),
-      );
-}
+-- a turn in which an act performs `action`
+module _ (plan : Plan) (commands : List Task) (action : Action) (text : Record → List ℕ) (told told' : Option (List Act)) (taken taken' : Option (List ℕ)) where
+  -- a turn is an act and then, if the station has to, the loss of what is outstanding. If the act was made (`Makes`), and the
+  -- loss wrote its records or the book failed at one of them (`ComesTo`), the whole turn was made, or the book failed in it
+  -- (`Made`)
+  pub makes_step : {X E : Type 0} (taken'' : Option (List ℕ)) (station mid new : Station) (p : Progress) (result : Result X E)
+      → p ≡ turned station.progress → Does plan commands action (seen told text taken (record station { progress = p })) (seen told' text taken' mid)
+      → Becomes ended text taken' taken'' mid new result → Steps plan commands action (seen told text taken station) (seen told' text taken'' new) result
+  makes_step taken'' station mid new p (Ok r) e makes ends = record {
+    act = makes.act;
+    tells = makes.tells;
+    goes = λ s start stands so.
+        let one = makes.goes (with_progress turned s) start (refines_with station p turned s stands e) so in
+        let end = ends (moved plan commands action (with_progress turned s) makes.act) start one.1 one.2 in
+        (turn_obeys commands action s makes.act one.0, end.0, end.1);
+  }
+  makes_step taken'' station mid new p (Err r) e makes ends = record {
+    act = makes.act;
+    tells = makes.tells;
+    goes = λ s start stands so.
+        let one = makes.goes (with_progress turned s) start (refines_with station p turned s stands e) so in
+        let mid : Model = moved plan commands action (with_progress turned s) makes.act in
+        let part = ends mid start one.1 one.2 in (
+          turn_obeys commands action s makes.act one.0,
+          λ are. part_grew text s.records mid.records (ended mid).records start taken''
+              (moved_grew plan commands action (with_progress turned s) makes.act) (part are),
+        );
+  }
 
--- if the book failed at a record of an act, apart from its turn and from what is lost at its end, it failed at a record of the
--- whole turn
-pub breaks_step : (plan : Plan) (commands : List Task) (action : Action) (text : Record → List ℕ) (told told' : Option (List Act)) (taken taken' : Option (List ℕ)) (station : Station) (p : Progress)
-    → p ≡ turned station.progress → Breaks commands action (moved plan commands action) (seen told text taken (record station { progress = p })) told' taken'
-    → Breaks commands action (stepped plan commands action) (seen told text taken station) told' taken'
-breaks_step plan commands action text told told' taken taken' station p e breaks = record {
-  act = breaks.act;
-  tells = breaks.tells;
-  goes = λ s start stands so.
-      let mid : Model = moved plan commands action (with_progress turned s) breaks.act in
-      let one = breaks.goes (with_progress turned s) start (refines_with station p turned s stands e) so in
-      let more = losing_records (loses_all mid.progress) mid in (
-        turn_obeys commands action s breaks.act one.0,
-        λ are. part_grows text s.records mid.records (ended mid).records start taken' more
-            (one.1 (same_readings mid.reads (ended mid).reads (sym (losing_reads (loses_all mid.progress) mid)) are)),
-      );
-}
+  -- if the book failed at a record of an act, apart from its turn and from what is lost at its end, it failed at a record of the
+  -- whole turn
+  pub breaks_step : (station : Station) (p : Progress) → p ≡ turned station.progress
+      → Breaks commands action (moved plan commands action) (seen told text taken (record station { progress = p })) told' taken'
+      → Breaks commands action (stepped plan commands action) (seen told text taken station) told' taken'
+  breaks_step station p e breaks = record {
+    act = breaks.act;
+    tells = breaks.tells;
+    goes = λ s start stands so.
+        let mid : Model = moved plan commands action (with_progress turned s) breaks.act in
+        let one = breaks.goes (with_progress turned s) start (refines_with station p turned s stands e) so in
+        let more = losing_records (loses_all mid.progress) mid in (
+          turn_obeys commands action s breaks.act one.0,
+          λ are. part_grows text s.records mid.records (ended mid).records start taken' more
+              (one.1 (same_readings mid.reads (ended mid).reads (sym (losing_reads (loses_all mid.progress) mid)) are)),
+        );
+  }
 
 -- Many turns.
 
@@ -106,48 +107,19 @@ pub tells_none : (a : Option (List Act)) → Tells a a []
 tells_none None = tt
 tells_none (Some a) = sym (append-nil a)
 
--- `Went` holds if nothing was done, and the station is as the model at the start
-abbrev pub went_nothing : (plan : Plan) (commands : List Task) (scope : Scope) (text : Record → List ℕ) (told : Option (List Act)) (taken : Option (List ℕ)) (station : Station)
-    → Refines station (opening plan scope) → Went plan commands scope text told told taken taken station
-went_nothing plan commands scope text told taken station stands = record {
-  acts = [];
-  tells = tells_none told;
-  runs = tt;
-  stands = stands;
-  took = Appends-nil taken;
-}
-
 -- if what a book has taken is the same, it took nothing more, as `Keeps` says
 pub kept_same : (taken taken' : Option (List ℕ)) → taken' ≡ taken → Keeps taken taken'
 kept_same taken taken' same = subst (λ (t : Option (List ℕ)). Keeps taken t) (sym same) (Keeps-refl taken)
-
--- `Went` is preserved if a book took nothing more, as `Keeps` says: if what it took was known, it is known still, and the same
-abbrev pub went_kept : (plan : Plan) (commands : List Task) (scope : Scope) (text : Record → List ℕ) (told told' : Option (List Act))
-    (taken taken' taken'' : Option (List ℕ)) (station : Station) → Keeps taken' taken''
-    → Went plan commands scope text told told' taken taken' station → Went plan commands scope text told told' taken taken'' station
-went_kept plan commands scope text told told' taken taken' taken'' station keeps w = record {
-  acts = w.acts;
-  tells = w.tells;
-  runs = w.runs;
-  stands = w.stands;
-  took = Appends-kept taken taken' taken'' (texts_of text (state_after plan commands scope w.acts).records) w.took keeps;
-}
-
--- if `Went` holds, and the link recorded a close after that, the run is as `FailedAtSync` says: its book has all records, but
--- couldn't make them last
-pub went_left : (plan : Plan) (commands : List Task) (scope : Scope) (text : Record → List ℕ) (told told' told'' : Option (List Act)) (taken taken' : Option (List ℕ)) (station : Station)
-    → Went plan commands scope text told told' taken taken' station → Tells told' told'' (Closed ∷ []) → FailedAtSync plan commands scope text told told'' taken taken'
-went_left plan commands scope text told told' told'' taken taken' station w closed = record {
-  acts = w.acts;
-  tells = tells_more told told' told'' w.acts (Closed ∷ []) w.tells closed;
-  runs = w.runs;
-  took = w.took;
-}
 
 -- the model after two lists of acts is the one after the second, from the one after the first on
 pub after_all-append : (plan : Plan) (commands : List Task) (s : Model) (xs ys : List Act) → after_all plan commands s (xs ++ ys) ≡ after_all plan commands (after_all plan commands s xs) ys
 after_all-append plan commands s [] ys = refl
 after_all-append plan commands s (x ∷ xs) ys = after_all-append plan commands (after plan commands s x) xs ys
+
+-- the first acts of a run are a run
+pub runs_front : (plan : Plan) (commands : List Task) (s : Model) (xs ys : List Act) → Runs plan commands s (xs ++ ys) → Runs plan commands s xs
+runs_front plan commands s [] ys runs = tt
+runs_front plan commands s (x ∷ xs) ys runs = (runs.0, runs_front plan commands (after plan commands s x) xs ys runs.1)
 
 -- of a run, the acts `ys` after its first ones (`xs`) are a run from the model after these on
 pub runs_behind : (plan : Plan) (commands : List Task) (s : Model) (xs ys : List Act) → Runs plan commands s (xs ++ ys) → Runs plan commands (after_all plan commands s xs) ys
@@ -159,52 +131,84 @@ pub runs-append : (plan : Plan) (commands : List Task) (s : Model) (xs ys : List
 runs-append plan commands s [] ys p q = q
 runs-append plan commands s (x ∷ xs) ys p q = (p.0, runs-append plan commands (after plan commands s x) xs ys p.1 q)
 
--- `Went` is preserved by one turn more of the action that is next (`Makes`), if the scope has the readings of all lines
--- (`AreReadings`)
-abbrev pub went_on : (plan : Plan) (commands : List Task) (scope : Scope) (text : Record → List ℕ) (told told' told'' : Option (List Act))
-    (taken taken' taken'' : Option (List ℕ)) (station new : Station) (action : Action)
-    → (w : Went plan commands scope text told told' taken taken' station)
-    → action ≡ action_at plan (state_after plan commands scope w.acts)
-    → Makes commands action (stepped plan commands action) (seen told' text taken' station) (seen told'' text taken'' new)
-    → AreReadings scope.reads → Went plan commands scope text told told'' taken taken'' new
-went_on plan commands scope text told told' told'' taken taken' taken'' station new action w is makes are =
-    let s = state_after plan commands scope w.acts in
-    let one = makes.goes s taken w.stands (λ ok. w.took) in
-    let same = stepped_reads plan commands action s makes.act ∙ reads_as_in_scope plan commands scope w.acts in
-    let took = one.2 (same_readings (stepped plan commands action s makes.act).reads scope.reads same are) in
-    let whole = after_all-append plan commands (opening plan scope) w.acts (makes.act ∷ []) in
-    let obeys : Performs commands s (action_at plan s) makes.act = subst (λ (o : Action). Performs commands s o makes.act) is one.0 in
-    record {
-      acts = w.acts ++ makes.act ∷ [];
-      tells = tells_more told told' told'' w.acts (makes.act ∷ []) w.tells makes.tells;
-      runs = runs-append plan commands (opening plan scope) w.acts (makes.act ∷ []) w.runs (obeys, tt);
-      stands = rw (whole, ← is) one.1;
-      took = rw (whole, ← is) took;
-    }
+-- the run so far, whose link had recorded `told` at the start
+module _ (plan : Plan) (commands : List Task) (scope : Scope) (text : Record → List ℕ) (told : Option (List Act)) where
+  -- `Went` holds if nothing was done, and the station is as the model at the start
+  abbrev pub went_nothing : (taken : Option (List ℕ)) (station : Station) → Refines station (opening plan scope) → Went plan commands scope text told told taken taken station
+  went_nothing taken station stands = record {
+    acts = [];
+    tells = tells_none told;
+    runs = tt;
+    stands = stands;
+    took = Appends-nil taken;
+  }
 
--- if `Went` holds, the book failed at a record of the next act (`Breaks`), and the link recorded a close after that, the run is
--- as `FailedAtRecord` says, if the scope has the readings of all lines (`AreReadings`)
-pub went_wrong : (plan : Plan) (commands : List Task) (scope : Scope) (text : Record → List ℕ) (told told' told'' told''' : Option (List Act))
-    (taken taken' taken'' : Option (List ℕ)) (station : Station) (action : Action)
-    → (w : Went plan commands scope text told told' taken taken' station)
-    → action ≡ action_at plan (state_after plan commands scope w.acts)
-    → Breaks commands action (stepped plan commands action) (seen told' text taken' station) told'' taken''
-    → Tells told'' told''' (Closed ∷ [])
-    → AreReadings scope.reads → FailedAtRecord plan commands scope text told told''' taken taken''
-went_wrong plan commands scope text told told' told'' told''' taken taken' taken'' station action w is breaks closed are =
-    let s = state_after plan commands scope w.acts in
-    let one = breaks.goes s taken w.stands (λ ok. w.took) in
-    let same = stepped_reads plan commands action s breaks.act ∙ reads_as_in_scope plan commands scope w.acts in
-    let took = one.1 (same_readings (stepped plan commands action s breaks.act).reads scope.reads same are) in
-    let whole = after_all-append plan commands (opening plan scope) w.acts (breaks.act ∷ []) in
-    let obeys : Performs commands s (action_at plan s) breaks.act = subst (λ (o : Action). Performs commands s o breaks.act) is one.0 in
-    record {
-      acts = w.acts;
-      last = breaks.act;
-      tells = tells_more told told' told''' w.acts (breaks.act ∷ (Closed ∷ [])) w.tells (tells_more told' told'' told''' (breaks.act ∷ []) (Closed ∷ []) breaks.tells closed);
-      runs = runs-append plan commands (opening plan scope) w.acts (breaks.act ∷ []) w.runs (obeys, tt);
-      took = rw (whole, ← is) took;
-    }
+  -- `Went` is preserved if a book took nothing more, as `Keeps` says: if what it took was known, it is known still, and the same
+  abbrev pub went_kept : (told' : Option (List Act)) (taken taken' taken'' : Option (List ℕ)) (station : Station) → Keeps taken' taken''
+      → Went plan commands scope text told told' taken taken' station → Went plan commands scope text told told' taken taken'' station
+  went_kept told' taken taken' taken'' station keeps w = record {
+    acts = w.acts;
+    tells = w.tells;
+    runs = w.runs;
+    stands = w.stands;
+    took = Appends-kept taken taken' taken'' (texts_of text (state_after plan commands scope w.acts).records) w.took keeps;
+  }
+
+  -- if `Went` holds, and the link recorded a close after that, the run is as `FailedAtSync` says: its book has all records, but
+  -- couldn't make them last
+  pub went_left : (told' told'' : Option (List Act)) (taken taken' : Option (List ℕ)) (station : Station)
+      → Went plan commands scope text told told' taken taken' station → Tells told' told'' (Closed ∷ []) → FailedAtSync plan commands scope text told told'' taken taken'
+  went_left told' told'' taken taken' station w closed = record {
+    acts = w.acts;
+    tells = tells_more told told' told'' w.acts (Closed ∷ []) w.tells closed;
+    runs = w.runs;
+    took = w.took;
+  }
+
+  -- `Went` is preserved by one turn more of the action that is next (`Makes`), if the scope has the readings of all lines
+  -- (`AreReadings`)
+  abbrev pub went_on : (told' told'' : Option (List Act)) (taken taken' taken'' : Option (List ℕ)) (station new : Station) (action : Action)
+      → (w : Went plan commands scope text told told' taken taken' station)
+      → action ≡ action_at plan (state_after plan commands scope w.acts)
+      → Makes commands action (stepped plan commands action) (seen told' text taken' station) (seen told'' text taken'' new)
+      → AreReadings scope.reads → Went plan commands scope text told told'' taken taken'' new
+  went_on told' told'' taken taken' taken'' station new action w is makes are =
+      let s = state_after plan commands scope w.acts in
+      let one = makes.goes s taken w.stands (λ ok. w.took) in
+      let same = stepped_reads plan commands action s makes.act ∙ reads_as_in_scope plan commands scope w.acts in
+      let took = one.2 (same_readings (stepped plan commands action s makes.act).reads scope.reads same are) in
+      let whole = after_all-append plan commands (opening plan scope) w.acts (makes.act ∷ []) in
+      let obeys : Performs commands s (action_at plan s) makes.act = subst (λ (o : Action). Performs commands s o makes.act) is one.0 in
+      record {
+        acts = w.acts ++ makes.act ∷ [];
+        tells = tells_more told told' told'' w.acts (makes.act ∷ []) w.tells makes.tells;
+        runs = runs-append plan commands (opening plan scope) w.acts (makes.act ∷ []) w.runs (obeys, tt);
+        stands = rw (whole, ← is) one.1;
+        took = rw (whole, ← is) took;
+      }
+
+  -- if `Went` holds, the book failed at a record of the next act (`Breaks`), and the link recorded a close after that, the run is
+  -- as `FailedAtRecord` says, if the scope has the readings of all lines (`AreReadings`)
+  pub went_wrong : (told' told'' told''' : Option (List Act)) (taken taken' taken'' : Option (List ℕ)) (station : Station) (action : Action)
+      → (w : Went plan commands scope text told told' taken taken' station)
+      → action ≡ action_at plan (state_after plan commands scope w.acts)
+      → Breaks commands action (stepped plan commands action) (seen told' text taken' station) told'' taken''
+      → Tells told'' told''' (Closed ∷ [])
+      → AreReadings scope.reads → FailedAtRecord plan commands scope text told told''' taken taken''
+  went_wrong told' told'' told''' taken taken' taken'' station action w is breaks closed are =
+      let s = state_after plan commands scope w.acts in
+      let one = breaks.goes s taken w.stands (λ ok. w.took) in
+      let same = stepped_reads plan commands action s breaks.act ∙ reads_as_in_scope plan commands scope w.acts in
+      let took = one.1 (same_readings (stepped plan commands action s breaks.act).reads scope.reads same are) in
+      let whole = after_all-append plan commands (opening plan scope) w.acts (breaks.act ∷ []) in
+      let obeys : Performs commands s (action_at plan s) breaks.act = subst (λ (o : Action). Performs commands s o breaks.act) is one.0 in
+      record {
+        acts = w.acts;
+        last = breaks.act;
+        tells = tells_more told told' told''' w.acts (breaks.act ∷ (Closed ∷ [])) w.tells (tells_more told' told'' told''' (breaks.act ∷ []) (Closed ∷ []) breaks.tells closed);
+        runs = runs-append plan commands (opening plan scope) w.acts (breaks.act ∷ []) w.runs (obeys, tt);
+        took = rw (whole, ← is) took;
+      }
 
 -- an act leaves no more commands unsent than a cycle has, and less to be done than before (`left_to_do`), so that a run ends
 pub record IsNearer (plan : Plan) (commands : List Task) (from to : Progress) : Type 0 where
@@ -215,32 +219,32 @@ pub record IsNearer (plan : Plan) (commands : List Task) (from to : Progress) : 
 abbrev pub HasModel : Station → Type 0
 HasModel station = (s : Model) × Refines station s
 
--- a turn leads a station that stands for some model to one that stands for some model
-pub has_model_on : (plan : Plan) (commands : List Task) (text : Record → List ℕ) (told told' : Option (List Act)) (taken taken' : Option (List ℕ)) (station new : Station) (action : Action)
-    → Makes commands action (stepped plan commands action) (seen told text taken station) (seen told' text taken' new) → HasModel station → HasModel new
-has_model_on plan commands text told told' taken taken' station new action makes some =
-    let one = makes.goes some.0 None some.1 (λ are. tt) in
-    (stepped plan commands action some.0 makes.act, one.1)
+-- a turn that led from `station` to `new`, in which an act performed `action`
+module _ (plan : Plan) (commands : List Task) (text : Record → List ℕ) (told told' : Option (List Act)) (taken taken' : Option (List ℕ)) (station new : Station) (action : Action) where
+  -- a turn leads a station that stands for some model to one that stands for some model
+  pub has_model_on : Makes commands action (stepped plan commands action) (seen told text taken station) (seen told' text taken' new) → HasModel station → HasModel new
+  has_model_on makes some =
+      let one = makes.goes some.0 None some.1 (λ are. tt) in
+      (stepped plan commands action some.0 makes.act, one.1)
 
--- a turn of the action that is next leaves a station nearer to the end (`IsNearer`), if the station stands for some model, and no
--- more commands were unsent than a cycle has
-pub went_nearer : (plan : Plan) (commands : List Task) (text : Record → List ℕ) (told told' : Option (List Act)) (taken taken' : Option (List ℕ)) (station new : Station) (action : Action)
-    → action ≡ action_of plan station.progress (waiting_in station) → HasModel station
-    → Makes commands action (stepped plan commands action) (seen told text taken station) (seen told' text taken' new)
-    → station.progress.unsent ≤ cycle_length plan commands → IsNearer plan commands station.progress new.progress
-went_nearer plan commands text told told' taken taken' station new action is some makes within =
-    let s = some.0 in
-    let p = station.progress in
-    let w = waiting_in station in
-    let one = makes.goes s None some.1 (λ are. tt) in
-    let o : action ≡ action_of plan s.progress w = is ∙ ap (λ (q : Progress). action_of plan q w) some.1.progress in
-    let obeys : Performs commands s (action_of plan s.progress w) makes.act = subst (λ (x : Action). Performs commands s x makes.act) o one.0 in
-    let mid : Model = moved plan commands action (with_progress turned s) makes.act in
-    let next : new.progress ≡ (ended mid).progress = one.1.progress in
-    let below : s.progress.unsent ≤ cycle_length plan commands = subst (λ (p : Progress). p.unsent ≤ cycle_length plan commands) some.1.progress within in
-    record {
-      within = subst (λ (p : Progress). p.unsent ≤ cycle_length plan commands) (sym (next ∙ ended_progress mid)) (unsent_within plan commands action (with_progress turned s) makes.act below);
-      less = subst (λ (q : Progress). left_to_do q < left_to_do p) (sym (next ∙ ap (λ (x : Action). (stepped plan commands x s makes.act).progress) o))
-          (subst (λ (q : Progress). left_to_do (stepped plan commands (action_of plan s.progress w) s makes.act).progress < left_to_do q)
-          (sym some.1.progress) (less_stepped plan commands s w makes.act obeys));
-    }
+  -- a turn of the action that is next leaves a station nearer to the end (`IsNearer`), if the station stands for some model,
+  -- and no more commands were unsent than a cycle has
+  pub went_nearer : action ≡ action_of plan station.progress (waiting_in station) → HasModel station
+      → Makes commands action (stepped plan commands action) (seen told text taken station) (seen told' text taken' new)
+      → station.progress.unsent ≤ cycle_length plan commands → IsNearer plan commands station.progress new.progress
+  went_nearer is some makes within =
+      let s = some.0 in
+      let p = station.progress in
+      let w = waiting_in station in
+      let one = makes.goes s None some.1 (λ are. tt) in
+      let o : action ≡ action_of plan s.progress w = is ∙ ap (λ (q : Progress). action_of plan q w) some.1.progress in
+      let obeys : Performs commands s (action_of plan s.progress w) makes.act = subst (λ (x : Action). Performs commands s x makes.act) o one.0 in
+      let mid : Model = moved plan commands action (with_progress turned s) makes.act in
+      let next : new.progress ≡ (ended mid).progress = one.1.progress in
+      let below : s.progress.unsent ≤ cycle_length plan commands = subst (λ (p : Progress). p.unsent ≤ cycle_length plan commands) some.1.progress within in
+      record {
+        within = subst (λ (p : Progress). p.unsent ≤ cycle_length plan commands) (sym (next ∙ ended_progress mid)) (unsent_within plan commands action (with_progress turned s) makes.act below);
+        less = subst (λ (q : Progress). left_to_do q < left_to_do p) (sym (next ∙ ap (λ (x : Action). (stepped plan commands x s makes.act).progress) o))
+            (subst (λ (q : Progress). left_to_do (stepped plan commands (action_of plan s.progress w) s makes.act).progress < left_to_do q)
+            (sym some.1.progress) (less_stepped plan commands s w makes.act obeys));
+      }

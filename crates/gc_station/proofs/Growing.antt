@@ -10,8 +10,8 @@ use Rattle.gc_links.specs.Acts.{Act, Told, Gave}
 use Rattle.gc_station.specs.Marks.{records_of}
 use Rattle.gc_station.specs.Progressing.{moment_noted}
 use Rattle.gc_station.specs.Model.{Model, is_heard, with_progress, with_moment, line_came, lines_came, after_piece, unsent_record, moved, losing}
-use Rattle.gc_station.specs.Records.{Record}
-use Rattle.gc_station.proofs.Records.{Grew, grew_none, grew_then}
+use Rattle.gc_station.specs.Records.{Record, Grew}
+use Rattle.gc_station.proofs.Records.{grew_none, grew_then}
 use Rattle.gc_station.proofs.Walk.{lines_along, came_along, losing_along, moved_changed}
 
 -- a line that is heard adds records, if any, to those of a model that only grew from `old`

@@ -35,7 +35,7 @@ use Rattle.gc_station.specs.Attempts.{listed_by}
 use Rattle.gc_station.specs.Marks.{commands_in, records_of, last_well, fresh_after}
 use Rattle.gc_station.specs.Deciding.{is_none_left}
 use Rattle.gc_station.specs.Progressing.{caught_up, line_noted, bytes_noted, early_noted, after_failure, closed, lines_synchronizing, line_synchronizing}
-use Rattle.gc_station.specs.Records.{Record, texts_of, WritesPart, WritesAll}
+use Rattle.gc_station.specs.Records.{Record, Grew, texts_of, WritesPart, WritesAll}
 use Rattle.gc_station.specs.Model.{Model, line_came, lines_came, lines_completed, with_rest, with_progress, with_moment, waiting_of, settles, piece_came, piece_synchronizing, after_piece}
 use Rattle.gc_station.specs.Stations.{waiting_in, Refines, Took, TookPart, ComesTo, station_expiring}
 use Rattle.gc_station.specs.Scopes.{AreReadings, ForEachReadings}
@@ -43,7 +43,7 @@ use Rattle.gc_station.specs.Tallies.{nothing_yet, tallied}
 use Rattle.gc_station.proofs.Growing.{lines_records}
 use Rattle.gc_station.proofs.Making.{refines_with}
 use Rattle.gc_station.proofs.Readings.{lines_reads, same_readings}
-use Rattle.gc_station.proofs.Records.{Grew, grew_then, part_grew, part_grows, tallied-append, last-append}
+use Rattle.gc_station.proofs.Records.{grew_then, part_grew, part_grows, tallied-append, last-append}
 
 -- the lines of a frame and of the frames after it: first its line, if it has one
 pub lines_split : (frame : Frame) (later : List Frame) → filter_map line_in (completed frame ++ later) ≡ option_to_list (line_in frame) ++ filter_map line_in later
@@ -78,11 +78,15 @@ pub record Hearing (text : Record → List ℕ) (start taken : Option (List ℕ)
   pub grown : Grew s.records now.records
   pub goes : piece_came left now ≡ piece_came piece s
 
+-- the model s after a frame: it has heard the line of the frame, if that is a line, and keeps the bytes `rest` of the next one
+abbrev pub after_frame : (rest : List ℕ) → Frame → Model → Model
+after_frame rest frame s = lines_came (with_rest rest s) (option_to_list (line_in frame))
+
 -- hearing what is left of a piece is hearing the line of its first frame, if that is a line, and then what comes after that frame
 -- (`later`)
 pub frame_first : (s : Model) (left later rest : List ℕ) (frame : Frame)
     → frames_behind s.rest left ≡ completed frame ++ frames_behind rest later → rest_behind s.rest left ≡ rest_behind rest later
-    → piece_came left s ≡ piece_came later (lines_came (with_rest rest s) (option_to_list (line_in frame)))
+    → piece_came left s ≡ piece_came later (after_frame rest frame s)
 frame_first s left later rest frame seen rests =
     let line = option_to_list (line_in frame) in
     let lines : lines_completed s.rest left ≡ line ++ lines_completed rest later = ap (filter_map line_in) seen ∙ lines_split frame (frames_behind rest later) in
@@ -96,12 +100,11 @@ frame_first s left later rest frame seen rests =
       rest_kept : (rest : List ℕ) (line : List (List ℕ)) → (lines_came (with_rest rest s) line).rest ≡ rest
       rest_kept rest line = ap (λ (x : Model). x.rest) (lines_rest s rest line)
 
--- `Hearing` is preserved by one frame more, if the station is as the model that has heard the line of the frame, where the frame
--- is a line, and the book has taken the records of that model
+-- `Hearing` is preserved by one frame more, if the station is as the model after the frame, and the book has taken the records of
+-- that model
 pub hearing_on : (text : Record → List ℕ) (start taken taken' : Option (List ℕ)) (station station' : Station) (s : Model) (piece left : List ℕ) (used : ℕ) (frame : Frame) (kept : Kept)
     → (h : Hearing text start taken station s piece left) → (t : Takes h.now.rest left used frame kept)
-    → (Refines station' (lines_came (with_rest t.now h.now) (option_to_list (line_in frame))) × Took text start taken' (lines_came (with_rest t.now h.now) (option_to_list (line_in frame))))
-    → Hearing text start taken' station' s piece (drop used left)
+    → Refines station' (after_frame t.now frame h.now) × Took text start taken' (after_frame t.now frame h.now) → Hearing text start taken' station' s piece (drop used left)
 hearing_on text start taken taken' station station' s piece left used frame kept h t more = record {
   now = lines_came (with_rest t.now h.now) (option_to_list (line_in frame));
   stands = more.0;
@@ -113,8 +116,7 @@ hearing_on text start taken taken' station station' s piece left used frame kept
 -- if the book failed at a frame's line, it failed at a record of the whole piece
 pub hearing_part : (text : Record → List ℕ) (start taken taken' : Option (List ℕ)) (station : Station) (s : Model) (piece left : List ℕ) (used : ℕ) (frame : Frame) (kept : Kept)
     → (h : Hearing text start taken station s piece left) → (t : Takes h.now.rest left used frame kept)
-    → TookPart text h.now.records start taken' (lines_came (with_rest t.now h.now) (option_to_list (line_in frame)))
-    → TookPart text s.records start taken' (piece_came piece s)
+    → TookPart text h.now.records start taken' (after_frame t.now frame h.now) → TookPart text s.records start taken' (piece_came piece s)
 hearing_part text start taken taken' station s piece left used frame kept h t part are =
     let mid = lines_came (with_rest t.now h.now) (option_to_list (line_in frame)) in
     let later = drop used left in
@@ -198,14 +200,6 @@ pub record Between (old mid : Station) (ids : ById Asked) : Type 0 where
   pub listed : mid.recorded.listed ≡ old.recorded.listed
   pub fresh : mid.recorded.fresh ≡ old.recorded.fresh
 
--- the records that a station is to write (`Between`) are those that the model has for these settlements
-records_same : (old mid : Station) (s : Model) (ids : ById Asked) (xs ys : List (Settlement Asked)) → Refines old s → Between old mid ids → xs ≡ ys
-    → records_of s.reads mid.progress.moment.utc mid.marks.items xs ≡ records_of s.reads s.progress.moment.utc s.marks ys
-records_same old mid s ids xs ys stands between e =
-    ap (λ (p : Progress). records_of s.reads p.moment.utc mid.marks.items xs) (between.progress ∙ stands.progress)
-    ∙ ap (λ (ms : List (Option Mark)). records_of s.reads s.progress.moment.utc ms xs) (ap (λ ms. ms.items) between.marks ∙ stands.marks)
-    ∙ ap (records_of s.reads s.progress.moment.utc s.marks) e
-
 -- from `mid` to `new` the tally counts the records of these settlements
 abbrev pub UpdatesTally : (mid new : Station) → List (Settlement Asked) → Type 0
 UpdatesTally mid new xs = ForEachReadings (λ reads. new.recorded.tally ≡ tallied mid.recorded.tally (records_of reads mid.progress.moment.utc mid.marks.items xs))
@@ -231,59 +225,63 @@ abbrev pub TakesMarks : (mid new : Station) → ℕ → Type 0
 TakesMarks mid new count =
     new ≡ record mid { marks = record { items = drop count mid.marks.items }; recorded = new.recorded }
 
--- let the station `old` be as the model s, and its client have settled requests as x says (`Between`). If the records of these
--- settlements were written, counted and noted, and their marks taken out, the station is as the model after them (`new`), and the
--- book has taken the records of that model
-pub settles_ok : (text : Record → List ℕ) (old mid new : Station) (s : Model) (x : Settled Asked (ById Asked)) (xs : List (Settlement Asked)) (n : ℕ) (start taken' : Option (List ℕ))
-    → (stands : Refines old s) → (between : Between old mid x.client) → (same : xs ≡ x.settlements) → (many : n ≡ length x.settlements) → (paired : StayPaired s.marks x)
-    → (wrote : AreReadings s.reads → Appends start taken' (texts_of text (s.records ++ records_of s.reads mid.progress.moment.utc mid.marks.items xs)))
-    → (takes : TakesMarks mid new n)
-    → (counts : UpdatesTally mid new xs) → (minds : UpdatesWell mid new xs) → (lists : UpdatesListed mid new xs) → (freshens : UpdatesFresh mid new xs)
-    → Refines new (settles x s) × Took text start taken' (settles x s)
-settles_ok text old mid new s x xs n start taken' stands between e many paired wrote is counts minds lists freshens =
-    let added : List Record = records_of s.reads mid.progress.moment.utc mid.marks.items xs in
-    let records = records_same old mid s x.client xs x.settlements stands between e in (
-      record {
-        progress = ap (λ (n : Station). n.progress) is ∙ between.progress ∙ stands.progress;
-        ids = ap (λ (n : Station). n.client.ids) is ∙ between.ids_are;
-        width = ap (λ (n : Station). n.client.width) is ∙ between.width ∙ stands.width;
-        marks = ap (λ (n : Station). n.marks.items) is ∙ ap (λ k. drop k mid.marks.items) many ∙ ap (λ ms. drop (length x.settlements) ms) (ap (λ ms. ms.items) between.marks ∙ stands.marks);
-        paired = paired;
-        assembles = subst (λ (k : Kept). StandsFor k s.rest) (sym (ap (λ (n : Station). n.assembler) is ∙ between.assembler)) stands.assembles;
-        tally = λ are. counts s.reads are ∙ ap (λ t. tallied t added) (between.tally ∙ stands.tally are) ∙ sym (tallied-append nothing_yet s.records added)
-            ∙ ap (λ rs. tallied nothing_yet (s.records ++ rs)) records;
-        well = λ are. minds s.reads are ∙ ap (λ b. last_well b added) (between.well ∙ stands.well are)
-            ∙ sym (last-append false s.records added) ∙ ap (λ rs. last_well false (s.records ++ rs)) records;
-        listed = λ are. lists s.reads are ∙ ap (λ b. listed_by s.reads b mid.marks.items xs) (between.listed ∙ stands.listed are)
-            ∙ ap (λ (ms : List (Option Mark)). listed_by s.reads s.listed ms xs) (ap (λ ms. ms.items) between.marks ∙ stands.marks) ∙ ap (listed_by s.reads s.listed s.marks) e;
-        fresh = λ are. freshens s.reads are ∙ ap (λ f. fresh_after mid.progress.moment.elapsed f added) (between.fresh ∙ stands.fresh are)
-            ∙ ap (λ (p : Progress). fresh_after p.moment.elapsed s.fresh added) (between.progress ∙ stands.progress)
-            ∙ ap (fresh_after s.progress.moment.elapsed s.fresh) records;
-      },
-      λ are. subst (λ (rs : List Record). Appends start taken' (texts_of text (s.records ++ rs))) records (wrote are),
-    )
+-- Let the station `old` be as the model s, and its client have settled requests as x says (`Between`); `xs` are these
+-- settlements.
+module _ (text : Record → List ℕ) (old mid : Station) (s : Model) (x : Settled Asked (ById Asked)) (xs : List (Settlement Asked)) where
+  -- the records of these settlements, which the station is to write
+  abbrev to_write : List Record
+  to_write = records_of s.reads mid.progress.moment.utc mid.marks.items xs
 
--- if the book failed at a record of settlements, it took the earlier records of the model s and a part of the others, where the
--- station `old` is as s, and its client has settled requests as x says (`Between`)
-pub settles_part : (text : Record → List ℕ) (old mid : Station) (s : Model) (x : Settled Asked (ById Asked)) (xs : List (Settlement Asked)) (start taken' : Option (List ℕ))
-    → Refines old s → Between old mid x.client → xs ≡ x.settlements
-    → (AreReadings s.reads → WritesPart text s.records (s.records ++ records_of s.reads mid.progress.moment.utc mid.marks.items xs) start taken')
-    → TookPart text s.records start taken' (settles x s)
-settles_part text old mid s x xs start taken' stands between e wrote are =
-    subst (λ (rs : List Record). WritesPart text s.records (s.records ++ rs) start taken') (records_same old mid s x.client xs x.settlements stands between e) (wrote are)
+  -- these records are those that the model has for the settlements
+  records_same : Refines old s → Between old mid x.client → xs ≡ x.settlements → to_write ≡ records_of s.reads s.progress.moment.utc s.marks x.settlements
+  records_same stands between same =
+      ap (λ (p : Progress). records_of s.reads p.moment.utc mid.marks.items xs) (between.progress ∙ stands.progress)
+      ∙ ap (λ (ms : List (Option Mark)). records_of s.reads s.progress.moment.utc ms xs) (ap (λ ms. ms.items) between.marks ∙ stands.marks)
+      ∙ ap (records_of s.reads s.progress.moment.utc s.marks) same
 
--- as `settles_ok` and `settles_part` together, by whether the book took all records (`Ok`) or failed at one (`Err`)
-pub settles_either : {X E : Type 0} (text : Record → List ℕ) (old mid new : Station) (s : Model) (x : Settled Asked (ById Asked)) (xs : List (Settlement Asked)) (n : ℕ)
-    (start taken' : Option (List ℕ)) (result : Result X E)
-    → (stands : Refines old s) → (between : Between old mid x.client) → (same : xs ≡ x.settlements) → (many : n ≡ length x.settlements) → (paired : StayPaired s.marks x)
-    → (wrote : AreReadings s.reads → WritesAll text s.records (s.records ++ records_of s.reads mid.progress.moment.utc mid.marks.items xs) start taken' result)
-    → (takes : OnOk result (TakesMarks mid new n))
-    → (counts : OnOk result (UpdatesTally mid new xs)) → (minds : OnOk result (UpdatesWell mid new xs))
-    → (lists : OnOk result (UpdatesListed mid new xs)) → (freshens : OnOk result (UpdatesFresh mid new xs))
-    → ComesTo text s.records new start taken' (settles x s) result
-settles_either text old mid new s x xs n start taken' (Ok r) stands between e many paired wrote is counts minds lists freshens =
-    settles_ok text old mid new s x xs n start taken' stands between e many paired wrote is counts minds lists freshens
-settles_either text old mid new s x xs n start taken' (Err r) stands between e many paired wrote is counts minds lists freshens = settles_part text old mid s x xs start taken' stands between e wrote
+  -- if these records were written, counted and noted, and the marks of the settlements taken out, the station is as the model
+  -- after the settlements (`new`), and the book has taken the records of that model
+  pub settles_ok : (new : Station) (n : ℕ) (start taken' : Option (List ℕ)) → (stands : Refines old s) → (between : Between old mid x.client) → (same : xs ≡ x.settlements)
+      → (many : n ≡ length x.settlements) → (paired : StayPaired s.marks x)
+      → (wrote : AreReadings s.reads → Appends start taken' (texts_of text (s.records ++ to_write))) → (takes : TakesMarks mid new n) → (counts : UpdatesTally mid new xs)
+      → (minds : UpdatesWell mid new xs) → (lists : UpdatesListed mid new xs) → (freshens : UpdatesFresh mid new xs) → Refines new (settles x s) × Took text start taken' (settles x s)
+  settles_ok new n start taken' stands between e many paired wrote is counts minds lists freshens =
+      let added : List Record = to_write in
+      let records = records_same stands between e in (
+        record {
+          progress = ap (λ (n : Station). n.progress) is ∙ between.progress ∙ stands.progress;
+          ids = ap (λ (n : Station). n.client.ids) is ∙ between.ids_are;
+          width = ap (λ (n : Station). n.client.width) is ∙ between.width ∙ stands.width;
+          marks = ap (λ (n : Station). n.marks.items) is ∙ ap (λ k. drop k mid.marks.items) many ∙ ap (λ ms. drop (length x.settlements) ms) (ap (λ ms. ms.items) between.marks ∙ stands.marks);
+          paired = paired;
+          assembles = subst (λ (k : Kept). StandsFor k s.rest) (sym (ap (λ (n : Station). n.assembler) is ∙ between.assembler)) stands.assembles;
+          tally = λ are. counts s.reads are ∙ ap (λ t. tallied t added) (between.tally ∙ stands.tally are) ∙ sym (tallied-append nothing_yet s.records added)
+              ∙ ap (λ rs. tallied nothing_yet (s.records ++ rs)) records;
+          well = λ are. minds s.reads are ∙ ap (λ b. last_well b added) (between.well ∙ stands.well are)
+              ∙ sym (last-append false s.records added) ∙ ap (λ rs. last_well false (s.records ++ rs)) records;
+          listed = λ are. lists s.reads are ∙ ap (λ b. listed_by s.reads b mid.marks.items xs) (between.listed ∙ stands.listed are)
+              ∙ ap (λ (ms : List (Option Mark)). listed_by s.reads s.listed ms xs) (ap (λ ms. ms.items) between.marks ∙ stands.marks) ∙ ap (listed_by s.reads s.listed s.marks) e;
+          fresh = λ are. freshens s.reads are ∙ ap (λ f. fresh_after mid.progress.moment.elapsed f added) (between.fresh ∙ stands.fresh are)
+              ∙ ap (λ (p : Progress). fresh_after p.moment.elapsed s.fresh added) (between.progress ∙ stands.progress)
+              ∙ ap (fresh_after s.progress.moment.elapsed s.fresh) records;
+        },
+        λ are. subst (λ (rs : List Record). Appends start taken' (texts_of text (s.records ++ rs))) records (wrote are),
+      )
+
+  -- if the book failed at one of these records, it took the earlier records of the model and a part of the others
+  pub settles_part : (start taken' : Option (List ℕ)) → Refines old s → Between old mid x.client → xs ≡ x.settlements
+      → (AreReadings s.reads → WritesPart text s.records (s.records ++ to_write) start taken') → TookPart text s.records start taken' (settles x s)
+  settles_part start taken' stands between e wrote are = subst (λ (rs : List Record). WritesPart text s.records (s.records ++ rs) start taken') (records_same stands between e) (wrote are)
+
+  -- as `settles_ok` and `settles_part` together, by whether the book took all records (`Ok`) or failed at one (`Err`)
+  pub settles_either : {X E : Type 0} (new : Station) (n : ℕ) (start taken' : Option (List ℕ)) (result : Result X E) → (stands : Refines old s) → (between : Between old mid x.client)
+      → (same : xs ≡ x.settlements) → (many : n ≡ length x.settlements) → (paired : StayPaired s.marks x)
+      → (wrote : AreReadings s.reads → WritesAll text s.records (s.records ++ to_write) start taken' result) → (takes : OnOk result (TakesMarks mid new n))
+      → (counts : OnOk result (UpdatesTally mid new xs)) → (minds : OnOk result (UpdatesWell mid new xs))
+      → (lists : OnOk result (UpdatesListed mid new xs)) → (freshens : OnOk result (UpdatesFresh mid new xs)) → ComesTo text s.records new start taken' (settles x s) result
+  settles_either new n start taken' (Ok r) stands between e many paired wrote is counts minds lists freshens =
+      settles_ok new n start taken' stands between e many paired wrote is counts minds lists freshens
+  settles_either new n start taken' (Err r) stands between e many paired wrote is counts minds lists freshens = settles_part start taken' stands between e wrote
 
 -- a link that recorded the acts `xs` and then the acts `ys` recorded `xs ++ ys`
 pub tells_more : (a b c : Option (List Act)) (xs ys : List Act) → Tells a b xs → Tells b c ys → Tells a c (xs ++ ys)

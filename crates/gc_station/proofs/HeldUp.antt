@@ -7,6 +7,7 @@ use Rattle.std.specs.List.{AllByRecursion}
 use Rattle.std.proofs.lemmas.Bool.{ltb-true, lt-ltb, eqb-true, both_ways, and_right, cond-true}
 use Rattle.std.proofs.lemmas.Bool.Decides.{nat_tests}
 use Rattle.std.proofs.lemmas.List.{length-map, length-append}
+use Rattle.gc_values.proofs.Every.{every_drop}
 use Rattle.gc_catalogue.specs.Asked.{is_of_table}
 use Rattle.gc_catalogue.specs.declared.asked.Asked.{Asked}
 use Rattle.gc_catalogue.specs.declared.asked.Asked.TheVariants.{Table}
@@ -43,11 +44,11 @@ use Rattle.gc_station.proofs.Facts.{action_for}
 use Rattle.gc_station.proofs.GoesBehind.{counted, hearing_all}
 use Rattle.gc_station.proofs.Invariant.{Invariant}
 use Rattle.gc_station.proofs.Parting.{leads, keeps_action}
-use Rattle.gc_station.proofs.Turns.{over_stays}
+use Rattle.gc_station.proofs.Turns.{no_act_once_over}
 use Rattle.gc_station.proofs.Walk.{asked_along, quieted_along, closed_along, walk, piece_before}
 use Rattle.gc_station.proofs.Words.{renews_only}
 use Rattle.gc_station.proofs.Losing.{loses_nothing}
-use Rattle.gc_station.proofs.Lists.{all_drop, all_append}
+use Rattle.gc_station.proofs.Lists.{all_append}
 
 -- Steps of the client.
 
@@ -121,7 +122,7 @@ level_heard c b line (Some id) h = by_test _ _ refl where
       let left = length-drop (k + 1) c.waiting in
       let few = h.few in
       record {
-        tables = all_drop IsTableCall (k + 1) c.waiting h.tables;
+        tables = every_drop IsTableCall c.waiting (k + 1) h.tables;
         few = omega (arith, left, few);
         same = ap (λ (t : Bool). if t then length (drop (k + 1) c.waiting) else b) ends;
       }
@@ -218,10 +219,10 @@ module _ (plan : Plan) (commands : List Task) (all : AreOfTable commands) where
   put_tables s action.Flush = (refl, tt)
   put_tables s action.Prepare =
       setup_tables plan s.progress.moment.elapsed (mark_setup commands s.progress) (drop s.progress.prepared commands)
-      (all_drop (λ task. is_of_table task.command.call ≡ true) s.progress.prepared commands all)
+      (every_drop (λ task. is_of_table task.command.call ≡ true) commands s.progress.prepared all)
   put_tables s action.Send =
       first_tables s.progress.moment.elapsed (mark_next plan commands s.progress) (drop (place_next commands s.progress) commands)
-      (all_drop (λ task. is_of_table task.command.call ≡ true) (place_next commands s.progress) commands all)
+      (every_drop (λ task. is_of_table task.command.call ≡ true) commands (place_next commands s.progress) all)
   put_tables s o = tt
 
   -- an act sends calls of the table alone
@@ -268,7 +269,7 @@ module _ (plan : Plan) (commands : List Task) (all : AreOfTable commands) where
 
     -- the run wasn't over before the act
     wasnt_over : (b : Bool) → is_over s.progress ≡ b → is_over s.progress ≡ false
-    wasnt_over true e = absurd (over_stays plan commands s act e obeys)
+    wasnt_over true e = absurd (no_act_once_over plan commands s act e obeys)
     wasnt_over false e = e
 
     -- `CountsWaiting` holds after the act, by whether the station had synchronized before

@@ -1,6 +1,6 @@
 -- What had its turn is what was kept and what was left out, each in order (`Interleave`): one list grows with each command that
 -- had its turn, and so does one of the other two.
-use Rattle.std.proofs.Common.{Bool, true, false, nat_lt, ◌≡◌, inl, inr, ℕ, zero, suc, ◌+◌, ◌-◌, ◌<◌, ◌≤◌, List, [], ◌∷◌, ◌++◌, length, take, drop, map, refl, sym, ap, ◌∙◌, subst, arith}
+use Rattle.std.proofs.Common.{Bool, true, false, nat_lt, ◌≡◌, ◌⊎◌, inl, inr, ℕ, zero, suc, ◌+◌, ◌-◌, ◌<◌, ◌≤◌, List, [], ◌∷◌, ◌++◌, length, take, drop, map, refl, sym, ap, ◌∙◌, subst, arith}
 use Rattle.std.proofs.lemmas.List.{length-map, length-drop, length-take, nil_from_length}
 use Rattle.std.proofs.lemmas.Bool.{ltb-true, ltb-false}
 use Rattle.std.specs.List.{AllByRecursion}
@@ -72,10 +72,12 @@ requests_below cycle place (a ∷ others) =
           (λ r h. let below : r.place < (place + 1) + length others = h.1 in (h.0, omega (arith, below))) further,
     )
 
--- a pair (c, p) of a cycle and a place doesn't come before an equal pair (d, q)
-pub not_before_equal : (c p d q : ℕ) → IsBefore c p d q → c ≡ d → p ≡ q → ⊥
-not_before_equal c p d q (inl less) e f = omega (arith, less, e)
-not_before_equal c p d q (inr same) e f = let below : p < q = same.1 in omega (arith, below, f)
+-- if the pair (i, m) comes before the pair (j, n), then (j, n) neither comes before (i, m) nor equals it
+pub before_not_after : (i j m n : ℕ) → IsBefore i m j n → (j < i) ⊎ ((j ≡ i) × (n ≤ m)) → ⊥
+before_not_after i j m n (inl l) (inl k) = omega (arith, l, k)
+before_not_after i j m n (inl l) (inr k) = let same : j ≡ i = k.0 in omega (arith, l, same)
+before_not_after i j m n (inr l) (inl k) = let same : i ≡ j = l.0 in omega (arith, same, k)
+before_not_after i j m n (inr l) (inr k) = let less : m < n = l.1 in let le : n ≤ m = k.1 in omega (arith, less, le)
 
 -- a request is of a place before this one: in an earlier cycle, or in the same one
 abbrev pub IsInFront : (cycle place : ℕ) → Request → Type 0

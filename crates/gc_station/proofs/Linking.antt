@@ -2,7 +2,7 @@
 -- one has a later place or cycle; and the commands of a chain are requests of one part. An act is one call on the link, with
 -- its result. A mark says which command a request is of, or `None` of a null procedure. Places, parts and requests count from
 -- 0. `AnsweredInPart` says of an earlier command that it was sent, was answered well, and is of the part that still goes on.
-use Rattle.std.proofs.Common.{◌≡◌, ◌⊎◌, inl, inr, ℕ, zero, suc, ◌+◌, ◌-◌, ◌<◌, ◌≤◌, Bool, true, false, List, [], ◌∷◌, ◌++◌, length, drop, Some, if◌then◌else◌, refl, sym, ◌∙◌, ap, subst, arith, append_assoc, append-nil}
+use Rattle.std.proofs.Common.{◌≡◌, inl, inr, ℕ, zero, suc, ◌+◌, ◌-◌, ◌<◌, ◌≤◌, Bool, true, false, List, [], ◌∷◌, ◌++◌, length, drop, Some, if◌then◌else◌, refl, sym, ◌∙◌, ap, subst, arith, append_assoc, append-nil}
 use Rattle.std.specs.Prelude.{slice_get, unwrap_or}
 use Rattle.std.proofs.lemmas.List.{length-drop, append_cancel_left}
 use Rattle.std.proofs.lemmas.Option.{none-some, same_Some}
@@ -23,26 +23,19 @@ use Rattle.gc_station.specs.Scopes.{Scope}
 use Rattle.gc_station.specs.ActKinds.{Puts}
 use Rattle.gc_station.specs.Model.{Model, Runs, opening, action_at, cycle_to_send, after, after_all}
 use Rattle.gc_station.specs.NextCommand.{place_next, cycles_begun, expected_first, mark_next}
-use Rattle.gc_station.proofs.Chaining.{StaysBegun, PreparesNothing, prepares_none, chain_linked}
+use Rattle.gc_station.proofs.Chaining.{StaysBegun, SendsNoSetup, PreparesNothing, each_act_append, chain_linked, IsLinkedStill}
 use Rattle.gc_station.proofs.EachRun.{invariant_holds}
 use Rattle.gc_station.proofs.Outs.{of_a_cycle, send_cycle, send_place, sends_of_cycle}
 use Rattle.gc_station.proofs.Further.{send_goes_on}
-use Rattle.gc_station.proofs.Going.{after_all-append, runs_behind}
+use Rattle.gc_station.proofs.Going.{after_all-append, runs_front, runs_behind}
 use Rattle.gc_station.proofs.SentAt.{records_stay, SentAt, sent_at}
-use Rattle.gc_station.proofs.OnePart.{runs_front, puts_text, same_part}
-use Rattle.gc_station.proofs.PartFronts.{IsFront, front_parts, front_no_longer}
+use Rattle.gc_station.proofs.OnePart.{puts_text, same_part}
+use Rattle.gc_station.proofs.PartFronts.{HasSome, IsFront, front_parts, front_no_longer, some_parts}
 use Rattle.gc_station.proofs.Lists.{get_more, get_behind, cons_head, cons_tail, fronts}
 use Rattle.gc_station.proofs.Closings.{needs_of}
-use Rattle.gc_station.proofs.Interleaving.{not_before_equal}
+use Rattle.gc_station.proofs.Interleaving.{before_not_after}
 
 -- The commands go on.
-
--- if the pair (i, m) comes before the pair (j, n), then (j, n) neither comes before (i, m) nor equals it
-before_not_after : (i j m n : ℕ) → IsBefore i m j n → (j < i) ⊎ ((j ≡ i) × (n ≤ m)) → ⊥
-before_not_after i j m n (inl l) (inl k) = omega (arith, l, k)
-before_not_after i j m n (inl l) (inr k) = let same : j ≡ i = k.0 in omega (arith, l, same)
-before_not_after i j m n (inr l) (inl k) = let same : i ≡ j = l.0 in omega (arith, same, k)
-before_not_after i j m n (inr l) (inr k) = let less : m < n = l.1 in let le : n ≤ m = k.1 in omega (arith, less, le)
 
 module _ (plan : Plan) (commands : List Task) (scope : Scope) where
   -- if a command of a cycle is to be sent after the acts `xs`, the station is further (`IsFurther`) after the act that sends it
@@ -136,38 +129,30 @@ on_has p (y ∷ qs) (suc i) mark h = h
 
 -- `ps` are the parts of some first acts, and `qs` those of all acts. If the part of `qs` at the place of the last part of `ps`
 -- has a request with a mark, it still has it once one act more, whose part is p, is put before both
-step_has : (p : Part) (ends : Bool) (ps qs : List Part) (i k : ℕ) (mark : Mark) → length ps ≡ suc k → length (in_front p ends ps) ≡ suc i
+step_has : (p : Part) (ends : Bool) (ps qs : List Part) (i : ℕ) (mark : Mark) → HasSome ps → length (in_front p ends ps) ≡ suc i
     → ((j : ℕ) → length ps ≡ suc j → HasMark qs j mark) → HasMark (in_front p ends qs) i mark
-step_has p true ps qs zero k mark some size has = absurd (omega (arith, some, size))
-step_has p true ps qs (suc i) k mark some size has = has i (omega (arith, size))
-step_has p false [] qs i k mark some size has = absurd (omega (arith, some))
-step_has p false (x ∷ ps) qs i k mark some size has = on_has p qs i mark (has i size)
+step_has p true [] qs i mark some size has = absurd some
+step_has p true (x ∷ ps) qs zero mark some size has = absurd (omega (arith, size))
+step_has p true (x ∷ ps) qs (suc i) mark some size has = has i (omega (arith, size))
+step_has p false [] qs i mark some size has = absurd some
+step_has p false (x ∷ ps) qs i mark some size has = on_has p qs i mark (has i size)
 
--- with a part p before them (`in_front`), there is at least one part
-front_some : (p : Part) (ends : Bool) (ps : List Part) → (k : ℕ) × (length (in_front p ends ps) ≡ suc k)
-front_some p true ps = (length ps, refl)
-front_some p false [] = (0, refl)
-front_some p false (q ∷ ps) = (length ps, refl)
+-- the first request of this act, by a station with the model u, has the mark of the next command of a cycle
+abbrev SendsNextFirst : Plan → List Task → Model → Act → Type 0
+SendsNextFirst plan commands u act = slice_get (part_of_act plan commands u (action_at plan u) act).marks 0 ≡ Some (Some (mark_next plan commands u.progress))
 
--- acts have at least one part
-parts_some : (plan : Plan) (commands : List Task) (s : Model) (acts : List Act) → (k : ℕ) × (length (parts_of plan commands s acts) ≡ suc k)
-parts_some plan commands s [] = (0, refl)
-parts_some plan commands s (act ∷ acts) = front_some (part_of_act plan commands s (action_at plan s) act) (ends_part plan commands s act) (parts_of plan commands (after plan commands s act) acts)
-
--- part i is the last one after the acts `start`. If the part of the act that follows has the next command's mark first, part i of
--- all acts (`start`, that act and `rest`) has that mark, too
+-- part i is the last one after the acts `start`. If the first request of the act that follows has the next command's mark, part i
+-- of all acts (`start`, that act and `rest`) has that mark, too
 mark_there : (plan : Plan) (commands : List Task) (s : Model) (start : List Act) (act : Act) (rest : List Act) (i : ℕ) → length (parts_of plan commands s start) ≡ suc i
-    → slice_get (part_of_act plan commands (after_all plan commands s start) (action_at plan (after_all plan commands s start)) act).marks 0 ≡ Some
-    (Some (mark_next plan commands (after_all plan commands s start).progress))
+    → SendsNextFirst plan commands (after_all plan commands s start) act
     → HasMark (parts_of plan commands s (start ++ act ∷ rest)) i (mark_next plan commands (after_all plan commands s start).progress)
 mark_there plan commands s [] act rest zero size e =
     first_has (part_of_act plan commands s (action_at plan s) act) (ends_part plan commands s act) (parts_of plan commands (after plan commands s act) rest) (mark_next plan commands s.progress) e
 mark_there plan commands s [] act rest (suc i) size e = absurd (omega (arith, size))
 mark_there plan commands s (x ∷ start) act rest i size e =
     let u = after plan commands s x in
-    let some = parts_some plan commands u start in
     step_has (part_of_act plan commands s (action_at plan s) x) (ends_part plan commands s x) (parts_of plan commands u start)
-    (parts_of plan commands u (start ++ act ∷ rest)) i some.0 (mark_next plan commands (after_all plan commands u start).progress) some.1 size
+    (parts_of plan commands u (start ++ act ∷ rest)) i (mark_next plan commands (after_all plan commands u start).progress) (some_parts plan commands u start) size
     (λ j many. mark_there plan commands u start act rest j many e)
 
 -- Back along a chain.
@@ -192,8 +177,8 @@ module _ (plan : Plan) (commands : List Task) (scope : Scope) where
           → place_next commands (at zs).progress ≡ place_next commands (at ws).progress → ws ≡ zs
       none_between [] zs ws is go c p = is ∙ append-nil zs
       none_between (act ∷ more) zs ws is go c p =
-          absurd (not_before_equal (cycles_begun plan (at zs).progress) (place_next commands (at zs).progress) (cycles_begun plan (at ws).progress) (place_next commands (at ws).progress)
-          (subst (λ l. IsFurther plan commands (at zs) (at l)) (sym is) (send_goes_on plan commands scope zs more act go)) c p)
+          absurd (before_not_after (cycles_begun plan (at zs).progress) (cycles_begun plan (at ws).progress) (place_next commands (at zs).progress) (place_next commands (at ws).progress)
+          (subst (λ l. IsFurther plan commands (at zs) (at l)) (sym is) (send_goes_on plan commands scope zs more act go)) (inr (sym c, omega (arith, p))))
 
   -- the command at place a of this cycle was answered well among the acts `before`, as a request of the part that still goes on:
   -- after the acts `start` it was sent by `act`, with the mark of its record; since then no part ended, and no command of the
@@ -218,13 +203,10 @@ module _ (plan : Plan) (commands : List Task) (scope : Scope) where
       (same_part plan commands scope l.before l.between l.request (subst
       (λ xs. Runs plan commands (opening plan scope) xs) l.order runs) keeps (subst (λ xs. action_at plan (at xs) ≡ Send) l.order next))
 
-  -- if a chained command is to be sent, at place a + 1, `AnsweredInPart` holds of the command before it (`IsLinked`), if since
-  -- the send of that one the station has synchronized after each act, and no command of the setup was sent
+  -- if a chained command is to be sent, at place a + 1, `AnsweredInPart` holds of the command before it (`IsLinkedStill`)
   one_back : (acts : List Act) (a : ℕ) → (runs : Runs plan commands (opening plan scope) acts) → (sends : action_at plan (at acts) ≡ Send)
-      → (place : place_next commands (at acts).progress ≡ a + 1) → (l : IsLinked plan commands scope acts)
-      → (keeps : StaysBegun plan commands (at l.before) (l.request ∷ l.between)) → PreparesNothing plan commands (at l.before) (l.request ∷ l.between)
-      → AnsweredInPart acts (cycles_begun plan (at acts).progress) a
-  one_back acts a runs next place l keeps no_setup =
+      → (place : place_next commands (at acts).progress ≡ a + 1) → IsLinkedStill plan commands scope acts → AnsweredInPart acts (cycles_begun plan (at acts).progress) a
+  one_back acts a runs next place (l, keeps, no_setup) =
       let t = l.in_time in
       let b = at l.before in
       let some_cycle = (invariant_holds plan commands scope l.before).begun (needs_of plan b Send l.sends).2 in
@@ -259,14 +241,11 @@ module _ (plan : Plan) (commands : List Task) (scope : Scope) where
         no_setup = no_setup;
       }
 
-  -- `l` has the acts before the command that precedes the next one (`l.before`). If `AnsweredInPart` holds after these acts of an
-  -- earlier command of the cycle, it holds of that command still when the next one is to be sent, if since `l.before` the station
-  -- has synchronized after each act, and no command of the setup was sent
-  more_back : (acts : List Act) (a : ℕ) → (runs : Runs plan commands (opening plan scope) acts) → (sends : action_at plan (at acts) ≡ Send)
-      → (l : IsLinked plan commands scope acts) → (keeps : StaysBegun plan commands (at l.before) (l.request ∷ l.between))
-      → (no_setup : PreparesNothing plan commands (at l.before) (l.request ∷ l.between))
-      → AnsweredInPart l.before (cycles_begun plan (at l.before).progress) a → AnsweredInPart acts (cycles_begun plan (at acts).progress) a
-  more_back acts a runs next l keeps no_setup h =
+  -- a chained command is to be sent, and `it` has the acts before the command that precedes it (`it.0.before`). If
+  -- `AnsweredInPart` holds after these acts of an earlier command of the cycle, it holds of that command still
+  more_back : (acts : List Act) (a : ℕ) → (runs : Runs plan commands (opening plan scope) acts) → (sends : action_at plan (at acts) ≡ Send) → (it : IsLinkedStill plan commands scope acts)
+      → AnsweredInPart it.0.before (cycles_begun plan (at it.0.before).progress) a → AnsweredInPart acts (cycles_begun plan (at acts).progress) a
+  more_back acts a runs next (l, keeps, no_setup) h =
       let grown = records_stay plan commands scope l.before (l.request ∷ l.between) in
       record {
         its = record {
@@ -287,7 +266,7 @@ module _ (plan : Plan) (commands : List Task) (scope : Scope) where
         no_setup =
             let back = after_all-append plan commands (opening plan scope) h.start (h.act ∷ h.rest) in
             let here : after_all plan commands (at h.start) (h.act ∷ h.rest) ≡ at l.before = sym back ∙ ap at (sym h.order) in
-            prepares_none plan commands (at h.start) (h.act ∷ h.rest) (l.request ∷ l.between) h.no_setup
+            each_act_append (SendsNoSetup plan) plan commands (at h.start) (h.act ∷ h.rest) (l.request ∷ l.between) h.no_setup
             (subst (λ (x : Model). PreparesNothing plan commands x (l.request ∷ l.between)) (sym here) no_setup);
       }
 
@@ -298,12 +277,12 @@ module _ (plan : Plan) (commands : List Task) (scope : Scope) where
       → AnsweredInPart acts (cycles_begun plan (at acts).progress) a
   back_to zero a acts runs next place low chained =
       let x = chain_linked plan commands scope acts runs next (omega (arith, place, low), chained (place_next commands (at acts).progress) (omega (arith, place)) (omega arith)) in
-      one_back acts a runs next (omega (arith, place)) x.0 x.1 x.2
+      one_back acts a runs next (omega (arith, place)) x
   back_to (suc d) a acts runs next place low chained =
       let x = chain_linked plan commands scope acts runs next (omega (arith, place, low), chained (place_next commands (at acts).progress) (omega (arith, place)) (omega arith)) in
       let l = x.0 in
       let on : place_next commands (at acts).progress ≡ place_next commands (at l.before).progress + 1 = l.place in
-      more_back acts a runs next l x.1 x.2
+      more_back acts a runs next x
       (back_to d a l.before (runs_front plan commands (opening plan scope) l.before (l.request ∷ l.between)
       (subst (λ xs. Runs plan commands (opening plan scope) xs) l.order runs)) l.sends (omega (arith, on, place)) low
       (λ p above upto. chained p above (omega (arith, on, upto))))

@@ -65,10 +65,10 @@ any_append reads commands (x ∷ xs) ys b = any_append reads commands xs ys ((if
 
 -- if `any_listed` holds of records, one of them ended as its rule names, with no attempt begun after it (`HasListed`); or b is
 -- true, and none of them begins an attempt
-has_of : (reads : Asked → List ℕ → Reading) (commands : List Task) (rs : List Record) (b : Bool) → any_listed reads commands b rs ≡ true
+listed_or_before : (reads : Asked → List ℕ → Reading) (commands : List Task) (rs : List Record) (b : Bool) → any_listed reads commands b rs ≡ true
     → ((b ≡ true) × BeginNoAttempt rs) ⊎ HasListed reads commands rs
-has_of reads commands [] b e = inl (e, tt)
-has_of reads commands (r ∷ rs) b e = by_rest (has_of reads commands rs ((if nat_eq r.turn.link 0 then false else b) || is_listed reads commands r) e) where
+listed_or_before reads commands [] b e = inl (e, tt)
+listed_or_before reads commands (r ∷ rs) b e = by_rest (listed_or_before reads commands rs ((if nat_eq r.turn.link 0 then false else b) || is_listed reads commands r) e) where
   -- the lemma above for the first record, by its tests
   by_tests : (first listed : Bool) → nat_eq r.turn.link 0 ≡ first → is_listed reads commands r ≡ listed → ((if first then false else b) || listed) ≡ true → BeginNoAttempt rs
       → ((b ≡ true) × BeginNoAttempt (r ∷ rs)) ⊎ HasListed reads commands (r ∷ rs)
@@ -85,7 +85,7 @@ has_of reads commands (r ∷ rs) b e = by_rest (has_of reads commands rs ((if na
 -- if `any_listed` holds of records, with none before them, one of them ended as its rule names, with no attempt begun after it
 -- (`HasListed`)
 pub listed_has : (reads : Asked → List ℕ → Reading) (commands : List Task) (rs : List Record) → any_listed reads commands false rs ≡ true → HasListed reads commands rs
-listed_has reads commands rs e = by_case (has_of reads commands rs false e) where
+listed_has reads commands rs e = by_case (listed_or_before reads commands rs false e) where
   -- the lemma above, of which one case can't be
   by_case : ((false ≡ true) × BeginNoAttempt rs) ⊎ HasListed reads commands rs → HasListed reads commands rs
   by_case (inl it) = cc
@@ -113,6 +113,16 @@ has_listed reads commands rs b h =
 abbrev pub expected_as : Bool → ℕ → Expected → Expected
 expected_as true attempt expected = in_attempt attempt expected
 expected_as false attempt expected = expected
+
+-- the target's place in `expected_as` is that of the command
+pub near_expected : (is_setup : Bool) (attempt : ℕ) (expected : Expected) → (expected_as is_setup attempt expected).near ≡ expected.near
+near_expected true attempt expected = refl
+near_expected false attempt expected = refl
+
+-- the accepted return codes in `expected_as` are those of the command
+pub accepted_expected : (is_setup : Bool) (attempt : ℕ) (expected : Expected) → (expected_as is_setup attempt expected).accepted ≡ expected.accepted
+accepted_expected true attempt expected = refl
+accepted_expected false attempt expected = refl
 
 -- the turn in `expected_as` is that of the command (`turn_as`)
 pub turn_expected : (is_setup : Bool) (attempt : ℕ) (expected : Expected) → (expected_as is_setup attempt expected).turn ≡ turn_as is_setup attempt expected.turn

@@ -3,7 +3,8 @@
 use Rattle.std.proofs.Common.{◌≡◌, ℕ, zero, suc, ◌+◌, ◌<◌, ◌≤◌, List, [], ◌∷◌, ◌++◌, length, drop, map, Some, refl, sym, ap, ◌∙◌, subst, arith, append_assoc, ◌⊎◌, inl, inr}
 use Rattle.std.specs.Prelude.{slice_get}
 use Rattle.std.specs.List.{AllByRecursion}
-pub use Rattle.gc_lines.proofs.Lists.{all_append, all_on, all_at, get_more, cons_head, cons_tail}
+pub use Rattle.gc_lines.proofs.Lists.{all_append, all_at, get_more, cons_head, cons_tail}
+pub use Rattle.gc_values.proofs.Every.{every_weaker as all_on}
 
 -- what is at place n of two lists in a row is what is at place k of the second, if n is k more than the length of the first
 pub get_behind : {A : Type 0} (xs ys : List A) (n k : ℕ) → n ≡ length xs + k → slice_get (xs ++ ys) n ≡ slice_get ys k
@@ -17,12 +18,6 @@ get_dropped zero n j xs x e got = let same : j ≡ n = omega (arith, e) in subst
 get_dropped (suc k) n zero xs x e got = absurd (omega (arith, e))
 get_dropped (suc k) n (suc j) [] x e got = cc
 get_dropped (suc k) n (suc j) (y ∷ xs) x e got = get_dropped k n j xs x (omega (arith, e)) got
-
--- what holds of each element of a list holds of each after the first n
-pub all_drop : {A : Type 0} (P : A → Type 0) (n : ℕ) (xs : List A) → AllByRecursion P xs → AllByRecursion P (drop n xs)
-all_drop P zero xs all = all
-all_drop P (suc n) [] all = tt
-all_drop P (suc n) (x ∷ xs) all = all_drop P n xs all.1
 
 -- if Q follows from P for each element of the list `all`, with what comes before and after it there, and P holds of all elements
 -- of `xs`, with which `all` ends, Q holds of them, too

@@ -31,7 +31,7 @@ use Rattle.gc_station.specs.Reasons.{HoldsBefore}
 use Rattle.gc_station.specs.Records.{Record}
 use Rattle.gc_station.specs.Runs.{state_after}
 use Rattle.gc_station.specs.ActKinds.{Puts}
-use Rattle.gc_station.specs.Model.{Model, opening, action_at, waiting_of, request_text, Performs, with_progress, asks_next, after_put, moved, losing, ended, after, IsSending, asks_setup}
+use Rattle.gc_station.specs.Model.{Model, opening, action_at, waiting_of, request_text, Performs, with_progress, asks_next, after_put, moved, losing, ended, after, SendsCommand, IsSending, asks_setup}
 use Rattle.gc_station.specs.NextCommand.{is_chained_after_next, others_after_next}
 use Rattle.gc_station.proofs.Counts.{ended_progress}
 use Rattle.gc_station.proofs.Facts.{action_for, or_first}
@@ -54,7 +54,7 @@ Unwritten marks = (reads : Asked → List ℕ → Reading) (utc : ℕ) (settleme
 unwritten_none : (marks : List (Option Mark)) → marks ≡ [] → Unwritten marks
 unwritten_none marks is reads utc settlements = ap (λ (ms : List (Option Mark)). records_of reads utc ms settlements) is
 
--- if no act follows, the run stops for some cause
+-- if the run is over, the next action is to stop, for some cause
 over_stops : (plan : Plan) (p : Progress) (w : Waiting) → is_over p ≡ true → (why : Cause) × (action_of plan p w ≡ actions.Stop why)
 over_stops plan p w over = by_phase p.phase refl over where
   -- without a connection and a turn, a run stops because its turns are used up
@@ -93,7 +93,7 @@ sending_loses_none : (plan : Plan) (commands : List Task) (s : Model) (act : Act
     → loses_all (moved plan commands (action_at plan s) (with_progress turned s) act).progress ≡ false
 sending_loses_none plan commands s act sends = by_action (action_at plan s) sends (action_for plan s.progress (waiting_of s)) where
   -- the lemma above, by the action
-  by_action : (next : Action) → (next ≡ actions.Send) ⊎ (next ≡ actions.Prepare) → HoldsBefore plan s.progress (waiting_of s) next
+  by_action : (next : Action) → SendsCommand next → HoldsBefore plan s.progress (waiting_of s) next
       → loses_all (moved plan commands next (with_progress turned s) act).progress ≡ false
   by_action actions.Send is needs =
       let t = with_progress turned s in
@@ -175,10 +175,10 @@ module _ (plan : Plan) (commands : List Task) (scope : Scope) (acts : List Act) 
 
   -- if all outstanding requests are lost at the act, and `EndsPart` holds, each record that the act writes of them is true
   -- (`IsJustified`)
-  lost_true : (r : Record) (news earlier later : List Record) → (loses : loses_all t.progress ≡ true) → (why : EndsPart)
+  lost_justified : (r : Record) (news earlier later : List Record) → (loses : loses_all t.progress ≡ true) → (why : EndsPart)
       → (ends : (state_after plan commands scope all).records ≡ (s.records ++ news) ++ (earlier ++ r ∷ later)) → IsLostRecord plan commands scope all r
       → IsJustified plan commands scope all r
-  lost_true r news earlier later loses why ends it = record {
+  lost_justified r news earlier later loses why ends it = record {
     answered = λ line e. absurd (not_answered line (sym outcome ∙ was_answered r it.1 it.5 line e));
     late = λ e. absurd (not_late (sym outcome ∙ was_late r it.1 it.5 e));
     lost = λ e. on (cut_at acts a.before a.between act a.request a.order);
@@ -269,7 +269,7 @@ module _ (plan : Plan) (commands : List Task) (scope : Scope) (acts : List Act) 
         let grew = moved_grew plan commands (action_at plan s) (with_progress turned s) act in
         all_split (IsLostRecord plan commands scope all) (IsJustified plan commands scope all) [] written written refl
         (λ (earlier : List Record) (r : Record) (later : List Record) at is.
-        lost_true r grew.0 earlier later loses why (ends loses grew.0 grew.1 ∙ ap (λ xs. (s.records ++ grew.0) ++ xs) (sym at)) is) of_lost
+        lost_justified r grew.0 earlier later loses why (ends loses grew.0 grew.1 ∙ ap (λ xs. (s.records ++ grew.0) ++ xs) (sym at)) is) of_lost
 
     -- the lemma above, by whether all outstanding requests are lost (`true`)
     by_test : (b : Bool) → loses_all t.progress ≡ b → IsHonest plan commands scope all all (losing b t)

@@ -27,8 +27,8 @@ use Rattle.gc_station.specs.Marks.{is_well, last_well}
 use Rattle.gc_station.specs.Progressing.{failing, skipped_at}
 use Rattle.gc_station.specs.Records.{Record}
 use Rattle.gc_station.specs.ActKinds.{Puts, IsReading}
-use Rattle.gc_station.specs.Model.{Model, client_sent, sent_to, asks, asks_first, first_unsent_record, with_progress, with_listed, with_records, after_put, after_read, asks_or_null, text_or_null, request_text}
-use Rattle.gc_station.specs.Stations.{Refines, Took, ComesTo, cut_progress, seen, setup_asked, station_asking, Does, Moves}
+use Rattle.gc_station.specs.Model.{Model, client_sent, sent_to, asks, asks_first, first_unsent_record, with_progress, with_listed, with_more_records, after_put, after_read, asks_or_null, text_or_null, request_text}
+use Rattle.gc_station.specs.Stations.{Refines, Took, cut_progress, seen, setup_asked, station_asking, Does, Moves, Becomes}
 use Rattle.gc_station.specs.Scopes.{AreReadings}
 use Rattle.gc_station.specs.Tallies.{nothing_yet, tallied}
 use Rattle.gc_station.specs.declared.station.sending.Outgoing.{Outgoing}
@@ -173,7 +173,7 @@ skips_as p m mark mark' utc end list task others is e at ends =
     ∙ sym (ap (first_unsent_record p m mark') is)
 
 -- neither ending of a command that isn't sent, as missed or as skipped, is that of one that was answered well
-unwell_end : (missed : Bool) → is_well (if missed then Missed else Skipped) ≡ false
+pub unwell_end : (missed : Bool) → is_well (if missed then Missed else Skipped) ≡ false
 unwell_end true = refl
 unwell_end false = refl
 
@@ -187,7 +187,7 @@ skips_unwell b p m mark list task others is = ap (λ ts. last_well b (first_unse
 -- before them, then `old` with these records counted, and `b` as `listed`, is as `s` with these records, and b' as `listed`. b
 -- and b' are equal if what `s` has for `reads` is right (`AreReadings`)
 pub skipped_refines : (old new : Station) (s : Model) (rs : List Record) (b b' : Bool) → Refines old s → ((b : Bool) → last_well b rs ≡ false) → (AreReadings s.reads → b ≡ b')
-    → new ≡ record old { recorded = record old.recorded { tally = tallied old.recorded.tally rs; well = false; listed = b } } → Refines new (with_listed b' (with_records rs s))
+    → new ≡ record old { recorded = record old.recorded { tally = tallied old.recorded.tally rs; well = false; listed = b } } → Refines new (with_listed b' (with_more_records rs s))
 skipped_refines old new s rs b b' stands unwell same is = record {
   progress = ap (λ (n : Station). n.progress) is ∙ stands.progress;
   ids = ap (λ (n : Station). n.client.ids) is ∙ stands.ids;
@@ -202,25 +202,24 @@ skipped_refines old new s rs b b' stands unwell same is = record {
 }
 
 -- a model to which no records are added is as it was
-pub with_no_records : (s : Model) → with_records [] s ≡ s
+pub with_no_records : (s : Model) → with_more_records [] s ≡ s
 with_no_records s = ap (λ (rs : List Record). record s { records = rs }) (append-nil s.records)
 
 -- A read.
 
--- `Does` holds of a read, if the link recorded one act, which is a read, and after it the station is as the model after the read,
--- and the book has that model's records
-pub makes_read : (plan : Plan) (commands : List Task) (until : Until) (text : Record → List ℕ) (told told' : Option (List Act))
-    (taken taken' : Option (List ℕ)) (station new : Station) (act : Act) → Tells told told' (act ∷ []) → IsReading act
-    → ((s : Model) (start : Option (List ℕ)) → Refines station s → Took text start taken s → Refines new (after_read plan until s act) × Took text start taken' (after_read plan until s act))
-    → Does plan commands (Read until) (seen told text taken station) (seen told' text taken' new)
-makes_read plan commands until text told told' taken taken' station new act tells reads goes =
-    record { act = act; tells = tells; goes = λ s start stands so. let g = goes s start stands so in (reads, g.0, g.1) }
+-- from `station` to `new`, the link recorded one act, which is a read
+module _ (plan : Plan) (commands : List Task) (until : Until) (text : Record → List ℕ) (told told' : Option (List Act)) (taken taken' : Option (List ℕ))
+    (station new : Station) (act : Act) where
+  -- `Does` holds of the read, if after it the station is as the model after the read, and the book has that model's records
+  pub makes_read : Tells told told' (act ∷ []) → IsReading act
+      → ((s : Model) (start : Option (List ℕ)) → Refines station s → Took text start taken s → Refines new (after_read plan until s act) × Took text start taken' (after_read plan until s act))
+      → Does plan commands (Read until) (seen told text taken station) (seen told' text taken' new)
+  makes_read tells reads goes = record { act = act; tells = tells; goes = λ s start stands so. let g = goes s start stands so in (reads, g.0, g.1) }
 
--- `Moves` holds of a read with this result, if the link recorded one act, which is a read, and after it the station is as the
--- model after the read, and the book has that model's records; or the book failed at one of them (`ComesTo`)
-pub made_read : {X E : Type 0} (plan : Plan) (commands : List Task) (until : Until) (text : Record → List ℕ) (told told' : Option (List Act))
-    (taken taken' : Option (List ℕ)) (station new : Station) (act : Act) (result : Result X E) → Tells told told' (act ∷ []) → IsReading act
-    → ((s : Model) (start : Option (List ℕ)) → Refines station s → Took text start taken s → ComesTo text s.records new start taken' (after_read plan until s act) result)
-    → Moves plan commands (Read until) (seen told text taken station) (seen told' text taken' new) result
-made_read plan commands until text told told' taken taken' station new act (Ok r) tells reads goes = makes_read plan commands until text told told' taken taken' station new act tells reads goes
-made_read plan commands until text told told' taken taken' station new act (Err r) tells reads goes = record { act = act; tells = tells; goes = λ s start stands so. (reads, goes s start stands so) }
+  -- `Moves` holds of the read with this result, if after it the station is as the model after the read, and the book has that
+  -- model's records, or failed at one of them (`Becomes`)
+  pub made_read : {X E : Type 0} (result : Result X E) → Tells told told' (act ∷ []) → IsReading act
+      → Becomes (λ (s : Model). after_read plan until s act) text taken taken' station new result
+      → Moves plan commands (Read until) (seen told text taken station) (seen told' text taken' new) result
+  made_read (Ok r) tells reads goes = makes_read tells reads goes
+  made_read (Err r) tells reads goes = record { act = act; tells = tells; goes = λ s start stands so. (reads, goes s start stands so) }

@@ -123,34 +123,34 @@ heard_ended P c marks line (Some id) all = by_test (place_in c id) refl (nat_lt 
   by_test k is false fits = tt
 
 -- `x` is what a line settled: `count` of the requests that waited, the oldest; the others wait on, and the client's next id stays
-pub record Left (c : ById Asked) (x : Settled Asked (ById Asked)) : Type 0 where
+pub record SettlesOldest (c : ById Asked) (x : Settled Asked (ById Asked)) : Type 0 where
   pub count : ℕ
   pub enough : count ≤ length c.waiting
   pub next : x.client.next ≡ c.next
   pub waiting : x.client.waiting ≡ drop count c.waiting
   pub settled : length x.settlements ≡ count
 
--- `Left` holds after any line
-pub heard_left : (c : ById Asked) (line : List ℕ) (o : Option ℕ) → Left c (hears c line o)
-heard_left c line None = record { count = 0; enough = omega arith; next = refl; waiting = refl; settled = refl }
-heard_left c line (Some id) = by_test (place_in c id) (nat_lt (place_in c id) (length c.waiting)) refl where
+-- `SettlesOldest` holds after any line
+pub hears_settles_oldest : (c : ById Asked) (line : List ℕ) (o : Option ℕ) → SettlesOldest c (hears c line o)
+hears_settles_oldest c line None = record { count = 0; enough = omega arith; next = refl; waiting = refl; settled = refl }
+hears_settles_oldest c line (Some id) = by_test (place_in c id) (nat_lt (place_in c id) (length c.waiting)) refl where
   -- the lemma above, by whether the id is of an outstanding request (`true`)
-  by_test : (k : ℕ) (b : Bool) → nat_lt k (length c.waiting) ≡ b → Left c (id_settled c line k b)
+  by_test : (k : ℕ) (b : Bool) → nat_lt k (length c.waiting) ≡ b → SettlesOldest c (id_settled c line k b)
   by_test k true fits = let low = ltb-true k (length c.waiting) fits in record { count = k + 1; enough = omega (arith, low); next = refl; waiting = refl; settled = length-settle k line c.waiting low }
   by_test k false fits = record { count = 0; enough = omega arith; next = refl; waiting = refl; settled = refl }
 
--- where `Left` holds, as many requests wait after the line as waited before it, less the `count` that it settled
-pub left_count : (c : ById Asked) (x : Settled Asked (ById Asked)) (l : Left c x) → length x.client.waiting ≡ length c.waiting - l.count
+-- where `SettlesOldest` holds, as many requests wait after the line as waited before it, less the `count` that it settled
+pub left_count : (c : ById Asked) (x : Settled Asked (ById Asked)) (l : SettlesOldest c x) → length x.client.waiting ≡ length c.waiting - l.count
 left_count c x l = ap length l.waiting ∙ length-drop l.count c.waiting
 
--- a line after which `Left` holds preserves `IsWithinLimits`
-pub left_window : (c : ById Asked) (x : Settled Asked (ById Asked)) → Left c x → IsWithinLimits c → IsWithinLimits x.client
+-- a line after which `SettlesOldest` holds preserves `IsWithinLimits`
+pub left_window : (c : ById Asked) (x : Settled Asked (ById Asked)) → SettlesOldest c x → IsWithinLimits c → IsWithinLimits x.client
 left_window c x l w = let many = left_count c x l in record { digit = subst (λ (n : ℕ). n < 8) (sym l.next) w.digit; few = omega (arith, many, w.few) }
 
 -- the requests that a line leaves waiting are as they were (`WaitsAt`), with the same numbers, at places that are lower by as
 -- many requests as the line settled
 pub left_waits : (plan : Plan) (commands : List Task) (scope : Scope) (acts : List Act) (first : ById Asked) (now : ℕ) (c : ById Asked) (x : Settled Asked (ById Asked))
-    (marks : List (Option Mark)) → Left c x → IsWithinLimits c
+    (marks : List (Option Mark)) → SettlesOldest c x → IsWithinLimits c
     → AllRisingAt (WaitsAt plan commands scope acts first now c.next (length c.waiting)) 0 0 c.waiting marks
     → AllRisingAt (WaitsAt plan commands scope acts first now x.client.next (length x.client.waiting)) 0 0 x.client.waiting (drop (length x.settlements) marks)
 left_waits plan commands scope acts first now c x marks l w all =

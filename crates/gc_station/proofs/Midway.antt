@@ -37,7 +37,7 @@ use Rattle.gc_station.specs.Model.{Model, client_sent, losing, ended, cycle_leng
 use Rattle.gc_station.proofs.Each.{each_moment, each_settles, each_null, each_sent, each_skipped, sent_past, sent_next, sent_whole, sent_none, each_prepared, row}
 use Rattle.gc_station.proofs.Invariant.{Invariant, is_bare, says_done}
 use Rattle.gc_station.proofs.Lists.{all_append}
-use Rattle.gc_station.proofs.Tasked.{own_more, own_settled, settled_tasked, unsent_tasked}
+use Rattle.gc_station.proofs.Tasked.{marks_ask_more, marks_ask_settled, settled_tasked, unsent_tasked}
 
 -- what a station has of its commands: `left` cycles haven't begun, and `unsent` commands of the present one haven't had their
 -- turn; requests are outstanding at the client, with their marks; records were written, and commands left out (`passes`)
@@ -151,7 +151,7 @@ sound_settles reads plan commands b next utc ss parts low sound =
       digit = low;
       each = interleave_by_equal _ _ _ _ (each_settles reads commands utc b.marks b.client.waiting next.waiting ss b.records
           (of_text commands (row b.marks b.client.waiting b.records)) parts refl) sound.each;
-      own = own_settled commands b.marks ss waits all;
+      own = marks_ask_settled commands b.marks ss waits all;
       tasked = all_append (IsOfItsTask commands) b.records _ sound.tasked (settled_tasked reads commands utc b.marks ss waits all);
     }
 
@@ -169,10 +169,15 @@ client_behind client target call deadline room =
 paired_more : (marks : List (Option Mark)) (ws : List (Pending Asked)) (m : Option Mark) (p : Pending Asked) → length marks ≡ length ws → length (marks ++ m ∷ []) ≡ length (ws ++ p ∷ [])
 paired_more marks ws m p paired = length-append marks (m ∷ []) ∙ ap (λ n. n + 1) paired ∙ sym (length-append ws (p ∷ []))
 
+-- the ledger b once the client sent a request with this target, call and deadline, unless it refused it; the request has this
+-- mark
+abbrev pub with_request : Ledger → (target : ℕ) → Asked → (deadline : ℕ) → Option Mark → Ledger
+with_request b target call deadline mark = record b { client = client_sent b.client (sends WINDOW b.client target call deadline); marks = b.marks ++ mark ∷ [] }
+
 -- to send a null procedure for no target (`MarkAsks` without a mark), for which there is room, preserves `Sound`
 pub sound_null : (plan : Plan) (commands : List Task) (b : Ledger) (target : ℕ) (call : Asked) (deadline : ℕ)
     → length b.client.waiting < 7 → MarkAsks commands None (record { target = target; call = call }) → Sound plan commands b
-    → Sound plan commands (record b { client = client_sent b.client (sends WINDOW b.client target call deadline); marks = b.marks ++ None ∷ [] })
+    → Sound plan commands (with_request b target call deadline None)
 sound_null plan commands b target call deadline room is sound =
     let p = pending_of target call deadline in
     let more : length (b.client.waiting ++ p ∷ []) ≡ length b.client.waiting + 1 = length-append b.client.waiting (p ∷ []) in
@@ -185,18 +190,18 @@ sound_null plan commands b target call deadline room is sound =
       digit = mod-lt (b.client.next + 1) (omega arith);
       each = interleave_by_equal _ _ _ _
           (each_null commands b.marks b.client.waiting p b.records (of_text commands (row b.marks b.client.waiting b.records)) sound.paired refl) sound.each;
-      own = own_more commands b.marks b.client.waiting None p sound.own is;
+      own = marks_ask_more commands b.marks b.client.waiting None p sound.own is;
       tasked = sound.tasked;
     })
+
+-- the mark of the cycle's next command in the ledger b, if it is sent at the moment `utc`
+abbrev pub next_mark : Plan → List Task → Ledger → (utc : ℕ) → Expected → Mark
+next_mark plan commands b utc expected = record { cycle = plan.cycles - b.left; place = length commands - b.unsent; sent = utc; expected = expected }
 
 -- to send the cycle's next command, `task`, for which there is room, preserves `Sound`, with one command fewer unsent
 pub sound_sent : (plan : Plan) (commands : List Task) (b : Ledger) (utc deadline : ℕ) (expected : Expected) (task : Task) (others : List Task)
     → length b.client.waiting < 7 → 0 < b.unsent → drop (length commands - b.unsent) commands ≡ task ∷ others → Sound plan commands b
-    → Sound plan commands (record b {
-      unsent = b.unsent - 1;
-      client = client_sent b.client (sends WINDOW b.client task.command.target (call_at task utc) deadline);
-      marks = b.marks ++ Some (record { cycle = plan.cycles - b.left; place = length commands - b.unsent; sent = utc; expected = expected }) ∷ [];
-    })
+    → Sound plan commands (with_request (record b { unsent = b.unsent - 1 }) task.command.target (call_at task utc) deadline (Some (next_mark plan commands b utc expected)))
 sound_sent plan commands b utc deadline expected task others room some at sound =
     let p = pending_of task.command.target (call_at task utc) deadline in
     let begun = plan.cycles - b.left in
@@ -213,7 +218,7 @@ sound_sent plan commands b utc deadline expected task others room some at sound 
     (commands_reached plan.setup commands begun (place + 1)) =
     subst (λ (xs : List Request). Interleave (of_text commands (row (b.marks ++ Some mark ∷ []) (b.client.waiting ++ p ∷ []) b.records)) b.passes xs)
     (sent_next plan.setup commands begun place task others at within many)
-    (interleave_by_equal _ _ _ _ (each_sent commands begun place utc expected b.marks b.client.waiting p b.records task others sound.paired at refl many kept refl)
+    (interleave_by_equal _ _ _ _ (each_sent commands mark b.marks b.client.waiting p b.records task others sound.paired at refl many kept refl)
     (interleave_more kept b.passes (commands_reached plan.setup commands begun place) one sound.each)) in
     subst (λ (c : ById Asked). Sound plan commands (record b { unsent = b.unsent - 1; client = c; marks = b.marks ++ Some mark ∷ [] }))
     (sym (client_behind b.client task.command.target (call_at task utc) deadline room)) (record {
@@ -225,14 +230,14 @@ sound_sent plan commands b utc deadline expected task others room some at sound 
       digit = mod-lt (b.client.next + 1) (omega arith);
       each = subst (λ (n : ℕ). Interleave (of_text commands (row (b.marks ++ Some mark ∷ []) (b.client.waiting ++ p ∷ []) b.records)) b.passes
           (commands_reached plan.setup commands begun n)) (sym place_is) each;
-      own = own_more commands b.marks b.client.waiting (Some mark) p sound.own (task, head_of_drop commands place task others at, refl);
+      own = marks_ask_more commands b.marks b.client.waiting (Some mark) p sound.own (task, head_of_drop commands place task others at, refl);
       tasked = sound.tasked;
     })
 
 -- to send `task`, a command of the setup for which there is room, with a mark of cycle 0 and of its place, preserves `Sound`
 pub sound_prepared : (plan : Plan) (commands : List Task) (b : Ledger) (deadline : ℕ) (mark : Mark) (task : Task)
     → length b.client.waiting < 7 → mark.cycle ≡ 0 → slice_get commands mark.place ≡ Some task → Sound plan commands b
-    → Sound plan commands (record b { client = client_sent b.client (sends WINDOW b.client task.command.target (call_at task mark.sent) deadline); marks = b.marks ++ Some mark ∷ [] })
+    → Sound plan commands (with_request b task.command.target (call_at task mark.sent) deadline (Some mark))
 sound_prepared plan commands b deadline mark task room none at sound =
     let p = pending_of task.command.target (call_at task mark.sent) deadline in
     let more : length (b.client.waiting ++ p ∷ []) ≡ length b.client.waiting + 1 = length-append b.client.waiting (p ∷ []) in
@@ -246,20 +251,20 @@ sound_prepared plan commands b deadline mark task room none at sound =
       digit = mod-lt (b.client.next + 1) (omega arith);
       each = interleave_by_equal _ _ _ _ (each_prepared commands mark b.marks b.client.waiting p b.records
           (of_text commands (row b.marks b.client.waiting b.records)) none sound.paired refl) sound.each;
-      own = own_more commands b.marks b.client.waiting (Some mark) p sound.own (task, at, refl);
+      own = marks_ask_more commands b.marks b.client.waiting (Some mark) p sound.own (task, at, refl);
       tasked = sound.tasked;
     })
+
+-- the record of the cycle's next command in the ledger b, `task`, with the ending `end` of a command that isn't sent
+abbrev pub unsent_next : Plan → List Task → Ledger → (utc : ℕ) → End → Turn → Task → Record
+unsent_next plan commands b utc end turn task =
+    record { sent = None; utc = utc; cycle = plan.cycles - b.left; place = length commands - b.unsent; turn = turn; command = task.command; end = end }
 
 -- to record the cycle's next command, `task`, with an ending of one that isn't sent, while no command is outstanding, preserves
 -- `Sound`, with one command fewer unsent
 pub sound_skipped : (plan : Plan) (commands : List Task) (b : Ledger) (utc : ℕ) (end : End) (turn : Turn) (task : Task) (others : List Task)
     → (none : commands_in b.marks ≡ 0) → (some : 0 < b.unsent) → (there : drop (length commands - b.unsent) commands ≡ task ∷ others) → (out : went_out end ≡ false)
-    → Sound plan commands b
-    → Sound plan commands (record b {
-      unsent = b.unsent - 1;
-      records = b.records ++ record
-          { sent = None; utc = utc; cycle = plan.cycles - b.left; place = length commands - b.unsent; turn = turn; command = task.command; end = end } ∷ [];
-    })
+    → Sound plan commands b → Sound plan commands (record b { unsent = b.unsent - 1; records = b.records ++ unsent_next plan commands b utc end turn task ∷ [] })
 sound_skipped plan commands b utc end turn task others none some at out sound =
     let begun = plan.cycles - b.left in
     let place = length commands - b.unsent in
@@ -343,9 +348,9 @@ sound_begun plan commands b none some sound =
 -- The end of what is outstanding.
 
 -- if not all outstanding requests are to be lost (`loses_all`), the station has synchronized (a), and the run isn't over (o)
-pub kept_for : (a o : Bool) → (not a || o) ≡ false → (a ≡ true) × (o ≡ false)
-kept_for true o e = (refl, e)
-kept_for false o e = cc
+pub none_lost_parts : (a o : Bool) → (not a || o) ≡ false → (a ≡ true) × (o ≡ false)
+none_lost_parts true o e = (refl, e)
+none_lost_parts false o e = cc
 
 -- if the counts are those of a run that is done, as `Placed` has them, and the run isn't over, no command is outstanding
 still_finished : (p : Progress) (marks : List (Option Mark)) → is_over p ≡ false
@@ -378,7 +383,7 @@ invariant_losing plan commands s true is (sound, placed) =
     }
 invariant_losing plan commands s false is (sound, placed) =
     let p = s.progress in
-    let kept = kept_for (has_begun p) (is_over p) is in
+    let kept = none_lost_parts (has_begun p) (is_over p) is in
     record {
       unsent = sound.unsents;
       left = sound.lefts;

@@ -158,21 +158,30 @@ module _ (plan : Plan) (commands : List Task) (scope : Scope) where
         later = later;
       })
 
-  -- a silence goes on after an act that reads the moment m, only listens, stays on the connection and brings no reply line; or it
-  -- starts again there if the clock went back to before `alive` (`rises` is false)
-  muted_clock : (asked : Bool) (alive now : ℕ) (m : Moment) (acts : List Act) (act : Act) (rises : Bool) → (is : nat_le alive m.elapsed ≡ rises) → (tells : TellsMoment m.elapsed act)
-      → (reads_it : latest now (act ∷ []) ≡ m.elapsed) → (stays : StaysConnected act) → (listens : IsListening act)
-      → (none : BringsNoReply (state_after plan commands scope acts).rest act) → IsMuted asked alive now acts → IsMuted asked (min alive m.elapsed) m.elapsed (acts ++ act ∷ [])
-  muted_clock asked alive now m acts act true e tells is stays listens none q =
+  -- after these acts `act` reads the moment `told`, only listens, stays on the connection and brings no reply line; `now` is the
+  -- moment read before it
+  record ReadsInSilence (now told : ℕ) (acts : List Act) (act : Act) : Type 0 where
+    tells : TellsMoment told act
+    reads_it : latest now (act ∷ []) ≡ told
+    stays : StaysConnected act
+    listens : IsListening act
+    none : BringsNoReply (state_after plan commands scope acts).rest act
+
+  -- a silence goes on after an act that is `ReadsInSilence`; or it starts again there if the clock went back to before `alive`
+  -- (`rises` is false)
+  muted_clock : (asked : Bool) (alive now : ℕ) (m : Moment) (acts : List Act) (act : Act) (rises : Bool) → (is : nat_le alive m.elapsed ≡ rises)
+      → ReadsInSilence now m.elapsed acts act → IsMuted asked alive now acts → IsMuted asked (min alive m.elapsed) m.elapsed (acts ++ act ∷ [])
+  muted_clock asked alive now m acts act true e r q =
+      let is = r.reads_it in
       let low = leb-true alive m.elapsed e in
       let least : alive ≤ latest now (act ∷ []) = omega (arith, is, low) in
       subst (λ n. IsMuted asked n m.elapsed (acts ++ act ∷ [])) (sym (min-eq_left low))
-      (subst (λ n. IsMuted asked alive n (acts ++ act ∷ [])) is (muted_on asked alive now acts act stays none (λ before behind asks. asks_on asked alive before behind act listens asks) least q))
-  muted_clock asked alive now m acts act false e tells is stays listens none q =
+      (subst (λ n. IsMuted asked alive n (acts ++ act ∷ [])) is (muted_on asked alive now acts act r.stays r.none (λ before behind asks. asks_on asked alive before behind act r.listens asks) least q))
+  muted_clock asked alive now m acts act false e r q =
       let low = leb-false alive m.elapsed e in
       let below : m.elapsed < alive = omega (arith, low) in
       let less : m.elapsed ≤ alive = omega (arith, low) in
-      subst (λ n. IsMuted asked n m.elapsed (acts ++ act ∷ [])) (sym (min-eq_right less)) (muted_from asked m.elapsed acts act tells (went_back asked alive now m.elapsed acts below q))
+      subst (λ n. IsMuted asked n m.elapsed (acts ++ act ∷ [])) (sym (min-eq_right less)) (muted_from asked m.elapsed acts act r.tells (went_back asked alive now m.elapsed acts below q))
 
   -- By the phase.
 
@@ -208,15 +217,13 @@ module _ (plan : Plan) (commands : List Task) (scope : Scope) where
   mute_none sought asked alive now phase.Ready acts none = cc
   mute_none sought asked alive now at acts none = tt
 
-  -- `Mute` is preserved by an act that reads the moment m, only listens, stays on the connection and brings no reply line. After
-  -- it `sought'` may stand for `sought`, if in the phase `Ready` it is true only where `sought` is
-  mute_told : (sought sought' asked : Bool) (alive now : ℕ) (m : Moment) (at : Phase) (acts : List Act) (act : Act)
-      → (back : at ≡ phase.Ready → sought' ≡ true → sought ≡ true) → (tells : TellsMoment m.elapsed act) → (reads_it : latest now (act ∷ []) ≡ m.elapsed) → (stays : StaysConnected act)
-      → (listens : IsListening act)
-      → (none : BringsNoReply (state_after plan commands scope acts).rest act) → Mute sought asked alive now at acts → Mute sought' asked (min alive m.elapsed) m.elapsed at (acts ++ act ∷ [])
-  mute_told sought sought' asked alive now m phase.Ready acts act back tells is stays listens none q =
-      λ so. muted_clock asked alive now m acts act (nat_le alive m.elapsed) refl tells is stays listens none (q (back refl so))
-  mute_told sought sought' asked alive now m at acts act back tells is stays listens none q = tt
+  -- `Mute` is preserved by an act that is `ReadsInSilence`. After it `sought'` may stand for `sought`, if in the phase `Ready`
+  -- it is true only where `sought` is
+  mute_told : (sought sought' asked : Bool) (alive now : ℕ) (m : Moment) (at : Phase) (acts : List Act) (act : Act) → (back : at ≡ phase.Ready → sought' ≡ true → sought ≡ true)
+      → ReadsInSilence now m.elapsed acts act → Mute sought asked alive now at acts → Mute sought' asked (min alive m.elapsed) m.elapsed at (acts ++ act ∷ [])
+  mute_told sought sought' asked alive now m phase.Ready acts act back r q =
+      λ so. muted_clock asked alive now m acts act (nat_le alive m.elapsed) refl r (q (back refl so))
+  mute_told sought sought' asked alive now m at acts act back r q = tt
 
   -- after a piece, of whose lines `SilentOver` holds up to q, there is a silence, as q says
   heard_mute : (s : Model) (bytes : List ℕ) (m : Moment) (acts : List Act) (q : Progress) → (state_after plan commands scope acts).rest ≡ s.rest → q.moment.elapsed ≡ m.elapsed
@@ -233,7 +240,8 @@ module _ (plan : Plan) (commands : List Task) (scope : Scope) where
     by_alive (inl none) =
         let quiet = subst (λ r. AllByRecursion IsNoReply (lines_completed r bytes)) (sym rest) none.0 in
         carried s.progress.asked (min s.progress.alive m.elapsed) none.2 none.1
-        (muted_clock s.progress.asked s.progress.alive s.progress.moment.elapsed m acts (Gave bytes m) (nat_le s.progress.alive m.elapsed) refl refl refl tt tt quiet none.3)
+        (muted_clock s.progress.asked s.progress.alive s.progress.moment.elapsed m acts (Gave bytes m) (nat_le s.progress.alive m.elapsed) refl
+        (record { tells = refl; reads_it = refl; stays = tt; listens = tt; none = quiet }) none.3)
     by_alive (inr reply) = carried false m.elapsed reply.1 reply.0 (muted_now m.elapsed acts (Gave bytes m) refl)
 
   -- after a piece the moment read last is the same as before it
@@ -320,7 +328,9 @@ module _ (plan : Plan) (commands : List Task) (scope : Scope) where
   told_mute : (sought : Bool) (p : Progress) (m : Moment) (acts : List Act)
       → (p.phase ≡ phase.Ready → sought ≡ true → is_sought p.word p.again p.asked ≡ true) → MuteAt p acts
       → Mute sought p.asked (min p.alive m.elapsed) m.elapsed p.phase (acts ++ Told m ∷ [])
-  told_mute sought p m acts back q = mute_told (is_sought p.word p.again p.asked) sought p.asked p.alive p.moment.elapsed m p.phase acts (Told m) back refl refl tt tt tt q
+  told_mute sought p m acts back q =
+      mute_told (is_sought p.word p.again p.asked) sought p.asked p.alive p.moment.elapsed m p.phase acts (Told m) back
+      (record { tells = refl; reads_it = refl; stays = tt; listens = tt; none = tt }) q
 
   -- after a request that is sent in the phase `Ready`, `Mute` holds, if the last act before it read the progress's moment, and
   -- `MuteAt` held before it
@@ -367,7 +377,10 @@ module _ (plan : Plan) (commands : List Task) (scope : Scope) where
       let p = s.progress in
       let sought = is_sought p.word p.again p.asked in (
         λ bytes m. gave_mute (with_progress turned s) bytes m p.phase acts refl rest q,
-        λ m. (mute_told sought sought p.asked p.alive p.moment.elapsed m p.phase acts (Silent m) (λ ready so. so) refl refl tt tt tt q, λ draining past so. muted_now m.elapsed acts (Silent m) refl),
+        λ m. (
+          mute_told sought sought p.asked p.alive p.moment.elapsed m p.phase acts (Silent m) (λ ready so. so) (record { tells = refl; reads_it = refl; stays = tt; listens = tt; none = tt }) q,
+          λ draining past so. muted_now m.elapsed acts (Silent m) refl,
+        ),
       )
   mute_line (actions.Close why) s acts needs tells rest q = tt
   mute_line (actions.Stop why) s acts needs tells rest q = tt

@@ -4,7 +4,6 @@
 -- and seen so far.
 use Rattle.std.proofs.Common.{◌≡◌, ℕ, Bool, true, List, [], ◌∷◌, ◌++◌, Option, Some, Err, sym, ap, ◌∙◌, subst, append-nil, append_assoc}
 use Rattle.std.specs.Io.KnownBytes.{Keeps}
-use Rattle.std.proofs.KnownBytes.{Keeps-refl}
 use Rattle.gc_texts.specs.declared.tasks.Task.{Task}
 use Rattle.gc_texts.specs.declared.fault.RunFault.{RunFault}
 use Rattle.gc_texts.specs.declared.fault.RunFault.TheVariants as fault
@@ -56,15 +55,9 @@ module _ (plan : Plan) (commands : List Task) (scope : Scope) (text : Record →
   noted_kept told' taken' taken'' station saw saw' keeps n =
       record { went = went_kept plan commands scope text told told' taken taken' taken'' station keeps n.went; turns = n.turns; all = n.all; kept = n.kept }
 
-  -- `Noted` is preserved if a book took the same
-  pub noted_same : (told' : Option (List Act)) (taken' taken'' : Option (List ℕ)) (station : Station) (saw saw' : List Snapshot) → taken'' ≡ taken'
-      → Noted told' taken' station saw saw' → Noted told' taken'' station saw saw'
-  noted_same told' taken' taken'' station saw saw' same n =
-      noted_kept told' taken' taken'' station saw saw' (subst (λ (t : Option (List ℕ)). Keeps taken' t) (sym same) (Keeps-refl taken')) n
-
   -- what is seen now: what the link has recorded, what the book has taken, and whether that lasts
-  abbrev now : Option (List Act) → Option (List ℕ) → Bool → Snapshot
-  now told' taken' lasts = record { acts = told'; taken = taken'; lasts = lasts }
+  abbrev seen_now : Option (List Act) → Option (List ℕ) → Bool → Snapshot
+  seen_now told' taken' lasts = record { acts = told'; taken = taken'; lasts = lasts }
 
   -- if `turns` were seen after those of `saw`, and then one turn more, what was seen after `saw` is `turns` and then that turn
   saw_more : (saw saw' saw'' turns : List Snapshot) (turn : Snapshot) → saw' ≡ saw ++ turns → saw'' ≡ saw' ++ turn ∷ [] → saw'' ≡ saw ++ (turns ++ turn ∷ [])
@@ -76,13 +69,13 @@ module _ (plan : Plan) (commands : List Task) (scope : Scope) (text : Record →
       → (n : Noted told' taken' station saw saw')
       → (is_next : action ≡ action_at plan (state_after plan commands scope n.went.acts))
       → Makes commands action (stepped plan commands action) (seen told' text taken' station) (seen told'' text taken'' new)
-      → AreReadings scope.reads → (one_more : saw'' ≡ saw' ++ now told' taken' lasts ∷ []) → (lasting : lasts ≡ true) → Noted told'' taken'' new saw saw''
+      → AreReadings scope.reads → (one_more : saw'' ≡ saw' ++ seen_now told' taken' lasts ∷ []) → (lasting : lasts ≡ true) → Noted told'' taken'' new saw saw''
   noted_on told' told'' taken' taken'' lasts station new action saw saw' saw'' n is makes are one true_ =
       record {
         went = went_on plan commands scope text told told' told'' taken taken' taken'' station new action n.went is makes are;
-        turns = n.turns ++ now told' taken' lasts ∷ [];
-        all = saw_more saw saw' saw'' n.turns (now told' taken' lasts) n.all one;
-        kept = kept_more [] n.went.acts n.turns makes.act (now told' taken' lasts) n.kept (record { tells = n.went.tells; took = n.went.took; lasts = true_ });
+        turns = n.turns ++ seen_now told' taken' lasts ∷ [];
+        all = saw_more saw saw' saw'' n.turns (seen_now told' taken' lasts) n.all one;
+        kept = kept_more [] n.went.acts n.turns makes.act (seen_now told' taken' lasts) n.kept (record { tells = n.went.tells; took = n.went.took; lasts = true_ });
       }
 
   -- `KeepsUp` of this run, with the acts `others` after it
@@ -103,9 +96,9 @@ module _ (plan : Plan) (commands : List Task) (scope : Scope) (text : Record →
 
   -- where `Noted` holds, and the link then recorded a close, as where records couldn't be made to last, the run has kept up
   -- (`KeepsUp`), with that close after its own acts
-  pub noted_left : (told' told'' : Option (List Act)) (taken' : Option (List ℕ)) (station : Station) (saw saw' : List Snapshot)
+  pub noted_closed : (told' told'' : Option (List Act)) (taken' : Option (List ℕ)) (station : Station) (saw saw' : List Snapshot)
       → Noted told' taken' station saw saw' → Tells told' told'' (Closed ∷ []) → KeepsUpHere told'' saw saw' (Closed ∷ [])
-  noted_left told' told'' taken' station saw saw' n closed = record {
+  noted_closed told' told'' taken' station saw saw' n closed = record {
     acts = n.went.acts;
     tells = tells_more told told' told'' n.went.acts (Closed ∷ []) n.went.tells closed;
     runs = n.went.runs;
@@ -117,13 +110,13 @@ module _ (plan : Plan) (commands : List Task) (scope : Scope) (text : Record →
   -- where `Noted` holds, the book refused a record of the next action's act (`Breaks`), and the link then recorded a close, the
   -- run has kept up (`KeepsUp`), with that close after its own acts; if the link and the book were seen before the act, and all
   -- records lasted then
-  pub noted_wrong : (told' told'' told''' : Option (List Act)) (taken' taken'' : Option (List ℕ)) (lasts : Bool) (station : Station) (action : Action) (saw saw' saw'' : List Snapshot)
+  pub noted_refused : (told' told'' told''' : Option (List Act)) (taken' taken'' : Option (List ℕ)) (lasts : Bool) (station : Station) (action : Action) (saw saw' saw'' : List Snapshot)
       → (n : Noted told' taken' station saw saw')
       → (is_next : action ≡ action_at plan (state_after plan commands scope n.went.acts))
       → Breaks commands action (stepped plan commands action) (seen told' text taken' station) told'' taken''
-      → Tells told'' told''' (Closed ∷ []) → (one_more : saw'' ≡ saw' ++ now told' taken' lasts ∷ []) → (lasting : lasts ≡ true)
+      → Tells told'' told''' (Closed ∷ []) → (one_more : saw'' ≡ saw' ++ seen_now told' taken' lasts ∷ []) → (lasting : lasts ≡ true)
       → KeepsUpHere told''' saw saw'' (Closed ∷ [])
-  noted_wrong told' told'' told''' taken' taken'' lasts station action saw saw' saw'' n is breaks closed one true_ =
+  noted_refused told' told'' told''' taken' taken'' lasts station action saw saw' saw'' n is breaks closed one true_ =
       let w = n.went in
       let s = state_after plan commands scope w.acts in
       let obeys : Performs commands s (action_at plan s) breaks.act =
@@ -132,9 +125,9 @@ module _ (plan : Plan) (commands : List Task) (scope : Scope) (text : Record →
         acts = w.acts ++ breaks.act ∷ [];
         tells = tells_more told told'' told''' (w.acts ++ breaks.act ∷ []) (Closed ∷ []) (tells_more told told' told'' w.acts (breaks.act ∷ []) w.tells breaks.tells) closed;
         runs = runs-append plan commands (opening plan scope) w.acts (breaks.act ∷ []) w.runs (obeys, tt);
-        turns = n.turns ++ now told' taken' lasts ∷ [];
-        saw = saw_more saw saw' saw'' n.turns (now told' taken' lasts) n.all one;
-        kept = kept_more [] w.acts n.turns breaks.act (now told' taken' lasts) n.kept (record { tells = w.tells; took = w.took; lasts = true_ });
+        turns = n.turns ++ seen_now told' taken' lasts ∷ [];
+        saw = saw_more saw saw' saw'' n.turns (seen_now told' taken' lasts) n.all one;
+        kept = kept_more [] w.acts n.turns breaks.act (seen_now told' taken' lasts) n.kept (record { tells = w.tells; took = w.took; lasts = true_ });
       }
 
   -- a run that has kept up with no act after it has kept up with the close that `close_at_output` gives for the fault of a cause:

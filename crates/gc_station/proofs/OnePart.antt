@@ -17,22 +17,17 @@ use Rattle.gc_station.specs.Model.{Model, Performs, Runs, opening, action_at, fi
 use Rattle.gc_station.specs.NextCommand.{place_next}
 use Rattle.gc_station.proofs.Chaining.{StaysBegun}
 use Rattle.gc_station.proofs.Going.{after_all-append, runs_behind}
-use Rattle.gc_station.proofs.Turns.{over_stays}
+use Rattle.gc_station.proofs.Turns.{no_act_once_over}
 use Rattle.gc_station.proofs.SentAt.{joined_length}
 use Rattle.gc_station.proofs.Closings.{needs_of}
 use Rattle.gc_station.proofs.Losing.{going_on}
-
--- the first acts of a run are a run
-pub runs_front : (plan : Plan) (commands : List Task) (s : Model) (xs ys : List Act) → Runs plan commands s (xs ++ ys) → Runs plan commands s xs
-runs_front plan commands s [] ys h = tt
-runs_front plan commands s (act ∷ xs) ys h = (h.0, runs_front plan commands (after plan commands s act) xs ys h.1)
 
 -- if the run isn't over after acts, it wasn't before them, as no act follows once it is over
 not_over_before : (plan : Plan) (commands : List Task) (u : Model) (acts : List Act) (over : Bool) → is_over u.progress ≡ over → Runs plan commands u acts
     → is_over (after_all plan commands u acts).progress ≡ false → is_over u.progress ≡ false
 not_over_before plan commands u acts false e runs end = e
 not_over_before plan commands u [] true e runs end = end
-not_over_before plan commands u (act ∷ acts) true e runs end = absurd (over_stays plan commands u act e runs.0)
+not_over_before plan commands u (act ∷ acts) true e runs end = absurd (no_act_once_over plan commands u act e runs.0)
 
 -- if the station has synchronized after an act (`later`), and the run isn't over, the act ends no part, whether the station had
 -- synchronized before (`begun`) or not

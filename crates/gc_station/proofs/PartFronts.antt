@@ -11,6 +11,23 @@ use Rattle.gc_station.specs.Parts.{Part, joined, nothing, part_of_act, ends_part
 use Rattle.gc_station.specs.Model.{Model, action_at, after}
 use Rattle.gc_station.proofs.Following.{joined_assoc}
 
+-- there is at least one part
+abbrev pub HasSome : List Part → Type 0
+HasSome [] = ⊥
+HasSome (p ∷ ps) = Unit {0}
+
+-- with a part p put before them (`in_front`), there is at least one part
+some_front : (p : Part) (ends : Bool) (ps : List Part) → HasSome (in_front p ends ps)
+some_front p true ps = tt
+some_front p false [] = tt
+some_front p false (q ∷ ps) = tt
+
+-- acts have at least one part, even if there is no act
+pub some_parts : (plan : Plan) (commands : List Task) (s : Model) (acts : List Act) → HasSome (parts_of plan commands s acts)
+some_parts plan commands s [] = tt
+some_parts plan commands s (act ∷ acts) =
+    some_front (part_of_act plan commands s (action_at plan s) act) (ends_part plan commands s act) (parts_of plan commands (after plan commands s act) acts)
+
 -- the parts `ps`, at least one, are the first of the parts `qs`; but the last of them may be only the front of the part at its
 -- place
 abbrev pub IsFront : (ps qs : List Part) → Type 0

@@ -2,7 +2,7 @@
 -- result. Steps of the client are to send, to hear a line, to read the clock and to restart; a turn is a null procedure that is
 -- put, or a line heard, while the station synchronizes. `Leads` says that the steps of a part take the client, the marks and
 -- the records of one model to those of another.
-use Rattle.std.proofs.Common.{◌≡◌, ℕ, ◌-◌, ◌<◌, Bool, true, false, List, [], ◌∷◌, length, map, drop, Option, Some, None, refl, sym, ap, ◌∙◌, ◌++◌, subst, arith, append-nil, if◌then◌else◌, length-drop}
+use Rattle.std.proofs.Common.{◌≡◌, ℕ, ◌-◌, ◌<◌, Bool, true, false, List, [], ◌∷◌, length, map, drop, Option, Some, None, if◌then◌else◌, refl, sym, ap, ◌∙◌, ◌++◌, subst, arith, append-nil, if◌then◌else◌, length-drop}
 use Rattle.std.proofs.lemmas.List.{length-map}
 use Rattle.std.proofs.lemmas.Bool.{both_ways, cond_both}
 use Rattle.gc_lines.specs.Frames.{rest_behind}
@@ -15,7 +15,6 @@ use Rattle.gc_client.specs.Rule.{ById, fresh, heard, hears, expired, expires}
 use Rattle.gc_client.proofs.Lists.{head_of_drop}
 use Rattle.gc_texts.specs.Tasks.{call_at}
 use Rattle.gc_texts.specs.declared.tasks.Task.{Task}
-use Rattle.gc_texts.specs.Endings.{Skipped, Missed}
 use Rattle.gc_links.specs.declared.link.Moment.{Moment}
 use Rattle.gc_station.specs.declared.plan.Plan.{Plan}
 use Rattle.gc_station.specs.declared.progress.Action.{Action}
@@ -25,16 +24,17 @@ use Rattle.gc_station.specs.declared.progress.Until.{Until}
 use Rattle.gc_links.specs.Acts.{Act, Told, Gave}
 use Rattle.gc_station.specs.Deciding.{later, has_begun, is_none_left}
 use Rattle.gc_station.specs.Parts.{Turn, Part, only_turns, only_steps, nothing, put_part, first_request_part, heard_steps, client_part, sync_part, part_of_act, sent_of, request_or_null_part, null_part}
-use Rattle.gc_station.specs.Progressing.{turned, skipped_at}
+use Rattle.gc_station.specs.Progressing.{turned}
 use Rattle.gc_station.specs.Reasons.{HoldsBefore}
 use Rattle.gc_station.specs.Records.{Record}
 use Rattle.gc_station.specs.declared.mark.Mark.{Mark}
 use Rattle.gc_station.specs.Model.{Model, waiting_of, Performs, with_progress, with_moment, with_rest, asks_null, asks_first, unsent_record, first_unsent_record, line_came, lines_came, lines_completed, is_heard, after_piece, after_read, moved, asks_or_null}
 use Rattle.gc_station.specs.NextCommand.{place_next, mark_next, mark_setup}
-use Rattle.gc_station.proofs.Asked.{only_of}
-use Rattle.gc_station.proofs.Booking.{Books, books_turns, sent_records, books_both, books_nothing, books_moment, books_line, books_send}
+use Rattle.gc_station.proofs.Asked.{sync_part_only_turns}
+use Rattle.gc_station.proofs.Booking.{Books, books_turns, sent_of-append_records, books_both, books_nothing, books_moment, books_line, books_send}
 use Rattle.gc_station.proofs.Invariant.{Paired, Invariant}
 use Rattle.gc_station.proofs.Hearing.{hears_paired}
+use Rattle.gc_station.proofs.Tasked.{unsent_end}
 use Rattle.gc_station.proofs.Walk.{is_sent, walk, is_prepared, piece_before}
 use Rattle.std.proofs.lemmas.List.Elements.{filter-append}
 
@@ -55,7 +55,7 @@ module _ (plan : Plan) (commands : List Task) where
   heard_books : (s : Model) (line : List ℕ) → Paired s → Leads commands s (only_steps (Hear line ∷ [])) (line_came s line)
   heard_books s line paired =
       let x = hears s.client line (heard line) in
-      let written = sent_records s.reads s.records s.progress.moment.utc s.marks x.settlements in
+      let written = sent_of-append_records s.reads s.records s.progress.moment.utc s.marks x.settlements in
       subst (λ (rs : List Record). Books s.reads commands s.client s.marks (sent_of s.records) (only_steps (Hear line ∷ [])) x.client (drop (length x.settlements) s.marks) rs) (sym written)
       (books_line s.reads commands s.client s.marks (sent_of s.records) s.progress.moment.utc line paired)
 
@@ -115,21 +115,15 @@ module _ (plan : Plan) (commands : List Task) where
   -- the record of a command that isn't sent isn't among those of commands that were sent
   skips_first_unsent : (p : Progress) (m : Moment) (mark : Mark) (left : List Task) → sent_of (first_unsent_record p m mark left) ≡ []
   skips_first_unsent p m mark [] = refl
-  skips_first_unsent p m mark (task ∷ others) = by_case p.missed where
-    -- the lemma above, whether its cycle is missed (`true`) or it is skipped
-    by_case : (b : Bool)
-        → sent_of (record
-        { sent = None; utc = skipped_at m p; cycle = mark.cycle; place = mark.place; turn = mark.expected.turn; command = task.command; end = if b then Missed else Skipped } ∷ []) ≡ []
-    by_case true = refl
-    by_case false = refl
+  skips_first_unsent p m mark (task ∷ others) = ap (λ (out : Bool). if out then first_unsent_record p m mark (task ∷ others) else []) (unsent_end p.missed)
 
   -- the record of the next command, if that isn't sent, isn't among those of commands that were sent
   skips_unsent : (s : Model) (m : Moment) → sent_of (unsent_record plan commands s.progress (Told m)) ≡ []
   skips_unsent s m = skips_first_unsent s.progress m (mark_next plan commands s.progress) (drop (place_next commands s.progress) commands)
 
   -- records of commands that weren't sent add none to those of commands that were
-  none_sent : (rs more : List Record) → sent_of more ≡ [] → sent_of (rs ++ more) ≡ sent_of rs
-  none_sent rs more none = filter-append _ rs more ∙ ap (λ xs. sent_of rs ++ xs) none ∙ append-nil (sent_of rs)
+  unsent_add_none : (rs more : List Record) → sent_of more ≡ [] → sent_of (rs ++ more) ≡ sent_of rs
+  unsent_add_none rs more none = filter-append _ rs more ∙ ap (λ xs. sent_of rs ++ xs) none ∙ append-nil (sent_of rs)
 
   -- a model leads to itself by the part in which nothing happens
   none_booked : (s : Model) → Leads commands s nothing s
@@ -141,35 +135,36 @@ module _ (plan : Plan) (commands : List Task) where
 
   -- once the station has synchronized, an act of each action leads on by its part, if `Invariant` holds before it, and
   -- `HoldsBefore` of the action
-  leads_order : (s : Model) (o : Action) (act : Act) → Invariant plan commands s → HoldsBefore plan s.progress (waiting_of s) o → Performs commands s o act → has_begun s.progress ≡ true
+  leads_synchronized : (s : Model) (o : Action) (act : Act) → Invariant plan commands s → HoldsBefore plan s.progress (waiting_of s) o → Performs commands s o act → has_begun s.progress ≡ true
       → LeadsSo o s act (moved plan commands o (with_progress turned s) act)
-  leads_order s action.Open act fine is obeys begun = walk plan commands (LeadsSo action.Open s) action.Open (with_progress turned s) act obeys (λ m. none_booked s, λ n. none_booked s)
-  leads_order s action.Clear act fine is obeys begun = walk plan commands (LeadsSo action.Clear s) action.Clear (with_progress turned s) act obeys (λ m. none_booked s, λ n. none_booked s)
-  leads_order s action.Ask act fine is obeys begun = absurd (both_ways (has_begun s.progress) is.1 begun)
-  leads_order s action.Flush act fine is obeys begun = walk plan commands (LeadsSo action.Flush s) action.Flush (with_progress turned s) act obeys (λ m. leads_null s is.4.1, λ n. leads_null s is.4.1)
-  leads_order s action.Prepare act fine is obeys begun =
+  leads_synchronized s action.Open act fine is obeys begun = walk plan commands (LeadsSo action.Open s) action.Open (with_progress turned s) act obeys (λ m. none_booked s, λ n. none_booked s)
+  leads_synchronized s action.Clear act fine is obeys begun = walk plan commands (LeadsSo action.Clear s) action.Clear (with_progress turned s) act obeys (λ m. none_booked s, λ n. none_booked s)
+  leads_synchronized s action.Ask act fine is obeys begun = absurd (both_ways (has_begun s.progress) is.1 begun)
+  leads_synchronized s action.Flush act fine is obeys begun =
+      walk plan commands (LeadsSo action.Flush s) action.Flush (with_progress turned s) act obeys (λ m. leads_null s is.4.1, λ n. leads_null s is.4.1)
+  leads_synchronized s action.Prepare act fine is obeys begun =
       let prepares = subst (λ (t : Model). Leads commands s (put_part plan commands s action.Prepare) t) (sym (is_prepared plan commands (with_progress turned s)))
       (leads_setup s (drop s.progress.prepared commands) refl is.3.1) in
       walk plan commands (LeadsSo action.Prepare s) action.Prepare (with_progress turned s) act obeys (λ m. prepares, λ n. prepares)
-  leads_order s action.Send act fine is obeys begun =
+  leads_synchronized s action.Send act fine is obeys begun =
       let left = drop (place_next commands s.progress) commands in
       let many : length left ≡ length commands - place_next commands s.progress = length-drop (place_next commands s.progress) commands in
       let sends = subst (λ (t : Model). Leads commands s (put_part plan commands s action.Send) t) (sym (is_sent plan commands (with_progress turned s)))
       (leads_first s (mark_next plan commands s.progress) left refl (omega (arith, many, is.2, fine.unsent)) is.3.1) in
       walk plan commands (LeadsSo action.Send s) action.Send (with_progress turned s) act obeys (λ m. sends, λ n. sends)
-  leads_order s action.Skip act fine is obeys begun =
+  leads_synchronized s action.Skip act fine is obeys begun =
       let books = Books s.reads commands s.client s.marks (sent_of s.records) in
       walk plan commands (LeadsSo action.Skip s) action.Skip (with_progress turned s) act obeys (
         λ m. subst (λ (rs : List Record). books (only_steps (Expire m.elapsed ∷ [])) (expires s.client m.elapsed) s.marks rs)
-            (sym (none_sent s.records (unsent_record plan commands (turned s.progress) (Told m)) (skips_unsent (with_progress turned s) m))) (moment_booked s m),
-        λ n. subst (λ (rs : List Record). books nothing s.client s.marks rs) (sym (none_sent s.records [] refl)) (none_booked s),
+            (sym (unsent_add_none s.records (unsent_record plan commands (turned s.progress) (Told m)) (skips_unsent (with_progress turned s) m))) (moment_booked s m),
+        λ n. subst (λ (rs : List Record). books nothing s.client s.marks rs) (sym (unsent_add_none s.records [] refl)) (none_booked s),
       )
-  leads_order s (action.Read until) act fine is obeys begun =
+  leads_synchronized s (action.Read until) act fine is obeys begun =
       walk plan commands (LeadsSo (action.Read until) s) (action.Read until) (with_progress turned s) act obeys
       (λ bytes m. leads_gave s until bytes m begun fine.paired, λ m. moment_booked s m, none_booked s, none_booked s, none_booked s)
-  leads_order s (action.Close why) act fine is obeys begun = walk plan commands (LeadsSo (action.Close why) s) (action.Close why) (with_progress turned s) act obeys (none_booked s)
-  leads_order s (action.Stop why) act fine is obeys begun = absurd obeys
-  leads_order s o act fine is obeys begun = walk plan commands (LeadsSo o s) o (with_progress turned s) act obeys (λ m. moment_booked s m, λ n. none_booked s)
+  leads_synchronized s (action.Close why) act fine is obeys begun = walk plan commands (LeadsSo (action.Close why) s) (action.Close why) (with_progress turned s) act obeys (none_booked s)
+  leads_synchronized s (action.Stop why) act fine is obeys begun = absurd obeys
+  leads_synchronized s o act fine is obeys begun = walk plan commands (LeadsSo o s) o (with_progress turned s) act obeys (λ m. moment_booked s m, λ n. none_booked s)
 
   -- While the station synchronizes no step is taken.
 
@@ -223,17 +218,17 @@ module _ (plan : Plan) (commands : List Task) where
 
   -- while the station synchronizes, an act of each action leads on by its part, if `Invariant` holds before it, and `HoldsBefore`
   -- of the action
-  leads_begins : (s : Model) (o : Action) (act : Act) → Invariant plan commands s → HoldsBefore plan s.progress (waiting_of s) o → Performs commands s o act → has_begun s.progress ≡ false
+  leads_synchronizing : (s : Model) (o : Action) (act : Act) → Invariant plan commands s → HoldsBefore plan s.progress (waiting_of s) o → Performs commands s o act → has_begun s.progress ≡ false
       → Leads commands s (sync_part s o act) (moved plan commands o (with_progress turned s) act)
-  leads_begins s o act fine is obeys begins =
+  leads_synchronizing s o act fine is obeys begins =
       let t = moved plan commands o (with_progress turned s) act in
       let new = fine.begins begins in
       let k = keeps_action s o act is obeys begins new in
-      subst (λ (p : Part). Leads commands s p t) (sym (only_of s o act)) (same_led s (sync_part s o act).turns t (new ∙ sym k.0) (sym k.1) (sym k.2))
+      subst (λ (p : Part). Leads commands s p t) (sym (sync_part_only_turns s o act)) (same_led s (sync_part s o act).turns t (new ∙ sym k.0) (sym k.1) (sym k.2))
 
   -- an act of each action leads on by its part, if `Invariant` holds before it, and `HoldsBefore` of the action
   pub leads : (s : Model) (o : Action) (act : Act) → Invariant plan commands s → HoldsBefore plan s.progress (waiting_of s) o → Performs commands s o act
       → Leads commands s (part_of_act plan commands s o act) (moved plan commands o (with_progress turned s) act)
   leads s o act fine is obeys =
       cond_both (has_begun s.progress) (client_part plan commands s o act) (sync_part s o act) (λ (p : Part). Leads commands s p (moved plan commands o (with_progress turned s) act))
-      (λ begun. leads_order s o act fine is obeys begun) (λ begins. leads_begins s o act fine is obeys begins)
+      (λ begun. leads_synchronized s o act fine is obeys begun) (λ begins. leads_synchronizing s o act fine is obeys begins)

@@ -2,7 +2,7 @@
 -- failed. A close is spared if no connection is wanted then: it takes no try. `after_failure` is the progress after a failure,
 -- and `pause_after plan n` the pause after n failures in a row. An act is one call on the link, with its result. Times are in
 -- milliseconds.
-use Rattle.std.proofs.Common.{◌≡◌, ◌⊎◌, inl, inr, ℕ, zero, suc, ◌+◌, ◌-◌, ◌*◌, ◌<◌, ◌≤◌, ◌||◌, Bool, true, false, List, if◌then◌else◌, nat_lt, min, max, refl, ap, ◌∙◌, arith, ◌&&◌, not}
+use Rattle.std.proofs.Common.{◌≡◌, ◌⊎◌, inl, inr, ℕ, zero, suc, ◌+◌, ◌-◌, ◌*◌, ◌<◌, ◌≤◌, ◌||◌, Bool, true, false, List, nat_lt, min, max, refl, ap, ◌∙◌, arith, ◌&&◌, not}
 use Rattle.std.proofs.lemmas.Bool.{lt-ltb, le-ltb, cond-true, cond-false, and_from, not_from_false}
 use Rattle.gc_texts.specs.declared.tasks.Task.{Task}
 use Rattle.gc_links.specs.Acts.{Act}
@@ -15,11 +15,11 @@ use Rattle.gc_station.specs.declared.cause.Cause.TheVariants as cause
 use Rattle.gc_station.specs.declared.plan.Plan.{Plan}
 use Rattle.gc_station.specs.declared.progress.Action.{Action}
 use Rattle.gc_station.specs.declared.progress.Action.TheVariants as actions
-use Rattle.gc_station.specs.declared.progress.Phase.{Phase}
 use Rattle.gc_station.specs.declared.progress.Phase.TheVariants as phase
 use Rattle.gc_station.specs.declared.progress.Progress.{Progress}
 use Rattle.gc_station.specs.declared.progress.Until.{Until}
 use Rattle.gc_station.specs.declared.progress.Waiting.{Waiting}
+use Rattle.gc_station.proofs.Turns.{phase_by}
 use Rattle.gc_station.proofs.Walk.{moved_changed}
 
 -- twice a pause of 0, cut to a minute and then raised to the quiet time, is the pause after a first failure
@@ -42,9 +42,9 @@ twice plan zero = twice_none plan.quiet
 twice plan (suc n) = twice_more (doubled n plan.quiet) plan.quiet (doubled_least n plan.quiet)
 
 -- a failure that isn't spared makes the pause after n failures the one after n + 1
-failed : (plan : Plan) (commands n : ℕ) (why : Cause) (p : Progress) → is_spared plan why p ≡ false → p.pause ≡ pause_after plan n
+failure_lengthens_pause : (plan : Plan) (commands n : ℕ) (why : Cause) (p : Progress) → is_spared plan why p ≡ false → p.pause ≡ pause_after plan n
     → (after_failure plan commands why p).pause ≡ pause_after plan (suc n)
-failed plan commands n why p e is =
+failure_lengthens_pause plan commands n why p e is =
     cond-false (is_spared plan why p) (max p.pause plan.quiet) (max (min (later p.pause p.pause) 60000) plan.quiet) e
     ∙ ap (λ x. max (min (later x x) 60000) plan.quiet) is ∙ twice plan n
 
@@ -52,23 +52,18 @@ failed plan commands n why p e is =
 takes : (plan : Plan) (commands : ℕ) (why : Cause) (p : Progress) → is_spared plan why p ≡ false → 0 < p.tries → (after_failure plan commands why p).tries + 1 ≡ p.tries
 takes plan commands why p e some = let less = cond-false (is_spared plan why p) p.tries (p.tries - 1) e in omega (arith, less, some)
 
--- the phase after a failure for the cause `why`, by whether all is done, whether the failure is spared, and whether some try is
--- left
-abbrev phase_by : (done spared some : Bool) → Cause → Phase
-phase_by done spared some why = if done then phase.Over cause.Done else if spared || some then phase.Pausing else phase.Over why
-
--- a failure that isn't spared, without a try left, ends the run: as done, if all is done, else for its cause
+-- a failure that isn't spared (`spared`), without a try left (`some`), ends the run: as done, if all is done, else for its cause
 over_by : (done spared some : Bool) (why : Cause) → spared ≡ false → some ≡ false
-    → (phase_by done spared some why ≡ phase.Over cause.Done) ⊎ (phase_by done spared some why ≡ phase.Over why)
+    → (phase_by done (spared || some) why ≡ phase.Over cause.Done) ⊎ (phase_by done (spared || some) why ≡ phase.Over why)
 over_by true spared some why e f = inl refl
 over_by false true some why e f = cc
 over_by false false true why e f = cc
 over_by false false false why e f = inr refl
 
 -- a failure that isn't spared, without a try left, ends the run: as done, or for its cause
-none_left : (plan : Plan) (commands : ℕ) (why : Cause) (p : Progress) → is_spared plan why p ≡ false → p.tries ≡ 0
+ends_without_try : (plan : Plan) (commands : ℕ) (why : Cause) (p : Progress) → is_spared plan why p ≡ false → p.tries ≡ 0
     → ((after_failure plan commands why p).phase ≡ phase.Over cause.Done) ⊎ ((after_failure plan commands why p).phase ≡ phase.Over why)
-none_left plan commands why p e none = over_by (is_finished commands p) (is_spared plan why p) (nat_lt 0 p.tries) why e (le-ltb 0 p.tries (omega (arith, none)))
+ends_without_try plan commands why p e none = over_by (is_finished commands p) (is_spared plan why p) (nat_lt 0 p.tries) why e (le-ltb 0 p.tries (omega (arith, none)))
 
 -- a pause that was made from d, cut to a minute and then raised to the quiet time, is the same once it is raised to the quiet
 -- time again
@@ -118,24 +113,24 @@ unsettled plan until before after p why =
       by_cause true false x y (inr on) = cc
 
 -- an action of `LeavesTries` changes neither the tries nor the pause
-other : (plan : Plan) (commands : List Task) (action : Action) (s : Model) (act : Act) → LeavesTries action
+leaves_tries : (plan : Plan) (commands : List Task) (action : Action) (s : Model) (act : Act) → LeavesTries action
     → ((moved plan commands action s act).progress.tries ≡ s.progress.tries) × ((moved plan commands action s act).progress.pause ≡ s.progress.pause)
-other plan commands actions.Open s act leaves = absurd leaves
-other plan commands (actions.Read until) s act leaves = absurd leaves
-other plan commands (actions.Close why) s act leaves = absurd leaves
-other plan commands action s act leaves =
+leaves_tries plan commands actions.Open s act leaves = absurd leaves
+leaves_tries plan commands (actions.Read until) s act leaves = absurd leaves
+leaves_tries plan commands (actions.Close why) s act leaves = absurd leaves
+leaves_tries plan commands action s act leaves =
     let is = moved_changed plan commands action s act in (ap (λ (x : Model). x.progress.tries) is, ap (λ (x : Model). x.progress.pause) is)
 
 -- the law on tries and pauses: what a failure, a spared close, a read and any other act make of them
 pub counted : TriesAndPausesAreCounted
 counted = record {
   start = λ plan turns. (refl, refl);
-  failed = failed;
+  failed = failure_lengthens_pause;
   takes = takes;
-  none_left = none_left;
+  none_left = ends_without_try;
   spared = spared;
   spared_first = spared_first;
   settled = settled;
   unsettled = unsettled;
-  other = other;
+  other = leaves_tries;
 }

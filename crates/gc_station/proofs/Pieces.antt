@@ -27,7 +27,7 @@ use Rattle.gc_station.specs.ActKinds.{Puts}
 use Rattle.gc_station.specs.Model.{Model, action_at, request_text, with_rest, line_came, lines_came, lines_completed, after_piece}
 use Rattle.gc_station.proofs.Growing.{lines_records}
 use Rattle.gc_station.proofs.Lists.{all_append, all_split, cuts_on, AllRisingAt}
-use Rattle.gc_station.proofs.Meets.{HasPlace, EndedBy, heard_ended, heard_left, left_window, left_waits, all_records_at, IsRecordOf, was_answered, was_late, was_lost}
+use Rattle.gc_station.proofs.Meets.{HasPlace, EndedBy, heard_ended, hears_settles_oldest, left_window, left_waits, all_records_at, IsRecordOf, was_answered, was_late, was_lost}
 use Rattle.gc_station.proofs.Waiting.{WasAsked, StayedAt, WaitsAt, IsJustified, IsHonest, past_more, past_here, expired_waits, expired_window, behind_moment, honest_told}
 use Rattle.gc_station.specs.Scopes.{Scope}
 use Rattle.gc_station.proofs.Walk.{piece_before}
@@ -112,14 +112,14 @@ module _ (plan : Plan) (commands : List Task) (scope : Scope) (acts : List Act) 
       written : IsWrittenAt plan commands scope (before ++ request ∷ between) (Gave piece m) r
 
     -- after the piece the records are those before it, `news`, `earlier`, then r, `later` and `more`
-    abbrev EndsWith : (news earlier : List Record) → Record → (later more : List Record) → Type 0
-    EndsWith news earlier r later more = (state up_to_piece).records ≡ (((state acts).records ++ news) ++ (earlier ++ r ∷ later)) ++ more
+    abbrev RecordsAre : (news earlier : List Record) → Record → (later more : List Record) → Type 0
+    RecordsAre news earlier r later more = (state up_to_piece).records ≡ (((state acts).records ++ news) ++ (earlier ++ r ∷ later)) ++ more
 
     -- a record that the piece wrote, of the request with this mark, is `WrittenDown`: that request was put before, and is the
     -- record's own
     written_down : (c : ById Asked) (number at : ℕ) (p : Pending Asked) (mark : Mark) (r : Record) (news earlier later more : List Record)
         → (cycle : r.cycle ≡ mark.cycle) → (place : r.place ≡ mark.place) → (sent : r.sent ≡ Some mark.sent) → (asks : p.call ≡ r.command.call)
-        → (s : WasPut c number at p (Some mark)) → EndsWith news earlier r later more → WrittenDown s.before s.request s.between r
+        → (s : WasPut c number at p (Some mark)) → RecordsAre news earlier r later more → WrittenDown s.before s.request s.between r
     written_down c number at p mark r news earlier later more cycle place sent asks s ends =
         let its = s.its mark refl in
         record {
@@ -215,7 +215,7 @@ module _ (plan : Plan) (commands : List Task) (scope : Scope) (acts : List Act) 
 
     -- the record of a request that a line of the piece settles (`IsRecorded`) is true by the acts with the one that brought the
     -- piece
-    line_true : (c : ById Asked) (line : List ℕ) (r : Record) (news earlier later more : List Record) → IsLineOfPiece c line → EndsWith news earlier r later more
+    line_true : (c : ById Asked) (line : List ℕ) (r : Record) (news earlier later more : List Record) → IsLineOfPiece c line → RecordsAre news earlier r later more
         → IsRecorded m.elapsed c line r → IsJustified plan commands scope up_to_piece r
     line_true c line r news earlier later more l ends it =
         let at = it.0 in
@@ -256,7 +256,7 @@ module _ (plan : Plan) (commands : List Task) (scope : Scope) (acts : List Act) 
         let c = x.client in
         let done = hears c line (heard line) in
         let written : List Record = records_of x.reads x.progress.moment.utc x.marks done.settlements in
-        let left = heard_left c line (heard line) in
+        let left = hears_settles_oldest c line (heard line) in
         let more = lines_records (line_came x line) others in
         let all_written = line_written x.reads m.elapsed x.progress.moment.utc c x.marks line h.waiting in
         let true_written = all_split (IsRecorded m.elapsed c line) R [] written written refl

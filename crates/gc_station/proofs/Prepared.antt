@@ -20,7 +20,7 @@ use Rattle.gc_station.specs.Runs.{state_after}
 use Rattle.gc_station.specs.Scopes.{Scope}
 use Rattle.gc_station.specs.Model.{Model, opening, action_at, waiting_of, with_progress, Performs, moved, after, after_all, Runs}
 use Rattle.gc_station.specs.NextCommand.{mark_setup}
-use Rattle.gc_station.specs.Setups.{Dispatch, dispatch_row, dispatch_of_record, dispatch_of_mark, dispatches_of, sent_as, StaysUp, ArePrepared, NoneBeforeTheSetUp, SetUpInOrder}
+use Rattle.gc_station.specs.Setups.{Dispatch, dispatch_row, dispatch_of_record, dispatch_of_mark, dispatches_of, setup_sent_at, StaysUp, ArePrepared, NoneBeforeTheSetUp, SetUpInOrder}
 use Rattle.gc_station.proofs.Always.{always, progress_after_act}
 use Rattle.gc_station.proofs.ChainSteps.{stays_open}
 use Rattle.gc_station.proofs.EachRun.{invariant_holds}
@@ -28,8 +28,8 @@ use Rattle.gc_station.proofs.Facts.{action_for}
 use Rattle.gc_station.proofs.Going.{after_all-append}
 use Rattle.gc_station.proofs.Records.{last-append}
 use Rattle.gc_station.proofs.SentAt.{records_stay}
-use Rattle.gc_station.proofs.Setups.{dispatch_row_losing, row_prepared, row_kept, none_marked, prepares, sends_it}
-use Rattle.gc_station.proofs.Turns.{over_stays}
+use Rattle.gc_station.proofs.Setups.{dispatch_row_losing, row_prepared, row_kept, none_marked, prepares, sends_next_dispatch}
+use Rattle.gc_station.proofs.Turns.{no_act_once_over}
 use Rattle.gc_station.proofs.Walk.{closed_along, moved_changed}
 use Rattle.gc_station.proofs.Words.{begun_other}
 use Rattle.gc_station.proofs.Unbroken.{not_preparing_after_send}
@@ -116,10 +116,10 @@ module _ (plan : Plan) (commands : List Task) (scope : Scope) where
       ]
 
   -- `StaysUp` holds after one more act that closes no connection, if the station has synchronized after it
-  stays_more : (s : Model) (xs : List Act) (act : Act) → StaysUp plan commands s xs → KeepsOpen act → has_begun (after_all plan commands s (xs ++ act ∷ [])).progress ≡ true
+  stays_up_more : (s : Model) (xs : List Act) (act : Act) → StaysUp plan commands s xs → KeepsOpen act → has_begun (after_all plan commands s (xs ++ act ∷ [])).progress ≡ true
       → StaysUp plan commands s (xs ++ act ∷ [])
-  stays_more s [] act h keeps begun = (keeps, begun, tt)
-  stays_more s (x ∷ xs) act h keeps begun = (h.0, h.1, stays_more (after plan commands s x) xs act h.2 keeps begun)
+  stays_up_more s [] act h keeps begun = (keeps, begun, tt)
+  stays_up_more s (x ∷ xs) act h keeps begun = (h.0, h.1, stays_up_more (after plan commands s x) xs act h.2 keeps begun)
 
   -- `StaysUp` holds of the acts after `before` with one more, if that closes no connection and the station is synchronized after
   -- it
@@ -129,7 +129,7 @@ module _ (plan : Plan) (commands : List Task) (scope : Scope) where
       let longer : acts ++ act ∷ [] ≡ before ++ (since ++ act ∷ []) = ap (λ xs. xs ++ act ∷ []) order ∙ append_assoc before since (act ∷ []) in
       let there = ap (λ (x : Model). has_begun x.progress)
       (sym (ap (state_after plan commands scope) longer ∙ after_all-append plan commands (opening plan scope) before (since ++ act ∷ []))) ∙ begun in
-      (longer, stays_more (at before) since act stays keeps there)
+      (longer, stays_up_more (at before) since act stays keeps there)
 
   -- an act that closes no connection, after which the station is synchronized, preserves `ArePrepared`
   prepared_more : (n : ℕ) (acts : List Act) (act : Act) → KeepsOpen act → IsBegun (acts ++ act ∷ []) → ArePrepared plan commands scope acts n
@@ -181,11 +181,11 @@ module _ (plan : Plan) (commands : List Task) (scope : Scope) where
 
   -- `SentAfterPrepared` holds once an act sends the command of the setup at place j, and adds it to the row, if that act closes
   -- no connection, the station is synchronized after it, and the first j commands of the setup were answered well
-  sent_next : (j : ℕ) (acts : List Act) (act : Act) → (keeps : KeepsOpen act) → (begun : IsBegun (acts ++ act ∷ [])) → (sends : action_at plan (at acts) ≡ action.Prepare)
+  sent_prepared : (j : ℕ) (acts : List Act) (act : Act) → (keeps : KeepsOpen act) → (begun : IsBegun (acts ++ act ∷ [])) → (sends : action_at plan (at acts) ≡ action.Prepare)
       → (place : (at acts).progress.prepared ≡ j) → (longer : dispatch_row (at (acts ++ act ∷ [])) ≡ dispatch_row (at acts) ++ dispatch_of_mark (mark_setup commands (at acts).progress) ∷ [])
       → ArePrepared plan commands scope acts j
       → SentAfterPrepared j (acts ++ act ∷ [])
-  sent_next j acts act keeps begun sends place longer d =
+  sent_prepared j acts act keeps begun sends place longer d =
       let s = at acts in
       let there = ap (λ (x : Model). has_begun x.progress) (sym (after_all-append plan commands (opening plan scope) acts (act ∷ []))) ∙ begun in
       let grew = records_stay plan commands scope acts (act ∷ []) in
@@ -312,10 +312,10 @@ module _ (plan : Plan) (commands : List Task) (scope : Scope) where
         let preparing : s.progress.preparing ≡ true = (and_parts s.progress.preparing (not (nat_le plan.setup k && nat_eq (commands_in s.marks) 0 && last_well false s.records)) may.0).0 in
         let on = begins action.Prepare is obeys (λ e. cc) needs.1 in
         let keeps = stays_open plan commands action.Prepare s act obeys (λ why e. cc) in
-        let one = sends_it plan commands within s is in
+        let one = sends_next_dispatch plan commands within s is in
         let longer = row_after action.Prepare is ∙ row_prepared plan commands (with_progress turned s) act
-        ∙ ap (λ xs. dispatch_row s ++ xs) (ap (λ (o : Action). sent_as o commands s) (sym is) ∙ one) in
-        let part = sent_next k acts act keeps on is refl longer (prepared_before_next s.progress.preparing k acts h preparing may.2) in
+        ∙ ap (λ xs. dispatch_row s ++ xs) (ap (λ (o : Action). setup_sent_at o commands s) (sym is) ∙ one) in
+        let part = sent_prepared k acts act keeps on is refl longer (prepared_before_next s.progress.preparing k acts h preparing may.2) in
         let q = prepares plan commands (with_progress turned s) act in
         let prepared : (t action.Prepare).progress.prepared ≡ min (k + 1) plan.setup = q.1 in
         let below : k < plan.setup = may.1 in
@@ -377,7 +377,7 @@ module _ (plan : Plan) (commands : List Task) (scope : Scope) where
     step : (done : List Act) (act : Act) → Runs plan commands (opening plan scope) done → Performs commands (at done) (action_at plan (at done)) act → SetupFitsNow done
         → SetupFitsNow (done ++ act ∷ [])
     step done act before obeys (inl over) =
-        let p = (at done).progress in absurd (over_stays plan commands (at done) act (ap (λ b. b || (not (is_up p.phase) && nat_eq p.turns 0)) over) obeys)
+        let p = (at done).progress in absurd (no_act_once_over plan commands (at done) act (ap (λ b. b || (not (is_up p.phase) && nat_eq p.turns 0)) over) obeys)
     step done act before obeys (inr h) = fits_after some within done (action_at plan (at done)) act refl obeys (action_for plan (at done).progress (waiting_of (at done))) h
 
 -- the law: a command of a cycle is sent only once each command of the setup was answered well, on its connection, and after its

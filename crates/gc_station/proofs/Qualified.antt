@@ -85,11 +85,11 @@ module _ (reads : Asked → List ℕ → Reading) (expected : Expected) (call : 
       answer_near (reads call line) (reads call (as_zero line)) k answer (subst (λ (x : Rule.Outcome). end_of reads expected call x ≡ Answered k (Some answer) line) is e)
 
   -- the line has an answer that was measured elsewhere
-  abbrev Away : Type 0
-  Away = (answer : Answer) × HasAnswer reads expected.accepted call line answer × (is_elsewhere expected.near answer ≡ true)
+  abbrev HasAwayAnswer : Type 0
+  HasAwayAnswer = (answer : Answer) × HasAnswer reads expected.accepted call line answer × (is_elsewhere expected.near answer ≡ true)
 
   -- if a reply in time, which says x, ends a command as elsewhere, its line has an answer that was measured elsewhere
-  answer_away : (x z : Reading) → reads call line ≡ x → reads call (as_zero line) ≡ z → answer_as expected x z line ≡ Elsewhere line → Away
+  answer_away : (x z : Reading) → reads call line ≡ x → reads call (as_zero line) ≡ z → answer_as expected x z line ≡ Elsewhere line → HasAwayAnswer
   answer_away (reading.Value a) z is zs e = (a, inl is, value_away expected.near line quality.Fine a (is_elsewhere expected.near a) refl e)
   answer_away (reading.Refused code) z is zs e =
       let both = refused_away expected.near line (lists_code expected.accepted code) z e in
@@ -98,7 +98,7 @@ module _ (reads : Asked → List ℕ → Reading) (expected : Expected) (call : 
   answer_away (reading.Unreadable fault) z is zs e = cc
 
   -- if a command ends as elsewhere, its line has an answer that was measured elsewhere
-  pub ended_away : (o : Rule.Outcome) → end_of reads expected call o ≡ Elsewhere line → Away
+  pub ended_away : (o : Rule.Outcome) → end_of reads expected call o ≡ Elsewhere line → HasAwayAnswer
   ended_away o e =
       let is : o ≡ Rule.Answered line = answered_so reads expected call o line (ap line_of e) in
       answer_away (reads call line) (reads call (as_zero line)) refl refl (subst (λ (x : Rule.Outcome). end_of reads expected call x ≡ Elsewhere line) is e)
@@ -107,11 +107,11 @@ module _ (reads : Asked → List ℕ → Reading) (expected : Expected) (call : 
 
   module _ (k : Quality) (said : Option Answer) where
     -- the line has the quality k and the answer `said`, as `IsOfQuality` says
-    abbrev Holds : Type 0
-    Holds = IsOfQuality reads expected.accepted call k said line
+    abbrev LineIsOfQuality : Type 0
+    LineIsOfQuality = IsOfQuality reads expected.accepted call k said line
 
     -- a line that says an answer has the quality with which it ends a command as answered: `Fine`, and that answer
-    fine : (a : Answer) (away : Bool) → reads call line ≡ reading.Value a → value_as quality.Fine away a line ≡ Answered k said line → Holds
+    fine : (a : Answer) (away : Bool) → reads call line ≡ reading.Value a → value_as quality.Fine away a line ≡ Answered k said line → LineIsOfQuality
     fine a true is e = cc
     fine a false is e =
         let same : quality.Fine ≡ k = cc in
@@ -120,44 +120,44 @@ module _ (reads : Asked → List ℕ → Reading) (expected : Expected) (call : 
 
     module _ (code : ℕ) (is : reads call line ≡ reading.Refused code) where
       -- a line with an accepted code has the quality `Warning`, and the answer, if any, that it says with return code 0
-      warning : (z : Reading) → lists_code expected.accepted code ≡ true → reads call (as_zero line) ≡ z → quality.Warning ≡ k → answer_in z ≡ said → Holds
+      warning : (z : Reading) → lists_code expected.accepted code ≡ true → reads call (as_zero line) ≡ z → quality.Warning ≡ k → answer_in z ≡ said → LineIsOfQuality
       warning z listed zs same has = subst (λ (q : Quality). IsOfQuality reads expected.accepted call q said line) same (code, is, listed, sym has ∙ ap answer_in (sym zs))
 
       -- a line with an accepted code that says the answer a with return code 0 has the quality with which it ends a command as
       -- answered: `Warning`, and that answer
       value_warned : (a : Answer) (away : Bool) → lists_code expected.accepted code ≡ true → reads call (as_zero line) ≡ reading.Value a
-          → value_as quality.Warning away a line ≡ Answered k said line → Holds
+          → value_as quality.Warning away a line ≡ Answered k said line → LineIsOfQuality
       value_warned a true listed zs e = cc
       value_warned a false listed zs e = let same : quality.Warning ≡ k = cc in let has : Some a ≡ said = cc in warning (reading.Value a) listed zs same has
 
       -- a line with an accepted code has the quality with which it ends a command as answered, whatever it says with return
       -- code 0
-      warned : (z : Reading) → lists_code expected.accepted code ≡ true → reads call (as_zero line) ≡ z → warned_as expected.near z line ≡ Answered k said line → Holds
+      warned : (z : Reading) → lists_code expected.accepted code ≡ true → reads call (as_zero line) ≡ z → warned_as expected.near z line ≡ Answered k said line → LineIsOfQuality
       warned (reading.Value a) listed zs e = value_warned a (is_elsewhere expected.near a) listed zs e
       warned (reading.Refused c) listed zs e = let same : quality.Warning ≡ k = cc in let has : ◌≡◌ {A = Option Answer} None said = cc in warning (reading.Refused c) listed zs same has
       warned (reading.ComFault c) listed zs e = let same : quality.Warning ≡ k = cc in let has : ◌≡◌ {A = Option Answer} None said = cc in warning (reading.ComFault c) listed zs same has
       warned (reading.Unreadable fault) listed zs e = let same : quality.Warning ≡ k = cc in let has : ◌≡◌ {A = Option Answer} None said = cc in warning (reading.Unreadable fault) listed zs same has
 
     -- a line that is a refusal without an accepted code has the quality `Refused`, and no answer
-    refusal : (x : Reading) → reads call line ≡ x → IsRefusal expected.accepted x → quality.Refused ≡ k → ◌≡◌ {A = Option Answer} None said → Holds
+    refusal : (x : Reading) → reads call line ≡ x → IsRefusal expected.accepted x → quality.Refused ≡ k → ◌≡◌ {A = Option Answer} None said → LineIsOfQuality
     refusal x is none same has =
         subst (λ (q : Quality). IsOfQuality reads expected.accepted call q said line) same (sym has, subst (IsRefusal expected.accepted) (sym is) none)
 
     -- a refusal, whether its code is accepted (b) or not, has the quality with which it ends a command as answered
     refused : (code : ℕ) (b : Bool) (z : Reading) → lists_code expected.accepted code ≡ b → reads call line ≡ reading.Refused code → reads call (as_zero line) ≡ z
-        → refused_as b expected.near z line ≡ Answered k said line → Holds
+        → refused_as b expected.near z line ≡ Answered k said line → LineIsOfQuality
     refused code true z listed is zs e = warned code is z listed zs e
     refused code false z none is zs e = let same : quality.Refused ≡ k = cc in let has : ◌≡◌ {A = Option Answer} None said = cc in refusal (reading.Refused code) is none same has
 
     -- a line that says x has the quality with which it ends a command as answered
-    by_answer : (x z : Reading) → reads call line ≡ x → reads call (as_zero line) ≡ z → answer_as expected x z line ≡ Answered k said line → Holds
+    by_answer : (x z : Reading) → reads call line ≡ x → reads call (as_zero line) ≡ z → answer_as expected x z line ≡ Answered k said line → LineIsOfQuality
     by_answer (reading.Value a) z is zs e = fine a (is_elsewhere expected.near a) is e
     by_answer (reading.Refused code) z is zs e = refused code (lists_code expected.accepted code) z refl is zs e
     by_answer (reading.ComFault code) z is zs e = let same : quality.Refused ≡ k = cc in let has : ◌≡◌ {A = Option Answer} None said = cc in refusal (reading.ComFault code) is tt same has
     by_answer (reading.Unreadable fault) z is zs e = cc
 
     -- if a command ends as answered, its line has the quality and the answer of that ending
-    pub ended_quality : (o : Rule.Outcome) → end_of reads expected call o ≡ Answered k said line → Holds
+    pub ended_quality : (o : Rule.Outcome) → end_of reads expected call o ≡ Answered k said line → LineIsOfQuality
     ended_quality o e =
         let is : o ≡ Rule.Answered line = answered_so reads expected call o line (ap line_of e) in
         by_answer (reads call line) (reads call (as_zero line)) refl refl (subst (λ (x : Rule.Outcome). end_of reads expected call x ≡ Answered k said line) is e)

@@ -206,9 +206,9 @@ not_longer now since false e =
     ap (λ n. now - n) (min-eq_right less) ∙ omega (arith, low)
 
 -- if a read gave nothing the quiet time goes on, or starts again if the clock went back (`rises` is false)
-silent_on : (since : ℕ) (m : Moment) (acts : List Act) (rises : Bool) → nat_le since m.elapsed ≡ rises → IsDrained since acts → IsDrained (min since m.elapsed) (acts ++ Silent m ∷ [])
-silent_on since m acts true e d = subst (λ n. IsDrained n (acts ++ Silent m ∷ [])) (sym (min-eq_left (leb-true since m.elapsed e))) (drained_longer since acts m d)
-silent_on since m acts false e d =
+drained_if_silent : (since : ℕ) (m : Moment) (acts : List Act) (rises : Bool) → nat_le since m.elapsed ≡ rises → IsDrained since acts → IsDrained (min since m.elapsed) (acts ++ Silent m ∷ [])
+drained_if_silent since m acts true e d = subst (λ n. IsDrained n (acts ++ Silent m ∷ [])) (sym (min-eq_left (leb-true since m.elapsed e))) (drained_longer since acts m d)
+drained_if_silent since m acts false e d =
     let low = leb-false since m.elapsed e in
     let less : m.elapsed ≤ since = omega (arith, low) in
     subst (λ n. IsDrained n (acts ++ Silent m ∷ [])) (sym (min-eq_right less)) (drained_anew since m.elapsed acts (Silent m) refl d)
@@ -222,7 +222,7 @@ module _ (plan : Plan) (commands : List Task) (scope : Scope) where
   abbrev StageHereAt : Progress → List Act → Type 0
   StageHereAt = StageAt plan commands scope
 
-  -- if no connection is in use, `Stage` says nothing
+  -- if no connection is in use, `Stage` holds, as it then says nothing
   stage_none : (begun due : Bool) (since : ℕ) (at : Phase) (acts : List Act) → is_in_use at ≡ false → StageHere begun due since at acts
   stage_none begun due since phase.Clearing acts none = cc
   stage_none begun due since phase.Draining acts none = cc
@@ -294,7 +294,7 @@ module _ (plan : Plan) (commands : List Task) (scope : Scope) where
             (lines_completed s.rest bytes) always) _) (always begun),
         λ m. (
           stage_on begun begun p.clock_due p.since (min p.since m.elapsed) p.phase acts (Silent m) tt (λ is now. time.1 is)
-              (λ d. silent_on p.since m acts (nat_le p.since m.elapsed) refl (draining_read p.clock_due p.since acts time.0 d)) st,
+              (λ d. drained_if_silent p.since m acts (nat_le p.since m.elapsed) refl (draining_read p.clock_due p.since acts time.0 d)) st,
           λ is past. stage_drained until m (turned p) acts past (draining_read p.clock_due p.since acts time.0 (stage_in p phase.Draining acts is st)),
         ),
       )

@@ -1,6 +1,6 @@
 -- What replies say: no act changes it, and some function gives the reading of each line for each call. An act is one call on the
 -- link, with its result.
-use Rattle.std.proofs.Common.{◌≡◌, Bool, ℕ, List, [], Result, Ok, Err, refl, sym, ap, ◌∙◌, subst}
+use Rattle.std.proofs.Common.{◌≡◌, Bool, ℕ, List, Result, Ok, Err, refl, sym, ap, ◌∙◌, subst}
 use Rattle.gc_lines.specs.Replies.{ReplyFields}
 use Rattle.gc_lines.specs.Readers.{reply_at}
 use Rattle.gc_lines.specs.declared.fault.LineFault.{LineFault}

@@ -25,7 +25,7 @@ use Rattle.gc_texts.specs.declared.quality.Quality.{Quality}
 use Rattle.gc_texts.specs.declared.quality.Quality.TheVariants.{Fine, Warning, Refused}
 use Rattle.gc_station.specs.Attempts.{code_of, listed_after, listed_by}
 use Rattle.gc_station.specs.Marks.{commands_in, value_as, warned_as, refused_as, answer_as, command_of, end_of, record_of, records_of, is_well, last_well, fresh_after}
-use Rattle.gc_station.specs.Records.{Record, texts_of, WritesPart}
+use Rattle.gc_station.specs.Records.{Record, Grew, texts_of, WritesPart}
 use Rattle.gc_station.specs.Tallies.{counted_in, tallied}
 use Rattle.gc_station.specs.declared.tally.Counts.{Counts}
 
@@ -45,8 +45,8 @@ commands_one (Some m) true e = refl
 commands_one (Some m) false e = cc
 
 -- if `mark` is the one at place i of `marks`, it is a command's just when the one that `get_or` gives there is
-pub item_there : (marks : List (Option Mark)) (i : ℕ) (mark : Option Mark) → i < length marks → mark ≡ get_or marks i mark → is_some mark ≡ is_some (get_or marks i None)
-item_there marks i mark below is = ap is_some (is ∙ get_or_default marks i mark None below)
+pub is_command_there : (marks : List (Option Mark)) (i : ℕ) (mark : Option Mark) → i < length marks → mark ≡ get_or marks i mark → is_some mark ≡ is_some (get_or marks i None)
+is_command_there marks i mark below is = ap is_some (is ∙ get_or_default marks i mark None below)
 
 -- the commands among the first i + 1 marks are those among the first i, and that of the mark at place i, if it is a command's
 -- (`counts`)
@@ -97,16 +97,16 @@ records-none reads utc [] = refl
 records-none reads utc (mark ∷ marks) = refl
 
 -- the record of one settlement, which is of the oldest request, is made by the first mark alone
-mark_here : (reads : Asked → List ℕ → Reading) (utc : ℕ) (mark : Option Mark) (marks : List (Option Mark)) (x : Rule.Settlement Asked)
+records_here : (reads : Asked → List ℕ → Reading) (utc : ℕ) (mark : Option Mark) (marks : List (Option Mark)) (x : Rule.Settlement Asked)
     → records_of reads utc (mark ∷ marks) (x ∷ []) ≡ records_of reads utc (mark ∷ []) (x ∷ [])
-mark_here reads utc None marks x = records-none reads utc marks
-mark_here reads utc (Some mark) marks x = ap (λ rs. record_of reads utc mark x ∷ rs) (records-none reads utc marks)
+records_here reads utc None marks x = records-none reads utc marks
+records_here reads utc (Some mark) marks x = ap (λ rs. record_of reads utc mark x ∷ rs) (records-none reads utc marks)
 
 -- the record of one settlement is made by `mark` alone, if that is the first of `marks`
-pub mark_first : (reads : Asked → List ℕ → Reading) (utc : ℕ) (marks : List (Option Mark)) (mark : Option Mark) (x : Rule.Settlement Asked)
+pub records_first : (reads : Asked → List ℕ → Reading) (utc : ℕ) (marks : List (Option Mark)) (mark : Option Mark) (x : Rule.Settlement Asked)
     → Some mark ≡ slice_get marks 0 → records_of reads utc marks (x ∷ []) ≡ records_of reads utc (mark ∷ []) (x ∷ [])
-mark_first reads utc [] mark x e = cc
-mark_first reads utc (m ∷ marks) mark x e = let same : m ≡ mark = cc in mark_here reads utc m marks x ∙ ap (λ k. records_of reads utc (k ∷ []) (x ∷ [])) same
+records_first reads utc [] mark x e = cc
+records_first reads utc (m ∷ marks) mark x e = let same : m ≡ mark = cc in records_here reads utc m marks x ∙ ap (λ k. records_of reads utc (k ∷ []) (x ∷ [])) same
 
 -- the records of the settlements `xs` and then `ys` are those of `xs`, and after them those of `ys` by the marks that are left
 pub records-append : (reads : Asked → List ℕ → Reading) (utc : ℕ) (marks : List (Option Mark)) (xs ys : List (Rule.Settlement Asked))
@@ -123,10 +123,10 @@ records_seen reads utc marks ss = records_of reads utc marks (map settlement_see
 
 -- the records of the first i + 1 settlements are those of the first i, and that of s, the one at place i, by `mark`, if the
 -- marks from place i on give the same record of s
-pub front_more : (reads : Asked → List ℕ → Reading) (utc : ℕ) (marks : List (Option Mark)) (ss : List (Settlement Asked)) (i : ℕ) (s : Settlement Asked) (mark : Option Mark)
+pub records_seen_more : (reads : Asked → List ℕ → Reading) (utc : ℕ) (marks : List (Option Mark)) (ss : List (Settlement Asked)) (i : ℕ) (s : Settlement Asked) (mark : Option Mark)
     → i < length ss → s ≡ get_or ss i s → records_seen reads utc (drop i marks) (s ∷ []) ≡ records_seen reads utc (mark ∷ []) (s ∷ [])
     → records_seen reads utc marks (take (i + 1) ss) ≡ records_seen reads utc marks (take i ss) ++ records_seen reads utc (mark ∷ []) (s ∷ [])
-front_more reads utc marks ss i s mark below is here =
+records_seen_more reads utc marks ss i s mark below is here =
     let front = map settlement_seen (take i ss) in
     let len : length front ≡ i = length-map (take i ss) settlement_seen ∙ omega (arith, length-take i ss, below) in
     ap (records_of reads utc marks) (map_more settlement_seen ss i s below ∙ ap (λ x. front ++ settlement_seen x ∷ []) (sym is))
@@ -135,9 +135,9 @@ front_more reads utc marks ss i s mark below is here =
     ∙ ap (λ rs. records_of reads utc marks front ++ rs) here
 
 -- the records of all settlements are those of the first i, and after them those of the others by the marks that are left
-pub front_left : (reads : Asked → List ℕ → Reading) (utc : ℕ) (marks : List (Option Mark)) (ss : List (Settlement Asked)) (i : ℕ)
+pub records_seen_left : (reads : Asked → List ℕ → Reading) (utc : ℕ) (marks : List (Option Mark)) (ss : List (Settlement Asked)) (i : ℕ)
     → records_seen reads utc marks ss ≡ records_seen reads utc marks (take i ss) ++ records_seen reads utc (drop (length (map settlement_seen (take i ss))) marks) (drop i ss)
-front_left reads utc marks ss i =
+records_seen_left reads utc marks ss i =
     ap (λ xs. records_of reads utc marks (map settlement_seen xs)) (sym (take-append-drop i ss))
     ∙ ap (records_of reads utc marks) (map-append settlement_seen (take i ss) (drop i ss))
     ∙ records-append reads utc marks (map settlement_seen (take i ss)) (map settlement_seen (drop i ss))
@@ -194,10 +194,6 @@ pub texts_more : (text : Record → List ℕ) (before front next more : List Rec
 texts_more text before front next more is = ap (λ rs. texts_of text (before ++ rs)) is ∙ ap (texts_of text) (sym (append_assoc before front more))
 
 -- Records are added, and none goes.
-
--- the records `old` are the first of the records `new`
-abbrev pub Grew : (old new : List Record) → Type 0
-Grew old new = (more : List Record) × (new ≡ old ++ more)
 
 -- records are a front of themselves
 pub grew_none : (rs : List Record) → Grew rs rs

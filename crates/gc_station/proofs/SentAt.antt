@@ -23,7 +23,8 @@ use Rattle.gc_station.specs.NextCommand.{place_next, mark_next, mark_setup}
 use Rattle.gc_station.proofs.Asked.{marks_none}
 use Rattle.gc_station.proofs.Going.{after_all-append}
 use Rattle.gc_station.proofs.Growing.{losing_records, moved_grew}
-use Rattle.gc_station.proofs.Records.{Grew, grew_none, grew_then}
+use Rattle.gc_station.specs.Records.{Grew}
+use Rattle.gc_station.proofs.Records.{grew_none, grew_then}
 use Rattle.gc_station.proofs.Walk.{acts_along}
 
 -- Lists.
@@ -83,32 +84,32 @@ abbrev pub IsSend : Plan → List Task → Model → Action → ℕ → Mark →
 IsSend plan commands s o n mark = (n ≡ 0) × SendsMarked plan commands s o mark
 
 -- a mark in the part of bytes that are put is of a command that the action sends
-pub putting_mark : (plan : Plan) (commands : List Task) (s : Model) (o : Action) (n : ℕ) (mark : Mark)
+pub put_part_sends : (plan : Plan) (commands : List Task) (s : Model) (o : Action) (n : ℕ) (mark : Mark)
     → slice_get (put_part plan commands s o).marks n ≡ Some (Some mark) → IsSend plan commands s o n mark
-putting_mark plan commands s Prepare n mark e =
+put_part_sends plan commands s Prepare n mark e =
     let h = setup_mark plan s.progress.moment.elapsed (mark_setup commands s.progress) (drop s.progress.prepared commands) n mark e in (h.0, inr (refl, h.1))
-putting_mark plan commands s Send n mark e =
+put_part_sends plan commands s Send n mark e =
     let h = put_mark s.progress.moment.elapsed (mark_next plan commands s.progress) (drop (place_next commands s.progress) commands) n mark e in (h.0, inl (refl, h.1))
-putting_mark plan commands s Flush n mark e = absurd (null_mark n mark e)
-putting_mark plan commands s o n mark e = absurd (none-some (Some mark) e)
+put_part_sends plan commands s Flush n mark e = absurd (null_mark n mark e)
+put_part_sends plan commands s o n mark e = absurd (none-some (Some mark) e)
 
 -- a mark in the part of an act is of a command that is sent, once the station has synchronized
-pub doing_mark : (plan : Plan) (commands : List Task) (s : Model) (o : Action) (act : Act) (n : ℕ) (mark : Mark)
+pub client_part_sends : (plan : Plan) (commands : List Task) (s : Model) (o : Action) (act : Act) (n : ℕ) (mark : Mark)
     → slice_get (client_part plan commands s o act).marks n ≡ Some (Some mark) → IsSend plan commands s o n mark
-doing_mark plan commands s o (Put bytes) n mark e = putting_mark plan commands s o n mark e
-doing_mark plan commands s o (Cut bytes count) n mark e = putting_mark plan commands s o n mark e
-doing_mark plan commands s o act n mark e = absurd (none-some (Some mark) e)
+client_part_sends plan commands s o (Put bytes) n mark e = put_part_sends plan commands s o n mark e
+client_part_sends plan commands s o (Cut bytes count) n mark e = put_part_sends plan commands s o n mark e
+client_part_sends plan commands s o act n mark e = absurd (none-some (Some mark) e)
 
 -- while the station synchronizes no request is a command's
-pub beginning_mark : (s : Model) (o : Action) (act : Act) (n : ℕ) (mark : Mark) → slice_get (sync_part s o act).marks n ≡ Some (Some mark) → ⊥
-beginning_mark s o act n mark e = none-some (Some mark) (ap (λ marks. slice_get marks n) (sym (marks_none s o act)) ∙ e)
+pub sync_part_sends_none : (s : Model) (o : Action) (act : Act) (n : ℕ) (mark : Mark) → slice_get (sync_part s o act).marks n ≡ Some (Some mark) → ⊥
+sync_part_sends_none s o act n mark e = none-some (Some mark) (ap (λ marks. slice_get marks n) (sym (marks_none s o act)) ∙ e)
 
 -- a mark in the part of an act is of a command that is sent
-pub acting_mark : (plan : Plan) (commands : List Task) (s : Model) (o : Action) (act : Act) (n : ℕ) (mark : Mark)
+pub act_part_sends : (plan : Plan) (commands : List Task) (s : Model) (o : Action) (act : Act) (n : ℕ) (mark : Mark)
     → slice_get (part_of_act plan commands s o act).marks n ≡ Some (Some mark) → IsSend plan commands s o n mark
-acting_mark plan commands s o act n mark =
+act_part_sends plan commands s o act n mark =
     cond_both (has_begun s.progress) (client_part plan commands s o act) (sync_part s o act) (λ (p : Part). slice_get p.marks n ≡ Some (Some mark) → IsSend plan commands s o n mark)
-    (λ begun e. doing_mark plan commands s o act n mark e) (λ begins e. absurd (beginning_mark s o act n mark e))
+    (λ begun e. client_part_sends plan commands s o act n mark e) (λ begins e. absurd (sync_part_sends_none s o act n mark e))
 
 -- among these acts the command with this mark is sent, as request n of part i, both counted from 0: after the acts `before`, part
 -- i is the last one and has n requests so far
@@ -155,7 +156,7 @@ module _ (plan : Plan) (commands : List Task) where
   pub sent_here : (s : Model) (act : Act) (acts : List Act) (n : ℕ) (mark : Mark)
       → slice_get (part_at s act).marks n ≡ Some (Some mark) → Sent s (act ∷ acts) 0 n mark
   sent_here s act acts n mark e =
-      let h = acting_mark plan commands s (action_at plan s) act n mark e in
+      let h = act_part_sends plan commands s (action_at plan s) act n mark e in
       record { before = []; act = act; rest = acts; order = refl; its = h.1; so_far = nothing; of_parts = refl; last = refl; count = sym h.0 }
 
   -- if the acts after the first one send the command with this mark (`h`), all acts send it as request n of part i, where that is

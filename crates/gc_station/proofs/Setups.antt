@@ -24,7 +24,7 @@ use Rattle.gc_station.specs.Runs.{state_after}
 use Rattle.gc_station.specs.Scopes.{Scope}
 use Rattle.gc_station.specs.Model.{Model, opening, action_at, waiting_of, is_heard, asks_first, asks_or_null, after_piece, line_came, losing, moved, piece_at, first_unsent_record, with_progress, with_moment, with_rest, after, after_all}
 use Rattle.gc_station.specs.NextCommand.{cycles_begun, place_next, mark_next, mark_setup}
-use Rattle.gc_station.specs.Setups.{Dispatch, dispatch_of_record, dispatch_of_mark, dispatches_of, of_setup, sent_first, sent_as, setup_sent_by, EachSetUpOnce, GoOn, AreInOrder, SetUpsGoOn, dispatch_row}
+use Rattle.gc_station.specs.Setups.{Dispatch, dispatch_of_record, dispatch_of_mark, dispatches_of, of_setup, sent_first, setup_sent_at, setup_sent_by, EachSetUpOnce, GoOn, AreInOrder, SetUpsGoOn, dispatch_row}
 use Rattle.gc_station.proofs.Counts.{ended_progress}
 use Rattle.gc_station.proofs.EachRun.{invariant_all, invariant_opening, invariant_holds, stopped}
 use Rattle.gc_station.proofs.Facts.{action_for, not_none}
@@ -45,9 +45,9 @@ settled_row reads utc (None ∷ ms) (x ∷ ss) = settled_row reads utc ms ss
 settled_row reads utc (Some mark ∷ ms) (x ∷ ss) = ap (λ xs. dispatch_of_mark mark ∷ xs) (settled_row reads utc ms ss)
 
 -- settlements leave the row as it is: their records take the place of the requests
-row_settles : (reads : Asked → List ℕ → Reading) (utc : ℕ) (ms : List (Option Mark)) (ss : List (Settlement Asked)) (rs : List Record)
+dispatch_row_settles : (reads : Asked → List ℕ → Reading) (utc : ℕ) (ms : List (Option Mark)) (ss : List (Settlement Asked)) (rs : List Record)
     → map dispatch_of_record (rs ++ records_of reads utc ms ss) ++ dispatches_of (drop (length ss) ms) ≡ map dispatch_of_record rs ++ dispatches_of ms
-row_settles reads utc ms ss rs =
+dispatch_row_settles reads utc ms ss rs =
     let left = dispatches_of (drop (length ss) ms) in
     let news = records_of reads utc ms ss in
     ap (λ xs. xs ++ left) (map-append dispatch_of_record rs news) ∙ append_assoc (map dispatch_of_record rs) (map dispatch_of_record news) left ∙ ap
@@ -55,7 +55,7 @@ row_settles reads utc ms ss rs =
 
 -- a line that is heard leaves the row as it is
 dispatch_row_line : (s : Model) (line : List ℕ) → dispatch_row (line_came s line) ≡ dispatch_row s
-dispatch_row_line s line = let x = hears s.client line (heard line) in row_settles s.reads s.progress.moment.utc s.marks x.settlements s.records
+dispatch_row_line s line = let x = hears s.client line (heard line) in dispatch_row_settles s.reads s.progress.moment.utc s.marks x.settlements s.records
 
 -- a piece leaves the row as it is, heard or not
 dispatch_row_came : (heard : Bool) (word piece : List ℕ) (s : Model) → dispatch_row (after_piece heard word piece s) ≡ dispatch_row s
@@ -68,18 +68,18 @@ dispatch_row_gave plan until s bytes m = dispatch_row_came (is_heard s.progress.
 -- the loss of what is outstanding leaves the row as it is
 pub dispatch_row_losing : (all : Bool) (s : Model) → dispatch_row (losing all s) ≡ dispatch_row s
 dispatch_row_losing all s =
-    losing_along (λ (t : Model). dispatch_row t ≡ dispatch_row s) all s (row_settles s.reads s.progress.moment.utc s.marks (map lost s.client.waiting) s.records) refl
+    losing_along (λ (t : Model). dispatch_row t ≡ dispatch_row s) all s (dispatch_row_settles s.reads s.progress.moment.utc s.marks (map lost s.client.waiting) s.records) refl
 
--- the commands of two lists of marks, one after the other, are those of the first list, and after them those of the second
-marks_append : (xs ys : List (Option Mark)) → dispatches_of (xs ++ ys) ≡ dispatches_of xs ++ dispatches_of ys
-marks_append [] ys = refl
-marks_append (None ∷ xs) ys = marks_append xs ys
-marks_append (Some mark ∷ xs) ys = ap (λ zs. dispatch_of_mark mark ∷ zs) (marks_append xs ys)
+-- the dispatches of two lists of marks, one after the other, are those of the first list, and after them those of the second
+dispatches-append : (xs ys : List (Option Mark)) → dispatches_of (xs ++ ys) ≡ dispatches_of xs ++ dispatches_of ys
+dispatches-append [] ys = refl
+dispatches-append (None ∷ xs) ys = dispatches-append xs ys
+dispatches-append (Some mark ∷ xs) ys = ap (λ zs. dispatch_of_mark mark ∷ zs) (dispatches-append xs ys)
 
 -- one mark more adds its command, if it is a command's, to the row, after the others
 row_more : (rs : List Record) (ms : List (Option Mark)) (m : Option Mark)
     → map dispatch_of_record rs ++ dispatches_of (ms ++ m ∷ []) ≡ (map dispatch_of_record rs ++ dispatches_of ms) ++ dispatches_of (m ∷ [])
-row_more rs ms m = ap (λ xs. map dispatch_of_record rs ++ xs) (marks_append ms (m ∷ [])) ∙ sym (append_assoc (map dispatch_of_record rs) (dispatches_of ms) (dispatches_of (m ∷ [])))
+row_more rs ms m = ap (λ xs. map dispatch_of_record rs ++ xs) (dispatches-append ms (m ∷ [])) ∙ sym (append_assoc (map dispatch_of_record rs) (dispatches_of ms) (dispatches_of (m ∷ [])))
 
 -- to send the first of these commands adds it to the row; without one nothing is added
 first_row : (mark : Mark) (left : List Task) (s : Model) → dispatch_row (asks_first mark left s) ≡ dispatch_row s ++ sent_first mark left
@@ -93,7 +93,7 @@ setup_row plan mark (task ∷ others) s = first_row mark (task ∷ others) s
 
 module _ (plan : Plan) (commands : List Task) where
   -- an act that sends the next command of the setup adds it to the row
-  pub row_prepared : (s : Model) (act : Act) → dispatch_row (moved plan commands action.Prepare s act) ≡ dispatch_row s ++ sent_as action.Prepare commands s
+  pub row_prepared : (s : Model) (act : Act) → dispatch_row (moved plan commands action.Prepare s act) ≡ dispatch_row s ++ setup_sent_at action.Prepare commands s
   row_prepared s (Cut bytes n) = setup_row plan (mark_setup commands s.progress) (drop s.progress.prepared commands) s
   row_prepared s act = setup_row plan (mark_setup commands s.progress) (drop s.progress.prepared commands) s
 
@@ -165,10 +165,10 @@ module _ (plan : Plan) (commands : List Task) where
   -- an act adds to the setup's part of the row the command of the setup that it sends, if it sends one; where `Invariant` holds
   -- before it, and `HoldsBefore` of its action
   setup_moved : (o : Action) (s : Model) (act : Act) → Invariant plan commands s → HoldsBefore plan s.progress (waiting_of s) o
-      → of_setup (dispatch_row (moved plan commands o (with_progress turned s) act)) ≡ of_setup (dispatch_row s) ++ sent_as o commands s
+      → of_setup (dispatch_row (moved plan commands o (with_progress turned s) act)) ≡ of_setup (dispatch_row s) ++ setup_sent_at o commands s
   setup_moved action.Prepare s act fine is =
       let t = with_progress turned s in
-      ap of_setup (row_prepared plan commands t act) ∙ filter-append _ (dispatch_row s) (sent_as action.Prepare commands t)
+      ap of_setup (row_prepared plan commands t act) ∙ filter-append _ (dispatch_row s) (setup_sent_at action.Prepare commands t)
       ∙ ap (λ xs. of_setup (dispatch_row s) ++ xs) (setup_sent_is_of_setup commands t.progress (drop t.progress.prepared commands))
   setup_moved action.Send s act fine is =
       let t = with_progress turned s in
@@ -192,7 +192,7 @@ module _ (plan : Plan) (commands : List Task) where
       let t = moved plan commands o (with_progress turned s) act in
       let one = ap of_setup (dispatch_row_losing (loses_all t.progress) t) ∙ setup_moved o s act fine (action_for plan s.progress (waiting_of s)) in
       setup_from u acts (invariant_all plan commands s (act ∷ []) fine) ∙ ap (λ xs. xs ++ setup_sent_by plan commands u acts) one
-      ∙ append_assoc (of_setup (dispatch_row s)) (sent_as o commands s) (setup_sent_by plan commands u acts)
+      ∙ append_assoc (of_setup (dispatch_row s)) (setup_sent_at o commands s) (setup_sent_by plan commands u acts)
 
 -- the law: each command of the setup that was sent has one record, or is outstanding; and if the run stopped, none is
 -- outstanding
@@ -206,12 +206,12 @@ each_set_up_once plan commands scope acts =
       settled = λ why stop.
           let paired : length s.marks ≡ length s.client.waiting = fine.paired in
           let empty : length s.client.waiting ≡ 0 = ap length (stopped plan commands s why fine stop).0 in
-          ap of_setup (sym (append-nil (map dispatch_of_record s.records)) ∙ ap (λ xs. map dispatch_of_record s.records ++ xs) (sym (none_left s.marks (omega (arith, paired, empty))))) ∙ all;
+          ap of_setup (sym (append-nil (map dispatch_of_record s.records)) ∙ ap (λ xs. map dispatch_of_record s.records ++ xs) (sym (no_dispatches s.marks (omega (arith, paired, empty))))) ∙ all;
     } where
       -- if there are no marks, no command is outstanding
-      none_left : (ms : List (Option Mark)) → length ms ≡ 0 → dispatches_of ms ≡ []
-      none_left [] e = refl
-      none_left (m ∷ ms) e = absurd (omega (arith, e))
+      no_dispatches : (ms : List (Option Mark)) → length ms ≡ 0 → dispatches_of ms ≡ []
+      no_dispatches [] e = refl
+      no_dispatches (m ∷ ms) e = absurd (omega (arith, e))
 
 -- Attempts.
 
@@ -265,7 +265,7 @@ is_prepare_or_not action.Prepare = inl refl
 is_prepare_or_not o = inr (λ e. cc)
 
 -- an action other than `Prepare` sends no command of the setup
-others_send_none : (o : Action) (commands : List Task) (s : Model) → (o ≡ action.Prepare → ⊥) → sent_as o commands s ≡ []
+others_send_none : (o : Action) (commands : List Task) (s : Model) → (o ≡ action.Prepare → ⊥) → setup_sent_at o commands s ≡ []
 others_send_none action.Prepare commands s other = absurd (other refl)
 others_send_none o commands s other = refl
 
@@ -283,12 +283,12 @@ module _ (plan : Plan) (commands : List Task) (within : plan.setup ≤ length co
   below : (s : Model) → action_at plan s ≡ action.Prepare → s.progress.prepared < plan.setup
   below s is = let needs = subst (λ (o : Action). HoldsBefore plan s.progress (waiting_of s) o) is (action_for plan s.progress (waiting_of s)) in needs.2.1
 
-  -- if a command of the setup is next, what the next action sends of the setup (`sent_as`) is that command alone
-  pub sends_it : (s : Model) → action_at plan s ≡ action.Prepare → sent_as (action_at plan s) commands s ≡ next_dispatch s ∷ []
-  sends_it s is =
+  -- if a command of the setup is next, what the next action sends of the setup (`setup_sent_at`) is that command alone
+  pub sends_next_dispatch : (s : Model) → action_at plan s ≡ action.Prepare → setup_sent_at (action_at plan s) commands s ≡ next_dispatch s ∷ []
+  sends_next_dispatch s is =
       let some = below s is in
       let many : length (drop s.progress.prepared commands) ≡ length commands - s.progress.prepared = length-drop s.progress.prepared commands in
-      ap (λ (o : Action). sent_as o commands s) is ∙ sent_some (mark_setup commands s.progress) (drop s.progress.prepared commands) (omega (arith, many, some, within))
+      ap (λ (o : Action). setup_sent_at o commands s) is ∙ sent_some (mark_setup commands s.progress) (drop s.progress.prepared commands) (omega (arith, many, some, within))
 
   -- after the setup's next command was sent, the one that is next then goes after it (`IsNext`)
   next_sent : (s : Model) (act : Act) → action_at plan s ≡ action.Prepare → IsNext (next_dispatch s) (after plan commands s act).progress
@@ -314,7 +314,7 @@ module _ (plan : Plan) (commands : List Task) (within : plan.setup ≤ length co
       let u = after plan commands s act in
       let rest = setup_sent_by plan commands u acts in
       elim (is_prepare_or_not (action_at plan s)) [
-        | inl sends ↦ subst (λ xs. GoOn x (xs ++ rest)) (sym (sends_it s sends)) (is, go_on_from (next_dispatch s) u acts (next_sent s act sends))
+        | inl sends ↦ subst (λ xs. GoOn x (xs ++ rest)) (sym (sends_next_dispatch s sends)) (is, go_on_from (next_dispatch s) u acts (next_sent s act sends))
         | inr other ↦ subst (λ xs. GoOn x (xs ++ rest)) (sym (others_send_none (action_at plan s) commands s other)) (go_on_from x u acts (next_other x s act other is))
       ]
 
@@ -335,7 +335,7 @@ module _ (plan : Plan) (commands : List Task) (within : plan.setup ≤ length co
       let rest = setup_sent_by plan commands u acts in
       let t = moved plan commands (action_at plan s) (with_progress turned s) act in
       elim (is_prepare_or_not (action_at plan s)) [
-        | inl sends ↦ subst (λ xs. AreInOrder (xs ++ rest)) (sym (sends_it s sends)) (is.0, is.1, go_on_from (next_dispatch s) u acts (next_sent s act sends))
+        | inl sends ↦ subst (λ xs. AreInOrder (xs ++ rest)) (sym (sends_next_dispatch s sends)) (is.0, is.1, go_on_from (next_dispatch s) u acts (next_sent s act sends))
         | inr other ↦
             subst (λ xs. AreInOrder (xs ++ rest)) (sym (others_send_none (action_at plan s) commands s other))
             (in_order_from u acts (subst (λ (q : Progress). NoneOfSetupSent q) (sym (ended_progress t))

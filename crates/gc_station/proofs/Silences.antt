@@ -1,6 +1,6 @@
 -- Which act read the last moment; and that a close is decided only when it is made, unless an act shows its cause. An act is
 -- one call on the link, with its result. `ReadLast` says that the last act read the moment, unless the moment is out of date.
-use Rattle.std.proofs.Common.{◌≡◌, ℕ, ◌⊎◌, inl, inr, ◌&&◌, Bool, true, false, not, List, [], ◌∷◌, ◌++◌, if◌then◌else◌, refl, sym, ap, subst}
+use Rattle.std.proofs.Common.{◌≡◌, ℕ, ◌⊎◌, inl, inr, ◌&&◌, Bool, true, false, not, List, [], ◌∷◌, ◌++◌, if◌then◌else◌, refl, sym, ap, ◌∙◌, subst}
 use Rattle.gc_texts.specs.declared.tasks.Task.{Task}
 use Rattle.gc_station.specs.declared.plan.Plan.{Plan}
 use Rattle.gc_station.specs.declared.cause.Cause.{Cause}
@@ -10,8 +10,8 @@ use Rattle.gc_station.specs.declared.progress.Phase.TheVariants as phase
 use Rattle.gc_station.specs.declared.progress.Action.{Action}
 use Rattle.gc_station.specs.declared.progress.Action.TheVariants as actions
 use Rattle.gc_station.specs.declared.progress.Progress.{Progress}
-use Rattle.gc_links.specs.Acts.{Act, Told, Gave, Silent}
-use Rattle.gc_station.specs.Closing.{Shows, EndsAfter}
+use Rattle.gc_links.specs.Acts.{Act, Told, Gave, Silent, Closed}
+use Rattle.gc_station.specs.Closing.{Shows, Ends, EndsAfter}
 use Rattle.gc_station.specs.Deciding.{is_up, is_past, is_quiet}
 use Rattle.gc_station.specs.Progressing.{turned, cleared, quieted, is_idle, drained}
 use Rattle.gc_station.specs.Quiet.{TellsMoment}
@@ -52,7 +52,7 @@ ReadLast due now at acts = Unit {0}
 abbrev ReadLastAt : Progress → List Act → Type 0
 ReadLastAt p acts = ReadLast p.clock_due p.moment.elapsed p.phase acts
 
--- if no connection is in use, `ReadLast` says nothing
+-- if no connection is in use, `ReadLast` holds, as it then says nothing
 read_last_none : (due : Bool) (now : ℕ) (at : Phase) (acts : List Act) → is_in_use at ≡ false → ReadLast due now at acts
 read_last_none due now phase.Draining acts none = cc
 read_last_none due now phase.Ready acts none = cc
@@ -64,7 +64,7 @@ read_last_told due now phase.Draining acts act tells = λ e. (acts, act, refl, t
 read_last_told due now phase.Ready acts act tells = λ e. (acts, act, refl, tells)
 read_last_told due now at acts act tells = tt
 
--- if the moment read last is out of date, `ReadLast` says nothing
+-- if the moment read last is out of date, `ReadLast` holds, as it then says nothing
 read_last_due : (now : ℕ) (at : Phase) (acts : List Act) → ReadLast true now at acts
 read_last_due now phase.Draining acts = λ e. cc
 read_last_due now phase.Ready acts = λ e. cc
@@ -131,3 +131,13 @@ ends_for_same plan p n cause.Stale why never ends = sym ends
 ends_for_same plan p n cause.Stopped why never ends = sym ends
 ends_for_same plan p n other why never (inl done) = absurd (never done.0)
 ends_for_same plan p n other why never (inr used) = sym used.0
+
+-- an act that ends the run for `why` is a close, which was next for that cause; if `why` is neither `Done` nor `Open`, and the
+-- act doesn't show it
+pub ended_by_close : (plan : Plan) (s : Model) (why : Cause) (last : Act) → (why ≡ cause.Done → ⊥) → (why ≡ cause.Open → ⊥) → (Shows why last → ⊥)
+    → Ends plan s why last → (last ≡ Closed) × (action_at plan s ≡ actions.Close why)
+ended_by_close plan s why last not_done not_open not_shown (inl failed) = absurd (not_shown failed.1)
+ended_by_close plan s why last not_done not_open not_shown (inr (inl (other, is_close, next, ends))) =
+    (is_close, next ∙ ap actions.Close (ends_for_same plan s.progress (waiting_of s).commands other why not_done ends))
+ended_by_close plan s why last not_done not_open not_shown (inr (inr (unopened, ends))) =
+    absurd (not_open (sym (ends_for_same plan s.progress (waiting_of s).commands cause.Open why not_done ends)))

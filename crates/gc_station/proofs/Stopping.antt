@@ -34,14 +34,15 @@ use Rattle.gc_station.specs.Scopes.{Scope}
 use Rattle.gc_station.specs.Stopping.{least_moment, asked_after, IsNotWell, NoneWellSince, ClosesStale, StopsAtItsClose, EndsOnceStale, GoesOnInItsChain, ClosesBetweenChains}
 use Rattle.gc_station.specs.Quiet.{IsListening}
 use Rattle.gc_station.proofs.Always.{always, always_of_progress}
-use Rattle.gc_station.proofs.Closings.{end_of, no_cause_shown, Decided, after_decided, runs_split, stopped_for, needs_of, done_sent}
+use Rattle.gc_station.proofs.Closings.{cause_in, no_cause_shown, Decided, after_decided, runs_split, stopped_for, needs_of, done_sent}
 use Rattle.gc_station.proofs.Counts.{ended_progress}
 use Rattle.gc_station.proofs.Going.{after_all-append, runs_behind}
 use Rattle.gc_station.proofs.Lists.{all_append}
+use Rattle.gc_station.proofs.Making.{unwell_end}
 use Rattle.gc_station.proofs.Opens.{Quits}
 use Rattle.gc_station.proofs.Records.{fresh-append}
-use Rattle.gc_station.proofs.Silences.{end_here, ends_for_same, not_closing}
-use Rattle.gc_station.proofs.Turns.{over_stops}
+use Rattle.gc_station.proofs.Silences.{end_here, ended_by_close, not_closing}
+use Rattle.gc_station.proofs.Turns.{no_act_in_over}
 use Rattle.gc_station.proofs.Unbroken.{unbroken_holds, resting_none}
 use Rattle.gc_station.proofs.Walk.{asked_along, came_along, quieted_along, closed_along, walk, piece_before}
 
@@ -82,13 +83,9 @@ fresh_cases now fresh (r ∷ rs) = by_first (fresh_cases now now rs) (fresh_case
         inr ((r ∷ front, x, later, ap (λ xs. r ∷ xs) order, well), ap (λ x. fresh_after now x rs) (cond-false (is_well r.end) now fresh unwell) ∙ e)
 
 -- the record of the first of these commands, if it isn't sent, isn't of one that was answered well
-skips_unwell : (p : Progress) (m : Moment) (mark : Mark) (list : List Task) → AllByRecursion IsNotWell (first_unsent_record p m mark list)
-skips_unwell p m mark [] = tt
-skips_unwell p m mark (task ∷ others) = by_test p.missed where
-  -- the lemma above, by whether the cycle is missed
-  by_test : (b : Bool) → AllByRecursion IsNotWell (first_unsent_record (record p { missed = b }) m mark (task ∷ others))
-  by_test true = (refl, tt)
-  by_test false = (refl, tt)
+unsent_unwell : (p : Progress) (m : Moment) (mark : Mark) (list : List Task) → AllByRecursion IsNotWell (first_unsent_record p m mark list)
+unsent_unwell p m mark [] = tt
+unsent_unwell p m mark (task ∷ others) = (unwell_end p.missed, tt)
 
 -- the records of requests that are lost are of commands that weren't answered well
 lost_unwell : (reads : Asked → List ℕ → Reading) (utc : ℕ) (marks : List (Option Mark)) (ps : List (Pending Asked)) → AllByRecursion IsNotWell (records_of reads utc marks (map lost ps))
@@ -129,8 +126,8 @@ heard_line mid now t line (rs, order, fresh, at) =
     )
 
 -- `HeardSince` holds after a piece, from the model before its lines on
-heard_piece : (is_heard : Bool) (word piece : List ℕ) (mid : Model) → HeardSince mid mid.progress.moment.elapsed (after_piece is_heard word piece mid)
-heard_piece is_heard word piece mid =
+heard_since_piece : (is_heard : Bool) (word piece : List ℕ) (mid : Model) → HeardSince mid mid.progress.moment.elapsed (after_piece is_heard word piece mid)
+heard_since_piece is_heard word piece mid =
     let now = mid.progress.moment.elapsed in
     let none = sym (append-nil mid.records) in
     came_along (HeardSince mid now) (λ t line h. heard_line mid now t line h) is_heard word piece mid ([], none, refl, refl)
@@ -140,7 +137,7 @@ heard_piece is_heard word piece mid =
 gave_fresh : (plan : Plan) (until : Until) (s : Model) (bytes : List ℕ) (m : Moment) → TracksFresh s (Gave bytes m) (piece_at plan until bytes m s)
 gave_fresh plan until s bytes m =
     let mid = with_moment m (with_progress (moment_noted m) s) in
-    by_case (heard_piece (is_heard s.progress.phase) s.progress.word bytes mid) where
+    by_case (heard_since_piece (is_heard s.progress.phase) s.progress.word bytes mid) where
       -- the lemma above, by the records that the piece recorded
       by_case : HeardSince (with_moment m (with_progress (moment_noted m) s)) m.elapsed
           (after_piece (is_heard s.progress.phase) s.progress.word bytes (with_moment m (with_progress (moment_noted m) s)))
@@ -155,7 +152,7 @@ gave_fresh plan until s bytes m =
 moved_fresh : (plan : Plan) (commands : List Task) (next : Action) (s : Model) (act : Act) → Performs commands s next act → TracksFresh s act (moved plan commands next (with_progress turned s) act)
 moved_fresh plan commands actions.Skip s act o =
     walk plan commands (TracksFresh s) actions.Skip (with_progress turned s) act o (
-      λ m. inl (unsent_record plan commands s.progress (Told m), refl, skips_unwell (turned s.progress) m (mark_next plan commands s.progress) (drop (place_next commands s.progress) commands), refl),
+      λ m. inl (unsent_record plan commands s.progress (Told m), refl, unsent_unwell (turned s.progress) m (mark_next plan commands s.progress) (drop (place_next commands s.progress) commands), refl),
       λ n. inl ([], refl, tt, refl),
     )
 moved_fresh plan commands (actions.Read until) s act o =
@@ -222,9 +219,9 @@ asked-append b (Silent m ∷ xs) ys = asked-append (b || m.stops) xs ys
 asked-append b (x ∷ xs) ys = asked-append b xs ys
 
 -- an act of which `TracksFresh` holds preserves `NoneWellSince`
-since_more : (plan : Plan) (commands : List Task) (scope : Scope) (done : List Act) (act : Act) → NoneWellSince plan commands scope done
+none_well_more : (plan : Plan) (commands : List Task) (scope : Scope) (done : List Act) (act : Act) → NoneWellSince plan commands scope done
     → TracksFresh (state_after plan commands scope done) act (state_after plan commands scope (done ++ act ∷ [])) → NoneWellSince plan commands scope (done ++ act ∷ [])
-since_more plan commands scope done act u (inl (rs, order, unwell, fresh)) = record {
+none_well_more plan commands scope done act u (inl (rs, order, unwell, fresh)) = record {
   before = u.before;
   behind = u.behind ++ act ∷ [];
   order = ap (λ xs. xs ++ act ∷ []) u.order ∙ append_assoc u.before u.behind (act ∷ []);
@@ -235,7 +232,7 @@ since_more plan commands scope done act u (inl (rs, order, unwell, fresh)) = rec
   unwell = all_append IsNotWell u.records rs u.unwell unwell;
   fresh = fresh ∙ ap (λ n. least_moment n (act ∷ [])) u.fresh ∙ sym (least-append u.from u.behind (act ∷ []));
 }
-since_more plan commands scope done act u (inr (rs, order, (front, r, later, split, well), bytes, m, is, fresh)) =
+none_well_more plan commands scope done act u (inr (rs, order, (front, r, later, split, well), bytes, m, is, fresh)) =
     let all = done ++ act ∷ [] in
     record {
       before = all;
@@ -261,10 +258,10 @@ since_more plan commands scope done act u (inr (rs, order, (front, r, later, spl
     }
 
 -- `NoneWellSince` holds after each run
-since_holds : (plan : Plan) (commands : List Task) (scope : Scope) (acts : List Act) → Runs plan commands (opening plan scope) acts → NoneWellSince plan commands scope acts
-since_holds plan commands scope acts runs =
+none_well_holds : (plan : Plan) (commands : List Task) (scope : Scope) (acts : List Act) → Runs plan commands (opening plan scope) acts → NoneWellSince plan commands scope acts
+none_well_holds plan commands scope acts runs =
     always plan commands (opening plan scope) (λ (done : List Act) (t : Model). NoneWellSince plan commands scope done) (λ done act runs' o u.
-    since_more plan commands scope done act u
+    none_well_more plan commands scope done act u
     (subst (λ (t : Model). TracksFresh (state_after plan commands scope done) act t) (sym (after_all-append plan commands (opening plan scope) done (act ∷ [])))
     (after_fresh plan commands (state_after plan commands scope done) act o)))
     (record { before = []; behind = []; order = refl; from = 0; start = inl (refl, refl); records = []; written = refl; unwell = tt; fresh = refl }) acts runs
@@ -273,7 +270,7 @@ since_holds plan commands scope acts runs =
 pub closes_stale : ClosesStale
 closes_stale plan commands scope acts runs is =
     let s = state_after plan commands scope acts in
-    let u = since_holds plan commands scope acts runs in
+    let u = none_well_holds plan commands scope acts runs in
     let stale = end_here plan s cause.Stale is (not_closing plan commands scope acts cause.Stale runs (λ act shows. shows)) in
     let it = and_parts (nat_lt 0 plan.stale) (nat_le plan.stale (s.progress.moment.elapsed - s.fresh)) stale in
     record {
@@ -284,11 +281,11 @@ closes_stale plan commands scope acts runs is =
 
 -- If a run stops.
 
--- no act shows `Stale` or `Stopped` (`Quits`)
-shows_none : (why : Cause) (act : Act) → Quits (actions.Close why) → Shows why act → ⊥
-shows_none cause.Stale act quits shows = shows
-shows_none cause.Stopped act quits shows = shows
-shows_none why act quits shows = absurd quits
+-- no act shows that a run ends for `Stale` or `Stopped`, the causes for which a close is one of `Quits`
+quits_never_shown : (why : Cause) (act : Act) → Quits (actions.Close why) → Shows why act → ⊥
+quits_never_shown cause.Stale act quits shows = shows
+quits_never_shown cause.Stopped act quits shows = shows
+quits_never_shown why act quits shows = absurd quits
 
 -- if a run stops for `Stale` or `Stopped` (`Quits`), its last act is a close, which was next for that cause
 stops_at : (why : Cause) → Quits (actions.Close why) → StopsAtItsClose why
@@ -301,22 +298,13 @@ stops_at why quits plan commands scope acts runs stop = by_shown (stopped_for pl
   alike : (other : Cause) → why ≡ other → Quits (actions.Close other)
   alike other e = subst (λ (c : Cause). Quits (actions.Close c)) e quits
 
-  -- the last act ended the run: it closed a connection for that, as no failed call and no failed attempt ends a run for it
-  by_end : (earlier : List Act) (last : Act) → acts ≡ earlier ++ last ∷ [] → Ends plan (state_after plan commands scope earlier) why last → Claim
-  by_end earlier last order (inl failed) = absurd (shows_none why last quits failed.1)
-  by_end earlier last order (inr (inl (other, is_close, next, ends))) =
-      let s = state_after plan commands scope earlier in
-      let same = ends_for_same plan s.progress (waiting_of s).commands other why (alike cause.Done) ends in
-      (earlier, order ∙ ap (λ a. earlier ++ a ∷ []) is_close, next ∙ ap actions.Close same)
-  by_end earlier last order (inr (inr (unopened, ends))) =
-      let s = state_after plan commands scope earlier in
-      absurd (alike cause.Open (sym (ends_for_same plan s.progress (waiting_of s).commands cause.Open why (alike cause.Done) ends)))
-
   -- the lemma above, by why the run stopped
   by_shown : ((why ≡ cause.Turns) × ((state_after plan commands scope acts).progress.turns ≡ 0))
       ⊎ ((earlier : List Act) × (last : Act) × (acts ≡ earlier ++ last ∷ []) × Ends plan (state_after plan commands scope earlier) why last) → Claim
   by_shown (inl turns) = absurd (alike cause.Turns turns.0)
-  by_shown (inr (earlier, last, order, ends)) = by_end earlier last order ends
+  by_shown (inr (earlier, last, order, ends)) =
+      let closed = ended_by_close plan (state_after plan commands scope earlier) why last (alike cause.Done) (alike cause.Open) (quits_never_shown why last quits) ends in
+      (earlier, order ∙ ap (λ a. earlier ++ a ∷ []) closed.0, closed.1)
 
 -- if a run stops because it is stale, its last act is the close for that
 pub stops_stale : StopsAtItsClose cause.Stale
@@ -329,17 +317,17 @@ stops_stopped = stops_at cause.Stopped tt
 -- What follows a moment at which the run is stale.
 
 -- an act that only listens (`IsListening`) shows no cause
-telling_shows : (act : Act) (why : Cause) → IsListening act → Shows why act → ⊥
-telling_shows act why o shows = no_cause_shown IsListening (λ x. x) (λ x. x) (λ x. x) (λ text n x. x) why act o shows
+listening_shows_none : (act : Act) (why : Cause) → IsListening act → Shows why act → ⊥
+listening_shows_none act why o shows = no_cause_shown IsListening (λ x. x) (λ x. x) (λ x. x) (λ text n x. x) why act o shows
 
 -- an act that only listens (`IsListening`) decides no end
-telling_not : (plan : Plan) (s : Model) (act : Act) (at : Phase) (why : Cause) → IsListening act → Decided plan s at why act → ⊥
-telling_not plan s act at why o (inl failed) = telling_shows act why o failed.1
-telling_not plan s act at why o (inr (down, inl (other, is, next, ends))) = subst IsListening is o
-telling_not plan s act at why o (inr (down, inr (is, ends))) = subst IsListening is o
+listening_decides_none : (plan : Plan) (s : Model) (act : Act) (at : Phase) (why : Cause) → IsListening act → Decided plan s at why act → ⊥
+listening_decides_none plan s act at why o (inl failed) = listening_shows_none act why o failed.1
+listening_decides_none plan s act at why o (inr (down, inl (other, is, next, ends))) = subst IsListening is o
+listening_decides_none plan s act at why o (inr (down, inr (is, ends))) = subst IsListening is o
 
 -- if the end isn't decided, turns are left, and the run is stale, the next action closes for that
-stale_next : (plan : Plan) (p : Progress) (w : Waiting) (at : Phase) → p.phase ≡ at → end_of at ≡ None → 0 < p.turns → is_stale plan p w ≡ true → action_of plan p w ≡ actions.Close cause.Stale
+stale_next : (plan : Plan) (p : Progress) (w : Waiting) (at : Phase) → p.phase ≡ at → cause_in at ≡ None → 0 < p.turns → is_stale plan p w ≡ true → action_of plan p w ≡ actions.Close cause.Stale
 stale_next plan p w at is none some stale = ap (λ x. action_in x plan p w) is ∙ by_phase at none where
   -- turns are left, by their test
   turns : nat_eq p.turns 0 ≡ false
@@ -350,7 +338,7 @@ stale_next plan p w at is none some stale = ap (λ x. action_in x plan p w) is �
   on = cond-false (nat_eq p.turns 0) _ _ turns ∙ cond-true (is_stale plan p w) _ _ stale
 
   -- the lemma above, in each phase
-  by_phase : (at : Phase) → end_of at ≡ None → action_in at plan p w ≡ actions.Close cause.Stale
+  by_phase : (at : Phase) → cause_in at ≡ None → action_in at plan p w ≡ actions.Close cause.Stale
   by_phase phase.Down e = on
   by_phase phase.Pausing e = on
   by_phase phase.Clearing e = on
@@ -377,7 +365,7 @@ nothing_behind plan commands t (act ∷ others) is runs = inr (by_rest others ru
   -- the lemma above, by the acts after that one
   by_rest : (rest : List Act) → Runs plan commands (after plan commands t act) rest → act ∷ rest ≡ Closed ∷ []
   by_rest [] more = ap (λ a. a ∷ []) closes
-  by_rest (x ∷ xs) more = absurd (over_stops plan commands (after plan commands t act) x more.0 cause.Stale over)
+  by_rest (x ∷ xs) more = absurd (no_act_in_over plan commands (after plan commands t act) x more.0 cause.Stale over)
 
 -- a moment that is read, and at which a run with turns left is stale, ends the run: no act comes after it but one close
 pub ends_once_stale : EndsOnceStale
@@ -388,17 +376,17 @@ ends_once_stale plan commands scope earlier behind telling runs tells turns stal
     let split = runs_split plan commands (opening plan scope) earlier behind telling runs in
     let later = runs_behind plan commands (opening plan scope) all behind
     (subst (λ (xs : List Act). Runs plan commands (opening plan scope) xs) (sym (append_assoc earlier (telling ∷ []) behind)) runs) in
-    nothing_behind plan commands t behind (stale_next plan t.progress (waiting_of t) t.progress.phase refl (by_end (end_of t.progress.phase) refl) turns stale) later where
+    nothing_behind plan commands t behind (stale_next plan t.progress (waiting_of t) t.progress.phase refl (by_end (cause_in t.progress.phase) refl) turns stale) later where
       -- the moment decides no end
-      by_end : (e : Option Cause) → end_of (state_after plan commands scope (earlier ++ telling ∷ [])).progress.phase ≡ e
-          → end_of (state_after plan commands scope (earlier ++ telling ∷ [])).progress.phase ≡ None
+      by_end : (e : Option Cause) → cause_in (state_after plan commands scope (earlier ++ telling ∷ [])).progress.phase ≡ e
+          → cause_in (state_after plan commands scope (earlier ++ telling ∷ [])).progress.phase ≡ None
       by_end None is = is
       by_end (Some why) is =
           let s = state_after plan commands scope earlier in
           let next = after_all-append plan commands (opening plan scope) earlier (telling ∷ []) in
           let split = runs_split plan commands (opening plan scope) earlier behind telling runs in
-          absurd (telling_not plan s telling _ why tells
-          (after_decided plan commands s telling why split.1 (done_sent plan commands scope earlier) (sym (ap (λ (x : Model). end_of x.progress.phase) next) ∙ is)))
+          absurd (listening_decides_none plan s telling _ why tells
+          (after_decided plan commands s telling why split.1 (done_sent plan commands scope earlier) (sym (ap (λ (x : Model). cause_in x.progress.phase) next) ∙ is)))
 
 -- If the end of the run was asked for.
 

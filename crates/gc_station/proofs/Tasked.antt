@@ -1,8 +1,9 @@
 -- Each record is of the task at its place, and its command is what that task asks at the moment at which its request was sent.
 -- A mark says which command an outstanding request is of, and when that was sent.
-use Rattle.std.proofs.Common.{◌≡◌, ℕ, Bool, true, false, List, [], ◌∷◌, ◌++◌, length, drop, map, Option, Some, None, if◌then◌else◌, refl, sym, ap, subst}
+use Rattle.std.proofs.Common.{◌≡◌, ℕ, Bool, true, false, List, [], ◌∷◌, ◌++◌, length, drop, map, Option, Some, None, if◌then◌else◌, refl, sym, ap, ◌∙◌, subst}
 use Rattle.std.specs.Prelude.{slice_get}
 use Rattle.std.specs.List.{AllByRecursion}
+use Rattle.std.proofs.lemmas.Bool.{both_ways}
 use Rattle.std.proofs.lemmas.List.{length-map, map-append}
 use Rattle.gc_catalogue.specs.declared.answer.Reading.{Reading}
 use Rattle.gc_catalogue.specs.declared.asked.Asked.{Asked}
@@ -17,26 +18,26 @@ use Rattle.gc_station.specs.Marks.{record_of, records_of}
 use Rattle.gc_station.specs.Parts.{MarksAsk, MarkAsks, went_out}
 use Rattle.gc_station.specs.Tasked.{IsOfItsTask}
 use Rattle.gc_station.specs.declared.mark.Mark.{Mark}
-use Rattle.gc_station.proofs.Booking.{ended_sent, of_append}
+use Rattle.gc_station.proofs.Booking.{ended_sent, marks_ask_append}
 
 -- if the requests `xs` and then `ys` ask what these marks say, one for one, `ys` ask what the marks after those of `xs` say
-own_left : (commands : List Task) (ms : List (Option Mark)) (xs ys : List (Wanted Asked)) → MarksAsk commands ms (xs ++ ys) → MarksAsk commands (drop (length xs) ms) ys
-own_left commands ms [] ys h = h
-own_left commands [] (x ∷ xs) ys h = absurd h
-own_left commands (m ∷ ms) (x ∷ xs) ys h = own_left commands ms xs ys h.1
+marks_ask_left : (commands : List Task) (ms : List (Option Mark)) (xs ys : List (Wanted Asked)) → MarksAsk commands ms (xs ++ ys) → MarksAsk commands (drop (length xs) ms) ys
+marks_ask_left commands ms [] ys h = h
+marks_ask_left commands [] (x ∷ xs) ys h = absurd h
+marks_ask_left commands (m ∷ ms) (x ∷ xs) ys h = marks_ask_left commands ms xs ys h.1
 
 -- if the settled requests of `ss` and then `ys` ask what these marks say, one for one, `ys` ask what the marks after those of
 -- `ss` say
-pub own_settled : (commands : List Task) (ms : List (Option Mark)) (ss : List (Settlement Asked)) (ys : List (Wanted Asked)) → MarksAsk commands ms (map of_settled ss ++ ys)
+pub marks_ask_settled : (commands : List Task) (ms : List (Option Mark)) (ss : List (Settlement Asked)) (ys : List (Wanted Asked)) → MarksAsk commands ms (map of_settled ss ++ ys)
     → MarksAsk commands (drop (length ss) ms) ys
-own_settled commands ms ss ys h = subst (λ (n : ℕ). MarksAsk commands (drop n ms) ys) (length-map ss of_settled) (own_left commands ms (map of_settled ss) ys h)
+marks_ask_settled commands ms ss ys h = subst (λ (n : ℕ). MarksAsk commands (drop n ms) ys) (length-map ss of_settled) (marks_ask_left commands ms (map of_settled ss) ys h)
 
 -- if each of the outstanding requests `ws` asks what its mark says, and p what the mark m says, it is so with p and m added at
 -- the end
-pub own_more : (commands : List Task) (ms : List (Option Mark)) (ws : List (Pending Asked)) (m : Option Mark) (p : Pending Asked) → MarksAsk commands ms (map of_pending ws)
+pub marks_ask_more : (commands : List Task) (ms : List (Option Mark)) (ws : List (Pending Asked)) (m : Option Mark) (p : Pending Asked) → MarksAsk commands ms (map of_pending ws)
     → MarkAsks commands m (of_pending p) → MarksAsk commands (ms ++ m ∷ []) (map of_pending (ws ++ p ∷ []))
-own_more commands ms ws m p own is =
-    subst (MarksAsk commands (ms ++ m ∷ [])) (sym (map-append of_pending ws (p ∷ []))) (of_append commands ms (m ∷ []) (map of_pending ws) (of_pending p ∷ []) own (is, tt))
+marks_ask_more commands ms ws m p own is =
+    subst (MarksAsk commands (ms ++ m ∷ [])) (sym (map-append of_pending ws (p ∷ []))) (marks_ask_append commands ms (m ∷ []) (map of_pending ws) (of_pending p ∷ []) own (is, tt))
 
 -- the record of a settlement that asks what its mark says (`MarkAsks`) is of its task
 record_tasked : (reads : Asked → List ℕ → Reading) (commands : List Task) (utc : ℕ) (mark : Mark) (s : Settlement Asked) → MarkAsks commands (Some mark) (of_settled s)
@@ -62,6 +63,10 @@ settled_tasked reads commands utc (Some mark ∷ ms) (s ∷ ss) ys h = (record_t
 pub unsent_end : (missed : Bool) → went_out (if missed then Missed else Skipped) ≡ false
 unsent_end true = refl
 unsent_end false = refl
+
+-- the ending of a command that isn't sent, as missed or as skipped, is no ending of a command that was sent
+pub no_end_of_sent : (missed : Bool) (end : End) → went_out end ≡ true → (if missed then Missed else Skipped) ≡ end → ⊥
+no_end_of_sent missed end out e = both_ways (went_out end) (sym (ap went_out e) ∙ unsent_end missed) out
 
 -- the record of the command of `task` as not sent is of this task, if `task` is the one at the place of the record, and `end`
 -- isn't the ending of a command that was sent

@@ -3,8 +3,8 @@
 -- synchronized no cycle began or went on.
 -- `up_count` is 1 if there is a connection, and 0 if there is none. An act is one call on the link, with its result. A piece is
 -- the bytes that one read gave. `Trying` says how many tries are left, by the connections that ended since the last read that
--- settled a command. `TriesAfterPiece` says what a piece does to the tries: they are all given back if it settles a command, and
--- stay if it doesn't; `Settling` says the same of a whole read, by the records.
+-- settled a command. `TriesAfterPiece` says what a piece does to the tries: they are all given back if it settles a command and
+-- `preparing` is false after it, and stay otherwise; `Settling` says the same of a whole read, by the records.
 use Rattle.std.proofs.Common.{◌≡◌, ◌≢◌, ◌⊎◌, inl, inr, ℕ, suc, ◌+◌, ◌-◌, ◌<◌, ◌≤◌, Bool, true, false, not, List, [], ◌∷◌, ◌++◌, length, map, Option, Some, None, refl, sym, ap, ◌∙◌, subst, arith, append_assoc, append-nil}
 use Rattle.std.proofs.lemmas.List.{length-map, length-append, nil_from_length}
 use Rattle.std.proofs.lemmas.Bool.{not-true, false_from_ne_true, both_ways}
@@ -27,21 +27,20 @@ use Rattle.gc_station.specs.Deciding.{has_begun, is_up}
 use Rattle.gc_station.specs.EachOnce.{still_waiting, of_record}
 use Rattle.gc_station.specs.Marks.{commands_in}
 use Rattle.gc_station.specs.Progressing.{turned, is_over, loses_all}
-use Rattle.gc_station.specs.Records.{Record}
+use Rattle.gc_station.specs.Records.{Record, Grew}
 use Rattle.gc_station.specs.Runs.{state_after}
 use Rattle.gc_station.specs.Model.{Model, opening, action_at, waiting_of, with_progress, Performs, moved, losing, after, after_all, Runs}
 use Rattle.gc_station.specs.Tries.{IsTried, IsEnding, endings_in, openings_in, SettlesNone, NoneSettled, EndsSettled, AllTried}
-use Rattle.gc_station.proofs.Closings.{no_cause_shown, runs_split, needs_of, end_of, Decided, after_decided, done_sent}
+use Rattle.gc_station.proofs.Closings.{no_cause_shown, runs_split, needs_of, cause_in, Decided, after_decided, done_sent}
 use Rattle.gc_station.proofs.Counts.{ended_progress}
 use Rattle.gc_station.proofs.Always.{always}
 use Rattle.gc_station.proofs.EachRun.{invariant_after, invariant_holds}
 use Rattle.gc_station.proofs.Facts.{or_first, action_for}
 use Rattle.gc_station.proofs.Invariant.{Invariant}
 use Rattle.gc_station.proofs.Going.{after_all-append}
-use Rattle.gc_station.proofs.Opens.{Counted, Quits, counted_moved, CountedAt}
-use Rattle.gc_station.proofs.Records.{Grew}
+use Rattle.gc_station.proofs.Opens.{IsBalanced, Quits, moved_balanced, IsBalancedAt}
 use Rattle.gc_station.proofs.Row.{row_of, row_losing, row_read}
-use Rattle.gc_station.proofs.Turns.{over_stays, up_count, up_least}
+use Rattle.gc_station.proofs.Turns.{no_act_once_over, up_count, up_least}
 use Rattle.gc_station.specs.Scopes.{Scope}
 use Rattle.gc_station.proofs.TriesTaken.{GivesTriesBack, TriesAfterPiece, TakesTries, took_moved, took_with_turn}
 use Rattle.gc_station.proofs.SentAt.{after_grew}
@@ -57,17 +56,17 @@ waiting_count (None ∷ marks) (w ∷ waits) e = waiting_count marks waits (omeg
 waiting_count (Some mark ∷ marks) (w ∷ waits) e = ap suc (waiting_count marks waits (omega (arith, e)))
 
 -- the records and the outstanding commands are as many as the row has
-counted_out : (plan : Plan) (commands : List Task) (s : Model) → Invariant plan commands s → length s.records + commands_in s.marks ≡ length (row_of s)
-counted_out plan commands s fine =
+row_length : (plan : Plan) (commands : List Task) (s : Model) → Invariant plan commands s → length s.records + commands_in s.marks ≡ length (row_of s)
+row_length plan commands s fine =
     let a = length-append (map of_record s.records) (still_waiting s.marks s.client.waiting) in
     let b = length-map s.records of_record in
     let c = waiting_count s.marks s.client.waiting fine.paired in
     omega (arith, a, b, c)
 
 -- where two models have the same row, the records and the outstanding commands are as many in both
-same_out : (plan : Plan) (commands : List Task) (s t : Model) → Invariant plan commands s → Invariant plan commands t → row_of t ≡ row_of s
+same_row_length : (plan : Plan) (commands : List Task) (s t : Model) → Invariant plan commands s → Invariant plan commands t → row_of t ≡ row_of s
     → length t.records + commands_in t.marks ≡ length s.records + commands_in s.marks
-same_out plan commands s t fine fine' same = counted_out plan commands t fine' ∙ ap length same ∙ sym (counted_out plan commands s fine)
+same_row_length plan commands s t fine fine' same = row_length plan commands t fine' ∙ ap length same ∙ sym (row_length plan commands s fine)
 
 -- records that were only added to, and aren't more than before, are the same
 same_if_no_longer : (old new more : List Record) → new ≡ old ++ more → length new ≤ length old → new ≡ old
@@ -77,7 +76,7 @@ same_if_no_longer old new more is few =
     let none : length more ≡ 0 = omega (arith, a, b, few) in
     is ∙ ap (λ xs. old ++ xs) (nil_from_length more none) ∙ append-nil old
 
--- from s to t a read gives the tries back if it settled a command, which added a record
+-- what a read does to the tries, from s to t, as `GivesTriesBack` says: it settled a command if it added a record
 abbrev Settling : Plan → (s t : Model) → Type 0
 Settling plan s t = GivesTriesBack (t.records ≢ s.records) (t.records ≡ s.records) plan s.progress t.progress
 
@@ -114,7 +113,7 @@ gave_settles : (plan : Plan) (commands : List Task) (s t u : Model) → Invarian
     → (same : u.progress ≡ t.progress) → (same_row : row_of u ≡ row_of s)
     → (kept : (commands_in u.marks ≡ commands_in t.marks) ⊎ (commands_in s.marks ≡ 0)) → Settling plan s u
 gave_settles plan commands s t u fine fine' h grew same row kept =
-    settling_by plan s u (commands_in t.marks) (commands_in s.marks) grew (same_out plan commands s u fine fine' row) kept
+    settling_by plan s u (commands_in t.marks) (commands_in s.marks) grew (same_row_length plan commands s u fine fine' row) kept
     (subst (λ (p : Progress). GivesTriesBack (commands_in t.marks < commands_in s.marks) (commands_in s.marks ≤ commands_in t.marks) plan s.progress p) (sym same) h.tries)
 
 -- So the tries are counted along a run.
@@ -149,22 +148,22 @@ quits_over plan commands (actions.Close cause.Stopped) s act quits = refl
 quits_over plan commands next s act quits = absurd quits
 
 -- an act that closes a connection, or fails to make one (`IsEnding`), shows no cause
-ending_shows : (why : Cause) (act : Act) → IsEnding act → Shows why act → ⊥
-ending_shows why act o shows = no_cause_shown IsEnding (λ x. x) (λ x. x) (λ x. x) (λ text n x. x) why act o shows
+ending_shows_none : (why : Cause) (act : Act) → IsEnding act → Shows why act → ⊥
+ending_shows_none why act o shows = no_cause_shown IsEnding (λ x. x) (λ x. x) (λ x. x) (λ text n x. x) why act o shows
 
 -- a cause for which a run stops only without a try left (`IsTried`) isn't `Done`
 not_done : (p : Progress) (n : ℕ) (why : Cause) → IsTried why → EndsDone p n why → ⊥
 not_done p n why tried done = subst IsTried done.0 tried
 
 -- if a run ends for a cause that is one of `IsTried`, no try is left
-no_try : (plan : Plan) (p : Progress) (n : ℕ) (other why : Cause) → IsTried why → EndsAfter plan p n other why → p.tries ≡ 0
-no_try plan p n cause.Done why tried ends = absurd (not_done p n why tried ends)
-no_try plan p n cause.Clock why tried ends = absurd (subst IsTried ends tried)
-no_try plan p n cause.Turns why tried ends = absurd (subst IsTried ends tried)
-no_try plan p n cause.Stale why tried ends = absurd (subst IsTried ends tried)
-no_try plan p n cause.Stopped why tried ends = absurd (subst IsTried ends tried)
-no_try plan p n other why tried (inl done) = absurd (not_done p n why tried done)
-no_try plan p n other why tried (inr used) = used.3
+no_try_at_end : (plan : Plan) (p : Progress) (n : ℕ) (other why : Cause) → IsTried why → EndsAfter plan p n other why → p.tries ≡ 0
+no_try_at_end plan p n cause.Done why tried ends = absurd (not_done p n why tried ends)
+no_try_at_end plan p n cause.Clock why tried ends = absurd (subst IsTried ends tried)
+no_try_at_end plan p n cause.Turns why tried ends = absurd (subst IsTried ends tried)
+no_try_at_end plan p n cause.Stale why tried ends = absurd (subst IsTried ends tried)
+no_try_at_end plan p n cause.Stopped why tried ends = absurd (subst IsTried ends tried)
+no_try_at_end plan p n other why tried (inl done) = absurd (not_done p n why tried done)
+no_try_at_end plan p n other why tried (inr used) = used.3
 
 -- a close that ends a run whether there is a connection or not (`Quits`) isn't one after which the run ends for a cause that is
 -- one of `IsTried`
@@ -174,10 +173,10 @@ quits_not plan p n cause.Stopped why tried ends quits = absurd (subst IsTried en
 quits_not plan p n other why tried ends quits = quits
 
 -- an attempt to connect that failed performs no action that ends a run whether there is a connection or not (`Quits`)
-unopened_not : (commands : List Task) (s : Model) (next : Action) → Performs commands s next Unopened → Quits next → ⊥
-unopened_not commands s (actions.Close cause.Stale) o quits = let other : Unopened ≡ Closed = o in cc
-unopened_not commands s (actions.Close cause.Stopped) o quits = let other : Unopened ≡ Closed = o in cc
-unopened_not commands s next o quits = quits
+unopened_quits_not : (commands : List Task) (s : Model) (next : Action) → Performs commands s next Unopened → Quits next → ⊥
+unopened_quits_not commands s (actions.Close cause.Stale) o quits = let other : Unopened ≡ Closed = o in cc
+unopened_quits_not commands s (actions.Close cause.Stopped) o quits = let other : Unopened ≡ Closed = o in cc
+unopened_quits_not commands s next o quits = quits
 
 -- an act that closes a connection, or fails to make one (`IsEnding`), settles no command
 settles_none : (s t : Model) (act : Act) → IsEnding act → SettlesNone s act t
@@ -213,8 +212,8 @@ module _ (plan : Plan) (commands : List Task) (scope : Scope) where
     opens : openings_in behind + held ≡ endings_in behind + up_count up
 
   -- `Trying` is preserved by an act that settles no command, takes at most one try for each connection that ends by it or
-  -- couldn't be made, and is `Counted`
-  abbrev trying_on : (tries tries' : ℕ) (up up' : Bool) (acts : List Act) (act : Act) → tries ≤ tries' + endings_in (act ∷ []) → Counted up act up'
+  -- couldn't be made, and of which `IsBalanced` holds
+  abbrev trying_on : (tries tries' : ℕ) (up up' : Bool) (acts : List Act) (act : Act) → tries ≤ tries' + endings_in (act ∷ []) → IsBalanced up act up'
       → SettlesNone (state acts) act (after plan commands (state acts) act)
       → Trying tries up acts → Trying tries' up' (acts ++ act ∷ [])
   trying_on tries tries' up up' acts act took counted settles t =
@@ -273,7 +272,7 @@ module _ (plan : Plan) (commands : List Task) (scope : Scope) where
   next_state acts act = after plan commands (state acts) act
 
   -- `TryingAt` is preserved by one act; t is the model after it, before what is outstanding is lost
-  try_step : (acts : List Act) (act : Act) (t : Model) → (next_state acts act).progress ≡ t.progress → TakesTries plan (state acts) act t → CountedAt (state acts) act t
+  try_step : (acts : List Act) (act : Act) (t : Model) → (next_state acts act).progress ≡ t.progress → TakesTries plan (state acts) act t → IsBalancedAt (state acts) act t
       → (((bytes : List ℕ) × (m : Moment) × (act ≡ Gave bytes m)) → TriesAfterPiece plan (state acts) t → Settling plan (state acts) (next_state acts act))
       → TryingAt acts (state acts) → TryingAt (acts ++ act ∷ []) (next_state acts act)
   try_step acts (Gave bytes m) t same took counted settling trying = by_settling (settling (bytes, m, refl) took) where
@@ -282,8 +281,8 @@ module _ (plan : Plan) (commands : List Task) (scope : Scope) where
     appended = after_all-append plan commands (opening plan scope) acts (Gave bytes m ∷ [])
 
     -- the loss of what is outstanding changes nothing of the connection
-    up_same : CountedAt (state acts) (Gave bytes m) (next_state acts (Gave bytes m))
-    up_same = subst (λ (p : Progress). Counted (is_up (state acts).progress.phase) (Gave bytes m) (is_up p.phase)) (sym same) counted
+    up_same : IsBalancedAt (state acts) (Gave bytes m) (next_state acts (Gave bytes m))
+    up_same = subst (λ (p : Progress). IsBalanced (is_up (state acts).progress.phase) (Gave bytes m) (is_up p.phase)) (sym same) counted
 
     -- the lemma above, by whether the read settled a command
     by_settling : Settling plan (state acts) (next_state acts (Gave bytes m)) → TryingAt (acts ++ Gave bytes m ∷ []) (next_state acts (Gave bytes m))
@@ -302,7 +301,7 @@ module _ (plan : Plan) (commands : List Task) (scope : Scope) where
       let u = next_state acts act in
       trying_on s.progress.tries u.progress.tries (is_up s.progress.phase) (is_up u.progress.phase) acts act
       (subst (λ (p : Progress). s.progress.tries ≤ p.tries + endings_in (act ∷ [])) (sym same) took)
-      (subst (λ (p : Progress). Counted (is_up s.progress.phase) act (is_up p.phase)) (sym same) counted) tt trying
+      (subst (λ (p : Progress). IsBalanced (is_up s.progress.phase) act (is_up p.phase)) (sym same) counted) tt trying
 
   -- `TryingUnlessOver` is preserved by one act of a run more
   try_after : (done : List Act) (act : Act)
@@ -314,12 +313,12 @@ module _ (plan : Plan) (commands : List Task) (scope : Scope) where
       let u = after plan commands s act in
       let t = moved plan commands (action_at plan s) (with_progress turned s) act in
       let same = ended_progress t in
-      let goes = false_from_ne_true (is_over s.progress) (λ over. over_stays plan commands s act over o) in
+      let goes = false_from_ne_true (is_over s.progress) (λ over. no_act_once_over plan commands s act over o) in
       let fine = invariant_holds plan commands scope done in
       let not_over_mid : is_over t.progress ≡ false = sym (ap is_over same) ∙ not_over in
       try_step done act t same
       (took_with_turn plan s t act (took_moved plan commands (action_at plan s) s act o))
-      (counted_moved plan commands (action_at plan s) s act o (action_for plan s.progress (waiting_of s))
+      (moved_balanced plan commands (action_at plan s) s act o (action_for plan s.progress (waiting_of s))
       (λ quits. absurd (both_ways (is_over t.progress) not_over_mid (quits_over plan commands (action_at plan s) s act quits))))
       (λ gave h. gave_settles plan commands s t u fine (invariant_after plan commands s act fine) h (after_grew plan commands s act) same
       (row_losing (loses_all t.progress) t ∙ row_read plan commands (action_at plan s) (with_progress turned s) act gave.0 gave.1 o gave.2)
@@ -348,7 +347,7 @@ module _ (plan : Plan) (commands : List Task) (scope : Scope) where
 
   -- if no try is left (`Trying`), and the last act closes a connection or fails to make one, so that there is none, all tries are
   -- used up as the law says (`AllTried`)
-  all_tried : (acts : List Act) (last : Act) → IsEnding last → Counted (is_up (state acts).progress.phase) last false
+  all_tried : (acts : List Act) (last : Act) → IsEnding last → IsBalanced (is_up (state acts).progress.phase) last false
       → Trying 0 (is_up (state acts).progress.phase) acts → AllTried plan commands scope (acts ++ last ∷ [])
   all_tried acts last ending counted t =
       let s = state acts in
@@ -405,7 +404,7 @@ module _ (plan : Plan) (commands : List Task) (scope : Scope) where
 
     -- the last act decided the end
     decided : Decided plan s (after plan commands s last).progress.phase why last
-    decided = after_decided plan commands s last why split.1 (done_sent plan commands scope acts) (ap end_of there)
+    decided = after_decided plan commands s last why split.1 (done_sent plan commands scope acts) (ap cause_in there)
 
     -- after the last act there is no connection
     down : is_up t.progress.phase ≡ false
@@ -413,12 +412,12 @@ module _ (plan : Plan) (commands : List Task) (scope : Scope) where
 
     -- before the last act the run wasn't over
     goes : is_over s.progress ≡ false
-    goes = false_from_ne_true (is_over s.progress) (λ gone. over_stays plan commands s last gone split.1)
+    goes = false_from_ne_true (is_over s.progress) (λ gone. no_act_once_over plan commands s last gone split.1)
 
     -- the connection that the last act ends, or couldn't make, is counted
-    counted : (Quits (action_at plan s) → ⊥) → Counted (is_up s.progress.phase) last false
-    counted never = subst (λ (b : Bool). Counted (is_up s.progress.phase) last b) down
-        (counted_moved plan commands (action_at plan s) s last split.1 (action_for plan s.progress (waiting_of s)) never)
+    counted : (Quits (action_at plan s) → ⊥) → IsBalanced (is_up s.progress.phase) last false
+    counted never = subst (λ (b : Bool). IsBalanced (is_up s.progress.phase) last b) down
+        (moved_balanced plan commands (action_at plan s) s last split.1 (action_for plan s.progress (waiting_of s)) never)
 
     -- if no try was left before the last act, all tries are used up
     used : (Quits (action_at plan s) → ⊥) → s.progress.tries ≡ 0 → AllTried plan commands scope (acts ++ last ∷ [])
@@ -427,9 +426,9 @@ module _ (plan : Plan) (commands : List Task) (scope : Scope) where
 
     -- the last act ended a connection or could make none, so no try was left
     by_decided : Decided plan s (after plan commands s last).progress.phase why last → AllTried plan commands scope (acts ++ last ∷ [])
-    by_decided (inl failed) = absurd (ending_shows why last ending failed.1)
+    by_decided (inl failed) = absurd (ending_shows_none why last ending failed.1)
     by_decided (inr (down, inl (other, closes, next, ends))) =
-        used (λ quits. quits_not plan s.progress (commands_in s.marks) other why tried ends (subst Quits next quits)) (no_try plan s.progress (commands_in s.marks) other why tried ends)
+        used (λ quits. quits_not plan s.progress (commands_in s.marks) other why tried ends (subst Quits next quits)) (no_try_at_end plan s.progress (commands_in s.marks) other why tried ends)
     by_decided (inr (down, inr (unopened, ends))) =
-        used (λ quits. unopened_not commands s (action_at plan s) (subst (λ (a : Act). Performs commands s (action_at plan s) a) unopened split.1) quits)
-        (no_try plan s.progress (commands_in s.marks) cause.Open why tried ends)
+        used (λ quits. unopened_quits_not commands s (action_at plan s) (subst (λ (a : Act). Performs commands s (action_at plan s) a) unopened split.1) quits)
+        (no_try_at_end plan s.progress (commands_in s.marks) cause.Open why tried ends)

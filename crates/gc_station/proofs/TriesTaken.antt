@@ -29,7 +29,7 @@ GivesTriesBack settled none plan p q =
     (settled × (q.preparing ≡ false) × (q.tries ≡ plan.retries)) ⊎ ((none ⊎ (q.preparing ≡ true)) × (q.tries ≡ p.tries))
 
 -- what a piece does, from s to t: it gives no cycle and no command its turn; a station that synchronizes after it did so before
--- it; and the tries are given back if it settled a command, so that fewer are outstanding (`GivesTriesBack`)
+-- it; and `GivesTriesBack` says what becomes of the tries, where a command was settled if fewer are outstanding after it
 pub record TriesAfterPiece (plan : Plan) (s t : Model) : Type 0 where
   pub left : t.progress.left ≡ s.progress.left
   pub unsent : t.progress.unsent ≡ s.progress.unsent

@@ -32,9 +32,14 @@ pub up_least : (b : Bool) → up_count b ≤ 1
 up_least true = omega arith
 up_least false = omega arith
 
+-- the phase after a connection that ended or couldn't be made for the cause `why`, by whether all is done, and whether the
+-- station connects again
+abbrev pub phase_by : (done again : Bool) → Cause → Phase
+phase_by done again why = if done then phase.Over cause.Done else if again then phase.Pausing else phase.Over why
+
 -- in the phase after a connection that ended or couldn't be made, there is none
-phase_down : (done some : Bool) (why : Cause) → is_up (if done then phase.Over cause.Done else if some then phase.Pausing else phase.Over why) ≡ false
-phase_down true some why = refl
+phase_down : (done again : Bool) (why : Cause) → is_up (phase_by done again why) ≡ false
+phase_down true again why = refl
 phase_down false true why = refl
 phase_down false false why = refl
 
@@ -60,12 +65,13 @@ on_closes : (plan : Plan) (commands : List Task) (s t : Model) (p : Progress) (z
 on_closes plan commands s t p true act other e obeys = up_closes plan commands s t (is_up p.phase) act obeys
 on_closes plan commands s t p false act other e obeys = cc
 
--- once all turns are used up, an act is made only if there is a connection, and leaves none, in each phase
-phase_closes : (plan : Plan) (commands : List Task) (s t : Model) (p : Progress) (phase : Phase) (w : Waiting) (act : Act) → nat_eq p.turns 0 ≡ true → p.phase ≡ phase
+-- once all turns are used up, the next act, if one is made, closes a connection: there is one in the phase of p, and none after
+-- the act
+last_act_closes : (plan : Plan) (commands : List Task) (s t : Model) (p : Progress) (phase : Phase) (w : Waiting) (act : Act) → nat_eq p.turns 0 ≡ true → p.phase ≡ phase
     → Performs commands t (action_in phase plan p w) act → (is_up phase ≡ true) × (is_up (moved plan commands (action_in phase plan p w) s act).progress.phase ≡ false)
-phase_closes plan commands s t p (phase.Closing cause) w act none is obeys = (refl, closed_down plan (waiting_of s) cause s.progress)
-phase_closes plan commands s t p (phase.Over cause) w act none is obeys = absurd obeys
-phase_closes plan commands s t p phase w act none is obeys = let c = on_closes plan commands s t p (nat_eq p.turns 0) act _ none obeys in (ap is_up (sym is) ∙ c.0, c.1)
+last_act_closes plan commands s t p (phase.Closing cause) w act none is obeys = (refl, closed_down plan (waiting_of s) cause s.progress)
+last_act_closes plan commands s t p (phase.Over cause) w act none is obeys = absurd obeys
+last_act_closes plan commands s t p phase w act none is obeys = let c = on_closes plan commands s t p (nat_eq p.turns 0) act _ none obeys in (ap is_up (sym is) ∙ c.0, c.1)
 
 -- less is left to be done with one turn fewer (t', of t) or, if no turn was left, without the connection that there was (u
 -- before, u' after)
@@ -87,7 +93,7 @@ less_stepped plan commands s w act obeys =
     let fewer : left_to_do mid.progress < left_to_do s.progress =
     less_left s.progress.turns mid.progress.turns (is_up s.progress.phase) (is_up mid.progress.phase)
     (turns_kept plan commands action (with_progress turned s) act)
-    (λ none. phase_closes plan commands (with_progress turned s) s s.progress s.progress.phase w act none refl obeys) in
+    (λ none. last_act_closes plan commands (with_progress turned s) s s.progress s.progress.phase w act none refl obeys) in
     let e : left_to_do (stepped plan commands action s act).progress ≡ left_to_do mid.progress = ap left_to_do same in
     omega (arith, e, fewer)
 
@@ -95,25 +101,25 @@ less_stepped plan commands s w act obeys =
 
 module _ (plan : Plan) (commands : List Task) where
   -- no act is performed in the phase `Over`
-  pub over_stops : (s : Model) (act : Act) → Performs commands s (action_at plan s) act → (why : Cause) → s.progress.phase ≡ phase.Over why → ⊥
-  over_stops s act o why is = subst (λ (at : Phase). Performs commands s (action_in at plan s.progress (waiting_of s)) act) is o
+  pub no_act_in_over : (s : Model) (act : Act) → Performs commands s (action_at plan s) act → (why : Cause) → s.progress.phase ≡ phase.Over why → ⊥
+  no_act_in_over s act o why is = subst (λ (at : Phase). Performs commands s (action_in at plan s.progress (waiting_of s)) act) is o
 
   -- no act is performed if the run is over
-  pub over_stays : (s : Model) (act : Act) → is_over s.progress ≡ true → Performs commands s (action_at plan s) act → ⊥
-  over_stays s act over obeys = by_phase s.progress.phase refl over where
+  pub no_act_once_over : (s : Model) (act : Act) → is_over s.progress ≡ true → Performs commands s (action_at plan s) act → ⊥
+  no_act_once_over s act over obeys = by_phase s.progress.phase refl over where
     -- without a connection and a turn, the next action is to stop
-    none_left : (up zero_left : Bool) → is_up s.progress.phase ≡ up → nat_eq s.progress.turns 0 ≡ zero_left → (not up && zero_left) ≡ true
+    next_stops : (up zero_left : Bool) → is_up s.progress.phase ≡ up → nat_eq s.progress.turns 0 ≡ zero_left → (not up && zero_left) ≡ true
         → action_on plan s.progress (waiting_of s) ≡ actions.Stop cause.Turns
-    none_left true z e f both = cc
-    none_left false false e f both = cc
-    none_left false true e f both = rw (f, e) refl
+    next_stops true z e f both = cc
+    next_stops false false e f both = cc
+    next_stops false true e f both = rw (f, e) refl
 
     -- without a connection and a turn no act is made, if the phase hasn't decided the end
     stops : action_at plan s ≡ action_on plan s.progress (waiting_of s) → (not (is_up s.progress.phase) && nat_eq s.progress.turns 0) ≡ true → ⊥
-    stops e both = subst (λ (o : Action). Performs commands s o act) (e ∙ none_left (is_up s.progress.phase) (nat_eq s.progress.turns 0) refl refl both) obeys
+    stops e both = subst (λ (o : Action). Performs commands s o act) (e ∙ next_stops (is_up s.progress.phase) (nat_eq s.progress.turns 0) refl refl both) obeys
 
     -- no act is made if the run is over, in each phase
     by_phase : (at : Phase) → s.progress.phase ≡ at → is_over s.progress ≡ true → ⊥
     by_phase (phase.Closing why) is o = let never : false ≡ true = sym (ap (λ at. is_over_in at || (not (is_up at) && nat_eq s.progress.turns 0)) is) ∙ o in cc
-    by_phase (phase.Over why) is o = over_stops s act obeys why is
+    by_phase (phase.Over why) is o = no_act_in_over s act obeys why is
     by_phase other is o = stops (ap (λ at. action_in at plan s.progress (waiting_of s)) is) (sym (ap (λ at. is_over_in at || (not (is_up s.progress.phase) && nat_eq s.progress.turns 0)) is) ∙ o)

@@ -76,9 +76,9 @@ module _ (plan : Plan) (commands : List Task) where
   abbrev UpIfUnbroken : (t : Model) → Type 0
   UpIfUnbroken t = t.progress.chain_unbroken ≡ true → is_up t.progress.phase ≡ true
 
-  -- if there is a connection before an act, and a chain isn't broken after it, there is a connection after it
+  -- if there is a connection before an act, and a chain isn't broken after it, there is a connection after it (`UpIfUnbroken`)
   unbroken_up : (s : Model) (o : Action) (act : Act) → Performs commands s o act → is_up s.progress.phase ≡ true
-      → (moved plan commands o (with_progress turned s) act).progress.chain_unbroken ≡ true → is_up (moved plan commands o (with_progress turned s) act).progress.phase ≡ true
+      → UpIfUnbroken (moved plan commands o (with_progress turned s) act)
   unbroken_up s actions.Open act obeys up = walk plan commands (λ a. UpIfUnbroken) actions.Open (with_progress turned s) act obeys (λ m c. refl, λ n c. cc)
   unbroken_up s actions.Clear act obeys up =
       walk plan commands (λ a. UpIfUnbroken) actions.Clear (with_progress turned s) act obeys (
@@ -115,22 +115,22 @@ module _ (plan : Plan) (commands : List Task) where
   not_preparing_after_send s act = subst (λ (x : Model). x.progress.preparing ≡ false) (is_sent plan commands s) refl
 
   -- if a chain isn't broken after an act, and `preparing` was false before the act, it is after it
-  unprepared_kept : (s : Model) (o : Action) (act : Act) → (moved plan commands o (with_progress turned s) act).progress.chain_unbroken ≡ true → s.progress.preparing ≡ false
+  not_preparing_kept : (s : Model) (o : Action) (act : Act) → (moved plan commands o (with_progress turned s) act).progress.chain_unbroken ≡ true → s.progress.preparing ≡ false
       → (moved plan commands o (with_progress turned s) act).progress.preparing ≡ false
-  unprepared_kept s actions.Send act c was = not_preparing_after_send (with_progress turned s) act
-  unprepared_kept s actions.Renew (Told m) c was = cc
-  unprepared_kept s actions.Renew act c was = was
-  unprepared_kept s actions.Begin (Told m) c was = refl
-  unprepared_kept s actions.Begin act c was = was
-  unprepared_kept s actions.Skip (Told m) c was = refl
-  unprepared_kept s actions.Skip act c was = was
-  unprepared_kept s actions.Pass (Told m) c was = refl
-  unprepared_kept s actions.Pass act c was = was
-  unprepared_kept s actions.Open Opened c was = was
-  unprepared_kept s actions.Open act c was = cc
-  unprepared_kept s (actions.Close why) act c was =
+  not_preparing_kept s actions.Send act c was = not_preparing_after_send (with_progress turned s) act
+  not_preparing_kept s actions.Renew (Told m) c was = cc
+  not_preparing_kept s actions.Renew act c was = was
+  not_preparing_kept s actions.Begin (Told m) c was = refl
+  not_preparing_kept s actions.Begin act c was = was
+  not_preparing_kept s actions.Skip (Told m) c was = refl
+  not_preparing_kept s actions.Skip act c was = was
+  not_preparing_kept s actions.Pass (Told m) c was = refl
+  not_preparing_kept s actions.Pass act c was = was
+  not_preparing_kept s actions.Open Opened c was = was
+  not_preparing_kept s actions.Open act c was = cc
+  not_preparing_kept s (actions.Close why) act c was =
       closed_along (λ (q : Progress). q.chain_unbroken ≡ true → q.preparing ≡ false) plan (waiting_of (with_rest [] (with_progress turned s))) why (turned s.progress) (λ d. cc) (λ d. cc) c
-  unprepared_kept s o act c was = ap (λ (x : Model). x.progress.preparing) (moved_changed plan commands o (with_progress turned s) act) ∙ was
+  not_preparing_kept s o act c was = ap (λ (x : Model). x.progress.preparing) (moved_changed plan commands o (with_progress turned s) act) ∙ was
 
   -- `IsOnLineIfUnbroken` is preserved by an act of each action of which `HoldsBefore` holds
   on_line_moved : (s : Model) (o : Action) (act : Act) → Performs commands s o act → HoldsBefore plan s.progress (waiting_of s) o → IsOnLineIfUnbroken s.progress
@@ -146,7 +146,7 @@ module _ (plan : Plan) (commands : List Task) where
           begun_kept plan commands s o act obeys it.1 c,
           subst (λ (x : Action). (moved plan commands x (with_progress turned s) act).progress.preparing ≡ false) (sym sends) (not_preparing_after_send (with_progress turned s) act),
         )
-    by_before (inr was) = let it = on was in (unbroken_up s o act obeys it.0 c, begun_kept plan commands s o act obeys it.1 c, unprepared_kept s o act c it.2)
+    by_before (inr was) = let it = on was in (unbroken_up s o act obeys it.0 c, begun_kept plan commands s o act obeys it.1 c, not_preparing_kept s o act c it.2)
 
 -- `IsOnLineIfUnbroken` holds after each run
 pub unbroken_holds : (plan : Plan) (commands : List Task) (scope : Scope) (acts : List Act) → Runs plan commands (opening plan scope) acts

@@ -135,10 +135,10 @@ module _ (plan : Plan) (commands : List Task) (scope : Scope) (some : 0 < plan.e
   }
 
   -- in a cycle that isn't missed, a command that waits for the answer of the one before it is of a chain, and not its first
-  chain_of : (p : Progress) → WaitsForAnswer plan commands scope some p → p.missed ≡ false
+  waits_in_its_chain : (p : Progress) → WaitsForAnswer plan commands scope some p → p.missed ≡ false
       → (plan.setup < place_next commands p) × (is_chained (drop (place_next commands p) commands) ≡ true)
-  chain_of p (inl missed) free = absurd (both_ways p.missed free missed)
-  chain_of p (inr chain) free = chain
+  waits_in_its_chain p (inl missed) free = absurd (both_ways p.missed free missed)
+  waits_in_its_chain p (inr chain) free = chain
 
   -- where `Begun` holds, and the next action is to skip a command, the record of that command in a cycle that isn't missed comes
   -- about as `IsSkippedIn` says
@@ -157,7 +157,7 @@ module _ (plan : Plan) (commands : List Task) (scope : Scope) (some : 0 < plan.e
     by_begun (inl none) = let here = (needs_of plan s actions.Skip is).2 in let nothing = none.1 in absurd (omega (arith, nothing, here))
     by_begun (inr c) =
         let needs = needs_of plan (state acts) actions.Skip is in
-        let chain = chain_of (state acts).progress (c.chained needs.4) free in
+        let chain = waits_in_its_chain (state acts).progress (c.chained needs.4) free in
         let last = last_began plan commands scope some acts (state acts).progress refl c free in
         record {
           before = acts;

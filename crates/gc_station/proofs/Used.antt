@@ -11,10 +11,10 @@ use Rattle.gc_links.specs.Acts.{Act}
 use Rattle.gc_station.specs.Closing.{Ends}
 use Rattle.gc_station.specs.Progressing.{turned}
 use Rattle.gc_station.specs.Runs.{state_after}
-use Rattle.gc_station.specs.Model.{Model, opening, action_at, waiting_of, with_progress, moved, after, after_all, Runs}
+use Rattle.gc_station.specs.Model.{Model, opening, action_at, with_progress, moved, after, after_all, Runs}
 use Rattle.gc_station.proofs.Closings.{runs_split, stopped_for}
 use Rattle.gc_station.proofs.Counts.{turns_kept, ended_progress}
-use Rattle.gc_station.proofs.Silences.{not_closing, end_here, ends_for_same}
+use Rattle.gc_station.proofs.Silences.{not_closing, end_here, ended_by_close}
 use Rattle.gc_station.specs.Scopes.{Scope}
 
 -- acts take as many turns as they are, or all that are left if these are fewer
@@ -55,23 +55,13 @@ module _ (plan : Plan) (commands : List Task) (scope : Scope) where
         let more = length-append earlier (last ∷ []) in
         omega (arith, fewer, long, more)
 
-    -- the last act ended the run: it closed a connection for the turns, as no failed call and no failed attempt ends a run for
-    -- them
-    by_end : (earlier : List Act) (last : Act) → acts ≡ earlier ++ last ∷ [] → Ends plan (state earlier) cause.Turns last → scope.turns ≤ length acts
-    by_end earlier last order (inl failed) = absurd failed.1
-    by_end earlier last order (inr (inl (other, closed, next, ends))) =
-        let s = state earlier in
-        before earlier last order (next ∙ ap actions.Close (ends_for_same plan s.progress (waiting_of s).commands other cause.Turns (λ e. cc) ends))
-    by_end earlier last order (inr (inr (unopened, ends))) =
-        let s = state earlier in
-        let both = ends_for_same plan s.progress (waiting_of s).commands cause.Open cause.Turns (λ e. cc) ends in cc
-
-    -- the run stops because no turn is left, or because of what the last act shows
+    -- the lemma above, by why the run stopped: no turn is left, or the last act closed a connection for the turns
     by_shown : ((cause.Turns ≡ cause.Turns) × ((state acts).progress.turns ≡ 0))
         ⊎ ((earlier : List Act) × (last : Act) × (acts ≡ earlier ++ last ∷ []) × Ends plan (state earlier) cause.Turns last)
         → scope.turns ≤ length acts
     by_shown (inl none) = used_up acts none.1
-    by_shown (inr (earlier, last, order, ends)) = by_end earlier last order ends
+    by_shown (inr (earlier, last, order, ends)) =
+        before earlier last order (ended_by_close plan (state earlier) cause.Turns last (λ e. cc) (λ e. cc) (λ shows. shows) ends).1
 
   -- the law: a connection is closed, or a run stops, for its turns only after as many acts as the run had turns
   pub turns_used : (acts : List Act) → Runs plan commands (opening plan scope) acts

@@ -50,7 +50,7 @@ pub stays_still : (act : Act) → ((d : ℕ) → ReadsBefore d act) → (timed_o
 stays_still act on true d xs told = past_more d xs (act ∷ []) told
 stays_still act on false d xs all = all_append (ReadsBefore d) xs (act ∷ []) all (on d, tt)
 
--- a moment times a request out if its deadline has come: from `Stayed` to `StayedAt`
+-- where `Stayed` holds, `StayedAt` holds at the moment `now`, which times the request out if its deadline has come
 stays_at : (now : ℕ) (timed_out : Bool) (d : ℕ) (xs : List Act) → Stayed timed_out d xs → StayedAt now (timed_out || nat_le d now) d xs
 stays_at now true d xs told = inl told
 stays_at now false d xs all = by_test (nat_le d now) refl where
@@ -145,8 +145,8 @@ module _ (plan : Plan) (commands : List Task) (scope : Scope) where
     stays = step p.given_up p.deadline s.between s.stays;
   }
 
-  -- a request that was `WasAsked` at the place `at` with an id was so at any place at' with an equal id, if `at` is above 0
-  -- wherever at' is (0 is the place of the oldest)
+  -- where `WasAsked` holds at the place `at` with an id, it holds at the place at' with an equal id, if `at` is above 0, or at'
+  -- is 0 (the place of the oldest)
   pub asked_as : (acts : List Act) (S : Bool → ℕ → List Act → Type 0) (number at at' id id' : ℕ)
       (p : Pending Asked) (mark : Option Mark) → (0 < at' → 0 < at) → id' ≡ id
       → WasAsked acts S number at id p mark → WasAsked acts S number at' id' p mark
@@ -246,10 +246,10 @@ module _ (plan : Plan) (commands : List Task) (scope : Scope) where
         }
 
   -- records that are true by the acts so far are true by one more
-  pub more_true : (acts : List Act) (act : Act) (rs : List Record)
+  pub all_true_more : (acts : List Act) (act : Act) (rs : List Record)
       → Performs commands (state acts) (action_at plan (state acts)) act
       → AllByRecursion (IsJustified acts) rs → AllByRecursion (IsJustified (acts ++ act ∷ [])) rs
-  more_true acts act rs obeys all = all_on (IsJustified acts) (IsJustified (acts ++ act ∷ [])) rs
+  all_true_more acts act rs obeys all = all_on (IsJustified acts) (IsJustified (acts ++ act ∷ [])) rs
       (λ r is. true_more acts act r obeys is) all
 
   -- an act that changes nothing of the client, and reads no moment, preserves `Honest`

@@ -1,6 +1,6 @@
 -- One walk over the actions: which fields an act of each action changes (`changed`), and what has to hold for a fact to hold
--- after it (`Behind`). A new action is a row in each of these tables; a fact about all actions is an instance. An act is one
--- call on the link, with its result.
+-- after it (`HoldsInEachCase`). A new action is a row in each of these tables; a fact about all actions is an instance. An act is
+-- one call on the link, with its result.
 use Rattle.std.proofs.Common.{◌≡◌, ℕ, Bool, true, false, List, [], ◌∷◌, drop, Some, if◌then◌else◌, refl, sym, subst}
 use Rattle.gc_lines.specs.Frames.{rest_behind}
 use Rattle.gc_catalogue.specs.declared.asked.Asked.TheVariants.{Table}
@@ -25,7 +25,7 @@ use Rattle.gc_station.specs.Deciding.{is_quiet}
 use Rattle.gc_station.specs.Marks.{commands_in}
 use Rattle.gc_station.specs.Progressing.{turned, moment_noted, cycle_begun, skipped, failing, opened, after_failure, cleared, request_noted, null_sent, renewed, sent, line_synchronizing, lines_synchronizing, pause_ended, drained, quieted, time_passed, early_noted, ended_for, closed, setup_sent}
 use Rattle.gc_station.specs.ActKinds.{Puts}
-use Rattle.gc_station.specs.Model.{Model, waiting_of, request_text, null_text, first_text, listed_after_skip, with_listed, after_pass, Performs, is_heard, with_progress, with_moment, with_rest, with_records, asks, asks_null, asks_first, asks_next, unsent_record, line_came, lines_came, lines_completed, piece_synchronizing, after_piece, piece_noted, piece_at, after_read, after_put, after_close, moved, settles, losing, after, after_all, cycle_length, text_or_null, asks_or_null, asks_setup}
+use Rattle.gc_station.specs.Model.{Model, waiting_of, request_text, null_text, first_text, listed_after_skip, with_listed, after_pass, Performs, is_heard, with_progress, with_moment, with_rest, with_more_records, asks, asks_null, asks_first, asks_next, unsent_record, line_came, lines_came, lines_completed, piece_synchronizing, after_piece, piece_noted, piece_at, after_read, after_put, after_close, moved, settles, losing, after, after_all, cycle_length, text_or_null, asks_or_null, asks_setup}
 use Rattle.gc_station.specs.NextCommand.{place_next, mark_next, commands_before, is_chained_after_next, others_after_next, mark_setup}
 
 -- Parts of an act.
@@ -333,48 +333,49 @@ moved_changed plan commands (Stop why) s act = refl
 -- What has to hold for a fact to hold after an act of an action: if it goes well, and if it doesn't. The former is given a
 -- moment and the latter a number, also if no clock is read and no bytes are cut, so that one row serves many actions.
 
--- what has to hold for P to hold after an act that puts these bytes: P after a whole write, and P after one that is cut. The
--- number is the one that the cause of a cut write has (`requests`)
-abbrev pub Putting : (Act → Model → Type 0) → ℕ → List ℕ → Model → Type 0
-Putting P requests bytes t = ((m : Moment) → P (Put bytes) t) × ((n : ℕ) → P (Cut bytes n) (with_progress (failing (cause.Write requests n)) t))
+-- what has to hold for P to hold after an act that puts these bytes, where t is the model after a whole write: P after that, and
+-- P after a write that is cut. The number is the one that the cause of a cut write has (`requests`)
+abbrev pub HoldsAfterPut : (Act → Model → Type 0) → ℕ → List ℕ → Model → Type 0
+HoldsAfterPut P requests bytes t = ((m : Moment) → P (Put bytes) t) × ((n : ℕ) → P (Cut bytes n) (with_progress (failing (cause.Write requests n)) t))
 
 -- what has to hold for P to hold after an act of this action: P in each case that there may be
-abbrev pub Behind : Plan → List Task → (Act → Model → Type 0) → Action → Model → Type 0
-Behind plan commands P ReadClock s =
+abbrev pub HoldsInEachCase : Plan → List Task → (Act → Model → Type 0) → Action → Model → Type 0
+HoldsInEachCase plan commands P ReadClock s =
     ((m : Moment) → P (Told m) (with_moment m (with_progress (λ p. early_noted plan (commands_in s.marks) (moment_noted m p)) s))) × ((n : ℕ) → P Untold (with_progress (failing cause.Clock) s))
-Behind plan commands P Renew s = ((m : Moment) → P (Told m) (with_moment m
+HoldsInEachCase plan commands P Renew s = ((m : Moment) → P (Told m) (with_moment m
     (with_progress (λ p. early_noted plan 0 (renewed plan m p)) s))) × ((n : ℕ) → P Untold (with_progress (failing cause.Clock) s))
-Behind plan commands P Begin s = ((m : Moment) → P (Told m) (with_moment m (with_progress (cycle_begun plan (cycle_length plan commands) m) s)))
+HoldsInEachCase plan commands P Begin s = ((m : Moment) → P (Told m) (with_moment m (with_progress (cycle_begun plan (cycle_length plan commands) m) s)))
     × ((n : ℕ) → P Untold (with_progress (failing cause.Clock) s))
-Behind plan commands P Open s = ((m : Moment) → P Opened (with_progress opened s)) × ((n : ℕ) → P Unopened (with_progress (after_failure plan (commands_in s.marks) cause.Open) s))
-Behind plan commands P Clear s = Putting P (commands_before plan commands s.progress) (10 ∷ []) (with_progress cleared s)
-Behind plan commands P Ask s = Putting P (commands_before plan commands s.progress) (null_text s.progress.word) (with_progress (null_sent plan) s)
-Behind plan commands P Prepare s =
-    Putting P (commands_before plan commands s.progress) (text_or_null s.progress.moment.utc s.client (drop s.progress.prepared commands)) (sending_setup plan commands s)
-Behind plan commands P Send s =
-    Putting P (commands_before plan commands s.progress) (first_text s.progress.moment.utc s.client (drop (place_next commands s.progress) commands)) (sending plan commands s)
-Behind plan commands P Skip s =
+HoldsInEachCase plan commands P Open s = ((m : Moment) → P Opened (with_progress opened s)) × ((n : ℕ) → P Unopened (with_progress (after_failure plan (commands_in s.marks) cause.Open) s))
+HoldsInEachCase plan commands P Clear s = HoldsAfterPut P (commands_before plan commands s.progress) (10 ∷ []) (with_progress cleared s)
+HoldsInEachCase plan commands P Ask s = HoldsAfterPut P (commands_before plan commands s.progress) (null_text s.progress.word) (with_progress (null_sent plan) s)
+HoldsInEachCase plan commands P Prepare s =
+    HoldsAfterPut P (commands_before plan commands s.progress) (text_or_null s.progress.moment.utc s.client (drop s.progress.prepared commands)) (sending_setup plan commands s)
+HoldsInEachCase plan commands P Send s =
+    HoldsAfterPut P (commands_before plan commands s.progress) (first_text s.progress.moment.utc s.client (drop (place_next commands s.progress) commands)) (sending plan commands s)
+HoldsInEachCase plan commands P Skip s =
     ((m : Moment) → P (Told m) (with_moment m (with_progress (λ p. early_noted plan (commands_in s.marks)
     (skipped (is_chained_after_next commands s.progress) (others_after_next commands s.progress) m p)) (with_listed (listed_after_skip plan commands s (Told m))
-    (with_records (unsent_record plan commands s.progress (Told m)) s)))))
-    × ((n : ℕ) → P Untold (with_progress (failing cause.Clock) (with_records [] s)))
-Behind plan commands P Pass s = ((m : Moment) → P (Told m) (after_pass plan commands s (Told m))) × ((n : ℕ) → P Untold (with_progress (failing cause.Clock) s))
-Behind plan commands P Flush s = Putting P (commands_before plan commands s.progress) (request_text s.client (Table NullProc)) (with_progress request_noted (asks_null plan s))
-Behind plan commands P (Read until) s =
+    (with_more_records (unsent_record plan commands s.progress (Told m)) s)))))
+    × ((n : ℕ) → P Untold (with_progress (failing cause.Clock) (with_more_records [] s)))
+HoldsInEachCase plan commands P Pass s = ((m : Moment) → P (Told m) (after_pass plan commands s (Told m))) × ((n : ℕ) → P Untold (with_progress (failing cause.Clock) s))
+HoldsInEachCase plan commands P Flush s = HoldsAfterPut P (commands_before plan commands s.progress) (request_text s.client (Table NullProc)) (with_progress request_noted (asks_null plan s))
+HoldsInEachCase plan commands P (Read until) s =
     ((bytes : List ℕ) (m : Moment) → P (Gave bytes m) (piece_at plan until bytes m s)) × ((m : Moment) → P (Silent m) (after_read plan until s (Silent m)))
     × P Ended (with_progress (failing cause.End) s) × P Broke (with_progress (failing cause.Read) s) × P Untold (with_progress (failing cause.Clock) s)
-Behind plan commands P (Close why) s = P Closed (after_close plan why s)
-Behind plan commands P (Stop why) s = Unit {0}
+HoldsInEachCase plan commands P (Close why) s = P Closed (after_close plan why s)
+HoldsInEachCase plan commands P (Stop why) s = Unit {0}
 
--- `Putting` gives P after an act that puts the bytes
-put_walk : (P : Act → Model → Type 0) (requests : ℕ) (bytes : List ℕ) (f : Model → Model) (s : Model) (act : Act) → Puts bytes act → Putting P requests bytes (f s) → P act (after_put requests f s act)
+-- `HoldsAfterPut` gives P after an act that puts the bytes
+put_walk : (P : Act → Model → Type 0) (requests : ℕ) (bytes : List ℕ) (f : Model → Model) (s : Model) (act : Act) → Puts bytes act
+    → HoldsAfterPut P requests bytes (f s) → P act (after_put requests f s act)
 put_walk P requests bytes f s (Put out) o h = subst (λ (xs : List ℕ). P (Put xs) (f s)) (sym o) (h.0 (record { elapsed = 0; utc = 0; stops = false }))
 put_walk P requests bytes f s (Cut out n) o h = subst (λ (xs : List ℕ). P (Cut xs n) (with_progress (failing (cause.Write requests n)) (f s))) (sym o.0) (h.1 n)
 put_walk P requests bytes f s act o h = absurd o
 
--- `Behind` gives P after an act that performs the action
+-- `HoldsInEachCase` gives P after an act that performs the action
 pub walk : (plan : Plan) (commands : List Task) (P : Act → Model → Type 0) (action : Action) (s : Model) (act : Act) → Performs commands s action act
-    → Behind plan commands P action s → P act (moved plan commands action s act)
+    → HoldsInEachCase plan commands P action s → P act (moved plan commands action s act)
 walk plan commands P ReadClock s (Told m) o h = h.0 m
 walk plan commands P ReadClock s Untold o h = h.1 0
 walk plan commands P ReadClock s act o h = absurd o
@@ -392,12 +393,13 @@ walk plan commands P Ask s act o h = put_walk P (commands_before plan commands s
 walk plan commands P Prepare s act o h =
     let requests = commands_before plan commands s.progress in
     let text = text_or_null s.progress.moment.utc s.client (drop s.progress.prepared commands) in
-    put_walk P requests text (λ (x : Model). with_progress (setup_sent plan) (asks_setup plan commands x)) s act o (subst (λ (u : Model). Putting P requests text u) (is_prepared plan commands s) h)
+    put_walk P requests text (λ (x : Model). with_progress (setup_sent plan) (asks_setup plan commands x)) s act o
+    (subst (λ (u : Model). HoldsAfterPut P requests text u) (is_prepared plan commands s) h)
 walk plan commands P Send s act o h =
     let requests = commands_before plan commands s.progress in
     let text = first_text s.progress.moment.utc s.client (drop (place_next commands s.progress) commands) in
     put_walk P requests text (λ (x : Model). with_progress (sent (is_chained_after_next commands s.progress) (others_after_next commands s.progress)) (asks_next plan commands x)) s act o
-    (subst (λ (u : Model). Putting P requests text u) (is_sent plan commands s) h)
+    (subst (λ (u : Model). HoldsAfterPut P requests text u) (is_sent plan commands s) h)
 walk plan commands P Skip s (Told m) o h = h.0 m
 walk plan commands P Skip s Untold o h = h.1 0
 walk plan commands P Skip s act o h = absurd o

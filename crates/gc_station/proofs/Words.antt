@@ -48,15 +48,15 @@ begins_before h (asked ∷ others) piece s e f = refl
 
 module _ (plan : Plan) (commands : List Task) where
   -- from the model s to t an act leaves of the ids what its lines leave
-  abbrev Leaves : Model → Act → Model → Type 0
-  Leaves s act t = t.progress.word ≡ unanswered_after s.progress.word (lines_heard_at s act)
+  abbrev pub LeavesIds : Model → Act → Model → Type 0
+  LeavesIds s act t = t.progress.word ≡ unanswered_after s.progress.word (lines_heard_at s act)
 
-  -- an act of each action but `Renew` leaves of the ids what its lines leave
+  -- an act of each action but `Renew` leaves of the ids what its lines leave (`LeavesIds`)
   pub word_moved : (s : Model) (o : Action) (act : Act) → Performs commands s o act → (o ≡ actions.Renew → ⊥)
-      → (moved plan commands o (with_progress turned s) act).progress.word ≡ unanswered_after s.progress.word (lines_heard_at s act)
+      → LeavesIds s act (moved plan commands o (with_progress turned s) act)
   word_moved s actions.Renew act obeys other = absurd (other refl)
   word_moved s (actions.Read until) act obeys other =
-      walk plan commands (Leaves s) (actions.Read until) (with_progress turned s) act obeys (
+      walk plan commands (LeavesIds s) (actions.Read until) (with_progress turned s) act obeys (
         λ bytes m. word_came (is_heard s.progress.phase) s.progress.word bytes (piece_before m s) refl,
         λ m. quieted_along (λ (q : Progress). q.word ≡ s.progress.word) plan s.progress.phase (time_passed until m (turned s.progress)) refl refl refl,
         refl,
@@ -64,10 +64,10 @@ module _ (plan : Plan) (commands : List Task) where
         refl,
       )
   word_moved s (actions.Close why) act obeys other =
-      walk plan commands (Leaves s) (actions.Close why) (with_progress turned s) act obeys
+      walk plan commands (LeavesIds s) (actions.Close why) (with_progress turned s) act obeys
       (closed_along (λ (q : Progress). q.word ≡ s.progress.word) plan (waiting_of (with_rest [] (with_progress turned s))) why (turned s.progress) refl refl)
   word_moved s (actions.Stop why) act obeys other = absurd obeys
-  word_moved s o act obeys other = walk plan commands (Leaves s) o (with_progress turned s) act obeys (λ m. refl, λ n. refl)
+  word_moved s o act obeys other = walk plan commands (LeavesIds s) o (with_progress turned s) act obeys (λ m. refl, λ n. refl)
 
   -- an act of any action but `Renew` leaves a synchronized station synchronized
   pub begun_other : (s : Model) (o : Action) (act : Act) → Performs commands s o act → (o ≡ actions.Renew → ⊥) → has_begun s.progress ≡ true

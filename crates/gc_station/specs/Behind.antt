@@ -17,7 +17,7 @@ use Rattle.gc_station.specs.declared.plan.Plan.{Plan}
 use Rattle.gc_station.specs.declared.progress.Action.TheVariants as action
 use Rattle.gc_station.specs.Deciding.{has_begun, action_next, action_room}
 use Rattle.gc_station.specs.Links.{parts}
-use Rattle.gc_station.specs.Model.{opening, waiting_of, Runs}
+use Rattle.gc_station.specs.Model.{Model, opening, waiting_of, Runs}
 use Rattle.gc_station.specs.Parts.{Part}
 use Rattle.gc_station.specs.Progressing.{is_over}
 use Rattle.gc_station.specs.Runs.{state_after}
@@ -35,27 +35,34 @@ IsNearTheTable x =
     (length x.sent < WINDOW)
     ⊎ ((k : ℕ) × (s : Settlement Asked) × (slice_get x.settlements k ≡ Some s) × IsReplied s × (length x.sent ≤ k + WINDOW))
 
--- wherever a command is sent, in any part of a run, one of the seven requests before it is a call of the table that a reply
+-- wherever a command is sent in this part of a run, one of the seven requests before it is a call of the table that a reply
 -- ended, or the last null procedure of the part's synchronization (`IsNearTheTable`). `front` are the client's steps before the
 -- command
+abbrev pub IsSentNearTheTable : Part → Type 0
+IsSentNearTheTable part =
+    (front later : List (Step Asked)) (target : ℕ) (call : Asked) (deadline : ℕ) (mark : Mark) → part.steps ≡ front ++ Send target call deadline ∷ later
+    → slice_get part.marks (length (course WINDOW begun front).sent) ≡ Some (Some mark) → IsNearTheTable (course WINDOW begun front)
+
+-- in each part of a run commands are sent as `IsSentNearTheTable` says
 abbrev pub CommandsAreSentNearTheTable : Type 0
 CommandsAreSentNearTheTable =
     (plan : Plan) (commands : List Task) (scope : Scope) (acts : List Act) → Runs plan commands (opening plan scope) acts
-    → (i : ℕ) (part : Part) → slice_get (parts plan commands scope acts) i ≡ Some part
-    → (front later : List (Step Asked)) (target : ℕ) (call : Asked) (deadline : ℕ) (mark : Mark) → part.steps ≡ front ++ Send target call deadline ∷ later
-    → slice_get part.marks (length (course WINDOW begun front).sent) ≡ Some (Some mark) → IsNearTheTable (course WINDOW begun front)
+    → (i : ℕ) (part : Part) → slice_get (parts plan commands scope acts) i ≡ Some part → IsSentNearTheTable part
 
 -- each of `tasks` asks for a call of the table
 abbrev pub AreOfTable : List Task → Type 0
 AreOfTable tasks = AllByRecursion (λ task. is_of_table task.command.call ≡ true) tasks
 
--- if all commands are calls of the table, and a run has synchronized and isn't over, as many requests are outstanding as were
--- sent after the last call of the table that a reply ended (`behind`); so a command that may be sent is sent as soon as there is
--- room
+-- a station with the model `s` sends a command that may be sent as soon as there is room: as many requests are outstanding as
+-- were sent after the last call of the table that a reply ended (`behind`), so no null procedure has to be sent first
+abbrev pub IsNotHeldUp : Plan → Model → Type 0
+IsNotHeldUp plan s =
+    (s.progress.behind ≡ length s.client.waiting)
+    × (action_next plan s.progress (waiting_of s) action.Send ≡ action_room plan s.progress (waiting_of s) action.Send)
+    × (action_next plan s.progress (waiting_of s) action.Prepare ≡ action_room plan s.progress (waiting_of s) action.Prepare)
+
+-- if all commands are calls of the table, none is held up (`IsNotHeldUp`) once a run has synchronized, as long as it isn't over
 abbrev pub TheTableIsNeverHeldUp : Type 0
 TheTableIsNeverHeldUp =
     (plan : Plan) (commands : List Task) (scope : Scope) (acts : List Act) → Runs plan commands (opening plan scope) acts → AreOfTable commands
-    → let s = state_after plan commands scope acts in has_begun s.progress ≡ true → is_over s.progress ≡ false
-    → (s.progress.behind ≡ length s.client.waiting)
-    × (action_next plan s.progress (waiting_of s) action.Send ≡ action_room plan s.progress (waiting_of s) action.Send)
-    × (action_next plan s.progress (waiting_of s) action.Prepare ≡ action_room plan s.progress (waiting_of s) action.Prepare)
+    → let s = state_after plan commands scope acts in has_begun s.progress ≡ true → is_over s.progress ≡ false → IsNotHeldUp plan s

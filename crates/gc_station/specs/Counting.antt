@@ -1,8 +1,8 @@
 -- A tally counts the records of the last attempts: this project's own.
-use Rattle.std.specs.Prelude.{◌≡◌, ℕ, suc, Bool, true, false, List, [], ◌∷◌, if◌then◌else◌, min, ◌||◌, ◌&&◌, not, nat_eq, nat_lt}
+use Rattle.std.specs.Prelude.{◌≡◌, ℕ, suc, Bool, true, false, List, [], ◌∷◌, if◌then◌else◌, ◌||◌, ◌&&◌, not, nat_eq, nat_lt}
 use Rattle.gc_texts.specs.Endings.{End, Answered, Unreadable, Elsewhere, Late, Lost, Skipped, Missed}
 use Rattle.gc_station.specs.Records.{Record}
-use Rattle.gc_station.specs.Tallies.{tally_of}
+use Rattle.gc_station.specs.Tallies.{capped, tally_of}
 
 -- how many of these records have an ending for which `holds` is true
 abbrev pub how_many : (End → Bool) → List Record → ℕ
@@ -43,10 +43,6 @@ is_skipped _ = false
 abbrev pub is_missed : End → Bool
 is_missed Missed = true
 is_missed _ = false
-
--- `n`, or 2^64 - 1 if `n` is greater: a count of a tally holds no greater number
-abbrev pub capped : ℕ → ℕ
-capped n = min n 18446744073709551615
 
 -- whether the attempt before these records is followed by a further one of its chain: the next command among them that begins
 -- an attempt (its link is 0) has an attempt above 1. Records of cycle 0, which are of the setup, are passed over, as they

@@ -106,8 +106,8 @@ abbrev pub is_finished : (commands : ℕ) → Progress → Bool
 is_finished commands p = nat_eq p.left 0 && nat_eq p.unsent 0 && nat_eq commands 0
 
 -- the next action while the station synchronizes: to send the null procedure of the first id that isn't answered, for the first
--- time or again at its deadline, and to read until then. Nothing is sent if no command is left to be sent or is outstanding (the
--- connection is closed: the run is done), nor between cycles (it reads until the next is due), nor over a dead line (the
+-- time or again at its deadline, and to read until then. Nothing is sent if no command is left to be sent and none is outstanding
+-- (the connection is closed: the run is done), nor between cycles (it reads until the next is due), nor over a dead line (the
 -- connection is closed)
 abbrev pub action_beginning : Plan → Progress → Waiting → Action
 action_beginning plan p w =

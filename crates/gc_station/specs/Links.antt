@@ -9,7 +9,7 @@ use Rattle.gc_texts.specs.declared.near.Expected.{Expected}
 use Rattle.gc_texts.specs.declared.tasks.Task.{Task}
 use Rattle.gc_station.specs.Parts.{Part, mark_of, parts_of}
 use Rattle.gc_station.specs.Qualities.{IsGoodAnswer}
-use Rattle.gc_station.specs.Records.{Record}
+use Rattle.gc_station.specs.Records.{Record, Grew}
 use Rattle.gc_station.specs.Runs.{state_after}
 use Rattle.gc_station.specs.Scopes.{Scope}
 use Rattle.gc_station.specs.Model.{Runs, opening}
@@ -70,16 +70,22 @@ ChainsStay =
     → (i n : ℕ) (part : Part) (mark : Mark) → slice_get (parts plan commands scope acts) i ≡ Some part → slice_get part.marks n ≡ Some (Some mark)
     → 0 < mark.cycle → IsSentAfter plan commands scope acts i n mark
 
--- of two commands of cycles that are sent as requests `m` of part `i` and `n` of part `j`, the later one has a later place in
--- the same cycle, or is of a later cycle
+-- of two commands of cycles that are requests `m` of part `i` and `n` of part `j`, counted from 0, the later one has a later
+-- place in the same cycle, or is of a later cycle
+abbrev pub MarksGoOnIn : List Part → Type 0
+MarksGoOnIn ps =
+    (i j m n : ℕ) (p q : Part) (a b : Mark) → slice_get ps i ≡ Some p → slice_get ps j ≡ Some q
+    → slice_get p.marks m ≡ Some (Some a) → slice_get q.marks n ≡ Some (Some b)
+    → IsBefore i m j n → 0 < a.cycle → 0 < b.cycle → IsBefore a.cycle a.place b.cycle b.place
+
+-- in the parts of each run the commands of cycles go on, as `MarksGoOnIn` says
 abbrev pub MarksGoOn : Type 0
 MarksGoOn =
-    (plan : Plan) (commands : List Task) (scope : Scope) (acts : List Act) → Runs plan commands (opening plan scope) acts
-    → (i j m n : ℕ) (p q : Part) (a b : Mark) → slice_get (parts plan commands scope acts) i ≡ Some p → slice_get (parts plan commands scope acts) j ≡ Some q
-    → slice_get p.marks m ≡ Some (Some a) → slice_get q.marks n ≡ Some (Some b) → IsBefore i m j n → 0 < a.cycle → 0 < b.cycle → IsBefore a.cycle a.place b.cycle b.place
+    (plan : Plan) (commands : List Task) (scope : Scope) (acts : List Act)
+    → Runs plan commands (opening plan scope) acts → MarksGoOnIn (parts plan commands scope acts)
 
 -- the records after the acts `before` are still there, and come first, after the further acts `rest`
 abbrev pub RecordsStay : Type 0
 RecordsStay =
     (plan : Plan) (commands : List Task) (scope : Scope) (before rest : List Act)
-    → (more : List Record) × ((state_after plan commands scope (before ++ rest)).records ≡ (state_after plan commands scope before).records ++ more)
+    → Grew (state_after plan commands scope before).records (state_after plan commands scope (before ++ rest)).records

@@ -34,7 +34,7 @@ use Rattle.gc_station.specs.Deciding.{later, is_preparing, action_of}
 pub use Rattle.gc_station.specs.Lines.{is_reply}
 use Rattle.gc_station.specs.Attempts.{listed_after, listed_by}
 use Rattle.gc_station.specs.Marks.{commands_in, records_of, last_well, fresh_after}
-use Rattle.gc_station.specs.NextCommand.{place_next, cycles_begun, mark_next, mark_setup, commands_before, is_chained, is_chained_after, others_after, is_chained_after_next, others_after_next}
+use Rattle.gc_station.specs.NextCommand.{place_next, cycles_begun, mark_next, mark_setup, commands_before, is_chained_after, others_after, is_chained_after_next, others_after_next}
 use Rattle.gc_station.specs.Progressing.{at_start, turned, moment_noted, cycle_begun, skipped, attempts_left_out, skipped_at, failing, opened, after_failure, cleared, request_noted, null_sent, renewed, sent, caught_up, line_noted, lines_synchronizing, bytes_noted, silent, early_noted, closed, loses_all, setup_sent}
 use Rattle.gc_station.specs.Records.{Record}
 use Rattle.gc_station.specs.Requests.{Request, requests, of_task}
@@ -135,9 +135,13 @@ abbrev pub text_or_null : (utc : ℕ) → ById Asked → List Task → List ℕ
 text_or_null utc client [] = request_text client (Table NullProc)
 text_or_null utc client (task ∷ others) = first_text utc client (task ∷ others)
 
--- a command is sent next, of a cycle or of the setup, by a station that has the model `s`
+-- the action sends a command, of a cycle or of the setup
+abbrev pub SendsCommand : Action → Type 0
+SendsCommand action = (action ≡ Send) ⊎ (action ≡ Prepare)
+
+-- a station that has the model `s` sends a command next, of a cycle or of the setup
 abbrev pub IsSending : Plan → Model → Type 0
-IsSending plan s = (action_at plan s ≡ Send) ⊎ (action_at plan s ≡ Prepare)
+IsSending plan s = SendsCommand (action_at plan s)
 
 -- the act is the call of the link that `action` asks for, if the station has the model `s`. A call that sends writes the bytes
 -- that the model gives; no act performs `Stop`
@@ -251,16 +255,16 @@ next_left_out plan commands p =
     requests (cycles_begun plan p) (place_next commands p) (map of_task (take p.next_others (drop (place_next commands p) commands)))
 
 -- the model `s` with `passes` added to the commands that were left out
-abbrev pub with_passes : List Request → Model → Model
-with_passes passes s = record s { passes = s.passes ++ passes }
+abbrev pub with_more_passes : List Request → Model → Model
+with_more_passes passes s = record s { passes = s.passes ++ passes }
 
 -- the model `s` with `listed` in place of its own
 abbrev pub with_listed : (listed : Bool) → Model → Model
 with_listed listed s = record s { listed = listed }
 
 -- the model `s` with `records` after those that it has
-abbrev pub with_records : List Record → Model → Model
-with_records records s = record s { records = s.records ++ records }
+abbrev pub with_more_records : List Record → Model → Model
+with_more_records records s = record s { records = s.records ++ records }
 
 -- the model `s` once these settlements of the oldest outstanding requests are recorded, by their marks, which are removed. The
 -- records may change `listed` and `fresh`; the client of `s` stays
@@ -324,6 +328,10 @@ after_piece true [] piece s = piece_came piece s
 after_piece true (asked ∷ others) piece s = piece_synchronizing piece s
 after_piece false word piece s = s
 
+-- the model `s` after `piece`, which is heard as `after_piece` says in the phase of `s` and with the ids that aren't answered
+abbrev pub piece_taken : List ℕ → Model → Model
+piece_taken piece s = after_piece (is_heard s.progress.phase) s.progress.word piece s
+
 -- the model `s` once a piece was heard: all tries are available again if it settled a command after the setup (`bytes_noted`),
 -- and it is noted if the cycle was done early (`early_noted`). `before` is how many commands were outstanding before the
 -- piece
@@ -334,8 +342,7 @@ piece_noted plan until before s = with_progress (λ p. early_noted plan (command
 -- piece is heard
 abbrev pub piece_at : Plan → Until → List ℕ → Moment → Model → Model
 piece_at plan until piece m s =
-    let at_moment = with_moment m (with_progress (moment_noted m) s) in
-    piece_noted plan until (commands_in s.marks) (after_piece (is_heard s.progress.phase) s.progress.word piece at_moment)
+    piece_noted plan until (commands_in s.marks) (piece_taken piece (with_moment m (with_progress (moment_noted m) s)))
 
 -- the model `s` after a read with this result. The end of the connection, a failed read and a clock that can't be read are
 -- causes to close the connection; without one the run is over (`failing`)
@@ -356,10 +363,10 @@ after_clock f s _ = with_progress (failing cause.Clock) s
 abbrev pub after_pass : Plan → List Task → Model → Act → Model
 after_pass plan commands s (Told m) =
     let n = s.progress.next_others in
-    let is_chained = is_chained_after n commands s.progress in
+    let next_is_chained = is_chained_after n commands s.progress in
     let others = others_after n commands s.progress in
     with_moment m
-    (with_progress (λ p. early_noted plan (commands_in s.marks) (attempts_left_out is_chained others m p)) (with_passes (next_left_out plan commands s.progress) s))
+    (with_progress (λ p. early_noted plan (commands_in s.marks) (attempts_left_out next_is_chained others m p)) (with_more_passes (next_left_out plan commands s.progress) s))
 after_pass plan commands s _ = with_progress (failing cause.Clock) s
 
 -- the model `s` after a write: `f` changes it. If the bytes were cut, the connection is to be closed besides, for a cause that
@@ -394,7 +401,7 @@ moved plan commands Send s act = after_put (commands_before plan commands s.prog
     s act
 moved plan commands Skip s act = after_clock
     (λ m p. early_noted plan (commands_in s.marks) (skipped (is_chained_after_next commands s.progress) (others_after_next commands s.progress) m p))
-    (with_listed (listed_after_skip plan commands s act) (with_records (unsent_record plan commands s.progress act) s)) act
+    (with_listed (listed_after_skip plan commands s act) (with_more_records (unsent_record plan commands s.progress act) s)) act
 moved plan commands Pass s act = after_pass plan commands s act
 moved plan commands Flush s act = after_put (commands_before plan commands s.progress)
     (λ (s : Model). with_progress request_noted (asks_null plan s)) s act

@@ -37,14 +37,19 @@ HasAnswer reads accepted call line answer =
     (reads call line ≡ Value answer)
     ⊎ ((code : ℕ) × (reads call line ≡ Refused code) × (lists_code accepted code ≡ true) × (reads call (as_zero line) ≡ Value answer))
 
--- if the record `r` ended as elsewhere, its line says an answer (`HasAnswer`), the text says where the command's target is, and
--- the answer's direction isn't near that place
+-- `line` says an answer of `call` (`HasAnswer`), the text says where the target of `task` is, and the answer's direction isn't
+-- near that place
+abbrev pub WasMeasuredElsewhere : (Asked → List ℕ → Reading) → Task → Asked → (line : List ℕ) → Type 0
+WasMeasuredElsewhere reads task call line =
+    (answer : Answer) × (near : Near) × (d : Direction)
+    × HasAnswer reads task.accepted call line answer × (task.near ≡ Some near) × (direction_of answer ≡ Some d)
+    × (IsNear d near.place near.tolerance → ⊥)
+
+-- if the record `r` ended as elsewhere, its answer was measured elsewhere than the target of its command is
 abbrev pub ElsewhereIsJustified : (Asked → List ℕ → Reading) → List Task → Record → Type 0
 ElsewhereIsJustified reads commands r =
     (task : Task) (line : List ℕ) → slice_get commands r.place ≡ Some task → r.end ≡ Elsewhere line
-    → (answer : Answer) × (near : Near) × (d : Direction)
-    × HasAnswer reads task.accepted r.command.call line answer × (task.near ≡ Some near) × (direction_of answer ≡ Some d)
-    × (IsNear d near.place near.tolerance → ⊥)
+    → WasMeasuredElsewhere reads task r.command.call line
 
 -- after any acts, `IsAtItsTarget` and `ElsewhereIsJustified` hold of each record
 abbrev pub AnswersAreAtTheirTargets : Type 0

@@ -6,7 +6,8 @@ use Rattle.gc_catalogue.specs.declared.asked.Asked.{Asked}
 use Rattle.gc_catalogue.specs.declared.asked.Asked.TheVariants.{Table}
 use Rattle.gc_catalogue.specs.declared.call.Call.TheVariants.{NullProc}
 use Rattle.gc_client.specs.declared.window.TheConstants.{WINDOW}
-use Rattle.gc_client.specs.OneForOne.{Wanted, Course, Step, Send, Hear, Expire, course_after}
+use Rattle.gc_client.specs.OneForOne.{Wanted, Step, Send, Hear, Expire, course_after}
+pub use Rattle.gc_client.specs.OneForOne.{course_at}
 use Rattle.gc_client.specs.Rule.{ById}
 use Rattle.gc_texts.specs.declared.near.Expected.{Expected}
 use Rattle.gc_texts.specs.Tasks.{call_at}
@@ -51,10 +52,6 @@ only_steps steps = record { turns = []; steps = steps; marks = [] }
 -- the part in which nothing happens
 abbrev pub nothing : Part
 nothing = only_steps []
-
--- the course of this client from now on: nothing was sent and nothing settled yet
-abbrev pub course_at : ById Asked → Course Asked
-course_at c = record { sent = []; settlements = []; client = c }
 
 -- this client after one step, by its rule with the window of seven
 abbrev pub client_stepped : ById Asked → Step Asked → ById Asked

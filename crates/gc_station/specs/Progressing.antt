@@ -187,9 +187,9 @@ cleared p = record p { phase = if has_begun p then phase.Draining else phase.Rea
 abbrev pub one_more_in_window : ℕ → ℕ
 one_more_in_window n = if nat_lt n WINDOW then n + 1 else n
 
--- the progress after a request was sent: one more was sent after the last call of the table that a reply ended (`behind`, up to
--- seven). The time after which the line is dead begins with the first request after a reply line, on a connection, or after a
--- resynchronization between two cycles (`asked`)
+-- the progress after a request was sent. `behind` counts the requests that were sent after the last answered call of the table,
+-- at most `WINDOW`. If `asked` is false, this is the first request since a reply line, a new connection or a resynchronization
+-- between two cycles, and the time after which the line is dead begins now (`alive`). The clock is to be read next
 abbrev pub request_noted : Progress → Progress
 request_noted p = record p {
   alive = if p.asked then p.alive else p.moment.elapsed;
@@ -273,7 +273,8 @@ pause_ended plan p = record p { phase = if is_past p.pause p && not (is_idle pla
 abbrev pub drained : Progress → Progress
 drained p = record p { phase = phase.Ready; alive = p.moment.elapsed; asked = false }
 
--- the progress after a read that gave nothing: a pause, or a draining, that was long enough ends
+-- the progress after a read that gave nothing: a pause, or a draining, that was long enough ends. The phase is `p.phase`: it is
+-- passed beside `p` so that the definition can match on it
 abbrev pub quieted : Plan → Phase → Progress → Progress
 quieted plan phase.Pausing p = pause_ended plan p
 quieted plan phase.Draining p = if is_quiet plan p then drained p else p

@@ -40,15 +40,23 @@ StaysInItsChain p = p.stops ≡ true → p.next_is_chained ≡ true
 abbrev pub SetUpHasBegun : Plan → Progress → Waiting → Type 0
 SetUpHasBegun plan p w = (is_preparing plan p w ≡ true) × (0 < p.prepared)
 
--- no command may be sent: the station hasn't synchronized; or there is no room; or some request hasn't timed out, and one of
--- three holds. Commands are outstanding, and the next one waits until they are settled (`IsHeld`, or `SetUpHasBegun` for the
--- setup); or none of the last seven requests is a call of the table that a reply ended; or the end of the run was asked for,
--- and the station is between two chains
+-- the next command, of a cycle (`IsHeld`) or of the setup (`SetUpHasBegun`), isn't sent before all that were sent are settled
+abbrev pub AwaitsSettlements : Plan → Progress → Waiting → Type 0
+AwaitsSettlements plan p w = IsHeld p ⊎ SetUpHasBegun plan p w
+
+-- some request hasn't timed out, and because of it no command may be sent, for one of three reasons: commands are outstanding,
+-- and the next one waits until they are settled; or none of the last seven requests is a call of the table that a reply ended;
+-- or the end of the run was asked for, and the station is between two chains
+abbrev pub WaitsForWhatIsInFlight : Plan → Progress → Waiting → Type 0
+WaitsForWhatIsInFlight plan p w =
+    (AwaitsSettlements plan p w × (0 < w.commands) × (0 < w.current))
+    ⊎ (((WINDOW ≤ p.behind) × (0 < w.current)) ⊎ ((p.stops ≡ true) × IsBetween p × (0 < w.current)))
+
+-- no command may be sent: the station hasn't synchronized; or there is no room for a request (`HasRoom`); or the station waits
+-- for what is in flight
 abbrev pub NothingMayGo : Plan → Progress → Waiting → Type 0
 NothingMayGo plan p w =
-    (has_begun p ≡ false)
-    ⊎ ((width_of plan ≤ w.current) ⊎ ((WINDOW ≤ w.all) ⊎ (((IsHeld p ⊎ SetUpHasBegun plan p w) × (0 < w.commands) × (0 < w.current))
-    ⊎ (((WINDOW ≤ p.behind) × (0 < w.current)) ⊎ ((p.stops ≡ true) × IsBetween p × (0 < w.current))))))
+    (has_begun p ≡ false) ⊎ ((width_of plan ≤ w.current) ⊎ ((WINDOW ≤ w.all) ⊎ WaitsForWhatIsInFlight plan p w))
 
 -- the next command may be sent, as far as its chain goes: it is the first of its chain, or of a further attempt, of which
 -- `MayRetry` says more; or all that were sent are settled, the one before it was answered well, and since that was sent no
@@ -70,7 +78,7 @@ MayRetry p w = (p.next_others ≡ 0) ⊎ ((w.commands ≡ 0) × (w.listed ≡ tr
 -- be sent, and none of the last seven requests is a call of the table that a reply ended
 abbrev pub WantsNull : Plan → Progress → Waiting → Type 0
 WantsNull plan p w =
-    ((IsHeld p ⊎ SetUpHasBegun plan p w) × (0 < w.commands)) ⊎ ((((0 < p.unsent) × MayGo p w) ⊎ MayPrepare plan p w) × (WINDOW ≤ p.behind))
+    (AwaitsSettlements plan p w × (0 < w.commands)) ⊎ ((((0 < p.unsent) × MayGo p w) ⊎ MayPrepare plan p w) × (WINDOW ≤ p.behind))
 
 -- no command of any cycle is left to be sent, and none is outstanding: `commands` is how many are outstanding
 abbrev pub IsFinished : (commands : ℕ) → Progress → Type 0

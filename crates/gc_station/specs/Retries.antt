@@ -70,6 +70,14 @@ pub record HasListed (reads : Asked → List ℕ → Reading) (commands : List T
 abbrev pub IsFurtherAttempt : Plan → List Task → Model → Type 0
 IsFurtherAttempt plan commands s = (plan.setup < place_next commands s.progress) × (0 < others_in (drop (place_next commands s.progress) commands))
 
+-- the station, which has the model `s`, has a reason to leave out the further attempt that the next command begins: none of the
+-- attempt before ended as its rule names; or the cycle is missed; or the next command is chained, which the first one of an
+-- attempt never is in a text
+abbrev pub MayLeaveOut : (Asked → List ℕ → Reading) → List Task → Model → Type 0
+MayLeaveOut reads commands s =
+    (HasListed reads commands s.records → ⊥)
+    ⊎ ((s.progress.missed ≡ true) ⊎ (is_chained (drop (place_next commands s.progress) commands) ≡ true))
+
 -- why further attempts are sent or left out
 pub record FurtherAttemptsHaveACause : Type 0 where
   -- if a further attempt is begun, all commands that were sent are settled, and one of the attempt before ended as its rule
@@ -77,13 +85,11 @@ pub record FurtherAttemptsHaveACause : Type 0 where
   pub goes : (plan : Plan) (commands : List Task) (scope : Scope) (acts : List Act) → Runs plan commands (opening plan scope) acts
       → let s = state_after plan commands scope acts in action_at plan s ≡ Send → IsFurtherAttempt plan commands s
       → (commands_in s.marks ≡ 0) × HasListed scope.reads commands s.records
-  -- only further attempts are left out, once all commands that were sent are settled: if none of the attempt before ended as
-  -- its rule names, or the cycle is missed, or the next command is chained, which the first of an attempt never is in a text
+  -- only further attempts are left out, once all commands that were sent are settled, and only for a reason (`MayLeaveOut`)
   pub passes : (plan : Plan) (commands : List Task) (scope : Scope) (acts : List Act) → Runs plan commands (opening plan scope) acts
       → action_at plan (state_after plan commands scope acts) ≡ Pass
       → let s = state_after plan commands scope acts in
-      IsFurtherAttempt plan commands s × (commands_in s.marks ≡ 0)
-      × ((HasListed scope.reads commands s.records → ⊥) ⊎ ((s.progress.missed ≡ true) ⊎ (is_chained (drop (place_next commands s.progress) commands) ≡ true)))
+      IsFurtherAttempt plan commands s × (commands_in s.marks ≡ 0) × MayLeaveOut scope.reads commands s
 
 -- the record `r` has the turn of the command at its cycle and place (`turn_at`); if it is of the setup nothing is said of the
 -- attempt in it

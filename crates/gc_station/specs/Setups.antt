@@ -60,14 +60,14 @@ sent_first mark (task ∷ others) = dispatch_of_mark mark ∷ []
 
 -- the command of the setup that an act of this action sends, if the station has the model `s` before it; none if the action is
 -- another one
-abbrev pub sent_as : Action → List Task → Model → List Dispatch
-sent_as Prepare commands s = sent_first (mark_setup commands s.progress) (drop s.progress.prepared commands)
-sent_as _ commands s = []
+abbrev pub setup_sent_at : Action → List Task → Model → List Dispatch
+setup_sent_at Prepare commands s = sent_first (mark_setup commands s.progress) (drop s.progress.prepared commands)
+setup_sent_at _ commands s = []
 
 -- the commands of the setup that these acts send, in order, from the model `s` on
 abbrev pub setup_sent_by : Plan → List Task → Model → List Act → List Dispatch
 setup_sent_by plan commands s [] = []
-setup_sent_by plan commands s (act ∷ acts) = sent_as (action_at plan s) commands s ++ setup_sent_by plan commands (after plan commands s act) acts
+setup_sent_by plan commands s (act ∷ acts) = setup_sent_at (action_at plan s) commands s ++ setup_sent_by plan commands (after plan commands s act) acts
 
 -- after `acts`, which begin a run: each command of the setup that was sent, in order, has one record or, after the records, is
 -- outstanding (`each`); and if the run stopped, none is outstanding (`settled`)

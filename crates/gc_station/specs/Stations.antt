@@ -31,7 +31,7 @@ use Rattle.gc_station.specs.Scopes.{AreReadings}
 use Rattle.gc_station.specs.Progressing.{failing}
 use Rattle.gc_station.specs.Records.{Record, texts_of, WritesPart}
 use Rattle.gc_station.specs.Requests.{command_at}
-use Rattle.gc_station.specs.Model.{Model, Performs, moved, stepped, waiting_by, is_heard, lines_came, after_piece, sent_to, unsent_record, listed_unsent}
+use Rattle.gc_station.specs.Model.{Model, Performs, moved, stepped, waiting_by, lines_came, sent_to, unsent_record, listed_unsent}
 use Rattle.gc_station.specs.Tallies.{nothing_yet, tallied}
 
 -- what a decision looks at besides the progress, of a station
@@ -173,10 +173,6 @@ lines_of_frame frame = option_to_list (line_in (lent_seen frame))
 -- the model `s` after the client heard the line of this frame, if it is a line
 abbrev pub frame_came : Lent → Model → Model
 frame_came frame s = lines_came s (lines_of_frame frame)
-
--- the model `s` after `piece`, which is heard as `after_piece` says in the phase of `s` and with the ids that aren't answered
-abbrev pub piece_taken : List ℕ → Model → Model
-piece_taken piece s = after_piece (is_heard s.progress.phase) s.progress.word piece s
 
 -- the station once it sent the request for `command` with `mark`, which waits for `wait` milliseconds
 abbrev pub station_asking : Wish → (wait : ℕ) → Option Mark → Station → Station

@@ -11,7 +11,7 @@ use Rattle.gc_station.specs.declared.plan.Plan.{Plan}
 use Rattle.gc_station.specs.declared.progress.Action.TheVariants.{Begin, Send, Close, Stop, Prepare}
 use Rattle.gc_station.specs.Deciding.{is_stale, may_go}
 use Rattle.gc_station.specs.Marks.{is_well}
-use Rattle.gc_station.specs.Model.{opening, action_at, waiting_of, Runs}
+use Rattle.gc_station.specs.Model.{Model, opening, action_at, waiting_of, Runs}
 use Rattle.gc_station.specs.Quiet.{IsListening}
 use Rattle.gc_station.specs.Reasons.{IsResting}
 use Rattle.gc_station.specs.Records.{Record}
@@ -66,9 +66,9 @@ pub record NoneWellSince (plan : Plan) (commands : List Task) (scope : Scope) (a
   pub unwell : AllByRecursion IsNotWell records
   pub fresh : (state_after plan commands scope acts).fresh ≡ least_moment from behind
 
--- the plan sets a limit (`wanted`), and after `acts` the moment read last lies `plan.stale` milliseconds or more after that of
--- the last act that recorded a command that was answered well, or after 0 if none did; if the clock went back past that since,
--- after the least moment that was read since
+-- after `acts` the run is stale: the plan sets a limit (`wanted`), and at least that many milliseconds lie between two moments
+-- (`long`). The later one is the moment read last. The earlier one is that of the last act that recorded a command that was
+-- answered well, 0 if none did; or the least moment that was read since, if the clock went back past it
 pub record IsStaleAt (plan : Plan) (commands : List Task) (scope : Scope) (acts : List Act) : Type 0 where
   pub since : NoneWellSince plan commands scope acts
   pub wanted : 0 < plan.stale
@@ -104,12 +104,16 @@ GoesOnInItsChain =
     → let s = state_after plan commands scope acts in
     (action_at plan s ≡ Send → s.progress.next_is_chained ≡ true) × (action_at plan s ≡ Begin → ⊥) × (action_at plan s ≡ Prepare → ⊥)
 
--- a close for the cause `Stopped` is next, whether there is a connection or not, only where the end of the run was asked for at a
--- moment that was read; and there is no connection, or the station synchronizes, or it is between two chains, or two attempts of
--- one, and nothing is in flight that hasn't timed out. No command of an attempt that has begun is left that may be sent
+-- after `acts`, which led to the model `s`, a run may stop because its end was asked for: that was asked for at a moment that was
+-- read; there is no connection, or the station synchronizes, or it is between two chains, or two attempts of one, and nothing is
+-- in flight that hasn't timed out (`IsResting`); and no command of an attempt that has begun is left that may be sent
+abbrev pub MayStopAfter : List Act → Model → Type 0
+MayStopAfter acts s =
+    (asked_after false acts ≡ true) × IsResting s.progress (waiting_of s)
+    × (0 < s.progress.unsent → s.progress.next_is_chained ≡ true → may_go s.progress (waiting_of s) ≡ false)
+
+-- a close for the cause `Stopped` is next, whether there is a connection or not, only where the run may stop (`MayStopAfter`)
 abbrev pub ClosesBetweenChains : Type 0
 ClosesBetweenChains =
     (plan : Plan) (commands : List Task) (scope : Scope) (acts : List Act) → Runs plan commands (opening plan scope) acts
-    → let s = state_after plan commands scope acts in action_at plan s ≡ Close Stopped
-    → (asked_after false acts ≡ true) × IsResting s.progress (waiting_of s)
-    × (0 < s.progress.unsent → s.progress.next_is_chained ≡ true → may_go s.progress (waiting_of s) ≡ false)
+    → let s = state_after plan commands scope acts in action_at plan s ≡ Close Stopped → MayStopAfter acts s

@@ -1,9 +1,8 @@
 -- How many commands ended how, this project's own: the counts are those of the last attempt of each chain. Commands of the setup
 -- aren't counted.
-use Rattle.std.specs.Prelude.{ℕ, List, [], ◌∷◌, if◌then◌else◌, nat_eq, nat_lt}
+use Rattle.std.specs.Prelude.{ℕ, ◌+◌, min, List, [], ◌∷◌, if◌then◌else◌, nat_eq, nat_lt}
 use Rattle.gc_texts.specs.Endings.{End, Answered, Unreadable, Elsewhere, Late, Lost, Skipped, Missed}
 use Rattle.gc_texts.specs.declared.turn.Turn.{Turn}
-use Rattle.gc_station.specs.Deciding.{later}
 use Rattle.gc_station.specs.Records.{Record}
 use Rattle.gc_station.specs.declared.tally.Counts.{Counts}
 use Rattle.gc_station.specs.declared.tally.Tally.{Tally}
@@ -12,9 +11,13 @@ use Rattle.gc_station.specs.declared.tally.Tally.{Tally}
 abbrev pub none_yet : Tally
 none_yet = record { answered = 0; late = 0; lost = 0; skipped = 0; unreadable = 0; missed = 0; elsewhere = 0; again = 0 }
 
--- the count `n` and one more, up to 2^64 - 1; `later` adds two numbers up to that
+-- `n`, or 2^64 - 1 if `n` is greater: a count of a tally holds no greater number
+abbrev pub capped : ℕ → ℕ
+capped n = min n 18446744073709551615
+
+-- the count `n` and one more, up to 2^64 - 1
 abbrev pub one_more : ℕ → ℕ
-one_more n = later n 1
+one_more n = capped (n + 1)
 
 -- the tally `t` after one more command, with this ending
 abbrev pub counted : End → Tally → Tally
@@ -29,14 +32,14 @@ counted Missed t = record t { missed = one_more t.missed }
 -- the sum of the tallies `a` and `b`, count by count, each up to 2^64 - 1
 abbrev pub sum : (a b : Tally) → Tally
 sum a b = record {
-  answered = later a.answered b.answered;
-  late = later a.late b.late;
-  lost = later a.lost b.lost;
-  skipped = later a.skipped b.skipped;
-  unreadable = later a.unreadable b.unreadable;
-  missed = later a.missed b.missed;
-  elsewhere = later a.elsewhere b.elsewhere;
-  again = later a.again b.again;
+  answered = capped (a.answered + b.answered);
+  late = capped (a.late + b.late);
+  lost = capped (a.lost + b.lost);
+  skipped = capped (a.skipped + b.skipped);
+  unreadable = capped (a.unreadable + b.unreadable);
+  missed = capped (a.missed + b.missed);
+  elsewhere = capped (a.elsewhere + b.elsewhere);
+  again = capped (a.again + b.again);
 }
 
 -- the counts in which no command is counted, of the chains that are over and of the current attempt

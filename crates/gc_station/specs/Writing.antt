@@ -15,15 +15,15 @@ use Rattle.gc_station.specs.declared.mark.Mark.{Mark}
 use Rattle.gc_station.specs.declared.station.Station.{Station}
 use Rattle.gc_station.specs.declared.tally.Counts.{Counts}
 
--- of any one settlement, which is of the request with the first mark, the marks `a` give the same record as the marks `b`, or
--- both give none
+-- any one settlement of the oldest request, which has the first mark, gives the same record by the marks `a` as by the marks
+-- `b`, or none by either
 abbrev pub GiveSameRecord : (a b : List (Option Mark)) → Type 0
 GiveSameRecord a b =
     (reads : Asked → List ℕ → Reading) (utc : ℕ) (settlement : Rule.Settlement Asked)
     → records_of reads utc a (settlement ∷ []) ≡ records_of reads utc b (settlement ∷ [])
 
--- after any one settlement, which is of the request with the first mark, a command of the current attempt has ended as its rule
--- names by the marks `a` exactly if one has by the marks `b`
+-- after any one settlement of the oldest request, which has the first mark, a command of the current attempt has ended as its
+-- rule names by the marks `a` exactly if one has by the marks `b`
 abbrev pub ListAlike : (a b : List (Option Mark)) → Type 0
 ListAlike a b =
     (reads : Asked → List ℕ → Reading) (listed : Bool) (settlement : Rule.Settlement Asked)

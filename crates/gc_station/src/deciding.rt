@@ -29,16 +29,16 @@
 //! | | the setup isn't done, commands are outstanding, and something hasn't timed out | as if the station waits | | |
 //! | | the setup isn't done, no command is outstanding, and the last one was answered well | as if the next command may be sent, with `Prepare` for `Send` | | |
 //! | | the setup isn't done, no command is outstanding, and the last one wasn't answered well | `Close(SetUp)` | closes the connection | as below |
-//! | | the setup is done, a command is unsent, which isn't `next_is_chained` and begins no further attempt | as if the next command may be sent | | |
+//! | | the setup is done, a command is unsent, and the next one isn't chained and begins no further attempt | as if the next command may be sent | | |
 //! | | commands are outstanding, and all outstanding requests have timed out | with room `Flush`, else as if the station waits | sends a null procedure after them | `Ready` |
 //! | | commands are outstanding, and something hasn't timed out | as if the station waits | | |
 //! | | no command is outstanding, the next one begins a further attempt of its chain, and a command of the attempt before ended as its rule names | as if the next command may be sent | | |
 //! | | no command is outstanding, and the next one begins a further attempt otherwise, or in a missed cycle | `Pass` | reads the clock, and leaves out this attempt and those after it | `Ready` |
 //! | | no command is outstanding, one is unsent, and may be sent | as if the next command may be sent | | |
 //! | | no command is outstanding, one is unsent, and may not be sent | `Skip` | reads the clock, and records the command as skipped | `Ready` |
-//! | | no command is outstanding or is unsent, and no cycle is left | `Close(Done)` | closes the connection | `Over(Done)` |
-//! | | no command is outstanding or is unsent, and the next cycle is due | `Begin` | reads the clock, and begins the cycle | `Ready` |
-//! | | no command is outstanding or is unsent, and the next cycle isn't due | `Read(Due)` | hears what comes | `Ready` |
+//! | | no command is outstanding or unsent, and no cycle is left | `Close(Done)` | closes the connection | `Over(Done)` |
+//! | | no command is outstanding or unsent, and the next cycle is due | `Begin` | reads the clock, and begins the cycle | `Ready` |
+//! | | no command is outstanding or unsent, and the next cycle isn't due | `Read(Due)` | hears what comes | `Ready` |
 //! | the next command may be sent | one of the seven requests before it is a call of the table that a reply ended | with room `Send`, else as if the station waits | sends the next command | `Ready` |
 //! | | else, if all outstanding requests have timed out, or nothing is outstanding | with room `Flush`, else as if the station waits | sends a null procedure before it | `Ready` |
 //! | | else | as if the station waits | | |
@@ -195,7 +195,7 @@ impl Progress {
     }
 
     // The next action while the station synchronizes: to send the null procedure of the first id that isn't answered, for the
-    // first time or again at its deadline, and to read until then. Nothing is sent if no command is left to be sent or is outstanding
+    // first time or again at its deadline, and to read until then. Nothing is sent if no command is left to be sent and none is outstanding
     // (the connection is closed: the run is done), nor between cycles (it reads until the next is due), nor over a dead line (the
     // connection is closed).
     fn action_beginning(&self, plan: &Plan, waiting: Waiting) -> Action

@@ -1,5 +1,5 @@
-//! What is seen of a link and a book before each act of a run: a ghost value, which no code reads and which takes no memory. What
-//! is seen before one act is a snapshot, a turn of the run.
+//! What is seen of a link and a book before each act of a run: a ghost value, which no code reads and which takes no memory. Each
+//! act is a turn of the run, and what is seen before it is the snapshot of that turn.
 
 ghost use Rattle.std.specs.Prelude.{◌≡◌, [], ◌∷◌, ◌++◌, List};
 ghost use base.Fml.{ftrue};
@@ -12,6 +12,7 @@ use std::marker::Model;
 /// What was seen so far, in order: at each moment what a link had recorded, what a book had taken, and whether that lasted.
 #[derive(Drop)]
 pub struct Kept {
+    // One snapshot for each turn so far.
     pub ghost turns: { List Snapshot } by { snapshots_code },
 }
 
@@ -29,7 +30,7 @@ impl Kept {
 
     // What was seen so far, with `turn` added at the end. The turns are ghost, so there is nothing to copy. No code reads `_link`
     // and `_book`: the value of `turn`, which is ghost, is made from them.
-    fn then<L, B>(&self, _link: &L, _book: &B) -> Kept
+    fn with_turn<L, B>(&self, _link: &L, _book: &B) -> Kept
         ghost turn: { Snapshot }
         ensures { result.turns ≡ self.now.turns ++ turn ∷ [] }
     {
@@ -38,9 +39,9 @@ impl Kept {
 
     // What was seen so far, with what is seen now added at the end: what the link has recorded, what the book has taken, and
     // whether the book is durable.
-    pub(crate) fn and<L: Link, B: Book>(&self, link: &L, book: &B) -> Kept
+    pub(crate) fn with_snapshot<L: Link, B: Book>(&self, link: &L, book: &B) -> Kept
         ensures { result.turns ≡ self.now.turns ++ record { acts = L.acts link.now; taken = B.taken book.now; lasts = B.is_durable book.now } ∷ [] }
     {
-        self.then(link, book)
+        self.with_turn(link, book)
     }
 }

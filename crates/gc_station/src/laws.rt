@@ -1,10 +1,9 @@
-//! Laws of a station's runs, whatever its link does. A run is the list of its acts: an act is one call of the link, with what
-//! came of it. A run is given a number of turns: each act takes one, and once none is left, a connection that is still there is
-//! closed by one act more. A request is put where its bytes are written, all of them or some; a moment is read if the clock is read. A run
-//! begins with eight null procedures, one after the other, and resynchronizes where seven requests are outstanding, all timed
-//! out. Then it sends the commands of its text, cycle by cycle. A request waits from its sending until it is settled; at its
-//! deadline it has timed out, but stays outstanding. A chain is a row of commands for one target, each sent only once the one
-//! before it was answered well.
+//! Laws of a station's runs, whatever its link does. A run is the list of its acts: an act is one call of the link, with its
+//! result. A run is given a number of turns: each act takes one, and once none is left, a connection that is still open is closed
+//! by one act more. A run begins with its synchronization, eight null procedures that are sent one after the other; then it sends
+//! the commands of its text, cycle by cycle. It resynchronizes where seven requests are outstanding that have all timed out. A
+//! request is sent where its bytes are written, all of them or some. It is outstanding until it is settled, also once it has timed
+//! out at its deadline. A chain is a row of commands for one target, each sent only once the one before it was answered well.
 
 ghost use Rattle.std.specs.Prelude.{◌≡◌, List, [], ◌∷◌, ◌++◌};
 ghost use Rattle.std.specs.List.{AllByRecursion};

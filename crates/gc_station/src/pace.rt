@@ -115,12 +115,12 @@ impl Progress {
     fn overrun(&self, plan: &Plan, reported: u64) -> Option<u64>
         ensures { result ≡ overrun plan.now self.now reported }
     {
-        let late = !self.early
+        let has_overrun = !self.early
             && !self.missed
             && self.is_due(plan)
             && self.left > 0
             && plan.every > 0;
-        if late && reported < self.cycle(plan) {
+        if has_overrun && reported < self.cycle(plan) {
             Some(self.cycle(plan))
         } else {
             None

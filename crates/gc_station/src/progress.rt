@@ -18,7 +18,7 @@ pub(crate) enum Phase {
     Down,
     /// Without a connection, and one is to be made after a pause.
     Pausing,
-    /// A connection was made; the line feed that clears half a request is to be sent.
+    /// A connection was made; a line feed is to be sent on it, which ends a request that was cut off before.
     Clearing,
     /// What comes is discarded until the line is quiet.
     Draining,

@@ -329,7 +329,7 @@ impl Progress {
 
     // Hears a line, of 512 bytes at most, while the station synchronizes. If the line answers the first null procedure that is left,
     // the next one, if there is one, is sent at once.
-    pub(crate) fn hear_null(&mut self, line: &[u8])
+    pub(crate) fn hear_synchronizing(&mut self, line: &[u8])
         requires { length line.now ≤ 512 }
         ensures { self.new ≡ line_synchronizing self.old line.now }
     {
@@ -424,10 +424,9 @@ impl Progress {
         }
     }
 
-    // Notes the moment after a read that gave nothing: a pause and the quiet time go on. If the clock went back, these and the
-    // cycle are taken to have begun now at the latest, and the line to have been alive now at the latest. `until` is what the
-    // read waited for: only a cycle that is done has a read until the next cycle is due, and so after `Until::Due` the cycle
-    // counts as done early.
+    // Notes the moment after a read that gave nothing, as `note_moment` does, but a pause and the quiet time go on: they began
+    // when they did, or now where the clock went back. `until` is what the read waited for: after `Until::Due` the cycle counts
+    // as done early (`early_after`).
     fn pass_time(&mut self, until: Until, moment: Moment)
         ensures { self.new ≡ time_passed until moment self.old }
     {

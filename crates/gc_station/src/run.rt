@@ -48,7 +48,7 @@ pub(crate) fn run<L: Link, B: Book>(
             return Ok((cause, station.recorded.tally.total()));
         }
         reported = station.report_health_and_overrun(book, plan, reported);
-        *kept = kept.and(link, book);
+        *kept = kept.with_snapshot(link, book);
         if let Err(failed) = station.step(link, book, plan, commands, action) {
             link.close();
             return Err(failed);

@@ -1,4 +1,4 @@
-//! A station's steps: each makes the one call of the link that is next, and does by the client what came of it.
+//! A station's steps: each makes the one call of the link that is next, and lets the client handle what came of it.
 
 ghost use Rattle.std.specs.Prelude.{◌≡◌, ℕ, ◌≤◌, List, length, drop, Option, OnOk, true};
 ghost use Rattle.gc_lines.specs.Ports.{FailsWith};

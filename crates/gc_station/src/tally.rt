@@ -4,7 +4,6 @@ ghost use Rattle.std.specs.Prelude.{◌≡◌};
 ghost use Rattle.gc_station.specs.Tallies.{none_yet, counted, sum, nothing_yet, started, turned_to, counted_in, total};
 ghost use Rattle.gc_texts.specs.Endings.{ending_seen};
 
-use crate::progressing::later;
 use gc_texts::{Ending, Turn};
 
 /// How many commands ended how, of the last attempt of each chain. A count stops at 2^64 - 1.
@@ -61,19 +60,19 @@ impl Tally {
         }
     }
 
-    // The sum of both tallies, count by count, each up to 2^64 - 1 (`later` adds up to that).
+    // The sum of both tallies, count by count, each up to 2^64 - 1.
     fn sum(&self, other: &Tally) -> Tally
         ensures { result ≡ sum self.now other.now }
     {
         Tally {
-            answered: later(self.answered, other.answered),
-            late: later(self.late, other.late),
-            lost: later(self.lost, other.lost),
-            skipped: later(self.skipped, other.skipped),
-            unreadable: later(self.unreadable, other.unreadable),
-            missed: later(self.missed, other.missed),
-            elsewhere: later(self.elsewhere, other.elsewhere),
-            again: later(self.again, other.again),
+            answered: self.answered.saturating_add(other.answered),
+            late: self.late.saturating_add(other.late),
+            lost: self.lost.saturating_add(other.lost),
+            skipped: self.skipped.saturating_add(other.skipped),
+            unreadable: self.unreadable.saturating_add(other.unreadable),
+            missed: self.missed.saturating_add(other.missed),
+            elsewhere: self.elsewhere.saturating_add(other.elsewhere),
+            again: self.again.saturating_add(other.again),
         }
     }
 }
@@ -104,7 +103,7 @@ impl Counts {
         ensures { self.new ≡ started turn self.old }
     {
         if turn.attempt > 1 {
-            self.settled.again = later(self.settled.again, 1);
+            self.settled.again = self.settled.again.saturating_add(1);
         } else {
             self.settled = self.settled.sum(&self.attempt);
         }

@@ -154,7 +154,7 @@ pub(crate) fn is_listed_after(
 // answered well, and if so in `fresh` the moment `now`; in `listed` whether it or one before it of its attempt ended as its rule
 // names. A command of the setup leaves `tally` and `listed` as they are. A null procedure has no mark: nothing is written or
 // noted of it. `Err`: the book failed, and nothing is noted.
-fn write_one<B: Book>(
+fn write_settlement<B: Book>(
     book: &mut B,
     recorded: &mut Recorded,
     now: Moment,
@@ -212,7 +212,7 @@ pub(crate) fn ends_with_table(settlements: &[Settlement<Asked>]) -> bool
 }
 
 // Writes the records of these settlements, which are those of the oldest outstanding requests, notes each in `recorded`, as
-// `write_one` does, and removes the marks of these requests. `Err`: the book failed at a record. It isn't noted, and none after
+// `write_settlement` does, and removes the marks of these requests. `Err`: the book failed at a record. It isn't noted, and none after
 // it is written or noted.
 pub(crate) fn write_settlements<B: Book>(
     book: &mut B,
@@ -233,7 +233,7 @@ pub(crate) fn write_settlements<B: Book>(
 {
     for settlement in settlements {
         let mark = take_mark(marks);
-        if let Err(failed) = write_one(book, recorded, now, mark, settlement) {
+        if let Err(failed) = write_settlement(book, recorded, now, mark, settlement) {
             return Err(failed);
         }
     }

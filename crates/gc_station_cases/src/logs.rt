@@ -5,59 +5,23 @@ use crate::running::Outcome;
 use crate::script::{START, Script, Step};
 use crate::setting::Setting;
 use crate::telling::run_telling;
-use gc_lines::{PortFailed, Sink};
 use gc_links::{Link, Telling};
 use gc_logs::Logged;
+use gc_probes::PieceSink;
 use gc_texts::Task;
 use std::alloc::Global;
 
-// A sink that stores what is written in memory. It fails once no write is left, or memory runs out.
-#[derive(Drop)]
-struct StoringSink {
-    // What was written.
-    bytes: Vec<u8>,
-    // How many writes still succeed.
-    left: u64,
-    // Whether a write has failed. Then each further one fails.
-    broken: bool,
-}
-
-impl Sink for StoringSink {
-    ghost use Rattle.std.specs.Prelude.{None};
-
-    ghost taken = { λ _. None };
-
-    ghost failed = { λ k. k.broken };
-
-    // Stores these bytes, and uses up one write. `Err`: no write is left, or memory ran out, now or at an earlier write.
-    fn write(&mut self, bytes: &[u8]) -> Result<usize, PortFailed> {
-        if self.broken || self.left == 0 || self.bytes.extend_from_slice(bytes).is_err() {
-            self.broken = true;
-            return Err(PortFailed);
-        }
-        self.left -= 1;
-        Ok(bytes.len())
-    }
-
-    // Whether a write has failed.
-    fn has_failed(&self) -> bool {
-        self.broken
-    }
-}
-
-// The link of a case, with a log whose sink fails after `writes` writes. Until the link reads a moment, the log's lines have
-// the moment `START`, also where the link's time of day is ahead of its clock (`ahead`).
+// The link of a case, with a log whose sink takes each line in one write, and fails after `writes` writes, or once memory runs
+// out. Until the link reads a moment, the log's lines have the moment `START`, also where the link's time of day is ahead of its
+// clock (`ahead`).
 fn logged_link<'a>(
     alloc: Global,
     steps: &'a [Step<'a>],
     setting: &Setting,
     writes: u64,
-) -> Logged<Script<'a>, StoringSink> {
-    let sink = StoringSink {
-        bytes: Vec::new(alloc),
-        left: writes,
-        broken: false,
-    };
+) -> Logged<Script<'a>, PieceSink> {
+    // More bytes for each write than a line of the log has.
+    let sink = PieceSink::new(alloc, 10_000, writes);
     Logged::new(Script::new(steps, setting), sink, START)
 }
 
@@ -103,10 +67,7 @@ fn play_over_sink(
     let mut book = WordBook::new(setting);
     let result = run_telling(&mut link, &mut book, tasks, &setting.plan, setting.turns);
     outcome.take(&link.link.link, &book, result.err());
-    outcome.take_log(
-        link.link.sink().bytes.as_slice(),
-        link.link.has_lost_its_log(),
-    );
+    outcome.take_log(link.link.sink().taken(), link.link.has_lost_its_log());
 }
 
 /// Without a station: reads once for each of `steps` over a link with a log, closes the link, and takes the log into `outcome`.
@@ -119,5 +80,5 @@ pub fn read_logged(alloc: Global, steps: &[Step<'_>], setting: &Setting, outcome
         let _ = link.read(&mut buf, 1);
     }
     link.close();
-    outcome.take_log(link.sink().bytes.as_slice(), false);
+    outcome.take_log(link.sink().taken(), false);
 }

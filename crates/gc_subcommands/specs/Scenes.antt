@@ -1,7 +1,8 @@
 -- The instrument that a subcommand begins with, and what is reported where its scene is refused: this project's own.
-use Rattle.std.specs.Prelude.{◌≡◌, ℕ, List, Option, None}
+use Rattle.std.specs.Prelude.{◌≡◌, ◌⊎◌, ℕ, List, Option, None}
 use Rattle.std.specs.Io.KnownBytes.{Appends}
 use Rattle.gc_instrument.specs.State.{State, simulator_opening}
+use Rattle.gc_scenes.specs.SceneState.{SceneState}
 use Rattle.gc_lines.specs.Answering.{Ports}
 use Rattle.gc_subcommands.specs.Refusing.{refusal_text}
 use Rattle.gc_subcommands.specs.declared.refusal.Refusal.{Refusal}
@@ -22,3 +23,9 @@ pub record RefusesScene {Name : Type 0} (scene : Option Name) (old new : Ports) 
 -- where no scene is named the instrument is the simulator
 abbrev pub IsSimulatorUnlessNamed : {Name : Type 0} → (scene : Option Name) → (start : State) → Type 0
 IsSimulatorUnlessNamed scene start = scene ≡ None → start ≡ simulator_opening
+
+-- the instrument of a scene, which is the simulator where none is named, and has rules only where one is named: `Plain` holds of the
+-- opening state of one without rules, or `Ruled` of that of one with rules
+abbrev pub HoldsOfInstrument : {Name : Type 0} → (scene : Option Name) → (Plain : State → Type 0) → (Ruled : SceneState → Type 0) → Type 0
+HoldsOfInstrument scene Plain Ruled =
+    ((start : State) × IsSimulatorUnlessNamed scene start × Plain start) ⊎ ((scene ≡ None → ⊥) × ((start : SceneState) × Ruled start))

@@ -1,13 +1,11 @@
 -- How `exec` and `check` report how their loop over frames ended: this project's own. `told` is what had been written on the
 -- messages before, and `told'` what has been written now. 4294967295 is the most reads that a u32 counts.
-use Rattle.std.specs.Prelude.{◌≡◌, ℕ, ◌+◌, ◌<◌, ◌⊎◌, ◌↔◌, Bool, true, false, List, Option, None, Result}
-use Rattle.gc_subcommands.specs.Scenes.{RefusesScene, IsSimulatorUnlessNamed}
+use Rattle.std.specs.Prelude.{◌≡◌, ℕ, ◌+◌, ◌<◌, ◌⊎◌, ◌↔◌, Bool, true, false, List, Option, Result}
+use Rattle.gc_subcommands.specs.Scenes.{RefusesScene, HoldsOfInstrument}
 use Rattle.gc_engines.specs.Checking.{IsChecking}
 use Rattle.gc_engines.specs.LogChecking.{IsCheckingLog}
 use Rattle.gc_instrument.specs.Serving.{IsServing}
-use Rattle.gc_instrument.specs.State.{State}
 use Rattle.gc_scenes.specs.SceneServing.{IsSceneServing}
-use Rattle.gc_scenes.specs.SceneState.{SceneState}
 use Rattle.gc_lines.specs.Answering.{Ports, fault_text}
 use Rattle.gc_lines.specs.declared.served.Served.{Served}
 use Rattle.gc_lines.specs.declared.served.ServeFault.{ServeFault}
@@ -23,13 +21,12 @@ pub record TellsServing {S : Type 0} (Serves : (from to : S) → (ports ports' :
   pub serves : Serves start after old new 4294967295 end
   pub tells : Tells fault_text end status told told'
 
--- the scene was refused, or its instrument served a source, and how that ended is reported; the instrument has rules only
--- where a scene is named
+-- the scene was refused, or its instrument (`HoldsOfInstrument`) served a source, and how that ended is reported
 abbrev pub TellsExec : {Name : Type 0} → (scene : Option Name) → (old new : Ports) → (status : ℕ) → (told told' : Option (List ℕ)) → Type 0
 TellsExec scene old new status told told' =
     RefusesScene scene old new status told told'
-    ⊎ (((start : State) × IsSimulatorUnlessNamed scene start × TellsServing IsServing start old new status told told')
-    ⊎ ((scene ≡ None → ⊥) × ((start : SceneState) × TellsServing IsSceneServing start old new status told told')))
+    ⊎ HoldsOfInstrument scene (λ start. TellsServing IsServing start old new status told told')
+    (λ start. TellsServing IsSceneServing start old new status told told')
 
 -- an input was checked, as a log (`is_log`) or as a stream, with this result
 abbrev pub ChecksInput : (is_log : Bool) → (old new : Ports) → Result Served ServeFault → Type 0

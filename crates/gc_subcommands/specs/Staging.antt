@@ -24,33 +24,25 @@ abbrev pub IsTimed : List ℕ → Timed → Type 0
 IsTimed text (Still staged) = IsStaged text staged
 IsTimed text (Slow state) = IsTimedScene text state
 
--- why a text sets up no instrument: the fault is the one for which it is no scene without rules, or the one for which it is no scene with
--- rules that needs no clock
+-- a text sets up no instrument, for this fault: it has the fault as a scene without rules, or as a scene with rules that needs no
+-- clock
 abbrev pub StagedFault : List ℕ → RunFault → Type 0
 StagedFault text fault = SceneFault text fault ⊎ SceneFaultOf IsStillLine text fault
 
--- why a text sets up no instrument for `serve`, which has a clock: the fault is the one for which it is no scene that needs no clock
--- (`StagedFault`), or the one for which it is no scene that may need one
+-- a text sets up no instrument for `serve`, which has a clock, for this fault: it has the fault as a scene that needs no clock
+-- (`StagedFault`), or as a scene that may need one
 abbrev pub TimedStagedFault : List ℕ → RunFault → Type 0
 TimedStagedFault text fault = StagedFault text fault ⊎ TimedFault text fault
 
 -- Of a source: `old` and `new` are the bytes that were still to come before it was read and are still to come now, where they are
 -- known.
 
--- a source gave a scene to its end, and this is the opening state of the scene's instrument
-abbrev pub GivesStaged : (old new : Option (List ℕ)) → Staged → Type 0
-GivesStaged old new staged = (text : List ℕ) × Consumes old new text × IsAtEnd new × IsStaged text staged
+-- a source gave a text to its end, and `Is` holds of that text and the instrument
+abbrev pub GivesInstrument : {X : Type 0} → (Is : List ℕ → X → Type 0) → (old new : Option (List ℕ)) → X → Type 0
+GivesInstrument Is old new instrument = (text : List ℕ) × Consumes old new text × IsAtEnd new × Is text instrument
 
--- a source gave a scene to its end, maybe one that needs a clock, and this is the opening state of the scene's instrument for `serve`
-abbrev pub GivesTimed : (old new : Option (List ℕ)) → Timed → Type 0
-GivesTimed old new timed = (text : List ℕ) × Consumes old new text × IsAtEnd new × IsTimed text timed
-
--- a source wasn't read to its end, or what it gave sets up no instrument, for the reason that `r` has
-abbrev pub RefusesStaged : (old new : Option (List ℕ)) → Refusal → Type 0
-RefusesStaged old new r =
-    (given : List ℕ) × Consumes old new given × (IsReadFault given (refusal_fault r) ⊎ StagedFault given (refusal_fault r))
-
--- a source wasn't read to its end, or what it gave sets up no instrument for `serve`, for the reason that `r` has
-abbrev pub RefusesTimed : (old new : Option (List ℕ)) → Refusal → Type 0
-RefusesTimed old new r =
-    (given : List ℕ) × Consumes old new given × (IsReadFault given (refusal_fault r) ⊎ TimedStagedFault given (refusal_fault r))
+-- a source gave no instrument, for the fault of `r`: it wasn't read to its end, or, as `Fails` says, the bytes that it gave set up
+-- none
+abbrev pub GivesNoInstrument : (Fails : List ℕ → RunFault → Type 0) → (old new : Option (List ℕ)) → Refusal → Type 0
+GivesNoInstrument Fails old new r =
+    (given : List ℕ) × Consumes old new given × (IsReadFault given (refusal_fault r) ⊎ Fails given (refusal_fault r))

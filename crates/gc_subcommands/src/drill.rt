@@ -67,8 +67,8 @@ pub fn drilling_of<'a>(words: &ArgMatches<'a>) -> Drilling<'a> {
 }
 
 /// Reads the scene, if one is named, plays the schedule of the source on its instrument, or else on the simulator, and reports
-/// how that ended: with status 0, 1, or 2 for a width that isn't 1 to 7. If the scene is
-/// refused, that alone is reported, whatever the width. `Err`: the messages couldn't be written.
+/// how that ended: with status 0, 1, or 2 for a width that isn't 1 to 7. If the scene is refused, that alone is reported, whatever the
+/// width. `Err`: the messages couldn't be written.
 pub fn drill_scene<R: Files, S: Source, K: Sink, E: Write>(
     rt: &R,
     alloc: Global,
@@ -110,8 +110,7 @@ pub fn drill_scene<R: Files, S: Source, K: Sink, E: Write>(
 }
 
 // Plays the schedule of the source on an instrument, and reports how that ended, with status 0 or 1; with status 2 it refuses a
-// width that isn't 1 to 7, before anything of the source is read. clap refuses it first, though no clause of clap's says so. The
-// clauses are those of `drill_scene`, of this instrument.
+// width that isn't 1 to 7, before anything of the source is read. clap refuses it first, though no clause of clap's says so.
 fn drill_within<I: Drilled, S: Source, K: Sink, E: Write>(
     alloc: Global,
     instrument: I,
@@ -120,12 +119,12 @@ fn drill_within<I: Drilled, S: Source, K: Sink, E: Write>(
     sink: &mut K,
     messages: &mut E,
 ) -> io::Result<ExitCode>
-    ensures told { IfOk result (λ status. TellsWithin I.text instrument drilling.entry
+    ensures told { IfOk result (λ status. TellsWithin (I.text instrument drilling.entry.width) drilling.entry.totals
         (ports_of S.Source source.old K.Sink sink.old)
         (ports_of S.Source source.new K.Sink sink.new)
         (exit_status status) (E.contents messages.old) (E.contents messages.new)) }
     ensures width { 1 ≤ drilling.entry.width → drilling.entry.width ≤ WINDOW → IfOk result (λ status. exit_status status ≤ 1) }
-    ensures done { IfOk result (λ status. exit_status status ≡ 0 → PlaysWhole I.text instrument drilling.entry
+    ensures done { IfOk result (λ status. exit_status status ≡ 0 → PlaysWhole (I.text instrument drilling.entry.width) drilling.entry.totals
         (ports_of S.Source source.old K.Sink sink.old)
         (ports_of S.Source source.new K.Sink sink.new)) }
     ensures whole { IfOk result (λ status. exit_status status ≡ 0 → ReadsWholeSource
@@ -139,12 +138,11 @@ fn drill_within<I: Drilled, S: Source, K: Sink, E: Write>(
     if usize::from(drilling.width) > WINDOW {
         return refuse_numbers(messages);
     }
-    drill(alloc, instrument, drilling, source, sink, messages)
+    play_and_report(alloc, instrument, drilling, source, sink, messages)
 }
 
-// Plays the schedule of the source on an instrument, and reports how that ended, with status 0 or 1. The clauses are those of
-// `drill_scene`, of this instrument and a width that isn't refused.
-fn drill<I: Drilled, S: Source, K: Sink, E: Write>(
+// Plays the schedule of the source on an instrument, with a width from 1 to 7, and reports how that ended, with status 0 or 1.
+fn play_and_report<I: Drilled, S: Source, K: Sink, E: Write>(
     alloc: Global,
     instrument: I,
     drilling: Drilling<'_>,
@@ -154,11 +152,11 @@ fn drill<I: Drilled, S: Source, K: Sink, E: Write>(
 ) -> io::Result<ExitCode>
     requires least { 1 ≤ drilling.width }
     requires most { drilling.width ≤ WINDOW }
-    ensures told { IfOk result (λ status. TellsSchedule I.text instrument drilling.entry
+    ensures told { IfOk result (λ status. TellsSchedule (I.text instrument drilling.entry.width) drilling.entry.totals
         (ports_of S.Source source.old K.Sink sink.old)
         (ports_of S.Source source.new K.Sink sink.new)
         (exit_status status) (E.contents messages.old) (E.contents messages.new)) }
-    ensures done { IfOk result (λ status. exit_status status ≡ 0 → PlaysWhole I.text instrument drilling.entry
+    ensures done { IfOk result (λ status. exit_status status ≡ 0 → PlaysWhole (I.text instrument drilling.entry.width) drilling.entry.totals
         (ports_of S.Source source.old K.Sink sink.old)
         (ports_of S.Source source.new K.Sink sink.new)) }
     ensures whole { IfOk result (λ status. exit_status status ≡ 0 → ReadsWholeSource

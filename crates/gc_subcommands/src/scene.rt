@@ -6,7 +6,7 @@ ghost use Rattle.std.specs.Prelude.{◌≡◌, None, Ok, IfErr, IfOk};
 ghost use Rattle.gc_instrument.specs.State.{simulator_opening};
 ghost use Rattle.gc_engines.specs.RuleScenes.{IsStillLine, SceneFaultOf};
 ghost use Rattle.gc_engines.specs.TimedScenes.{TimedFault};
-ghost use Rattle.gc_subcommands.specs.Staging.{GivesStaged, GivesTimed, IsStaged, IsTimed, RefusesStaged, RefusesTimed, StagedFault, TimedStagedFault};
+ghost use Rattle.gc_subcommands.specs.Staging.{GivesInstrument, GivesNoInstrument, IsStaged, IsTimed, StagedFault, TimedStagedFault};
 ghost use Rattle.gc_subcommands.specs.declared.scene.Staged.TheVariants.{Plain};
 ghost use Rattle.gc_subcommands.specs.declared.scene.Timed.TheVariants.{Still};
 
@@ -68,10 +68,10 @@ fn source_at<R: Files>(rt: &R, path: &str) -> Result<FromReader<R::File>, Refusa
 // The instrument of the scene that a source gives, with rules or without them. The faults are those of `staged_of`.
 fn staged_in<S: Source>(alloc: Global, source: &mut S) -> Result<Staged, Refusal>
     // The whole of what the source gave is its text.
-    ensures found { IfOk result (λ staged. GivesStaged (S.remaining source.old) (S.remaining source.new) staged) }
+    ensures found { IfOk result (λ staged. GivesInstrument IsStaged (S.remaining source.old) (S.remaining source.new) staged) }
 
     // Either the source wasn't read to its end, or what it gave sets up no instrument, also for want of memory.
-    ensures fault { IfErr result (λ r. RefusesStaged (S.remaining source.old) (S.remaining source.new) r) }
+    ensures fault { IfErr result (λ r. GivesNoInstrument StagedFault (S.remaining source.old) (S.remaining source.new) r) }
 {
     let text = match read_text(alloc, source) {
         Ok(text) => text,
@@ -129,10 +129,10 @@ pub(crate) fn timed_of<R: Files>(
 // The instrument of the scene that a source gives, for `serve`, which has a clock. The faults are those of `timed_of`.
 fn timed_in<S: Source>(alloc: Global, source: &mut S) -> Result<Timed, Refusal>
     // The whole of what the source gave is its text.
-    ensures found { IfOk result (λ timed. GivesTimed (S.remaining source.old) (S.remaining source.new) timed) }
+    ensures found { IfOk result (λ timed. GivesInstrument IsTimed (S.remaining source.old) (S.remaining source.new) timed) }
 
     // Either the source wasn't read to its end, or what it gave sets up no instrument, also for want of memory.
-    ensures fault { IfErr result (λ r. RefusesTimed (S.remaining source.old) (S.remaining source.new) r) }
+    ensures fault { IfErr result (λ r. GivesNoInstrument TimedStagedFault (S.remaining source.old) (S.remaining source.new) r) }
 {
     let text = match read_text(alloc, source) {
         Ok(text) => text,

@@ -221,8 +221,9 @@ fn endpoint_of(place: Place<'_>) -> Option<Endpoint<'_>> {
     }
 }
 
-// Serves a port, an address or a device, and reports how that ended. clap refuses numbers out of their range, though no clause of clap's
-// says so: hence they are refused here, too, with status 2, but for 0 connections of a device, which isn't opened then: the status is 0.
+// Serves a port, an address or a device, and reports how that ended. Numbers out of their range are refused with status 2: clap
+// refuses them first, though no clause of clap's says so. A device that is to be served for 0 connections isn't opened, and the
+// status is 0.
 fn serve_place<
     R: Net<Listener = TcpListener, Stream = TcpStream> + Clock + Files<File = File>,
     I: Simulates,
@@ -276,8 +277,8 @@ fn serve_address<
 
 // Serves a port, an address or a device, goes on after a connection that fails (`--keep`), and reports how that ended. A
 // connection that isn't a device's is closed after `idle` seconds without a byte. Numbers out of their range are refused with
-// status 2: for a device, too, 0 connections, and an `idle` out of its range, which a device doesn't use. The status is 0 also
-// where the line of a connection's fault couldn't be written.
+// status 2. So is a device with 0 connections, or with an `idle` out of its range, though it doesn't use `idle`. The status is 0
+// also where the line of a connection's fault couldn't be written.
 fn keep_place<
     R: Net<Listener = TcpListener, Stream = TcpStream> + Clock + Files<File = File>,
     I: Simulates,

@@ -17,7 +17,7 @@ use Rattle.gc_texts.specs.declared.again.Again.{Again}
 use Rattle.gc_texts.specs.declared.attempts.Planned.{Planned}
 use Rattle.gc_texts.specs.Again.{no_again}
 use Rattle.gc_texts.specs.Nears.{near_of}
-use Rattle.gc_texts.specs.Tasks.{IsTasks, opening, mode_after, continues_group, is_chained, turn_at, task_at, setup_of, planned_of, tasks_of, placed}
+use Rattle.gc_texts.specs.Tasks.{IsTasks, opening, mode_after, continues_group, is_chained, turn_at, task_at, setup_at, setup_of, planned_at, planned_of, tasks_of, placed}
 use Rattle.gc_texts.specs.declared.wish.Wish.{Wish}
 use Rattle.gc_texts.specs.declared.name.Name.{Name}
 use Rattle.gc_texts.specs.declared.near.Near.{Near}
@@ -25,17 +25,17 @@ use Rattle.gc_texts.specs.declared.task_line.TaskLine.{TaskLine}
 use Rattle.gc_texts.specs.declared.task_line.TaskLine.TheVariants as says
 use Rattle.gc_texts.specs.declared.mode.Mode.{Mode}
 use Rattle.gc_texts.specs.declared.tasks.Task.{Task}
-use Rattle.gc_texts.proofs.TaskReading.{mode_after_lines, mode_after_both, setup_both, planned_both}
+use Rattle.gc_texts.proofs.TaskReading.{mode_after_lines, mode_after_both, given_both}
 use Rattle.gc_texts.proofs.FirstAttempts.{chains_have_first}
 use Rattle.gc_texts.proofs.TaskLaws.{continued_group}
 
--- whether the mode after lines is that of the setup is what `section_after` says of these lines, where `mode` holds before them
+-- after lines, the mode is that of the setup exactly where `section_after` says so of these lines; `mode` holds before them
 section_after_lines : (mode : Mode) (lines : List TaskLine) → (mode_after_lines mode lines).setup ≡ section_after mode.setup lines
 section_after_lines mode [] = refl
 section_after_lines mode (says.AtStart ∷ later) = section_after_lines (mode_after mode says.AtStart) later
 section_after_lines mode (line ∷ later) = section_after_lines (mode_after mode line) later
 
--- a list of n tasks has one more with a task in front of it, which is there only if b is true
+-- n tasks, with one more in front of them where b is true, are n + 1 tasks where b is true, and n where it is false
 setup_one : (b : Bool) (t : Task) (ts : List Task) (n : ℕ) → length ts ≡ n → length ((if b then t ∷ [] else []) ++ ts) ≡ (if b then 1 else 0) + n
 setup_one true t ts n e = omega (arith, e)
 setup_one false t ts n e = omega (arith, e)
@@ -48,12 +48,12 @@ setup_count mode (says.Command c now ∷ later) =
     (setup_count (mode_after mode (says.Command c now)) later)
 setup_count mode (line ∷ later) = setup_count (mode_after mode line) later
 
--- where 1 is added to n only if b is true, the sum with k is the same as where it is added to k
+-- 1 that is added to n only where b is true may be added to k instead: the sum m is the same
 counted_in_section : (b : Bool) (n m k : ℕ) → m ≡ (if b then n + 1 else n) + k → m ≡ n + ((if b then 1 else 0) + k)
 counted_in_section true n m k e = omega (arith, e)
 counted_in_section false n m k e = omega (arith, e)
 
--- where 1 is added to n only if b is false, the sum with k is the same as where it is added to k
+-- 1 that is added to n only where b is false may be added to k instead: the sum m is the same
 counted_in_other_section : (b : Bool) (n m k : ℕ) → m ≡ (if b then n else n + 1) + k → m ≡ n + ((if b then 0 else 1) + k)
 counted_in_other_section true n m k e = omega (arith, e)
 counted_in_other_section false n m k e = omega (arith, e)
@@ -311,8 +311,9 @@ module _
   all_are b e =
       is.tasks_are ∙ ap (λ said. map (placed nears) (tasks_of (opening deadline chained) said)) at
       ∙ ap (λ ts. map (placed nears) (ts ++ laid_out (planned_of (opening deadline chained) (front
-      ++ says.Command command now ∷ later)))) (setup_both (opening deadline chained) front (says.Command command now ∷ later))
-      ∙ ap (λ ps. map (placed nears) ((setups ++ setup_of here (says.Command command now ∷ later)) ++ laid_out ps)) (planned_both (opening deadline chained) front (says.Command command now ∷ later))
+      ++ says.Command command now ∷ later)))) (given_both setup_at (opening deadline chained) front (says.Command command now ∷ later))
+      ∙ ap (λ ps. map (placed nears) ((setups ++ setup_of here (says.Command command now ∷ later)) ++ laid_out ps))
+      (given_both planned_at (opening deadline chained) front (says.Command command now ∷ later))
       ∙ ap (λ t. map (placed nears) (all t)) e
 
   -- the law for this command, by whether it is of the setup (`b`)
@@ -336,7 +337,7 @@ module _
       let among = chains_have_first no_retry [] planned (planned_of next later) p in
       let in_front = setups ++ setup_of next later in
       let many : setup ≡ length in_front =
-      is.setup_is ∙ ap (λ said. length (setup_of (opening deadline chained) said)) at ∙ ap length (setup_both (opening deadline chained) front (says.Command command now ∷ later))
+      is.setup_is ∙ ap (λ said. length (setup_of (opening deadline chained) said)) at ∙ ap length (given_both setup_at (opening deadline chained) front (says.Command command now ∷ later))
       ∙ ap (λ b. length (setups ++ ((if b then own ∷ [] else []) ++ setup_of next later))) e in
       let long : length (map (placed nears) (in_front ++ among.earlier)) ≡ length in_front + length among.earlier = length-map (in_front ++ among.earlier) (placed nears)
       ∙ length-append in_front among.earlier in (
@@ -368,7 +369,7 @@ retries_hold deadline chained front later command now cycle =
     let p : Planned = record { task = task_at mode command now; retry = mode.retry } in (
       p,
       planned_of (mode_after mode (says.Command command now)) later,
-      planned_both first front (says.Command command now ∷ later)
+      given_both planned_at first front (says.Command command now ∷ later)
           ∙ ap (λ b. planned_of first front ++ ((if b then [] else p ∷ []) ++ planned_of (mode_after mode (says.Command command now)) later)) (section_after_lines first front ∙ cycle),
       refl,
       said.retry_is,

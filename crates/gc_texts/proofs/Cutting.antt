@@ -3,7 +3,7 @@
 use Rattle.std.proofs.Common.{◌≡◌, ◌≢◌, ◌<◌, ◌+◌, ◌≤◌, ◌==◌, false, ℕ, zero, suc, List, [], ◌∷◌, ◌++◌, length, take, drop, get_or, Option, Some, None, MatchOption, arith, refl, ap, subst, sym, ◌∙◌}
 use Rattle.std.specs.List.{list_any}
 use Rattle.std.proofs.lemmas.Bool.{eqb-true, eqb-false, eq-eqb, or_parts}
-use Rattle.std.proofs.lemmas.List.{take_all}
+use Rattle.std.proofs.lemmas.List.{take_all, take-append-drop, drop_more}
 use Rattle.memchr.specs.Find.{IsFirstByte, is_byte}
 use Rattle.gc_values.specs.Digits.{AreDigits}
 use Rattle.gc_texts.specs.Cuts.{Lacks, Cuts}
@@ -24,20 +24,16 @@ lacks_before mark bs zero le none = tt
 lacks_before mark [] (suc i) le none = tt
 lacks_before mark (b ∷ bs) (suc i) le none = (none 0 (omega arith), lacks_before mark bs i (omega (arith, le)) (λ j lt. none (suc j) (omega (arith, lt))))
 
--- a text with the mark at place i is what is before that place, the mark, and what follows it
-split_place : (mark : ℕ) (bs : List ℕ) (i : ℕ) → i < length bs → get_or bs i 0 ≡ mark → bs ≡ take i bs ++ mark ∷ drop (i + 1) bs
-split_place mark [] i lt e = absurd (omega (arith, lt))
-split_place mark (b ∷ bs) zero lt e = ap (λ x. x ∷ bs) e
-split_place mark (b ∷ bs) (suc i) lt e =
-    let next : suc i + 1 ≡ suc (i + 1) = omega arith in
-    ap (λ l. b ∷ l) (split_place mark bs i (omega (arith, lt)) e) ∙ ap (λ n. b ∷ (take i bs ++ mark ∷ drop n (b ∷ bs))) (sym next)
+-- a list with x at place i, whatever d is, is what is before that place, x, and what follows it
+pub split_place : {A : Type 0} (xs : List A) (i : ℕ) (d x : A) → i < length xs → get_or xs i d ≡ x → xs ≡ take i xs ++ x ∷ drop (i + 1) xs
+split_place xs i d x below is = sym (take-append-drop i xs) ∙ ap (λ ys. take i xs ++ ys) (drop_more xs i d below ∙ ap (λ y. y ∷ drop (i + 1) xs) is)
 
 -- where place i is the first that has the mark, the text's cut has the first i bytes as the front, and what follows that place as
 -- the rest
 pub first_cuts : (mark : ℕ) (bs : List ℕ) (i : ℕ) (rest : List ℕ)
     → IsFirstByte (is_byte mark) bs (Some i) → rest ≡ drop (i + 1) bs → Cuts mark bs (take i bs) (Some rest)
 first_cuts mark bs i rest first is = (
-  split_place mark bs i first.0.high (eqb-true (get_or bs i 0) mark first.1) ∙ ap (λ l. take i bs ++ mark ∷ l) (sym is),
+  split_place bs i 0 mark first.0.high (eqb-true (get_or bs i 0) mark first.1) ∙ ap (λ l. take i bs ++ mark ∷ l) (sym is),
   lacks_before mark bs i (omega (arith, first.0.high)) (λ j lt e. first.0.before j (omega arith) lt (eq-eqb (get_or bs j 0) mark e)),
 )
 

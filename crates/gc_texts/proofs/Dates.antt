@@ -145,8 +145,8 @@ few_days y m =
     cond_both (m == 2) _ _ (λ n. n ≤ 31) (λ _. cond_both (is_leap y) 29 28 (λ n. n ≤ 31) (λ _. omega arith) (λ _. omega arith))
     (λ _. cond_both ((m == 4) || (m == 6) || (m == 9) || (m == 11)) 30 31 (λ n. n ≤ 31) (λ _. omega arith) (λ _. omega arith))
 
--- a day that lies within the year, `left` days after its first day, lies within it when it is counted from the first of month
--- 1, too
+-- no month comes before month 1: a day that lies within the year, `left` days after its first, lies within it with the days of
+-- the first 1 - 1 months added, too
 pub no_months : (y left : ℕ) → left < year_days y → days_of_months y (1 - 1) + left < year_days y
 unfolding days_of_months
 no_months y left part = omega (arith, part)

@@ -1,16 +1,11 @@
--- What can't be read of a text as a double, and doubles that are no place or no tolerance.
-use Rattle.std.proofs.Common.{◌≡◌, List, ℕ, true, false, Result, Ok, Err, sym, ap, ◌∙◌}
+-- Doubles that are no place or no tolerance.
+use Rattle.std.proofs.Common.{◌≡◌, List, ℕ, false, ap, ◌∙◌}
 use Rattle.std.proofs.lemmas.Bool.{both_ways}
 use Rattle.gc_values.specs.Directions.{is_place, is_tolerance}
 use Rattle.gc_values.specs.declared.decimal.Decimal.{Decimal}
-use Rattle.gc_values.specs.declared.fault.ValueFault.{ValueFault}
 use Rattle.gc_values.proofs.DecimalLaws.{spells_unique}
 use Rattle.gc_texts.specs.Nears.{IsDouble, AreNearWords}
 use Rattle.gc_texts.specs.declared.near.Near.{Near}
-
--- the reading of a text doesn't both fail and give a number
-pub fails_or_reads : (r : Result Decimal ValueFault) (e : ValueFault) (d : Decimal) → r ≡ Err e → r ≡ Ok d → ⊥
-fails_or_reads r e d failed read = let bad : ◌≡◌ {A = Result Decimal ValueFault} (Err e) (Ok d) = sym failed ∙ read in cc
 
 -- which numbers can't be written by the words of four that say where a target is
 module _ (target hz v tolerance : List ℕ) (near : Near) (are : AreNearWords target hz v tolerance near) where

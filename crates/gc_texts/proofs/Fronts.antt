@@ -30,11 +30,7 @@ pub cut_before : (mark : ℕ) (text front : List ℕ) (rest : Option (List ℕ))
 cut_before mark text front None cut = sym (ap (before mark) cut.0 ∙ before_none mark front cut.1)
 cut_before mark text front (Some rest) cut = sym (ap (before mark) cut.0 ∙ before_mark mark front rest cut.1)
 
--- the text in `Some`; the empty text for `None`
-abbrev pub unwrapped : Option (List ℕ) → List ℕ
-unwrapped rest = unwrap_or rest []
-
 -- the rest of a cut, the empty text for `None`, is what follows the first mark, which is empty, too, where there is no mark
-pub cut_behind : (mark : ℕ) (text front : List ℕ) (rest : Option (List ℕ)) → Cuts mark text front rest → unwrapped rest ≡ behind mark text
+pub cut_behind : (mark : ℕ) (text front : List ℕ) (rest : Option (List ℕ)) → Cuts mark text front rest → unwrap_or rest [] ≡ behind mark text
 cut_behind mark text front None cut = sym (ap (behind mark) cut.0 ∙ behind_none mark front cut.1)
 cut_behind mark text front (Some rest) cut = sym (ap (behind mark) cut.0 ∙ behind_mark mark front rest cut.1)

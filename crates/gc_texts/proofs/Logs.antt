@@ -154,37 +154,37 @@ module _
     (line front : List ℕ) (rest : Option (List ℕ)) (cut : Cuts 32 line front rest)
     (moment : List ℕ) (mark : LogMark) (bytes : List ℕ) (is : IsLogLine line moment mark bytes) where
   -- the moment is before the first space, and the mark and the escaped bytes are after it
-  first_word : (front ≡ moment) × (rest ≡ Some (mark_text mark ++ 32 ∷ escaped bytes))
-  first_word = cut_found 32 line front rest moment (mark_text mark ++ 32 ∷ escaped bytes) cut is.is is.one_word
+  moment_cut : (front ≡ moment) × (rest ≡ Some (mark_text mark ++ 32 ∷ escaped bytes))
+  moment_cut = cut_found 32 line front rest moment (mark_text mark ++ 32 ∷ escaped bytes) cut is.is is.one_word
 
   -- a line whose first word isn't printable is no log line
   pub not_printable : (IsPrintable front → ⊥) → ⊥
-  not_printable none = none (subst IsPrintable (sym first_word.0) is.is_printable)
+  not_printable none = none (subst IsPrintable (sym moment_cut.0) is.is_printable)
 
   -- the mark is before the second space, and the escaped bytes are after it
-  second_word : (behind word : List ℕ) (text : Option (List ℕ)) → rest ≡ Some behind → Cuts 32 behind word text
+  mark_cut : (behind word : List ℕ) (text : Option (List ℕ)) → rest ≡ Some behind → Cuts 32 behind word text
       → (word ≡ mark_text mark) × (text ≡ Some (escaped bytes))
-  second_word behind word text so next =
-      cut_found 32 behind word text (mark_text mark) (escaped bytes) next (same_Some behind _ (sym so ∙ first_word.1)) (mark_lacks mark)
+  mark_cut behind word text so next =
+      cut_found 32 behind word text (mark_text mark) (escaped bytes) next (same_Some behind _ (sym so ∙ moment_cut.1)) (mark_lacks mark)
 
   -- a line without a space is no log line
   pub no_moment : rest ≡ None → ⊥
-  no_moment none = let bad : None ≡ Some (mark_text mark ++ 32 ∷ escaped bytes) = sym none ∙ first_word.1 in cc
+  no_moment none = let bad : None ≡ Some (mark_text mark ++ 32 ∷ escaped bytes) = sym none ∙ moment_cut.1 in cc
 
   -- a line without a second space is no log line
   pub no_mark : (behind word : List ℕ) (text : Option (List ℕ)) → rest ≡ Some behind → Cuts 32 behind word text → text ≡ None → ⊥
   no_mark behind word text so next none =
-      let bad : None ≡ Some (escaped bytes) = sym none ∙ (second_word behind word text so next).1 in cc
+      let bad : None ≡ Some (escaped bytes) = sym none ∙ (mark_cut behind word text so next).1 in cc
 
   -- a line whose second word is no mark is no log line
   pub another_mark : (behind word : List ℕ) (text : Option (List ℕ)) → rest ≡ Some behind → Cuts 32 behind word text
       → ((m : LogMark) → word ≡ mark_text m → ⊥) → ⊥
-  another_mark behind word text so next none = none mark (second_word behind word text so next).0
+  another_mark behind word text so next none = none mark (mark_cut behind word text so next).0
 
   -- a line whose text after the mark isn't the escaped form of any bytes, 514 at most, is no log line of 514 bytes at most
   pub other_bytes : (behind word text : List ℕ) → rest ≡ Some behind → Cuts 32 behind word (Some text) → length bytes ≤ 514
       → ((all : List ℕ) → length all ≤ 514 → All IsByte all → text ≡ escaped all → ⊥) → ⊥
-  other_bytes behind word text so next room none = none bytes room is.are_bytes (same_Some text (escaped bytes) (second_word behind word (Some text) so next).1)
+  other_bytes behind word text so next room none = none bytes room is.are_bytes (same_Some text (escaped bytes) (mark_cut behind word (Some text) so next).1)
 
 -- one of two marks by the text after a mark's first byte: `whole` where there is none, else `part`
 by_end : List ℕ → (whole part : LogMark) → LogMark

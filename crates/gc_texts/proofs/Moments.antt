@@ -2,8 +2,8 @@
 use Rattle.std.proofs.Common.{◌≡◌, ℕ, ◌+◌, ◌*◌, ◌/◌, ◌%◌, ◌<◌, List, [], ◌∷◌, ◌++◌, refl, ap, ◌∙◌, arith}
 use Rattle.std.specs.Prelude.{codes}
 use Rattle.std.proofs.Math.Nat.{div-add-mod}
-use Rattle.gc_texts.specs.Moments.{millis_of, digit, clock_text, StampsAreMoments}
-use Rattle.gc_texts.specs.Stamps.{next_day, days_after, date_of, two_digits, three_digits, date_text, time_text, stamp_text}
+use Rattle.gc_texts.specs.Moments.{millis_of, digit, StampsAreMoments}
+use Rattle.gc_texts.specs.Stamps.{next_day, days_after, date_of, two_digits, three_digits, date_text, clock_text, time_text, stamp_text}
 use Rattle.gc_texts.proofs.Dates.{days_sum}
 
 -- the number of `a` tens and `b` ones is written as the digit of a and the digit of b
@@ -33,10 +33,10 @@ time_is hours minutes seconds more m s k =
     let c1 : n / 1000 ≡ (hours * 60 + minutes) * 60 + seconds = omega (arith, k, div-add-mod n 1000) in
     let c2 : ((hours * 60 + minutes) * 60 + seconds) % 60 ≡ seconds = omega (arith, s, div-add-mod ((hours * 60 + minutes) * 60 + seconds) 60) in
     let d : n % 1000 ≡ more = omega (arith, k, div-add-mod n 1000) in
-    ap (λ x. two_digits x ++ 58 ∷ (two_digits (n / 60000 % 60) ++ 58 ∷ (two_digits (n / 1000 % 60) ++ 46 ∷ three_digits (n % 1000)))) a
-    ∙ ap (λ x. two_digits hours ++ 58 ∷ (two_digits x ++ 58 ∷ (two_digits (n / 1000 % 60) ++ 46 ∷ three_digits (n % 1000)))) (ap (λ x. x % 60) b1 ∙ b2)
-    ∙ ap (λ x. two_digits hours ++ 58 ∷ (two_digits minutes ++ 58 ∷ (two_digits x ++ 46 ∷ three_digits (n % 1000)))) (ap (λ x. x % 60) c1 ∙ c2)
-    ∙ ap (λ x. two_digits hours ++ 58 ∷ (two_digits minutes ++ 58 ∷ (two_digits seconds ++ 46 ∷ three_digits x))) d
+    ap (λ x. clock_text x (n / 60000 % 60) (n / 1000 % 60) (n % 1000)) a
+    ∙ ap (λ x. clock_text hours x (n / 1000 % 60) (n % 1000)) (ap (λ x. x % 60) b1 ∙ b2)
+    ∙ ap (λ x. clock_text hours minutes x (n % 1000)) (ap (λ x. x % 60) c1 ∙ c2)
+    ∙ ap (λ x. clock_text hours minutes seconds x) d
 
 -- a stamp with this text of its date and this text of its time
 abbrev stamp_of : (date time : List ℕ) → List ℕ

@@ -12,14 +12,14 @@ use Rattle.gc_texts.proofs.Procedures.{one_number, procedure_parts}
 
 -- the cut at the first space of a text that is digits without a space, and then parameters after a space, or none, gives the
 -- digits and the parameters
-cut_text : (text digits : List ℕ) (params : Option (List ℕ)) → text ≡ digits ++ params_text_of params → Lacks 32 digits → Cuts 32 text digits params
-cut_text text digits None e lacks = (e ∙ append-nil digits, lacks)
-cut_text text digits (Some params) e lacks = (e, lacks)
+params_cut : (text digits : List ℕ) (params : Option (List ℕ)) → text ≡ digits ++ params_text_of params → Lacks 32 digits → Cuts 32 text digits params
+params_cut text digits None e lacks = (e ∙ append-nil digits, lacks)
+params_cut text digits (Some params) e lacks = (e, lacks)
 
 -- a procedure's text gives one call at most
 pub one_procedure : (text : List ℕ) (c d : Call) → IsProcedure text c → IsProcedure text d → c ≡ d
 one_procedure text c d p q =
-    let cut : Cuts 32 text q.rpc_text q.params = cut_text text q.rpc_text q.params q.text_is (digits_lack_spaces q.rpc_text q.number.names.digits) in
+    let cut : Cuts 32 text q.rpc_text q.params = params_cut text q.rpc_text q.params q.text_is (digits_lack_spaces q.rpc_text q.number.names.digits) in
     let parts = procedure_parts text q.rpc_text q.params c cut p in
     let rpcs : q.rpc ≡ p.rpc = one_number p.rpc_text q.rpc p.rpc 65535 (subst (λ (t : List ℕ). IsNumber t q.rpc 65535) parts.0 q.number) p.number in
     let lists : unwrap_or q.params [] ≡ unwrap_or p.params [] = ap (λ o. unwrap_or o []) parts.1 in

@@ -100,20 +100,20 @@ module _ (nears : List Near) where
   all_as_planned attempt again n (p ∷ ps) all = ap (λ t. t ∷ map as_planned (made attempt again n ps)) (one_as_planned attempt again n p all.0)
       ∙ ap (λ ts. own p ∷ ts) (all_as_planned attempt again n ps all.1)
 
-  -- each task of an attempt has the attempt's number
-  all_numbered : (attempt : ℕ) (again : Again) (n : ℕ) (ps : List Planned) → AllByRecursion (λ task. task.turn.attempt ≡ attempt) (made attempt again n ps)
-  all_numbered attempt again n [] = tt
-  all_numbered attempt again n (p ∷ ps) = (refl, all_numbered attempt again n ps)
-
-  -- each task of an attempt has the attempt's rule
-  all_ruled : (attempt : ℕ) (again : Again) (n : ℕ) (ps : List Planned) → AllByRecursion (λ task. task.again ≡ again) (made attempt again n ps)
-  all_ruled attempt again n [] = tt
-  all_ruled attempt again n (p ∷ ps) = (refl, all_ruled attempt again n ps)
+  -- what holds of the task of each command in an attempt holds of all tasks of the attempt (`made`)
+  all_made : (Holds : Task → Type 0) (attempt : ℕ) (again : Again) (n : ℕ) → ((p : Planned) → Holds (placed nears (in_attempt attempt again n p)))
+      → (ps : List Planned) → AllByRecursion Holds (made attempt again n ps)
+  all_made Holds attempt again n each [] = tt
+  all_made Holds attempt again n each (p ∷ ps) = (each p, all_made Holds attempt again n each ps)
 
   -- where commands' tasks are as their lines say them, those of an attempt of them are an attempt of the commands (`IsAttempt`)
   attempt_is : (attempt : ℕ) (again : Again) (n : ℕ) (ps : List Planned)
       → AllByRecursion IsAsItsLineSays ps → IsAttempt attempt again (map own ps) (made attempt again n ps)
-  attempt_is attempt again n ps all = record { same = all_as_planned attempt again n ps all; numbered = all_numbered attempt again n ps; ruled = all_ruled attempt again n ps }
+  attempt_is attempt again n ps all = record {
+    same = all_as_planned attempt again n ps all;
+    numbered = all_made (λ task. task.turn.attempt ≡ attempt) attempt again n (λ p. refl) ps;
+    ruled = all_made (λ task. task.again ≡ again) attempt again n (λ p. refl) ps;
+  }
 
   -- where the tasks of a chain's commands are as their lines say them, those of its attempts from number `attempt` on, with
   -- `left` more after that one, are attempts of the commands (`AreAttempts`)

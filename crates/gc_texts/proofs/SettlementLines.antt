@@ -1,11 +1,12 @@
 -- The lines of settlements, one more after those before it.
 use Rattle.std.proofs.Common.{◌≡◌, ◌+◌, ◌<◌, ℕ, List, [], ◌∷◌, ◌++◌, take, drop, map, get_or, length, sym, ap, ◌∙◌, arith, append_assoc, append-nil}
-use Rattle.std.proofs.lemmas.List.{length-map, map_push, take_more, drop_more, length-take, take-append-drop}
+use Rattle.std.proofs.lemmas.List.{length-map, map_push, take_more, length-take}
 use Rattle.gc_catalogue.specs.declared.call.Call.{Call}
 use Rattle.gc_client.specs.declared.settlement.Settlement.{Settlement}
 use Rattle.gc_client.specs.Rule
 use Rattle.gc_client.specs.Settlements.{settlement_seen}
 use Rattle.gc_texts.specs.Settlements.{settlement_line, lines_from, settlement_lines}
+use Rattle.gc_texts.proofs.Cutting.{split_place}
 
 -- where x is the item at place i of a list, the first i + 1 items are the first i and x, and the list is these and what
 -- follows them
@@ -13,7 +14,7 @@ pub at_place : {A : Type 0} (xs : List A) (i : ℕ) (x : A) → i < length xs �
     → (take (i + 1) xs ≡ take i xs ++ x ∷ []) × (xs ≡ take i xs ++ x ∷ drop (i + 1) xs)
 at_place xs i x below is = (
   take_more xs i x below ∙ ap (λ y. take i xs ++ y ∷ []) (sym is),
-  sym (take-append-drop i xs) ∙ ap (λ ys. take i xs ++ ys) (drop_more xs i x below ∙ ap (λ y. y ∷ drop (i + 1) xs) (sym is)),
+  split_place xs i x x below (sym is),
 )
 
 -- the lines of settlements and of one more after them (s), numbered from `from` on, are those of the settlements, and then that

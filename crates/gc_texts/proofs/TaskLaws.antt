@@ -2,7 +2,7 @@
 -- The mode at a line is what the lines before it make hold there, and a group a run of commands for one target (`specs/Tasks`).
 use Rattle.std.proofs.Common.{arith, subst, length, ◌+◌, ◌*◌, zero, suc, nat_lt, if◌then◌else◌, append_assoc, append-nil, ◌≡◌, ℕ, List, [], ◌∷◌, ◌++◌, map, Option, Some, None, Bool, true, false, ◌&&◌, ◌⊎◌, inl, inr, refl, ap, sym, ◌∙◌}
 use Rattle.std.specs.Prelude.{filter}
-use Rattle.std.specs.List.{AllByRecursion}
+use Rattle.std.specs.List.{AllByRecursion, flat_map}
 use Rattle.std.proofs.lemmas.List.{length-map, map-append}
 use Rattle.std.proofs.SliceLists.{all_by_recursion_push}
 use Rattle.std.proofs.lemmas.Bool.{eqb-true, and_parts, both_ways}
@@ -18,7 +18,7 @@ use Rattle.gc_texts.specs.declared.retry.Retry.{Retry}
 use Rattle.gc_texts.specs.declared.attempts.Planned.{Planned}
 use Rattle.gc_texts.specs.LineForms.{is_kept, text_lines, AreItems}
 use Rattle.gc_texts.specs.TaskLines.{IsTaskLine}
-use Rattle.gc_texts.specs.Tasks.{opening, mode_after, continues_group, task_at, setup_of, planned_of, tasks_of, names_of, nears_of, placed, MayFollow}
+use Rattle.gc_texts.specs.Tasks.{opening, mode_after, continues_group, task_at, setup_of, planned_of, tasks_of, name_at, names_of, near_at, nears_of, placed, MayFollow}
 use Rattle.gc_texts.specs.Wishes.{wish_of}
 use Rattle.gc_texts.specs.declared.commands.Command.{Command}
 use Rattle.gc_texts.specs.declared.name.Name.{Name}
@@ -58,15 +58,11 @@ lines_follow : (names : List Name) (nears : List Near) (commands : List Command)
 lines_follow names nears [] = tt
 lines_follow names nears (c ∷ cs) = (refl, lines_follow (names ++ []) (nears ++ []) cs)
 
--- commands give no names
-lines_name_none : (commands : List Command) → [] ≡ names_of (lines_of commands)
-lines_name_none [] = refl
-lines_name_none (c ∷ cs) = lines_name_none cs
-
--- commands give no places
-lines_place_none : (commands : List Command) → [] ≡ nears_of (lines_of commands)
-lines_place_none [] = refl
-lines_place_none (c ∷ cs) = lines_place_none cs
+-- where the line of a command gives nothing, as it gives no name and no place, the lines of commands give nothing
+lines_give_none : {Item : Type 0} (given_at : TaskLine → List Item) → ((c : Command) → given_at (says.Command (wish_of c) false) ≡ [])
+    → (commands : List Command) → [] ≡ flat_map given_at (lines_of commands)
+lines_give_none given_at none [] = refl
+lines_give_none given_at none (c ∷ cs) = lines_give_none given_at none cs ∙ ap (λ items. items ++ flat_map given_at (lines_of cs)) (sym (none c))
 
 -- a task of a command in its first attempt: without a place, a rule and a count of others
 pub record IsFirst (task : Task) : Type 0 where
@@ -179,8 +175,8 @@ commands_are_tasks text commands deadline chained are = (
     lines = record { forms = lines_have_forms (filter is_kept (text_lines text)) commands are; follow = lines_follow [] [] commands };
     tasks_are = tasks_are_asked deadline chained commands;
     setup_is = ap length (sym (no_setup deadline chained None 0 0 commands));
-    names_are = lines_name_none commands;
-    nears_are = lines_place_none commands;
+    names_are = lines_give_none name_at (λ c. refl) commands;
+    nears_are = lines_give_none near_at (λ c. refl) commands;
   },
   asked_tasks deadline chained None 0 0 commands,
 )
@@ -213,8 +209,8 @@ commands_are_plain text commands deadline are =
       lines = record { forms = lines_have_forms (filter is_kept (text_lines text)) commands are; follow = lines_follow [] [] commands };
       tasks_are = unchained_are_plain deadline None 0 0 commands ∙ tasks_are_asked deadline false commands;
       setup_is = ap length (sym (no_setup deadline false None 0 0 commands));
-      names_are = lines_name_none commands;
-      nears_are = lines_place_none commands;
+      names_are = lines_give_none name_at (λ c. refl) commands;
+      nears_are = lines_give_none near_at (λ c. refl) commands;
     }
 
 -- a group that a command for a target continues is the group of that target

@@ -5,11 +5,12 @@ use Rattle.std.proofs.lemmas.List.{length-append}
 use Rattle.std.proofs.lemmas.List.Concat.{flat_map-append}
 use Rattle.std.proofs.lemmas.Slice.Zip.{AllZip-long}
 use Rattle.std.proofs.Common.{◌⊎◌, inr, arith, if◌then◌else◌, ◌≡◌, ◌+◌, ◌≤◌, ℕ, List, [], ◌∷◌, ◌++◌, length, Option, Some, Bool, true, false, refl, ap, subst, sym, ◌∙◌, append_assoc, append-nil}
+use Rattle.std.specs.List.{flat_map}
 use Rattle.std.specs.Prelude.{not, filter}
 use Rattle.gc_texts.specs.Cuts.{Cuts}
 use Rattle.gc_texts.specs.LineForms.{text_lines, is_skipped, is_kept, without_cr}
 use Rattle.gc_texts.specs.TaskLines.{IsTaskLine}
-use Rattle.gc_texts.specs.Tasks.{opening, mode_after, is_chained, place_in_chain, task_at, setup_at, setup_of, planned_at, planned_of, name_at, names_of, near_at, nears_of, may_follow, MayFollow, IsFirstFaultyTask, ReachesASoundTaskLine}
+use Rattle.gc_texts.specs.Tasks.{opening, mode_after, is_chained, place_in_chain, task_at, given_by, setup_at, setup_of, planned_at, planned_of, name_at, names_of, near_at, nears_of, may_follow, MayFollow, IsFirstFaultyTask, ReachesASoundTaskLine}
 use Rattle.gc_texts.specs.declared.name.Name.{Name}
 use Rattle.gc_texts.specs.declared.near.Near.{Near}
 use Rattle.gc_texts.specs.declared.task_line.TaskLine.{TaskLine}
@@ -30,37 +31,26 @@ pub mode_after_both : (mode : Mode) (xs ys : List TaskLine) → mode_after_lines
 mode_after_both mode [] ys = refl
 mode_after_both mode (x ∷ xs) ys = mode_after_both (mode_after mode x) xs ys
 
--- the setup of `xs` and then `ys` is that of `xs`, and then that of `ys`, where the mode after `xs` holds before `ys`
-pub setup_both : (mode : Mode) (xs ys : List TaskLine) → setup_of mode (xs ++ ys) ≡ setup_of mode xs ++ setup_of (mode_after_lines mode xs) ys
-setup_both mode [] ys = refl
-setup_both mode (x ∷ xs) ys =
-    ap (λ ts. setup_at mode x ++ ts) (setup_both (mode_after mode x) xs ys)
-    ∙ sym (append_assoc (setup_at mode x) (setup_of (mode_after mode x) xs) (setup_of (mode_after_lines (mode_after mode x) xs) ys))
-
--- the cycle's commands of `xs` and then `ys` are those of `xs`, and then those of `ys`, where the mode after `xs` holds before
+-- what `xs` and then `ys` give (`given_by`) is what `xs` give, and then what `ys` give, where the mode after `xs` holds before
 -- `ys`
-pub planned_both : (mode : Mode) (xs ys : List TaskLine) → planned_of mode (xs ++ ys) ≡ planned_of mode xs ++ planned_of (mode_after_lines mode xs) ys
-planned_both mode [] ys = refl
-planned_both mode (x ∷ xs) ys =
-    ap (λ ts. planned_at mode x ++ ts) (planned_both (mode_after mode x) xs ys)
-    ∙ sym (append_assoc (planned_at mode x) (planned_of (mode_after mode x) xs) (planned_of (mode_after_lines (mode_after mode x) xs) ys))
+pub given_both : {Item : Type 0} (given_at : Mode → TaskLine → List Item) (mode : Mode) (xs ys : List TaskLine)
+    → given_by given_at mode (xs ++ ys) ≡ given_by given_at mode xs ++ given_by given_at (mode_after_lines mode xs) ys
+given_both given_at mode [] ys = refl
+given_both given_at mode (x ∷ xs) ys =
+    ap (λ items. given_at mode x ++ items) (given_both given_at (mode_after mode x) xs ys)
+    ∙ sym (append_assoc (given_at mode x) (given_by given_at (mode_after mode x) xs) (given_by given_at (mode_after_lines (mode_after mode x) xs) ys))
 
--- the setup of lines and then `next` is that of the lines, and then that of `next` in the mode after the lines
-setup_more : (mode : Mode) (lines : List TaskLine) (next : TaskLine)
-    → setup_of mode (lines ++ next ∷ []) ≡ setup_of mode lines ++ setup_at (mode_after_lines mode lines) next
-setup_more mode lines next = setup_both mode lines (next ∷ []) ∙ ap (λ ts. setup_of mode lines ++ ts) (append-nil (setup_at (mode_after_lines mode lines) next))
-
--- the cycle's commands of lines and then `next` are those of the lines, and then that of `next`, if
--- any, in the mode after the lines
-planned_more : (mode : Mode) (lines : List TaskLine) (next : TaskLine)
-    → planned_of mode (lines ++ next ∷ []) ≡ planned_of mode lines ++ planned_at (mode_after_lines mode lines) next
-planned_more mode lines next = planned_both mode lines (next ∷ []) ∙ ap (λ ps. planned_of mode lines ++ ps) (append-nil (planned_at (mode_after_lines mode lines) next))
+-- what lines and then `next` give (`given_by`) is what the lines give, and then what `next` gives by the mode after them
+given_more : {Item : Type 0} (given_at : Mode → TaskLine → List Item) (mode : Mode) (lines : List TaskLine) (next : TaskLine)
+    → given_by given_at mode (lines ++ next ∷ []) ≡ given_by given_at mode lines ++ given_at (mode_after_lines mode lines) next
+given_more given_at mode lines next =
+    given_both given_at mode lines (next ∷ []) ∙ ap (λ items. given_by given_at mode lines ++ items) (append-nil (given_at (mode_after_lines mode lines) next))
 
 -- each count of a mode is at most n
-record Counted (mode : Mode) (n : ℕ) : Type 0 where
-  begun : mode.begun ≤ n
-  place : mode.place ≤ n
-  link : mode.link ≤ n
+pub record Counted (mode : Mode) (n : ℕ) : Type 0 where
+  pub begun : mode.begun ≤ n
+  pub place : mode.place ≤ n
+  pub link : mode.link ≤ n
 
 -- where each count of a mode is at most n, each count of the mode after one more line is at most n + 1
 counted_line : (mode : Mode) (line : TaskLine) (n : ℕ) → Counted mode n → Counted (mode_after mode line) (n + 1)
@@ -105,13 +95,11 @@ kept_few (line ∷ lines) =
     let few = kept_few lines in
     cond_both (is_kept line) (line ∷ filter is_kept lines) (filter is_kept lines) (λ kept. length kept ≤ length (line ∷ lines)) (λ _. omega (arith, few)) (λ _. omega (arith, few))
 
--- the names of lines and then `next` are those of the lines, and then that of `next`, if it gives one
-names_more : (lines : List TaskLine) (next : TaskLine) → names_of (lines ++ next ∷ []) ≡ names_of lines ++ name_at next
-names_more lines next = flat_map-append name_at lines (next ∷ []) ∙ ap (λ ns. names_of lines ++ ns) (append-nil (name_at next))
-
--- the places of lines and then `next` are those of the lines, and then that of `next`, if it says one
-nears_more : (lines : List TaskLine) (next : TaskLine) → nears_of (lines ++ next ∷ []) ≡ nears_of lines ++ near_at next
-nears_more lines next = flat_map-append near_at lines (next ∷ []) ∙ ap (λ ns. nears_of lines ++ ns) (append-nil (near_at next))
+-- what lines and then `next` give, each by itself, is what the lines give, and then what `next` gives
+each_more : {Item : Type 0} (given_at : TaskLine → List Item) (lines : List TaskLine) (next : TaskLine)
+    → flat_map given_at (lines ++ next ∷ []) ≡ flat_map given_at lines ++ given_at next
+each_more given_at lines next =
+    flat_map-append given_at lines (next ∷ []) ∙ ap (λ items. flat_map given_at lines ++ items) (append-nil (given_at next))
 
 -- where lines may follow these names and places, and one more line may follow these together with the names and places of the
 -- lines, all of these lines may follow these names and places
@@ -164,23 +152,11 @@ module _
       omega (arith, many, few, tasks_few, r.reads.count)
 
   -- each count of the mode is at most 65,537
-  counted : Counted so_far.mode 65537
+  pub counted : Counted so_far.mode 65537
   counted =
       let all = counted_lines (opening deadline chained) r.said 0 (record { begun = omega arith; place = omega arith; link = omega arith }) in
       let few = said_few in
       subst (λ m. Counted m 65537) (sym r.mode_is) (record { begun = omega (arith, few, all.begun); place = omega (arith, few, all.place); link = omega (arith, few, all.link) })
-
-  -- the mode counts at most 65,537 commands of the setup
-  pub begun_few : so_far.mode.begun ≤ 65537
-  begun_few = counted.begun
-
-  -- the mode counts at most 65,537 commands of the cycle
-  pub place_few : so_far.mode.place ≤ 65537
-  place_few = counted.place
-
-  -- the mode counts at most 65,537 commands of a chain
-  pub link_few : so_far.mode.link ≤ 65537
-  link_few = counted.link
 
   -- the cycle's commands are at most 65,537
   pub cycle_few : length so_far.cycle ≤ 65537
@@ -280,10 +256,11 @@ module _
         said = r.said ++ said ∷ [];
         reads = turn_reads IsTaskLine text left now line plain rest number r.said skipped r.reads some cut is_plain tested said (r.said ++ said ∷ []) isnt is refl;
         follow = follow_more [] [] r.said said r.follow (said_so said ∙ sym asked ∙ did);
-        setup_are = more_setup ∙ ap (λ ts. ts ++ setup_at so_far.mode said) r.setup_are ∙ ap (λ m. setup_of first r.said ++ setup_at m said) r.mode_is ∙ sym (setup_more first r.said said);
-        cycle_are = more_cycle ∙ ap (λ ts. ts ++ planned_at so_far.mode said) r.cycle_are ∙ ap (λ m. planned_of first r.said ++ planned_at m said) r.mode_is ∙ sym (planned_more first r.said said);
-        names_are = more_names ∙ ap (λ ns. ns ++ name_at said) r.names_are ∙ sym (names_more r.said said);
-        nears_are = more_nears ∙ ap (λ ns. ns ++ near_at said) r.nears_are ∙ sym (nears_more r.said said);
+        setup_are = more_setup ∙ ap (λ ts. ts ++ setup_at so_far.mode said) r.setup_are ∙ ap (λ m. setup_of first r.said ++ setup_at m said) r.mode_is ∙ sym (given_more setup_at first r.said said);
+        cycle_are = more_cycle ∙ ap (λ ts. ts ++ planned_at so_far.mode said) r.cycle_are ∙ ap (λ m. planned_of first r.said ++ planned_at m said) r.mode_is
+            ∙ sym (given_more planned_at first r.said said);
+        names_are = more_names ∙ ap (λ ns. ns ++ name_at said) r.names_are ∙ sym (each_more name_at r.said said);
+        nears_are = more_nears ∙ ap (λ ns. ns ++ near_at said) r.nears_are ∙ sym (each_more near_at r.said said);
         mode_is = more ∙ ap (λ m. mode_after m said) r.mode_is ∙ sym (mode_after_both first r.said (said ∷ []));
         reached = inr (task_wants said allowed isnt is asked did);
       }

@@ -22,21 +22,23 @@ section_after setup (says.AtStart ∷ later) = section_after true later
 section_after setup (says.EachCycle ∷ later) = section_after false later
 section_after setup (line ∷ later) = section_after setup later
 
+-- the commands among these lines, counted: one of the setup counts as `of_setup`, and one of each cycle as `of_cycle`. `setup` says
+-- whether the setup holds before the lines
+abbrev pub commands_counted : (of_setup of_cycle : ℕ) (setup : Bool) → List TaskLine → ℕ
+commands_counted of_setup of_cycle setup [] = 0
+commands_counted of_setup of_cycle setup (says.Command command now ∷ later) =
+    (if setup then of_setup else of_cycle) + commands_counted of_setup of_cycle setup later
+commands_counted of_setup of_cycle setup (says.AtStart ∷ later) = commands_counted of_setup of_cycle true later
+commands_counted of_setup of_cycle setup (says.EachCycle ∷ later) = commands_counted of_setup of_cycle false later
+commands_counted of_setup of_cycle setup (line ∷ later) = commands_counted of_setup of_cycle setup later
+
 -- how many of these lines are commands of the setup; `setup` says whether the setup holds before them
 abbrev pub setup_commands : (setup : Bool) → List TaskLine → ℕ
-setup_commands setup [] = 0
-setup_commands setup (says.Command command now ∷ later) = (if setup then 1 else 0) + setup_commands setup later
-setup_commands setup (says.AtStart ∷ later) = setup_commands true later
-setup_commands setup (says.EachCycle ∷ later) = setup_commands false later
-setup_commands setup (line ∷ later) = setup_commands setup later
+setup_commands setup lines = commands_counted 1 0 setup lines
 
 -- how many of these lines are commands of each cycle; `setup` says whether the setup holds before them
 abbrev pub cycle_commands : (setup : Bool) → List TaskLine → ℕ
-cycle_commands setup [] = 0
-cycle_commands setup (says.Command command now ∷ later) = (if setup then 0 else 1) + cycle_commands setup later
-cycle_commands setup (says.AtStart ∷ later) = cycle_commands true later
-cycle_commands setup (says.EachCycle ∷ later) = cycle_commands false later
-cycle_commands setup (line ∷ later) = cycle_commands setup later
+cycle_commands setup lines = commands_counted 0 1 setup lines
 
 -- a line doesn't set the deadline
 abbrev pub SaysNoDeadline : TaskLine → Type 0

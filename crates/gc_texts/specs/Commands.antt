@@ -1,10 +1,9 @@
 -- A command text, and the commands that it gives: this project's own.
-use Rattle.std.specs.Prelude.{◌≡◌, ℕ, List, ◌∷◌, ◌++◌, Result, Err}
-use Rattle.gc_texts.specs.LineForms.{IsText, FirstFaulty, ReachesASoundLine, NamesFaulty}
+use Rattle.std.specs.Prelude.{◌≡◌, ℕ, List, ◌∷◌, ◌++◌, Result}
+use Rattle.gc_texts.specs.LineForms.{IsText, FirstFaulty, ReachesASoundLine, NamesFaulty, MemoryOnlyIf}
 use Rattle.gc_texts.specs.Procedures.{IsNumber, IsProcedure}
 use Rattle.gc_texts.specs.declared.commands.Command.{Command}
 use Rattle.gc_texts.specs.declared.fault.RunFault.{RunFault}
-use Rattle.gc_texts.specs.declared.fault.RunFault.TheVariants.{Memory}
 
 -- `T RPC` or `T RPC PARAMS`: the target T, and after one space the procedure's number and its parameters
 pub record IsCommand (line : List ℕ) (command : Command) : Type 0 where
@@ -22,17 +21,12 @@ IsCommands text commands = IsText IsCommand text commands
 abbrev pub IsFirstFaultyCommand : List ℕ → ℕ → Type 0
 IsFirstFaultyCommand text n = FirstFaulty IsCommand text n
 
--- the text has a line that isn't skipped and has the form of a command, and no faulty line before it: a reader comes to such a
--- line, and memory may be refused there
-abbrev pub ReachesASoundCommand : List ℕ → Type 0
-ReachesASoundCommand text = ReachesASoundLine IsCommand text
-
 -- if the reading of this text had this result, and it is `Schedule`, the line that it names is the first faulty one
 -- (`IsFirstFaultyCommand`)
 abbrev pub NamesFaultyCommand : {A : Type 0} → List ℕ → Result A RunFault → Type 0
 NamesFaultyCommand text result = NamesFaulty (IsFirstFaultyCommand text) result
 
 -- if the reading of this text had this result, and it is `Memory`, the reader came to a line that has the form of a command, and to no
--- faulty line before it (`ReachesASoundCommand`)
+-- faulty line before it
 abbrev pub MemoryAtCommand : {A : Type 0} → List ℕ → Result A RunFault → Type 0
-MemoryAtCommand text result = result ≡ Err Memory → ReachesASoundCommand text
+MemoryAtCommand text result = MemoryOnlyIf (ReachesASoundLine IsCommand text) result

@@ -1,10 +1,12 @@
--- Texts cut at a mark, which is a byte, as LF between lines or a space between words: this project's own.
+-- Texts cut at a mark, which is a byte, as LF between lines or a space between words: this project's own. `behind mark text` is what
+-- follows the first mark; empty where there is none.
+use Rattle.std.specs.List.{AllByRecursion}
 use Rattle.std.specs.Prelude.{◌≡◌, ◌≢◌, ◌==◌, ℕ, List, [], ◌∷◌, ◌++◌, Option, None, Some, if◌then◌else◌}
+pub use Rattle.std.specs.Io.BufRead.{drop_through as behind}
 
 -- no byte is the mark
-abbrev pub Lacks : ℕ → List ℕ → Type 0
-Lacks mark [] = Unit {0}
-Lacks mark (b ∷ bs) = (b ≢ mark) × Lacks mark bs
+abbrev pub Lacks : (mark : ℕ) → List ℕ → Type 0
+Lacks mark bytes = AllByRecursion (λ b. b ≢ mark) bytes
 
 -- a text, cut at the first mark: `front` is what is before the mark, and `rest` what follows it. Without a mark `front` is all of the
 -- text, and `rest` is `None`
@@ -16,8 +18,3 @@ Cuts mark text front (Some rest) = (text ≡ front ++ mark ∷ rest) × Lacks ma
 abbrev pub before : ℕ → List ℕ → List ℕ
 before mark [] = []
 before mark (b ∷ bs) = if b == mark then [] else b ∷ before mark bs
-
--- what follows the first mark; empty where there is none
-abbrev pub behind : ℕ → List ℕ → List ℕ
-behind mark [] = []
-behind mark (b ∷ bs) = if b == mark then bs else behind mark bs

@@ -70,13 +70,18 @@ pub record ReachesASoundLine {Item : Type 0} (form : Form Item) (text : List ℕ
   pub items : List Item
   pub before : AreItems form (filter is_kept front) items
 
+-- why the reading of a text gave no items: the text is too long; or it isn't, and either line n is its first faulty one, of which
+-- `IsFirstFaulty` holds, or memory was refused at a sound line, and `ReachesASound` holds of the text
+abbrev pub TextFaultBy : (IsFirstFaulty : List ℕ → ℕ → Type 0) → (ReachesASound : List ℕ → Type 0) → List ℕ → RunFault → Type 0
+TextFaultBy IsFirstFaulty ReachesASound text InputTooLong = TEXT_LIMIT < length text
+TextFaultBy IsFirstFaulty ReachesASound text (Schedule n) = (length text ≤ TEXT_LIMIT) × IsFirstFaulty text n
+TextFaultBy IsFirstFaulty ReachesASound text Memory = (length text ≤ TEXT_LIMIT) × ReachesASound text
+TextFaultBy IsFirstFaulty ReachesASound text _ = ⊥
+
 -- why the reading of a text gave no items: the text is too long; or it isn't, and either line n is its first faulty one, or memory was
 -- refused at a line that has the form of an item and follows no faulty one
 abbrev pub TextFault : {Item : Type 0} → Form Item → List ℕ → RunFault → Type 0
-TextFault form text InputTooLong = TEXT_LIMIT < length text
-TextFault form text (Schedule n) = (length text ≤ TEXT_LIMIT) × FirstFaulty form text n
-TextFault form text Memory = (length text ≤ TEXT_LIMIT) × ReachesASoundLine form text
-TextFault form text _ = ⊥
+TextFault form text fault = TextFaultBy (FirstFaulty form) (ReachesASoundLine form) text fault
 
 -- the reading of this text had this result, which is `InputTooLong` exactly if the text has more bytes than a text may have
 abbrev pub RefusesLong : {A : Type 0} → List ℕ → Result A RunFault → Type 0
@@ -85,3 +90,7 @@ RefusesLong text result = (result ≡ Err InputTooLong) ↔ (TEXT_LIMIT < length
 -- if a reading had this result, and it is `Schedule`, `faulty` holds of the number of the line that it names
 abbrev pub NamesFaulty : {A : Type 0} → (faulty : ℕ → Type 0) → Result A RunFault → Type 0
 NamesFaulty faulty result = (n : ℕ) → result ≡ Err (Schedule n) → faulty n
+
+-- if a reading had this result, and it is `Memory`, `Reached` holds
+abbrev pub MemoryOnlyIf : {A : Type 0} → (Reached : Type 0) → Result A RunFault → Type 0
+MemoryOnlyIf Reached result = result ≡ Err Memory → Reached

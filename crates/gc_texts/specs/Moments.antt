@@ -1,6 +1,6 @@
 -- A stamp by the calendar and the hours of a day, this project's own in the words of ISO 8601.
 use Rattle.std.specs.Prelude.{◌≡◌, ℕ, ◌+◌, ◌*◌, ◌<◌, List, [], ◌∷◌, ◌++◌, codes}
-use Rattle.gc_texts.specs.Stamps.{next_day, date_of, two_digits, three_digits, date_text, stamp_text}
+use Rattle.gc_texts.specs.Stamps.{next_day, date_of, two_digits, three_digits, date_text, clock_text, stamp_text}
 
 -- the milliseconds of these days, hours, minutes and seconds, and of `more` milliseconds, together
 abbrev pub millis_of : (days hours minutes seconds more : ℕ) → ℕ
@@ -9,11 +9,6 @@ millis_of days hours minutes seconds more = days * 86400000 + hours * 3600000 + 
 -- the character of a digit
 abbrev pub digit : ℕ → ℕ
 digit n = 48 + n
-
--- the text of a time of day with these hours, minutes, seconds and milliseconds, as 23:08:27.123
-abbrev pub clock_text : (hours minutes seconds more : ℕ) → List ℕ
-clock_text hours minutes seconds more =
-    two_digits hours ++ codes ":" ++ two_digits minutes ++ codes ":" ++ two_digits seconds ++ codes "." ++ three_digits more
 
 -- the text of a stamp gives its date, hour, minute, second and millisecond, each in digits of its value; the date of day 0 is 1
 -- January 1970, and that of each later day is the day after the date of the day before

@@ -41,11 +41,14 @@ three_digits n = (48 + n / 100) ∷ two_digits (n % 100)
 abbrev pub date_text : Date → List ℕ
 date_text d = decimal d.year ++ codes "-" ++ two_digits d.month ++ codes "-" ++ two_digits d.day
 
--- the time of day that is `millis` milliseconds after midnight, as 23:08:27.123
+-- the text of a time of day with these hours, minutes, seconds and milliseconds, as 23:08:27.123
+abbrev pub clock_text : (hours minutes seconds millis : ℕ) → List ℕ
+clock_text hours minutes seconds millis =
+    two_digits hours ++ codes ":" ++ two_digits minutes ++ codes ":" ++ two_digits seconds ++ codes "." ++ three_digits millis
+
+-- the text of the time of day that is `millis` milliseconds after midnight
 abbrev pub time_text : ℕ → List ℕ
-time_text millis =
-    two_digits (millis / 3_600_000) ++ codes ":" ++ two_digits (millis / 60_000 % 60) ++ codes ":"
-    ++ two_digits (millis / 1_000 % 60) ++ codes "." ++ three_digits (millis % 1_000)
+time_text millis = clock_text (millis / 3_600_000) (millis / 60_000 % 60) (millis / 1_000 % 60) (millis % 1_000)
 
 -- the moment this many milliseconds after the beginning of 1970, as 2026-11-22T23:08:27.123Z
 abbrev pub stamp_text : ℕ → List ℕ

@@ -3,7 +3,7 @@
 -- continue, the codes that are accepted, how often its chain is repeated, whether it is setup, how many commands of each
 -- section are in front, and how many of those in front are in the last chain. A group is a run of commands for one target,
 -- with no line `chained`, `unchained`, `retry`, `at start` or `each cycle` between them.
-use Rattle.std.specs.Prelude.{◌≡◌, ℕ, ◌+◌, ◌<◌, ◌≤◌, ◌==◌, ◌&&◌, Bool, true, false, not, nat_lt, List, [], ◌∷◌, ◌++◌, length, map, filter, Option, None, Some, Vec, vec_capacity, vec_len, Result, Err, if◌then◌else◌}
+use Rattle.std.specs.Prelude.{◌≡◌, ℕ, ◌+◌, ◌≤◌, ◌==◌, ◌&&◌, Bool, true, false, not, nat_lt, List, [], ◌∷◌, ◌++◌, length, map, filter, Option, None, Some, Vec, vec_capacity, vec_len, Result, if◌then◌else◌}
 use Rattle.std.specs.List.{flat_map}
 use Rattle.gc_catalogue.specs.declared.asked.Asked.{Asked}
 use Rattle.gc_catalogue.specs.declared.asked.Asked.TheVariants.{Table}
@@ -11,14 +11,13 @@ use Rattle.gc_catalogue.specs.declared.call.Call.TheVariants.{SetDate}
 use Rattle.gc_texts.specs.Again.{no_again}
 use Rattle.gc_texts.specs.Attempts.{laid_out}
 use Rattle.gc_texts.specs.Codes.{no_codes}
-use Rattle.gc_texts.specs.LineForms.{text_lines, is_kept, AreItems, NamesFaulty}
+use Rattle.gc_texts.specs.LineForms.{text_lines, is_kept, AreItems, TextFaultBy, NamesFaulty, MemoryOnlyIf}
 use Rattle.gc_texts.specs.Names.{is_named}
 use Rattle.gc_texts.specs.Nears.{has_near, near_of}
 use Rattle.gc_texts.specs.Retries.{no_retry}
 use Rattle.gc_texts.specs.Stamps.{date_time}
 use Rattle.gc_texts.specs.TaskLines.{IsTaskLine}
 use Rattle.gc_texts.specs.declared.fault.RunFault.{RunFault}
-use Rattle.gc_texts.specs.declared.fault.RunFault.TheVariants.{Schedule, Memory, InputTooLong}
 use Rattle.gc_texts.specs.declared.name.Name.{Name}
 use Rattle.gc_texts.specs.declared.near.Near.{Near}
 use Rattle.gc_texts.specs.declared.task_line.TaskLine.{TaskLine}
@@ -29,7 +28,6 @@ use Rattle.gc_texts.specs.declared.tasks.Task.{Task}
 use Rattle.gc_texts.specs.declared.tasks.Tasks.{Tasks}
 use Rattle.gc_texts.specs.declared.turn.Turn.{Turn}
 use Rattle.gc_texts.specs.declared.wish.Wish.{Wish}
-use Rattle.gc_texts.specs.declared.text.TheConstants.{TEXT_LIMIT}
 
 -- the mode before any line: the caller's deadline and chaining, no group, no code that is accepted beside 0, and no retry; the commands
 -- after it are those of each cycle, and none came before it
@@ -111,6 +109,11 @@ task_at mode command now =
 abbrev pub IsFull : {X Z : Type 0} → Vec X Z → Type 0
 IsFull items = vec_capacity items ≤ vec_len items
 
+-- what these lines give, in order, where `mode` holds before them; `given_at` says what a line gives by the mode before it
+abbrev pub given_by : {Item : Type 0} → (given_at : Mode → TaskLine → List Item) → Mode → List TaskLine → List Item
+given_by given_at mode [] = []
+given_by given_at mode (line ∷ later) = given_at mode line ++ given_by given_at (mode_after mode line) later
+
 -- the task that a line gives the setup, as a list of one, where `mode` holds before it; none if it is no setup command
 abbrev pub setup_at : Mode → TaskLine → List Task
 setup_at mode (says.Command command now) = if mode.setup then task_at mode command now ∷ [] else []
@@ -118,8 +121,7 @@ setup_at mode _ = []
 
 -- the tasks of the setup that these lines give, where `mode` holds before them
 abbrev pub setup_of : Mode → List TaskLine → List Task
-setup_of mode [] = []
-setup_of mode (line ∷ later) = setup_at mode line ++ setup_of (mode_after mode line) later
+setup_of mode lines = given_by setup_at mode lines
 
 -- the command that a line gives each cycle, with the rule of its chain, as a list of one, where `mode` holds before it; none if it is no
 -- command of each cycle
@@ -129,8 +131,7 @@ planned_at mode _ = []
 
 -- the commands of each cycle that these lines give, where `mode` holds before them
 abbrev pub planned_of : Mode → List TaskLine → List Planned
-planned_of mode [] = []
-planned_of mode (line ∷ later) = planned_at mode line ++ planned_of (mode_after mode line) later
+planned_of mode lines = given_by planned_at mode lines
 
 -- the tasks that these lines give, where `mode` holds before them: those of the setup, and after them the attempts of the chains of the
 -- cycle
@@ -226,15 +227,12 @@ NamesFaultyTask text result = NamesFaulty (IsFirstFaultyTask text) result
 -- if the reading of this text had this result, and it is `Memory`, the reader came to a line that has a form and isn't faulty, and to no
 -- faulty line before it (`ReachesASoundTaskLine`)
 abbrev pub MemoryAtTask : {A : Type 0} → List ℕ → Result A RunFault → Type 0
-MemoryAtTask text result = result ≡ Err Memory → ReachesASoundTaskLine text
+MemoryAtTask text result = MemoryOnlyIf (ReachesASoundTaskLine text) result
 
 -- why the reading of a station's text gave no tasks: the text is too long; or it isn't, and either line n is its first faulty one, or
 -- memory was refused at a line that has a form, isn't faulty and follows no faulty one
 abbrev pub TaskFault : List ℕ → RunFault → Type 0
-TaskFault text InputTooLong = TEXT_LIMIT < length text
-TaskFault text (Schedule n) = (length text ≤ TEXT_LIMIT) × IsFirstFaultyTask text n
-TaskFault text Memory = (length text ≤ TEXT_LIMIT) × ReachesASoundTaskLine text
-TaskFault text _ = ⊥
+TaskFault text fault = TextFaultBy IsFirstFaultyTask ReachesASoundTaskLine text fault
 
 -- what a task asks for when it is sent at the moment `utc`, in milliseconds since the beginning of 1970: what its command asks
 -- for; or, where the task's `now` is true, that the clock be set to that moment, as `date_time` has it

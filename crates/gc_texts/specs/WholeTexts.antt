@@ -4,7 +4,7 @@ use Rattle.std.specs.Io.KnownBytes.{Consumes, IsAtEnd}
 use Rattle.gc_lines.specs.declared.ports.Source.{Ghosts as Source}
 use Rattle.gc_texts.specs.Commands.{IsCommand, IsCommands}
 use Rattle.gc_texts.specs.LineForms.{TextFault}
-use Rattle.gc_texts.specs.Texts.{IsReadFault, end_reads}
+use Rattle.gc_texts.specs.Texts.{IsReadFault, read_failed, end_reads}
 use Rattle.gc_texts.specs.declared.commands.Command.{Command}
 use Rattle.gc_texts.specs.declared.text.TheConstants.{TEXT_LIMIT}
 use Rattle.gc_texts.specs.declared.fault.RunFault.{RunFault}
@@ -53,14 +53,12 @@ pub record WasRead (given : List ℕ) (old new : Input) : Type 0 where
   pub last : old.reads < new.reads
   pub failed : new.failed ≡ old.failed
 
--- a text wasn't read to its end, for the reason that this fault says. `Read`: the source failed, after no more bytes than a
--- text may have. `InputTooLong`: it gave one byte more than that. `Memory`: memory was refused for the bytes that came, at
--- least one and no more than a text may have, and the source hasn't ended. With the last two the source has failed exactly if
--- it had before
+-- a text wasn't read to its end, for the reason that this fault says: `IsReadFault` says how many bytes came, and `read_failed`
+-- whether the source has failed. With `Memory`, for which memory was refused, at least one byte came, and the source hasn't ended
 abbrev pub IsUnread : (given : List ℕ) → (old new : Input) → RunFault → Type 0
-IsUnread given old new Read = (length given ≤ TEXT_LIMIT) × (new.failed ≡ true)
-IsUnread given old new InputTooLong = (length given ≡ TEXT_LIMIT + 1) × (new.failed ≡ old.failed)
-IsUnread given old new Memory = (0 < length given) × (length given ≤ TEXT_LIMIT) × (new.ended ≡ false) × (new.failed ≡ old.failed)
+IsUnread given old new Read = IsReadFault given Read × (new.failed ≡ read_failed Read old.failed)
+IsUnread given old new InputTooLong = IsReadFault given InputTooLong × (new.failed ≡ read_failed InputTooLong old.failed)
+IsUnread given old new Memory = (0 < length given) × IsReadFault given Memory × (new.ended ≡ false) × (new.failed ≡ read_failed Memory old.failed)
 IsUnread given old new _ = ⊥
 
 -- why the text that a source gave was refused: it wasn't read to its end (`IsUnread`), or it was, and `HasFault` says that it has

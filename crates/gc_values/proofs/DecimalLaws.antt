@@ -25,9 +25,9 @@ spells_unique text d e x y = let same = spells_once text d.digits d.scale e.digi
 pub spelled_not_beyond : (text : List ℕ) (d : Decimal) → Spells text d.digits d.scale → SpellsBeyond text → ⊥
 spelled_not_beyond text d x beyond = in_range_only text d.digits d.scale x d.is_in_range beyond
 
--- a text that spells a decimal isn't one that is no number
-pub spelled_has_form : (text : List ℕ) (d : Decimal) → Spells text d.digits d.scale → SpellsNothing text → ⊥
-spelled_has_form text d x nothing = nothing x.0 x.1
+-- no text both spells a decimal and is no number
+pub spelled_not_nothing : (text : List ℕ) (d : Decimal) → Spells text d.digits d.scale → SpellsNothing text → ⊥
+spelled_not_nothing text d x nothing = nothing x.0 x.1
 
 -- a text isn't both a number out of range and no number
 pub beyond_has_form : (text : List ℕ) → SpellsBeyond text → SpellsNothing text → ⊥

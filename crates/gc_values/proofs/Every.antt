@@ -24,6 +24,11 @@ pub every_more : {A : Type 0} (P : A → Type 0) (xs : List A) (i : ℕ) (d : A)
     → AllByRecursion P (take (i + 1) xs)
 every_more P xs i d within all next = recursion_from_All P (take (i + 1) xs) (elements.All-more P xs i d within (All-from_recursion P (take i xs) all) next)
 
+-- what holds of each element of two lists, one after the other, holds of those of the first
+pub every_front : {A : Type 0} (P : A → Type 0) (xs ys : List A) → AllByRecursion P (xs ++ ys) → AllByRecursion P xs
+every_front P [] ys all = tt
+every_front P (x ∷ xs) ys all = (all.0, every_front P xs ys all.1)
+
 -- what holds of each element of two lists, one after the other, holds of those of the second
 pub every_behind : {A : Type 0} (P : A → Type 0) (xs ys : List A) → AllByRecursion P (xs ++ ys) → AllByRecursion P ys
 every_behind P [] ys all = all

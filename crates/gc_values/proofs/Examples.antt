@@ -1,5 +1,6 @@
 -- the worked examples that the definitions decide, computed
-use Rattle.std.proofs.Common.{◌≡◌, pos, negsuc, true, false, [], ◌∷◌, refl}
+use Rattle.std.proofs.Common.{◌≡◌, pos, negsuc, true, false, refl}
+use Rattle.std.specs.Prelude.{codes}
 use Rattle.gc_values.specs.Decimals.{decimal, rounded, is_within, zero}
 use Rattle.gc_values.specs.Written.{written}
 use Rattle.gc_values.proofs.DecimalLemmas.{same_decimal}
@@ -45,13 +46,13 @@ unfolding is_within
 within_nothing = refl
 
 -- 0.0 is written `0.0`
-zero_written : written (pos 0) 0 ≡ 48 ∷ 46 ∷ 48 ∷ []
+zero_written : written (pos 0) 0 ≡ codes "0.0"
 zero_written = refl
 
 -- 125.0 is written `125.0`
-whole_written : written (pos 125) 0 ≡ 49 ∷ 50 ∷ 53 ∷ 46 ∷ 48 ∷ []
+whole_written : written (pos 125) 0 ≡ codes "125.0"
 whole_written = refl
 
 -- -3.25 is written `-3.25`
-below_written : written (negsuc 324) 2 ≡ 45 ∷ 51 ∷ 46 ∷ 50 ∷ 53 ∷ []
+below_written : written (negsuc 324) 2 ≡ codes "-3.25"
 below_written = refl

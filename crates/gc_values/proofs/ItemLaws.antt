@@ -34,8 +34,8 @@ written_is_read (value.Bool b) h = boolean_reads b
 written_is_read (value.Text bytes) h = record { string = record { item_is = refl; plain = h.plain }; few = h.few }
 
 -- an item that equals the written text of a value in its kind's range is read as the value
-pub written_reads : (v : Value) (item : List ℕ) → item ≡ text v → IsValue v → IsItem item v
-written_reads v item e h = subst (λ t. IsItem t v) (sym e) (written_is_read v h)
+pub equal_text_reads : (v : Value) (item : List ℕ) → item ≡ text v → IsValue v → IsItem item v
+equal_text_reads v item e h = subst (λ t. IsItem t v) (sym e) (written_is_read v h)
 
 -- truth values with the same number, 0 or 1, are the same
 one_boolean : (a b : Bool) → pos (number_of a) ≡ pos (number_of b) → a ≡ b

@@ -1,7 +1,9 @@
 -- One list of values for parameters and kinds, or one fault, and never both.
-use Rattle.std.specs.Prelude.{◌≡◌, ◌≤◌, ℕ, suc, List, [], ◌∷◌, map, length, refl}
-use Rattle.std.proofs.Common.{sym, ◌∙◌, ap, subst, inl, inr, arith}
-use Rattle.gc_values.specs.Item.{kind_of, text, IsItemFault}
+use Rattle.std.specs.Prelude.{◌≡◌, ◌≤◌, ℕ, List, [], ◌∷◌, map, length, refl}
+use Rattle.std.proofs.Common.{sym, ◌∙◌, subst, inl, inr, arith}
+use Rattle.std.proofs.lemmas.List.{length-map}
+use Rattle.std.proofs.lemmas.Slice.Zip.{AllZip-long}
+use Rattle.gc_values.specs.Item.{kind_of, text, IsItem, IsItemFault}
 use Rattle.gc_values.specs.Params.{joined, quotes}
 use Rattle.gc_values.specs.declared.fault.ValueFault.{ValueFault}
 use Rattle.gc_values.specs.declared.value.Kind.{Kind}
@@ -12,15 +14,15 @@ use Rattle.gc_values.proofs.ParamLists as splitting
 use Rattle.gc_values.proofs.TextShape.{joined_splits}
 
 -- items are read as at most one list of values of given kinds
-pub one_list : (vs ws : List Value) (items : List (List ℕ)) → kinds_of vs ≡ kinds_of ws → AreItems items vs → AreItems items ws → vs ≡ ws
-one_list [] [] items e x y = refl
-one_list [] (w ∷ ws) items e x y = absurd (cc)
-one_list (v ∷ vs) [] items e x y = absurd (cc)
-one_list (v ∷ vs) (w ∷ ws) [] e x y = absurd x
-one_list (v ∷ vs) (w ∷ ws) (item ∷ items) e x y =
+pub one_reading : (vs ws : List Value) (items : List (List ℕ)) → kinds_of vs ≡ kinds_of ws → AreItems items vs → AreItems items ws → vs ≡ ws
+one_reading [] [] items e x y = refl
+one_reading [] (w ∷ ws) items e x y = absurd (cc)
+one_reading (v ∷ vs) [] items e x y = absurd (cc)
+one_reading (v ∷ vs) (w ∷ ws) [] e x y = absurd x
+one_reading (v ∷ vs) (w ∷ ws) (item ∷ items) e x y =
     let first : kind_of v ≡ kind_of w = cc in
     let rest : kinds_of vs ≡ kinds_of ws = cc in
-    cc (one_value v w item first x.0 y.0, one_list vs ws items rest x.1 y.1)
+    cc (one_value v w item first x.0 y.0, one_reading vs ws items rest x.1 y.1)
 
 -- items that are read as values have no fault for the values' kinds
 pub no_first_fault : (vs : List Value) (items : List (List ℕ)) (e : ValueFault) → AreItems items vs → FirstFault (kinds_of vs) items e → ⊥
@@ -31,10 +33,7 @@ no_first_fault (v ∷ vs) (item ∷ items) e x (inr f) = no_first_fault vs items
 
 -- items that are read as values are as many as the values' kinds
 pub same_count : (vs : List Value) (items : List (List ℕ)) → AreItems items vs → length items ≡ length (kinds_of vs)
-same_count [] [] x = refl
-same_count [] (item ∷ items) x = absurd x
-same_count (v ∷ vs) [] x = absurd x
-same_count (v ∷ vs) (item ∷ items) x = ap (λ n. suc n) (same_count vs items x.1)
+same_count vs items x = sym (AllZip-long IsItem items vs x) ∙ sym (length-map vs kind_of)
 
 -- items have at most one first fault for kinds
 pub one_first_fault : (ks : List Kind) (items : List (List ℕ)) (e f : ValueFault) → FirstFault ks items e → FirstFault ks items f → e ≡ f
@@ -66,17 +65,12 @@ one_list_fault ks params e f (faulty_items items s x) (faulty_items others t y) 
 
 -- a parameter list is read as at most one list of values of given kinds
 pub one_values : (vs ws : List Value) (params : List ℕ) → kinds_of vs ≡ kinds_of ws → AreParams params vs → AreParams params ws → vs ≡ ws
-one_values vs ws params e x y = one_list vs ws x.items e x.read (subst (λ i. AreItems i ws) (splitting.one_list params y.items x.items y.split x.split) y.read)
-
--- there are as many kinds as values
-pub length_kinds : (vs : List Value) → length (kinds_of vs) ≡ length vs
-length_kinds [] = refl
-length_kinds (v ∷ vs) = ap (λ n. suc n) (length_kinds vs)
+one_values vs ws params e x y = one_reading vs ws x.items e x.read (subst (λ i. AreItems i ws) (splitting.one_list params y.items x.items y.split x.split) y.read)
 
 -- items that are read as at most six values have no fault for the kinds of these values
 no_items_fault : (vs : List Value) (items : List (List ℕ)) (e : ValueFault) → length vs ≤ 6 → AreItems items vs
     → IsItemsFault (kinds_of vs) items e → ⊥
-no_items_fault vs items e few x (too_many b m) = omega (arith, same_count vs items x, length_kinds vs)
+no_items_fault vs items e few x (too_many b m) = omega (arith, same_count vs items x, length-map vs kind_of)
 no_items_fault vs items e few x (wrong_count b m d) = d (same_count vs items x)
 no_items_fault vs items e few x (faulty_item m s y) = no_first_fault vs items e x y
 

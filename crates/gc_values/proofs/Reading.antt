@@ -20,8 +20,8 @@ pub record IsDecimalRead (text : List ℕ) (r : Result Decimal ValueFault) : Typ
   pub faults : IfErr r (λ e. IsEither Range Spelling e)
 
 -- a result isn't both a value and a fault
-not_ok : (d : Decimal) (e : ValueFault) (r : Result Decimal ValueFault) → r ≡ Ok d → r ≡ Err e → ⊥
-not_ok d e r h k = absurd (cc)
+ok_is_no_err : (d : Decimal) (e : ValueFault) (r : Result Decimal ValueFault) → r ≡ Ok d → r ≡ Err e → ⊥
+ok_is_no_err d e r h k = absurd (cc)
 
 -- a result isn't both the fault `Range` and the fault `Spelling`
 range_is_other : (r : Result Decimal ValueFault) → r ≡ Err Range → r ≡ Err Spelling → ⊥
@@ -32,8 +32,8 @@ pub reads_ok : (text : List ℕ) (d : Decimal) → Spells text d.digits d.scale 
 reads_ok text d spelled = record {
   value = spelled;
   only = λ e other. ap Ok (spells_unique text d e spelled other);
-  range = (λ h. absurd (not_ok d Range (Ok d) refl h), λ beyond. absurd (spelled_not_beyond text d spelled beyond));
-  spelling = (λ h. absurd (not_ok d Spelling (Ok d) refl h), λ nothing. absurd (nothing spelled.0 spelled.1));
+  range = (λ h. absurd (ok_is_no_err d Range (Ok d) refl h), λ beyond. absurd (spelled_not_beyond text d spelled beyond));
+  spelling = (λ h. absurd (ok_is_no_err d Spelling (Ok d) refl h), λ nothing. absurd (nothing spelled.0 spelled.1));
   faults = tt;
 }
 

@@ -2,7 +2,7 @@
 -- comma outside quotes, and whether they end inside quotes.
 use Rattle.std.proofs.Common.{◌≡◌, ℕ, ◌+◌, ◌%◌, ◌<◌, ◌≤◌, Bool, true, false, not, cond, eqb, List, ◌∷◌, ◌++◌, length, get_or, take, drop, Some, refl, sym, ap, ◌∙◌, subst, arith}
 use Rattle.std.proofs.lemmas.List.{take_more, take_all, take-append-drop, drop_more}
-use Rattle.gc_values.specs.Params.{quotes, HasCommasInQuotes}
+use Rattle.gc_values.specs.Params.{quotes, quoted_after, HasCommasInQuotes}
 use Rattle.gc_values.specs.Pieces.{CutsPiece}
 use Rattle.gc_values.proofs.Quotes.{quotes_more, HasCommasInQuotes-nil, HasCommasInQuotes-push}
 
@@ -10,10 +10,6 @@ use Rattle.gc_values.proofs.Quotes.{quotes_more, HasCommasInQuotes-nil, HasComma
 pub record Scanned (text : List ℕ) (i : ℕ) (quoted : Bool) : Type 0 where
   pub keeps : HasCommasInQuotes (take i text)
   pub parity : quotes (take i text) % 2 ≡ cond quoted 1 0
-
--- whether bytes end inside quotes after one more byte, b, where `quoted` says whether they did before it
-abbrev pub parity_after : (b : ℕ) (quoted : Bool) → Bool
-parity_after b quoted = cond (eqb b 34) (not quoted) quoted
 
 -- `Scanned` is true of the first 0 bytes, which don't end inside quotes
 pub scanned_none : (text : List ℕ) → Scanned text 0 false
@@ -33,7 +29,7 @@ odd_inside n quoted e h = h ∙ ap (λ b. cond b 1 0) e
 
 -- `Scanned` is true of one byte more, which is no comma outside quotes
 pub scanned_more : (text : List ℕ) (i : ℕ) (quoted now : Bool) → Scanned text i quoted → i < length text → (get_or text i 0 ≡ 44 → quoted ≡ true)
-    → now ≡ parity_after (get_or text i 0) quoted → Scanned text (i + 1) now
+    → now ≡ quoted_after (get_or text i 0) quoted → Scanned text (i + 1) now
 scanned_more text i quoted now s within comma step =
     let b : ℕ = get_or text i 0 in
     record {

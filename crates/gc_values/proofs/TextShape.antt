@@ -1,6 +1,6 @@
 -- The written texts of values are parameters, short and without CR and LF. A bare byte is no space, double quote, comma, CR or
 -- LF; the texts of numbers and byte parameters have bare bytes alone.
-use Rattle.std.proofs.Common.{◌≡◌, ◌≢◌, ℕ, ◌+◌, ◌/◌, ◌%◌, ◌<◌, ◌≤◌, ◌^◌, Bool, true, false, ltb, ℤ, pos, negsuc, unsigned_abs, List, [], ◌∷◌, ◌++◌, length, map, refl, sym, ap, ◌∙◌, inl, inr, arith, lit<, lit≤, length-append}
+use Rattle.std.proofs.Common.{◌≡◌, ◌≢◌, ℕ, ◌+◌, ◌/◌, ◌%◌, ◌<◌, ◌≤◌, ◌^◌, Bool, true, false, ltb, ℤ, pos, negsuc, unsigned_abs, List, [], ◌∷◌, ◌++◌, length, map, refl, sym, subst, ap, ◌∙◌, inl, inr, arith, lit<, lit≤, length-append}
 use Rattle.std.proofs.lemmas.Bool.{ltb-true, agree_below_at}
 use Rattle.std.proofs.lemmas.List.Elements.{All-from_recursion}
 use Rattle.std.proofs.lemmas.List.{same_from_push}
@@ -19,7 +19,7 @@ use Rattle.gc_values.specs.Fraction.{IsInRange}
 use Rattle.gc_values.specs.Written.{minus_text, whole_text, behind_text, written}
 use Rattle.gc_values.specs.declared.value.Value.{Value}
 use Rattle.gc_values.specs.declared.value.Value.TheVariants as value
-use Rattle.gc_values.proofs.Every.{every_weaker, every_append}
+use Rattle.gc_values.proofs.Every.{every_weaker, every_append, every_behind}
 use Rattle.gc_values.proofs.Quotes.{quotes-append, quotes-cons, quotes-none, push_cut}
 use Rattle.gc_values.proofs.Powers.{ten_pow_pos}
 use Rattle.gc_values.proofs.WholeText.{length-whole_text, length-minus_text, length-long, length-short}
@@ -55,41 +55,14 @@ bare_digits ds h = every_weaker IsDigit IsBare ds (λ d digit. bare_above d (let
 quotes-bare : (xs : List ℕ) → AreBare xs → quotes xs ≡ 0
 quotes-bare xs h = quotes-none xs (every_weaker IsBare (λ b. b ≢ 34) xs (λ b bare. bare.quote) h)
 
--- bare bytes have no comma
-bare_comma : (xs front rest : List ℕ) → AreBare xs → xs ≡ front ++ 44 ∷ rest → ⊥
-bare_comma [] [] rest h e = cc
-bare_comma [] (f ∷ fs) rest h e = cc
-bare_comma (x ∷ xs) [] rest h e = h.0.comma (let first : x ≡ 44 = cc in first)
-bare_comma (x ∷ xs) (f ∷ fs) rest h e = let t : xs ≡ fs ++ 44 ∷ rest = cc in bare_comma xs fs rest h.1 t
-
--- bare bytes don't end in a space
-bare_last : (xs front : List ℕ) → AreBare xs → xs ≡ front ++ 32 ∷ [] → ⊥
-bare_last [] [] h e = cc
-bare_last [] (f ∷ fs) h e = cc
-bare_last (x ∷ xs) [] h e = h.0.space (let first : x ≡ 32 = cc in first)
-bare_last (x ∷ xs) (f ∷ fs) h e = let t : xs ≡ fs ++ 32 ∷ [] = cc in bare_last xs fs h.1 t
-
--- bare bytes don't begin with a space
-bare_first : (xs rest : List ℕ) → AreBare xs → xs ≡ 32 ∷ rest → ⊥
-bare_first [] rest h e = cc
-bare_first (x ∷ xs) rest h e = h.0.space (let first : x ≡ 32 = cc in first)
-
 -- bare bytes are a parameter
 pub bare_param : (xs : List ℕ) → AreBare xs → IsParam xs
 bare_param xs h = record {
-  first = λ rest e. bare_first xs rest h e;
-  last = λ front e. bare_last xs front h e;
+  first = λ rest e. (subst AreBare e h).0.space refl;
+  last = λ front e. (every_behind IsBare front (32 ∷ []) (subst AreBare e h)).0.space refl;
   pairs = ap (λ n. n % 2) (quotes-bare xs h);
-  commas = λ front rest e. absurd (bare_comma xs front rest h e);
+  commas = λ front rest e. absurd ((every_behind IsBare front (44 ∷ rest) (subst AreBare e h)).0.comma refl);
 }
-
--- a byte that ends no line: neither CR nor LF
-abbrev pub EndsNoLine : ℕ → Type 0
-EndsNoLine b = (b ≢ 10) × (b ≢ 13)
-
--- bare bytes end no line
-bare_plain : (xs : List ℕ) → AreBare xs → AllByRecursion EndsNoLine xs
-bare_plain xs h = every_weaker IsBare EndsNoLine xs (λ b bare. (bare.lf, bare.cr)) h
 
 -- a minus, or none, is bare
 bare_minus : (z : ℤ) → AreBare (minus_text z)
@@ -112,8 +85,8 @@ bare_written m s =
     (every_append IsBare (whole_text (n / 10 ^ s)) (46 ∷ behind_text s (n % 10 ^ s)) (bare_whole (n / 10 ^ s))
     (bare_above 46 (lit< tt), bare_digits (behind_text s (n % 10 ^ s)) (is_fraction_text n s).digits))
 
--- a hexadecimal digit is above 44
-digit_above : (d : ℕ) → d < 16 → 44 < slice_index lower_digits d
+-- a hexadecimal digit is above 44, the comma
+pub digit_above : (d : ℕ) → d < 16 → 44 < slice_index lower_digits d
 digit_above d h = ltb-true 44 (slice_index lower_digits d) (agree_below_at (λ k. ltb 44 (slice_index lower_digits k)) (λ _. true) 16 d refl h)
 
 -- the text of a byte parameter, a number below 256, is bare
@@ -159,12 +132,6 @@ quoted_param bytes h = record {
   commas = λ front rest e. quoted_commas bytes front rest h e;
 }
 
--- a string's bytes, and the quote after them, end no line
-string_plain : (bytes : List ℕ) → AreStringBytes bytes → AllByRecursion EndsNoLine (bytes ++ 34 ∷ [])
-string_plain bytes h =
-    every_append EndsNoLine bytes (34 ∷ []) (every_weaker IsStringByte EndsNoLine bytes (λ b allowed. (allowed.2, allowed.1)) h)
-    ((λ e. omega (arith, e), λ e. omega (arith, e)), tt)
-
 -- the text of a value in its kind's range is a parameter
 pub text_is_param : (v : Value) → IsValue v → IsParam (text v)
 text_is_param (value.Double d) h = bare_param _ (bare_written d.digits d.scale)
@@ -192,18 +159,23 @@ text_is_some (value.Bool false) = omega arith
 text_is_some (value.Bool true) = omega arith
 text_is_some (value.Text bytes) = omega arith
 
--- the text of a value in its kind's range ends no line
-ends_no_line : (v : Value) → IsValue v → AllByRecursion EndsNoLine (text v)
-ends_no_line (value.Double d) h = bare_plain _ (bare_written d.digits d.scale)
-ends_no_line (value.Long z) h = bare_plain _ (bare_signed z)
-ends_no_line (value.Short z) h = bare_plain _ (bare_signed z)
-ends_no_line (value.Byte n) h = bare_plain (byte_text n) (bare_byte n h)
-ends_no_line (value.Bool b) h = bare_plain _ (bare_boolean b)
-ends_no_line (value.Text bytes) h = ((λ e. omega (arith, e), λ e. omega (arith, e)), string_plain bytes h.plain)
+-- what is true of each bare byte, of each byte that is allowed in a string, and of a double quote is true of each byte of the text
+-- of a value in its kind's range
+text_bytes : (P : ℕ → Type 0) → ((b : ℕ) → IsBare b → P b) → ((b : ℕ) → IsStringByte b → P b) → P 34 → (v : Value) → IsValue v → AllByRecursion P (text v)
+text_bytes P bare allowed quote (value.Double d) h = every_weaker IsBare P _ bare (bare_written d.digits d.scale)
+text_bytes P bare allowed quote (value.Long z) h = every_weaker IsBare P _ bare (bare_signed z)
+text_bytes P bare allowed quote (value.Short z) h = every_weaker IsBare P _ bare (bare_signed z)
+text_bytes P bare allowed quote (value.Byte n) h = every_weaker IsBare P (byte_text n) bare (bare_byte n h)
+text_bytes P bare allowed quote (value.Bool b) h = every_weaker IsBare P _ bare (bare_boolean b)
+text_bytes P bare allowed quote (value.Text bytes) h =
+    (quote, every_append P bytes (34 ∷ []) (every_weaker IsStringByte P bytes allowed h.plain) (quote, tt))
 
 -- the text of a value in its kind's range has no CR and no LF
-pub text_is_plain : (v : Value) → IsValue v → All EndsNoLine (text v)
-text_is_plain v h = All-from_recursion EndsNoLine (text v) (ends_no_line v h)
+pub text_is_plain : (v : Value) → IsValue v → All (λ b. (b ≢ 10) × (b ≢ 13)) (text v)
+text_is_plain v h =
+    let ends_no_line : ℕ → Type 0 = λ b. (b ≢ 10) × (b ≢ 13) in
+    let quote : ends_no_line 34 = (λ e. omega (arith, e), λ e. omega (arith, e)) in
+    All-from_recursion ends_no_line (text v) (text_bytes ends_no_line (λ b bare. (bare.lf, bare.cr)) (λ b allowed. (allowed.2, allowed.1)) quote v h)
 
 -- what is written of m / 10^s, which is in range and has at most 24 places, has at most 40 bytes
 pub length-written : (m : ℤ) (s : ℕ) → IsInRange m s → s ≤ 24 → length (written m s) ≤ 40

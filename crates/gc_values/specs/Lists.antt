@@ -1,7 +1,7 @@
 -- Parameter lists and their values: which lists are read as which values, and why a list isn't one of values of given
 -- kinds. The kinds are the GeoCOM manual's; the order of the faults is this project's own.
 use Rattle.std.specs.Prelude.{◌≡◌, ◌≢◌, ◌⊎◌, ◌<◌, ◌≤◌, ℕ, List, [], ◌∷◌, length, map}
-use Rattle.std.specs.List.{AllByRecursion}
+use Rattle.std.specs.List.{AllByRecursion, AllZip}
 use Rattle.gc_values.specs.Item.{kind_of, IsItem, IsItemFault, IsValue}
 use Rattle.gc_values.specs.Params.{IsParams, HasOpenQuote}
 use Rattle.gc_values.specs.declared.fault.ValueFault.{ValueFault}
@@ -15,10 +15,7 @@ kinds_of vs = map kind_of vs
 
 -- the items are read as the values, one for one
 abbrev pub AreItems : List (List ℕ) → List Value → Type 0
-AreItems [] [] = Unit {0}
-AreItems [] (v ∷ vs) = ⊥
-AreItems (item ∷ items) [] = ⊥
-AreItems (item ∷ items) (v ∷ vs) = IsItem item v × AreItems items vs
+AreItems items values = AllZip IsItem items values
 
 -- the parameters are a list of items, and these are read as the values
 pub record AreParams (params : List ℕ) (values : List Value) : Type 0 where

@@ -1,11 +1,15 @@
 -- Parameter lists: parameters between commas, and strings in double quotes, as in the GeoCOM manual's chapter on the ASCII
 -- protocol. That spaces round a parameter don't count is this project's own.
-use Rattle.std.specs.Prelude.{◌≡◌, ℕ, ◌+◌, ◌%◌, ◌<◌, ◌≤◌, ◌==◌, List, [], ◌∷◌, ◌++◌, length, replicate, count_by, Result, Ok}
+use Rattle.std.specs.Prelude.{◌≡◌, ℕ, ◌+◌, ◌%◌, ◌<◌, ◌≤◌, ◌==◌, Bool, not, if◌then◌else◌, List, [], ◌∷◌, ◌++◌, length, replicate, count_by, Result, Ok}
 use Rattle.std.specs.List.{flat_map}
 
 -- how many double quotes are in the bytes
 abbrev pub quotes : List ℕ → ℕ
 quotes bytes = count_by (λ b. b == 34) bytes
+
+-- whether a double quote is open after a byte; `quoted` says whether one is open before that byte
+abbrev pub quoted_after : ℕ → (quoted : Bool) → Bool
+quoted_after b quoted = if b == 34 then not quoted else quoted
 
 -- the bytes have an odd number of double quotes, so that one of them has no partner
 abbrev pub HasOpenQuote : List ℕ → Type 0

@@ -89,15 +89,11 @@ rounded_to_zeros m s p = stripped_is (half_up m (10 ^ (s - p))) (min s p)
 pub rounded_few : (m s p : ℕ) → s ≤ 24 → (rounded_to m s p).places ≤ 24
 rounded_few m s p h = let w = (rounded_to_zeros m s p).fewer in omega (arith, w)
 
--- s less the lesser of s and p is s less p, which is 0 where p is the greater
-min_off : (s p : ℕ) → s - min s p ≡ s - p
-min_off s p = omega arith
-
 -- a number in range stays so when it is rounded
 pub rounded_in_range : (b : Bool) (m s p : ℕ) → m ≤ 10 ^ 13 * 10 ^ s → IsInRange (signed b (rounded_to m s p).digits) (rounded_to m s p).places
 rounded_in_range b m s p h =
     let size : m ≤ 10 ^ 13 * 10 ^ min s p * 10 ^ (s - p) =
-    subst (λ e. m ≤ 10 ^ 13 * 10 ^ min s p * 10 ^ e) (min_off s p) (places_in_range m s (min s p) (omega arith) h) in
+    subst (λ e. m ≤ 10 ^ 13 * 10 ^ min s p * 10 ^ e) (let off : s - min s p ≡ s - p = omega arith in off) (places_in_range m s (min s p) (omega arith) h) in
     let near = half_up_rounds m (10 ^ (s - p)) (ten_pow_pos (s - p)) in
     let whole = rounds_bound m (10 ^ (s - p)) (half_up m (10 ^ (s - p))) (10 ^ 13 * 10 ^ min s p) (ten_pow_pos (s - p)) near size in
     let all = zeros_in_range (half_up m (10 ^ (s - p))) (min s p) (rounded_to m s p).digits (rounded_to m s p).places (rounded_to_zeros m s p) whole in

@@ -71,8 +71,8 @@ impl Value {
         }
     }
 
-    /// Reads an item as a decimal. It is refused as `Spelling` where it isn't a number's text, and as `Range` where its value,
-    /// rounded to 24 places, is out of a decimal's range.
+    /// As [`Decimal::read`]. Its contract names the fault as that of an item (`IsItemFault`), as the readers of the other kinds
+    /// name theirs.
     fn read_double(item: &[u8]) -> Result<Decimal, ValueFault>
         ensures value { IfOk result (λ d. Spells item.now d.digits d.scale) }
         ensures only { GivesSpelled item.now result }

@@ -190,8 +190,8 @@ impl Choice {
 }
 
 /// The settings of a station that the options ask for, without the paths of files, and for a run that hasn't begun. A flag or a
-/// text that the subcommand doesn't have counts as not given. `None`: a number is missing, though it has a default, or is none of
-/// its type; clap fills the first in and refuses the second, but no clause of clap's says so.
+/// text that the subcommand doesn't have counts as not given. `None`: a number is missing, or doesn't fit its type. In fact clap fills
+/// in the default of a missing number and refuses one outside its bounds, but no clause of clap's says so.
 pub fn station_of(matches: &ArgMatches) -> Option<Settings> {
     Some(Settings {
         layout: Layout {

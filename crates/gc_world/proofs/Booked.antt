@@ -5,7 +5,8 @@ use Rattle.std.specs.List.{AllByRecursion}
 use Rattle.std.specs.Prelude.{slice_get}
 use Rattle.std.proofs.lemmas.Bool.{ltb-false}
 use Rattle.std.proofs.lemmas.Option.{none-some, same_Some}
-use Rattle.gc_lines.proofs.Lists.{all_append, all_on}
+use Rattle.gc_lines.proofs.Lists.{all_append}
+use Rattle.gc_values.proofs.Every.{every_weaker as all_on}
 use Rattle.gc_client.specs.declared.pending.Pending.{Pending}
 use Rattle.gc_client.specs.Rule.{Outcome, Answered, Late, Lost, Settlement, lost, settled_by_line, settle}
 use Rattle.gc_instrument.specs.Replying.{Handed}
@@ -96,10 +97,10 @@ all_made_lost made n (p ∷ ps) = (tt, all_made_lost made (n + 1) ps)
 
 -- where a reply with this line was made for request n, settling a request p by the line (`settled_by_line`) has the outcome late,
 -- or an answer that was made for request n (`IsMade`)
-made_met : {Q : Type 0} (made : List (Numbered (List ℕ))) (n : ℕ) (line : List ℕ) (p : Pending Q) (given_up : Bool) → p.given_up ≡ given_up
+line_is_made : {Q : Type 0} (made : List (Numbered (List ℕ))) (n : ℕ) (line : List ℕ) (p : Pending Q) (given_up : Bool) → p.given_up ≡ given_up
     → Has (record { number = n; line = line }) made → IsMade made n (settled_by_line p line).outcome
-made_met made n line p true e h = subst (λ b. IsMade made n (settled_by_line (record p { given_up = b }) line).outcome) (sym e) tt
-made_met made n line p false e h = subst (λ b. IsMade made n (settled_by_line (record p { given_up = b }) line).outcome) (sym e) h
+line_is_made made n line p true e h = subst (λ b. IsMade made n (settled_by_line (record p { given_up = b }) line).outcome) (sym e) tt
+line_is_made made n line p false e h = subst (λ b. IsMade made n (settled_by_line (record p { given_up = b }) line).outcome) (sym e) h
 
 -- where a reply with this line was made for request m, and n + k is m, each answer among the settlements `settle k line ps`, of
 -- which the first is number n, was made for its request
@@ -109,7 +110,7 @@ all_made_settle : {Q : Type 0} (made : List (Numbered (List ℕ))) (n m k : ℕ)
 all_made_settle made n m k line [] e h = tt
 all_made_settle made n m zero line (p ∷ ps) e h =
     let e' : m ≡ n = omega arith in
-    (made_met made n line p p.given_up refl (subst (λ i. Has (record { number = i; line = line }) made) e' h), tt)
+    (line_is_made made n line p p.given_up refl (subst (λ i. Has (record { number = i; line = line }) made) e' h), tt)
 all_made_settle made n m (suc k) line (p ∷ ps) e h = (tt, all_made_settle made (n + 1) m k line ps (omega arith) h)
 
 -- each reply in flight and each answer that was booked was made for its request

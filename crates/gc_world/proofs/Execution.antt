@@ -13,7 +13,7 @@ use Rattle.gc_world.specs.Record.{Increasing, IsOneForOne, IsReplyTo, IsBooked, 
 use Rattle.gc_world.proofs.Booked.{Has, has_at, AllMade, answer_made}
 use Rattle.gc_world.proofs.Replay.{Executes, Replays}
 use Rattle.std.proofs.lemmas.Option.{same_Some, none-some, slice_get_within}
-use Rattle.gc_world.proofs.Places.{all_at, in_range}
+use Rattle.gc_world.proofs.Places.{all_at, element_at}
 
 -- a property that each element of a list has holds of any element that is in the list
 pub each_has : {A : Type 0} (P : A → Type 0) (xs : List A) (x : A) → AllByRecursion P xs → Has x xs → P x
@@ -57,19 +57,19 @@ module _ {State : Type 0} (ends : Ends State) where
 
   -- an execution of request n, which is the i-th execution, counted from 1: it leads from `state` to `next`, restarted where
   -- `starts` has the number i, and `entry` is its reply
-  record IsStep (sent : List Sent) (starts : List ℕ) (i : ℕ) (state next : State) (entry : Option (Numbered (List ℕ))) (n : ℕ) : Type 0 where
+  record IsIthExecution (sent : List Sent) (starts : List ℕ) (i : ℕ) (state next : State) (entry : Option (Numbered (List ℕ))) (n : ℕ) : Type 0 where
     is_executed : IsExecutedIn ends sent n state
     made : entry ≡ Some (record { number = n; line = (ends.handed state is_executed.id is_executed.request.call).reply })
     next_is : next ≡ begun ends.restarted (has_number i starts) (ends.handed state is_executed.id is_executed.request.call).state
 
   -- execution k of a replay is that of request n, the number at place k of ns, and its reply is at place k of ms. It leads from
-  -- `before_in` at place k to `before_in` at place k + 1, as `IsStep` has it, and is the (j + k + 1)-th execution
-  step_at : (sent : List Sent) (starts : List ℕ) (j : ℕ) (s : State) (ns : List ℕ) (ms : List (Numbered (List ℕ))) (t : State)
+  -- `before_in` at place k to `before_in` at place k + 1, as `IsIthExecution` has it, and is the (j + k + 1)-th execution
+  ith_execution : (sent : List Sent) (starts : List ℕ) (j : ℕ) (s : State) (ns : List ℕ) (ms : List (Numbered (List ℕ))) (t : State)
       (h : Replays ends sent starts j s ns ms t) (k n : ℕ) → slice_get ns k ≡ Some n
-      → IsStep sent starts (j + k + 1) (before_in sent starts j s ns ms t h k) (before_in sent starts j s ns ms t h (suc k)) (slice_get ms k) n
+      → IsIthExecution sent starts (j + k + 1) (before_in sent starts j s ns ms t h k) (before_in sent starts j s ns ms t h (suc k)) (slice_get ms k) n
   unfolding before_in
-  step_at sent starts j s [] [] t h k n e = absurd (none-some n e)
-  step_at sent starts j s (n' ∷ ns) (m ∷ ms) t h zero n e =
+  ith_execution sent starts j s [] [] t h k n e = absurd (none-some n e)
+  ith_execution sent starts j s (n' ∷ ns) (m ∷ ms) t h zero n e =
       let r = h.1 in
       let d = r.is_executed in
       let same : n' ≡ n = same_Some n' n e in
@@ -92,13 +92,13 @@ module _ {State : Type 0} (ends : Ends State) where
     where
       entry_is : (x : Numbered (List ℕ)) (n : ℕ) → x.number ≡ n' → n' ≡ n → (line : List ℕ) → x.line ≡ line → x ≡ record { number = n; line = line }
       entry_is x n e1 e2 line e3 = ap (λ (i : ℕ). record x { number = i }) (e1 ∙ e2) ∙ ap (λ (l : List ℕ). record { number = n; line = l }) e3
-  step_at sent starts j s (n' ∷ ns) (m ∷ ms) t h (suc k) n e =
+  ith_execution sent starts j s (n' ∷ ns) (m ∷ ms) t h (suc k) n e =
       let v = begun ends.restarted (has_number (j + 1) starts) h.0 in
       let i : j + 1 + k + 1 ≡ j + suc k + 1 = omega arith in
-      subst (λ x. IsStep sent starts x (before_in sent starts (j + 1) v ns ms t h.2 k) (before_in sent starts (j + 1) v ns ms t h.2 (suc k)) (slice_get ms k) n) i
-      (step_at sent starts (j + 1) v ns ms t h.2 k n e)
-  step_at sent starts j s [] (m ∷ ms) t h k n e = absurd h
-  step_at sent starts j s (n' ∷ ns) [] t h k n e = absurd h
+      subst (λ x. IsIthExecution sent starts x (before_in sent starts (j + 1) v ns ms t h.2 k) (before_in sent starts (j + 1) v ns ms t h.2 (suc k)) (slice_get ms k) n) i
+      (ith_execution sent starts (j + 1) v ns ms t h.2 k n e)
+  ith_execution sent starts j s [] (m ∷ ms) t h k n e = absurd h
+  ith_execution sent starts j s (n' ∷ ns) [] t h k n e = absurd h
 
   -- Let a replay execute what the wire w has as executed, let each of its replies be among those that the wire has as made, and
   -- each of those be one of its replies.
@@ -113,7 +113,7 @@ module _ {State : Type 0} (ends : Ends State) where
     executed_at : (j n : ℕ) → slice_get w.executed j ≡ Some n → IsExecuted ends w state_before j n
     unfolding state_before
     executed_at j n e =
-        let s = step_at w.sent w.starts 0 (ends.restarted opening) w.executed replies w.state h j n e in
+        let s = ith_execution w.sent w.starts 0 (ends.restarted opening) w.executed replies w.state h j n e in
         let i : j + 1 ≡ suc j = omega arith in
         let i' : 0 + j + 1 ≡ j + 1 = omega arith in
         let d = s.is_executed in
@@ -134,8 +134,8 @@ module _ {State : Type 0} (ends : Ends State) where
     reply_at entry has =
         let at = has_at entry replies has in
         let size = replays_entries w.sent w.starts 0 (ends.restarted opening) w.executed replies w.state h in
-        let n = in_range w.executed at.0 (omega (arith, size, slice_get_within replies at.0 entry at.1)) in
-        let s = step_at w.sent w.starts 0 (ends.restarted opening) w.executed replies w.state h at.0 n.0 n.1 in
+        let n = element_at w.executed at.0 (omega (arith, size, slice_get_within replies at.0 entry at.1)) in
+        let s = ith_execution w.sent w.starts 0 (ends.restarted opening) w.executed replies w.state h at.0 n.0 n.1 in
         let d = s.is_executed in
         let entry_is : entry ≡ record { number = n.0; line = (ends.handed (state_before at.0) d.id d.request.call).reply } = same_Some _ _ (sym at.1 ∙ s.made) in
         let number : n.0 ≡ entry.number = sym (ap (λ (m : Numbered (List ℕ)). m.number) entry_is) in

@@ -1,6 +1,6 @@
 -- A reply to a request that isn't settled settles it: as answered, or as late where it had timed out. Two runs are *level*
 -- where they take the same steps, and as many bytes have gone of each front line.
-use Rattle.std.proofs.Common.{◌≡◌, ℕ, zero, suc, ◌+◌, ◌-◌, ◌<◌, ◌≤◌, Bool, true, false, cond, List, [], ◌∷◌, ◌++◌, length, map, take, drop, Some, refl, sym, ◌∙◌, ap, subst, arith, append_assoc, eqb}
+use Rattle.std.proofs.Common.{◌≡◌, ℕ, suc, ◌+◌, ◌-◌, ◌<◌, ◌≤◌, Bool, true, false, cond, List, [], ◌∷◌, ◌++◌, length, map, take, drop, Some, refl, sym, ◌∙◌, ap, subst, arith, append_assoc, eqb}
 use mathlib.Core.Path.{ap₂}
 use Rattle.std.specs.Prelude.{slice_get}
 use Rattle.std.proofs.lemmas.Bool.{le-ltb, lt-ltb}
@@ -9,8 +9,10 @@ use Rattle.std.proofs.Math.Seq.{drop-append_seam}
 use Rattle.gc_catalogue.specs.declared.call.Call.{Call}
 use Rattle.gc_client.specs.declared.pending.Pending.{Pending}
 use Rattle.gc_client.specs.declared.window.TheConstants.{WINDOW}
-use Rattle.gc_client.specs.Rule.{ById, Settlement, Outcome, Answered, Late, Lost, pending_of, lost, settled_by_line, settle}
+use Rattle.gc_client.specs.Rule.{ById, Settlement, Outcome, Answered, Late, Lost, pending_of, lost, settle}
 use Rattle.gc_client.specs.OneForOne.{Wanted, of_settled, of_pending}
+use Rattle.gc_client.proofs.Ends.{settle_is}
+use Rattle.gc_client.proofs.Lists.{drop_turn}
 use Rattle.gc_instrument.specs.State.{State, restarted}
 use Rattle.gc_world.specs.declared.event.Event.{Event}
 use Rattle.gc_world.specs.declared.event.Event.TheVariants.{DownDeliver}
@@ -27,32 +29,18 @@ use Rattle.gc_world.proofs.Delivering.{delivery_is}
 use Rattle.gc_world.proofs.Handing.{KeptFits, kept_exchange}
 use Rattle.gc_world.proofs.Marks.{entry_all}
 use Rattle.gc_world.proofs.Moments.{marked_all, in_time, too_late}
-use Rattle.std.proofs.lemmas.Option.{same_Some, none-some}
-use Rattle.gc_world.proofs.Places.{get_map, get_push, get_seen}
-use Rattle.gc_world.proofs.Settled.{of_sent, whole_at}
+use Rattle.gc_world.proofs.Places.{get_map, get_push, get_seen, slice_drop}
+use Rattle.gc_world.proofs.Settled.{whole_at}
+use Rattle.gc_world.specs.Worlds.{of_sent}
 use Rattle.gc_world.proofs.Sound.{Sound, sound_step}
 
 -- Lists.
-
--- where k is at most n, element n - k of the list after the first k is element n of the whole list
-slice_drop : {A : Type 0} (k : ℕ) (xs : List A) (n : ℕ) → k ≤ n → slice_get (drop k xs) (n - k) ≡ slice_get xs n
-slice_drop zero xs n le = let e : n - 0 ≡ n = omega arith in ap (slice_get xs) e
-slice_drop (suc k) [] n le = refl
-slice_drop (suc k) (x ∷ xs) zero le = absurd (omega (arith, le))
-slice_drop (suc k) (x ∷ xs) (suc n) le = let e : suc n - suc k ≡ n - k = omega arith in ap (slice_get (drop k xs)) e ∙ slice_drop k xs n (omega (arith, le))
 
 -- where f over xs and g over ys give the same list, the element x at place n of xs has a partner y at place n of ys: g gives of
 -- y what f gives of x
 partner_at : {A B C : Type 0} (f : A → C) (g : B → C) (xs : List A) (ys : List B) (n : ℕ) (x : A) → map f xs ≡ map g ys → slice_get xs n ≡ Some x
     → (y : B) × (slice_get ys n ≡ Some y) × (g y ≡ f x)
 partner_at f g xs ys n x e h = get_seen g ys n (f x) (ap (λ l. slice_get l n) (sym e) ∙ get_map f xs n x h)
-
--- where p is at place k of those that wait, `settle` through place k settles the k before it as lost, and p by the line
-settle_at : (k : ℕ) (line : List ℕ) (ps : List (Pending Call)) (p : Pending Call) → slice_get ps k ≡ Some p
-    → settle k line ps ≡ map lost (take k ps) ++ settled_by_line p line ∷ []
-settle_at k line [] p h = absurd (none-some p h)
-settle_at zero line (q ∷ ps) p h = ap (λ r. settled_by_line r line ∷ []) (same_Some q p h)
-settle_at (suc k) line (q ∷ ps) p h = ap (λ l. lost q ∷ l) (settle_at k line ps p h)
 
 -- the settlement, with this outcome, of a request with this target and this call
 abbrev ended_as : Outcome → Wanted Call → Settlement Call
@@ -83,17 +71,17 @@ outcome_of p line = cond p.given_up Late (Answered line)
 
 -- a reply with this line to request n, which the client has as p, settles the unsettled requests before n as lost and then n
 -- itself, which is one that was sent
-pub record IsGained (settled : List (Settlement Call)) (waiting : List (Pending Call)) (sent : List Sent) (n : ℕ) (line : List ℕ) (p : Pending Call) : Type 0 where
+pub record SettlesThrough (settled : List (Settlement Call)) (waiting : List (Pending Call)) (sent : List Sent) (n : ℕ) (line : List ℕ) (p : Pending Call) : Type 0 where
   pub request : Sent
   pub found : slice_get sent n ≡ Some request
-  pub gained : settle (n - length settled) line waiting ≡ map (ended Lost) (between (length settled) n sent) ++ ended (outcome_of p line) request ∷ []
+  pub settlements : settle (n - length settled) line waiting ≡ map (ended Lost) (between (length settled) n sent) ++ ended (outcome_of p line) request ∷ []
 
--- `IsGained` holds where the settlements, and after them those that wait, are the requests that were sent, n isn't below the
--- count of settlements, and p waits as request n
-gained : (settled : List (Settlement Call)) (waiting : List (Pending Call)) (sent : List Sent) (n : ℕ) (line : List ℕ) (p : Pending Call)
+-- `SettlesThrough` holds where the settlements, and after them those that wait, are the requests that were sent, n isn't below
+-- the count of settlements, and p waits as request n
+settles_through : (settled : List (Settlement Call)) (waiting : List (Pending Call)) (sent : List Sent) (n : ℕ) (line : List ℕ) (p : Pending Call)
     → map of_settled settled ++ map of_pending waiting ≡ map of_sent sent → length settled ≤ n → slice_get waiting (n - length settled) ≡ Some p
-    → IsGained settled waiting sent n line p
-gained settled waiting sent n line p whole le h =
+    → SettlesThrough settled waiting sent n line p
+settles_through settled waiting sent n line p whole le h =
     let m = length settled in
     let k = n - m in
     let alike = waiting_alike settled waiting sent whole in
@@ -102,8 +90,8 @@ gained settled waiting sent n line p whole le h =
     record {
       request = some.0;
       found = sym (slice_drop m sent n le) ∙ some.1;
-      gained =
-          settle_at k line waiting p h
+      settlements =
+          settle_is k line waiting p (drop (suc k) waiting) (drop_turn waiting k p h)
           ∙ ap₂ (λ (l : List (Settlement Call)) (a : Wanted Call). l ++ ended_as (outcome_of p line) a ∷ []) (lost_alike (take k waiting) (take k (drop m sent)) first) (sym some.2);
     }
 
@@ -225,7 +213,7 @@ module _ (width : ℕ) (narrow : width ≤ WINDOW) (opening : State) where
       let place : slice_get a.client.waiting (n - length a.wire.settled) ≡ Some p =
       ap (λ m. slice_get a.client.waiting (n - m)) (sym count) ∙ ap (λ ps. slice_get ps (n - b.client.count)) window
       ∙ slice_drop b.client.count b.client.requests n (omega (arith, count, unsettled)) ∙ h in
-      let gain = gained a.wire.settled a.client.waiting a.wire.sent n line p (whole_at width ends call_line l.steps (restarted opening)) unsettled place in
+      let does = settles_through a.wire.settled a.client.waiting a.wire.sent n line p (whole_at width ends call_line l.steps (restarted opening)) unsettled place in
       let x : Numbered (List ℕ) = record { number = n; line = line } in
       let down : b.wire.down ≡ x ∷ next.behind = ap (λ (u : Wire State). u.down) (sym agree.wire) ∙ front in
       let after : (left_by_ids width opening (events ++ delivery ∷ [])).settled ≡ b.wire.settled ++ settle (n - b.client.count) line (drop b.client.count b.client.requests) =
@@ -233,12 +221,12 @@ module _ (width : ℕ) (narrow : width ≤ WINDOW) (opening : State) where
       ∙ delivered width b x next.behind down (omega (arith, count, unsettled)) in
       subst (λ (u : World (ById Call) State). IsSettledAs u.wire (left_by_ids width opening (events ++ delivery ∷ [])) n (outcome_of p line)) (sym same)
       (record {
-        request = gain.request;
-        found = gain.found;
+        request = does.request;
+        found = does.found;
         settled =
             after ∙ ap₂ (λ (u : Wire State) (ps : List (Pending Call)). u.settled ++ settle (n - b.client.count) line ps) (sym agree.wire) (sym window)
-            ∙ ap (λ m. a.wire.settled ++ settle (n - m) line a.client.waiting) count ∙ ap (λ l. a.wire.settled ++ l) gain.gained
-            ∙ sym (append_assoc a.wire.settled (map (ended Lost) (between (length a.wire.settled) n a.wire.sent)) (ended (outcome_of p line) gain.request ∷ []));
+            ∙ ap (λ m. a.wire.settled ++ settle (n - m) line a.client.waiting) count ∙ ap (λ l. a.wire.settled ++ l) does.settlements
+            ∙ sym (append_assoc a.wire.settled (map (ended Lost) (between (length a.wire.settled) n a.wire.sent)) (ended (outcome_of p line) does.request ∷ []));
       })
 
   -- where request n is in time after these events, the delivery of a first reply to it settles it as answered with the reply's

@@ -182,7 +182,8 @@ module _ (width : ℕ) (d : Direction) (s : Seen) (v : Streams (ById Call) State
   pub runs_dry : remaining (gone d h.now) (lines d h.now.world.wire) ≡ 0 → AreStreamsOf width s (after_bytes width d v n)
   runs_dry e = subst (λ x. AreStreamsOf width s x) (sym (ended ends (by_ids width ends) d h.now left (part width s h.now h.shows d) e) ∙ h.same) h.shows
 
--- b tests whether a line has r bytes left, at least one, and l bytes complete it: where b is false, and l isn't below r, r is 0
+-- where the test `completes`, of a line with r bytes left and of l bytes, fails (b is false) though l is at least r, no byte of
+-- the line was left: r is 0
 pub runs_out : (b : Bool) (r l : ℕ) → IsTrue b ↔ ((0 < r) × (r ≤ l)) → b ≡ false → (l < r → ⊥) → r ≡ 0
 runs_out b zero l iff e le = refl
 runs_out b (suc r) l iff e le = absurd (both_ways b e (iff.1 (omega arith, omega (arith, le))))

@@ -1,7 +1,7 @@
 -- What the instrument does with a request that a client wrote, and how its reply reads.
 use Rattle.std.proofs.Common.{◌≡◌, ℕ, ◌<◌, Bool, true, false, cond, List, Option, Some, None, Ok, inl, inr, refl, sym, ap, ◌∙◌, subst, lit<, eqb}
 use Rattle.std.specs.Option.{option_map}
-use Rattle.std.proofs.lemmas.Bool.{eqb-true, eq-eqb}
+use Rattle.std.proofs.lemmas.Bool.{eqb-true, eq-eqb, cond_both}
 use Rattle.gc_lines.specs.Readers.{reply_at}
 use Rattle.gc_lines.specs.Replies.{IsReply, reply_text}
 use Rattle.gc_lines.proofs.Replies.{one_reply, reply_again, reply_found}
@@ -115,7 +115,7 @@ bare_line s id call e =
     ap (λ (x : Handed State). x.reply) (handed_new s id call (new_id s id call e))
     ∙ sym (ap (λ (x : Executed). executed_line id x) (executes_apart s None call))
 
--- where s without its kept reply is t, the same holds after a restart of both (b true), and without one
+-- where the state s, without its kept reply, is t, it still is once both were restarted (b true), and also if neither was
 pub bare_begun : (b : Bool) (s t : State) → without_kept s ≡ t → without_kept (begun restarted b s) ≡ begun restarted b t
 bare_begun false s t e = e
 bare_begun true s t e = ap restarted e
@@ -157,14 +157,9 @@ other_id (Some k) id e is =
     let yes : eqb k.id id ≡ true = eq-eqb k.id id same in
     none-some k.line (sym e ∙ ap (λ b. cond b (Some k.line) None) yes)
 
--- where two readings are each a value or a refusal, so is the one that b chooses
-fine_if : (b : Bool) (value refusal : Reading) → IsValueOrRefusal value → IsValueOrRefusal refusal → IsValueOrRefusal (cond b value refusal)
-fine_if true value refusal v r = v
-fine_if false value refusal v r = r
-
 -- the reading of an execution is a value or a refusal
 fine_reading : (x : Executed) → IsValueOrRefusal (reading_of x)
-fine_reading x = fine_if (eqb x.rc 0) (Value (rounded_answer x.state.precision x.answer)) (Refused x.rc) tt tt
+fine_reading x = cond_both (eqb x.rc 0) (Value (rounded_answer x.state.precision x.answer)) (Refused x.rc) IsValueOrRefusal (λ _. tt) (λ _. tt)
 
 -- a reply that was made on executing a call that fits, in a fitting state, reads as a value or a refusal
 pub fine : RepliesAreFine

@@ -2,6 +2,7 @@
 use Rattle.std.proofs.Common.{◌≡◌, ℕ, zero, suc, ◌+◌, ◌<◌, ◌≤◌, Bool, true, false, cond, List, [], ◌∷◌, ◌++◌, ◌⊎◌, inl, inr, Contains, refl, sym, ◌∙◌, ap, subst, arith, leb}
 use Rattle.std.specs.Prelude.{replicate}
 use Rattle.std.proofs.lemmas.Bool.{le-leb, lt-leb, leb-true, leb-false, or_from, or_left, or_right}
+use Rattle.std.proofs.lemmas.List.Elements.{Contains-append_right}
 use Rattle.gc_catalogue.specs.declared.call.Call.{Call}
 use Rattle.gc_client.specs.declared.pending.Pending.{Pending}
 use Rattle.gc_world.specs.declared.event.Event.{Event}
@@ -98,7 +99,7 @@ module _ {A : Type 0} where
 
   -- a list has what its rest has
   at_tail : (x y : A) (xs : List A) → Contains xs y → Contains (x ∷ xs) y
-  at_tail x y xs (k, lt, is) = (suc k, omega (arith, lt), is)
+  at_tail x y xs has = Contains-append_right (x ∷ []) xs y has
 
   -- what a list has is its first element or in its rest
   head_or_tail : (x y : A) (xs : List A) → Contains (x ∷ xs) y → (x ≡ y) ⊎ Contains xs y

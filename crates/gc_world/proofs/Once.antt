@@ -1,11 +1,12 @@
 -- The instrument that keeps its last reply executes each request at most once, in order. In this file `since`, `count` and
 -- `total` are how many requests had been sent at the client's last start, are settled, and were sent; `top` is one above the
 -- number executed last, or 0 if none was.
-use Rattle.std.proofs.Common.{◌≡◌, ℕ, ◌+◌, ◌-◌, ◌%◌, ◌<◌, ◌≤◌, inl, inr, Bool, true, false, List, [], ◌∷◌, ◌++◌, length, Option, Some, None, cond, refl, sym, ◌∙◌, ap, subst, arith, ltb, eqb}
+use Rattle.std.proofs.Common.{◌≡◌, ℕ, ◌+◌, ◌-◌, ◌%◌, ◌<◌, ◌≤◌, inl, inr, Bool, true, false, List, [], ◌∷◌, ◌++◌, length, Option, Some, None, IfSome, cond, refl, sym, ◌∙◌, ap, subst, arith, ltb, eqb}
 use Rattle.std.specs.List.{AllByRecursion}
 use Rattle.std.proofs.lemmas.List.{length_push}
 use Rattle.std.proofs.lemmas.Bool.{eqb-true, eqb-false, cases_eq}
-use Rattle.gc_lines.proofs.Lists.{all_append, all_on}
+use Rattle.gc_lines.proofs.Lists.{all_append}
+use Rattle.gc_values.proofs.Every.{every_weaker as all_on}
 use Rattle.gc_catalogue.specs.declared.call.Call.{Call}
 use Rattle.gc_catalogue.specs.Texts.{request_line}
 use Rattle.gc_client.specs.Rule.{Sending, pending_of}
@@ -88,8 +89,7 @@ is_last {line} (Some k) since count top total x up is going few h =
 
 -- if a reply is kept, it is among these replies, as the one to the last request that was executed, number top - 1
 abbrev IsKeptAmong : Option KeptReply → (top : ℕ) → List (Numbered (List ℕ)) → Type 0
-IsKeptAmong None top replies = Unit {0}
-IsKeptAmong (Some k) top replies = Has (record { number = top - 1; line = k.line }) replies
+IsKeptAmong kept top replies = IfSome kept (λ k. Has (record { number = top - 1; line = k.line }) replies)
 
 -- `IsKeptAmong` holds where nothing is kept
 held_none : (top : ℕ) (replies : List (Numbered (List ℕ))) (kept : Option KeptReply) → kept ≡ None → IsKeptAmong kept top replies
@@ -106,8 +106,7 @@ held_line (Some k) id n top line replies e t h =
 
 -- while a reply is kept, the request executed last is number top - 1
 abbrev IsLast : Option KeptReply → (top : ℕ) → List ℕ → Type 0
-IsLast None top executed = Unit {0}
-IsLast (Some k) top executed = (earlier : List ℕ) × (executed ≡ earlier ++ (top - 1) ∷ [])
+IsLast kept top executed = IfSome kept (λ _. (earlier : List ℕ) × (executed ≡ earlier ++ (top - 1) ∷ []))
 
 -- `IsLast` holds where nothing is kept
 last_none : (top : ℕ) (executed : List ℕ) (kept : Option KeptReply) → kept ≡ None → IsLast kept top executed

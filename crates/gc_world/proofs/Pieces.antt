@@ -1,8 +1,8 @@
 -- The bytes of a line, and its CR LF, in pieces.
-use Rattle.std.proofs.Common.{◌≡◌, ℕ, zero, suc, ◌+◌, ◌-◌, ◌≤◌, cond, not, List, [], ◌∷◌, ◌++◌, length, take, drop, get_or, Some, None, refl, sym, ap, ◌∙◌, subst, arith, length-append, append_assoc, ltb}
+use Rattle.std.proofs.Common.{◌≡◌, ℕ, ◌+◌, ◌-◌, ◌≤◌, cond, not, List, [], ◌∷◌, ◌++◌, length, take, drop, Some, None, refl, sym, ap, ◌∙◌, subst, arith, length-append, append_assoc, take-add, ltb}
 use Rattle.std.specs.List.{AllByRecursion, position, prefix_len}
 use Rattle.std.proofs.lemmas.Bool.{le-ltb, ne_eqb}
-use Rattle.std.proofs.lemmas.List.{append-nil, take_all, take_at, take-append-le}
+use Rattle.std.proofs.lemmas.List.{append-nil, take_at, take-append-le}
 use Rattle.std.proofs.lemmas.List.Elements.{All-take, All-drop, recursion_from_All}
 use Rattle.arrayvec.specs.ArrayVec.{ArrayVec}
 use Rattle.gc_lines.specs.declared.frame.Frame.{Frame}
@@ -12,9 +12,9 @@ use Rattle.gc_lines.specs.declared.frame.Lent.TheVariants as lent
 use Rattle.gc_lines.specs.Lent.{lent_seen}
 use Rattle.gc_lines.specs.Assembler.{Kept, StandsFor}
 use Rattle.gc_lines.specs.Frames.{is_line_feed, frame_of}
-use Rattle.gc_lines.specs.Lines.{IsPlain, with_end}
-use Rattle.gc_lines.proofs.Keeping.{line_frame, last-append}
-use Rattle.gc_lines.proofs.Plain.{IsPlainByte}
+use Rattle.gc_lines.specs.Lines.{IsPlainByte, IsPlain, with_end}
+use Rattle.gc_lines.specs.Taking.{KeepsPiece}
+use Rattle.gc_lines.proofs.Plain.{plain_frame}
 use Rattle.gc_world.specs.Sides.{StandsForPart}
 
 -- Plain bytes have no line feed.
@@ -36,12 +36,7 @@ no_feed bs h =
 
 -- where g is at most m, the first g elements, and after them those from place g on but before place m, are the first m
 pub take_pieces : {A : Type 0} (g m : ℕ) (xs : List A) → g ≤ m → take g xs ++ take (m - g) (drop g xs) ≡ take m xs
-take_pieces zero m xs le = let e : m - 0 ≡ m = omega arith in ap (λ k. take k xs) e
-take_pieces (suc g) zero xs le = absurd (omega (arith, le))
-take_pieces (suc g) (suc m) [] le = take_all (suc m - suc g) [] (omega arith)
-take_pieces (suc g) (suc m) (x ∷ xs) le =
-    let e : suc m - suc g ≡ m - g = omega arith in
-    ap (λ l. x ∷ l) (ap (λ k. take g xs ++ take k (drop g xs)) e ∙ take_pieces g m xs (omega (arith, le)))
+take_pieces g m xs le = let e : g + (m - g) ≡ m = omega (arith, le) in sym (take-add g (m - g) xs) ∙ ap (λ k. take k xs) e
 
 -- a line with its CR LF is two bytes longer
 pub end_length : (line : List ℕ) → length (with_end line) ≡ length line + 2
@@ -52,27 +47,13 @@ with_return : (line : List ℕ) (m : ℕ) → m ≡ length line + 1 → take m (
 with_return line m e =
     ap (take m) (sym (append_assoc line (13 ∷ []) (10 ∷ []))) ∙ take_at (line ++ 13 ∷ []) (10 ∷ []) m (length-append line (13 ∷ []) ∙ sym e)
 
--- where a line of at most 512 bytes and a CR came before a line feed, the frame that the line feed ends is that line
-pub fed_end : (line : List ℕ) → length line ≤ 512 → frame_of (line ++ 13 ∷ []) ≡ Line (record { items = line })
-fed_end line fits =
-    let long : length (line ++ 13 ∷ []) ≡ length line + 1 = length-append line (13 ∷ []) in
-    let one : length (line ++ 13 ∷ []) - 1 ≡ length line = omega (arith, long) in
-    let last : get_or (line ++ 13 ∷ []) (length (line ++ 13 ∷ []) - 1) 0 ≡ 13 = last-append line (13 ∷ []) (omega arith) in
-    let items : line ≡ take (length (line ++ 13 ∷ []) - 1) (line ++ 13 ∷ []) = sym (ap (λ n. take n (line ++ 13 ∷ [])) one ∙ take_at line (13 ∷ []) (length line) refl) in
-    sym (line_frame (line ++ 13 ∷ []) (record { items = line }) (omega (arith, long)) last (omega (arith, long)) items)
-
 -- What an assembler stands for, the bytes of a line that it has taken so far, once it was fed a piece of the line: `old` is the
--- assembler before, and `new` after.
+-- assembler before, and `new` after. The call that fed the piece used `used` bytes of it and returned `frame` (`KeepsPiece`).
 
--- what the contract of the call that fed the piece says of a piece without a line feed: P and Q, and that the assembler stands
--- for the piece too, after the bytes for which it stood before
-abbrev Feeds : (P Q : Type 0) → (old new : Kept) → (piece : List ℕ) → Type 0
-Feeds P Q old new piece = position is_line_feed piece ≡ None → P × Q × ((rest : List ℕ) → StandsFor old rest → StandsFor new (rest ++ piece))
-
-module _ {P Q : Type 0} (old new : Kept) (line : List ℕ) (plain : IsPlain line) where
+module _ {used : ℕ} {frame : Frame} (old new : Kept) (line : List ℕ) (plain : IsPlain line) where
   -- where an assembler stood (`old`) for the first g bytes of the line, and was fed those from there to place m, within the line,
   -- it then stands (`new`) for the first m bytes
-  pub fed_within : (g m : ℕ) → g ≤ m → m ≤ length line → Feeds P Q old new (take (m - g) (drop g line)) → StandsForPart old g line → StandsForPart new m line
+  pub fed_within : (g m : ℕ) → g ≤ m → m ≤ length line → KeepsPiece old new (take (m - g) (drop g line)) used frame → StandsForPart old g line → StandsForPart new m line
   fed_within g m le within next stands =
       let fed = (next (no_feed (take (m - g) (drop g line)) (All-take IsPlainByte (m - g) (drop g line) (All-drop IsPlainByte g line plain)))).2 (take g line)
       (subst (StandsFor old) (take-append-le g line (13 ∷ 10 ∷ []) (omega (arith, le, within))) stands) in
@@ -80,18 +61,19 @@ module _ {P Q : Type 0} (old new : Kept) (line : List ℕ) (plain : IsPlain line
 
   -- where an assembler stood (`old`) for the first g bytes of the line, and was fed its other bytes, without CR LF, it then
   -- stands (`new`) for the line
-  pub fed_line : (g : ℕ) → g ≤ length line → Feeds P Q old new (take (length line - g) (drop g line)) → StandsForPart old g line → StandsFor new line
+  pub fed_line : (g : ℕ) → g ≤ length line → KeepsPiece old new (take (length line - g) (drop g line)) used frame → StandsForPart old g line → StandsFor new line
   fed_line g le next stands = subst (StandsFor new) (take_at line (13 ∷ 10 ∷ []) (length line) refl) (fed_within g (length line) le (omega arith) next stands)
 
 -- where an assembler stood (`old`) for a line, and was fed a CR, it then stands (`new`) for the line and the CR
-pub fed_return : {P Q : Type 0} (old new : Kept) (line : List ℕ) (m : ℕ) → m ≡ length line + 1 → Feeds P Q old new (13 ∷ []) → StandsFor old line
+pub fed_return : {used : ℕ} {frame : Frame} (old new : Kept) (line : List ℕ) (m : ℕ) → m ≡ length line + 1
+    → KeepsPiece old new (13 ∷ []) used frame → StandsFor old line
     → StandsForPart new m line
 fed_return old new line m e next stands = subst (StandsFor new) (sym (with_return line m e)) ((next refl).2 line stands)
 
 -- where an assembler stands for all bytes of a line of at most 512 bytes and its CR LF but the line feed, the frame that a line
 -- feed ends is that line
 pub fed_feed : (line : List ℕ) (g : ℕ) → g ≡ length line + 1 → length line ≤ 512 → frame_of (take g (with_end line) ++ []) ≡ Line (record { items = line })
-fed_feed line g e fits = ap frame_of (append-nil (take g (with_end line)) ∙ with_return line g e) ∙ fed_end line fits
+fed_feed line g e fits = ap frame_of (append-nil (take g (with_end line)) ∙ with_return line g e) ∙ sym (plain_frame line fits)
 
 -- two frames that are equal lines have equal bytes
 line_items : (xs ys : List ℕ) → ◌≡◌ {A = Frame} (Line (record { items = xs })) (Line (record { items = ys })) → xs ≡ ys

@@ -1,8 +1,8 @@
--- The element at a place of a list, also of a list that was mapped or appended to.
-use Rattle.std.proofs.Common.{◌≡◌, ℕ, zero, suc, ◌<◌, List, [], ◌∷◌, length, map, Some, refl, ◌∙◌, ap, arith}
+-- The element at a place of a list, also of a list that was mapped, appended to or cut.
+use Rattle.std.proofs.Common.{◌≡◌, ℕ, zero, suc, ◌-◌, ◌<◌, ◌≤◌, List, [], ◌∷◌, length, map, drop, get_or, Some, refl, ◌∙◌, ap, arith}
 use Rattle.std.specs.Prelude.{slice_get}
 use Rattle.std.specs.Option.{option_map}
-use Rattle.std.proofs.lemmas.Option.{same_Some, none-some, slice_get-map}
+use Rattle.std.proofs.lemmas.Option.{same_Some, none-some, slice_get-get_or, slice_get-map}
 pub use Rattle.gc_lines.proofs.Lists.{all_at, get_more, get_push}
 
 -- where xs has x at place n, map f xs has f x there
@@ -15,8 +15,14 @@ get_seen f [] n y e = absurd (none-some y e)
 get_seen f (x ∷ xs) zero y e = (x, refl, same_Some (f x) y e)
 get_seen f (x ∷ xs) (suc n) y e = get_seen f xs n y e
 
+-- where k is at most n, element n - k of the list after the first k is element n of the whole list
+pub slice_drop : {A : Type 0} (k : ℕ) (xs : List A) (n : ℕ) → k ≤ n → slice_get (drop k xs) (n - k) ≡ slice_get xs n
+slice_drop zero xs n le = let e : n - 0 ≡ n = omega arith in ap (slice_get xs) e
+slice_drop (suc k) [] n le = refl
+slice_drop (suc k) (x ∷ xs) zero le = absurd (omega (arith, le))
+slice_drop (suc k) (x ∷ xs) (suc n) le = let e : suc n - suc k ≡ n - k = omega arith in ap (slice_get (drop k xs)) e ∙ slice_drop k xs n (omega (arith, le))
+
 -- a place below the length has an element
-pub in_range : {A : Type 0} (xs : List A) (k : ℕ) → k < length xs → (x : A) × (slice_get xs k ≡ Some x)
-in_range [] k lt = absurd (omega arith)
-in_range (x ∷ xs) zero lt = (x, refl)
-in_range (x ∷ xs) (suc k) lt = in_range xs k (omega arith)
+pub element_at : {A : Type 0} (xs : List A) (k : ℕ) → k < length xs → (x : A) × (slice_get xs k ≡ Some x)
+element_at [] k lt = absurd (omega arith)
+element_at (x ∷ xs) k lt = (get_or (x ∷ xs) k x, slice_get-get_or (x ∷ xs) k x lt)

@@ -47,8 +47,8 @@ pub if_none : {A P Q : Type 0} (o : Option A) → (P → Q) → IfNone o P → I
 if_none (Some x) f h = tt
 if_none None f h = f h
 
--- where o is `Some` exactly if `old` has an element k, and `new` is what std's `remove` of element k leaves of `old` if o is
--- `Some`, and is `old` if o is `None`, `new` is `old` without element k (`without`)
+-- what a removal of element k leaves of a queue, by its result o: if o is `Some` exactly where `old` has an element k, and `new`
+-- is then `old` after std's `remove`, and else `old` itself, `new` is `old` without element k (`without`)
 pub lose_left : {A : Type 0} (o : Option A) (k : ℕ) (old new : List A) → (IsSome o ↔ (k < length old)) → OnSome o (new ≡ remove old k)
     → IfNone o (new ≡ old) → new ≡ without k old
 lose_left (Some x) k old new v some none = some ∙ without_is old k (v.0 refl)

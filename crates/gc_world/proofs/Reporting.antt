@@ -12,7 +12,8 @@ use Rattle.gc_client.specs.declared.settlement.Settlement.{Settlement}
 use Rattle.gc_client.specs.declared.settlement.Outcome.{Outcome}
 use Rattle.gc_client.specs.declared.settlement.Outcome.TheVariants.{Answered, Late, Lost}
 use Rattle.gc_client.specs.Rule
-use Rattle.gc_client.specs.Settlements.{IsReadForCall, settlement_seen, outcome_seen}
+use Rattle.gc_catalogue.specs.Readings.{IsReading}
+use Rattle.gc_client.specs.Settlements.{IsReadBy, settlement_seen, outcome_seen}
 use Rattle.gc_instrument.specs.State.{State, IsFittingState, restarted}
 use Rattle.gc_world.specs.declared.report.Made.{Made}
 use Rattle.gc_world.specs.declared.report.Report.{Report}
@@ -28,7 +29,7 @@ use Rattle.gc_world.specs.World.{Numbered, Wire}
 use Rattle.gc_world.proofs.Counts.{IsWithin}
 use Rattle.gc_world.proofs.Handing.{bare_after, bare_line, bare_begun, fine}
 use Rattle.std.proofs.lemmas.Option.{same_Some, none-some, slice_get_within}
-use Rattle.gc_world.proofs.Places.{get_map, get_seen, in_range, all_at}
+use Rattle.gc_world.proofs.Places.{get_map, get_seen, element_at, all_at}
 
 -- increasing numbers from `low` on are at least `low`
 above_low : (low : ℕ) (xs : List ℕ) (j m : ℕ) → Increasing low xs → slice_get xs j ≡ Some m → low ≤ m
@@ -75,14 +76,14 @@ module _ (r : Report) (w : Wire State) (h : IsReport r w) where
     -- where the report is one for one, settlement m of the report, with the outcome o, is booked for request m if it is an answer
     -- whose reading is that of its line
     booked_at : (one : OneForOne r)
-        → (m : ℕ) (s : Settlement Call) (o : Outcome) → s.outcome ≡ o → slice_get r.settled m ≡ Some s → IsReadForCall s.call o → IsBookedAnswer r m s.call o
+        → (m : ℕ) (s : Settlement Call) (o : Outcome) → s.outcome ≡ o → slice_get r.settled m ≡ Some s → IsReadBy IsReading s.call o → IsBookedAnswer r m s.call o
     booked_at one m s Late o e read = tt
     booked_at one m s Lost o e read = tt
     booked_at one m s (Answered reading line) o e read =
         let b = booked m (settlement_seen s) (settled_at m s e) line.items (ap outcome_seen o) in
         let at = b.0.0 in
         let entry = get_seen made_seen r.made at (record { number = m; line = line.items }) (ap (λ l. slice_get l at) h.made ∙ b.0.1) in
-        let q = in_range r.sent m (omega (arith, one.count, slice_get_within r.settled m s e)) in
+        let q = element_at r.sent m (omega (arith, one.count, slice_get_within r.settled m s e)) in
         let same = (one.same m s q.0 e q.1).1 in
         record {
           place = at;
@@ -98,8 +99,8 @@ module _ (r : Report) (w : Wire State) (h : IsReport r w) where
     pub books_answers : OneForOne r → BooksAnswers r
     books_answers one m s e =
         booked_at one m s s.outcome refl e
-        (all_at (λ (x : Settlement Call). IsReadForCall x.call x.outcome) r.settled m s
-        (recursion_from_All (λ (x : Settlement Call). IsReadForCall x.call x.outcome) r.settled h.settled.read) e)
+        (all_at (λ (x : Settlement Call). IsReadBy IsReading x.call x.outcome) r.settled m s
+        (recursion_from_All (λ (x : Settlement Call). IsReadBy IsReading x.call x.outcome) r.settled h.settled.read) e)
 
   module _ (opening : State) (x : IsExecution ends opening w) where
     -- the state before each execution, as the run has it, but with no kept reply

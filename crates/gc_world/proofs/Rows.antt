@@ -2,7 +2,7 @@
 -- holds of them: none is below low - 1 either.
 use Rattle.std.proofs.Common.{ℕ, zero, suc, ◌+◌, ◌<◌, ◌≤◌, List, [], ◌∷◌, ◌++◌, arith}
 use Rattle.std.specs.List.{AllByRecursion}
-use Rattle.gc_lines.proofs.Lists.{all_on}
+use Rattle.gc_values.proofs.Every.{every_weaker as all_on}
 use Rattle.gc_world.specs.Worlds.{without, doubled, Numbered}
 use Rattle.gc_world.specs.Order.{Rising, numbers}
 

@@ -1,7 +1,7 @@
 -- What every run by ids has at its end.
 use Rattle.std.proofs.Common.{◌≡◌, ℕ, ◌≤◌, List, Option, Some, true, sym, subst}
 use Rattle.std.specs.List.{AllByRecursion}
-use Rattle.gc_lines.proofs.Lists.{all_on}
+use Rattle.gc_values.proofs.Every.{every_weaker as all_on}
 use Rattle.gc_instrument.specs.State.{KeptReply}
 use Rattle.gc_world.specs.Order.{IsRecent, numbers}
 use Rattle.std.specs.Prelude.{slice_get}

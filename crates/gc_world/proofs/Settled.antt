@@ -7,15 +7,11 @@ use Rattle.gc_client.specs.Rule.{Settlement, Settled, ById, pending_of, id_send}
 use Rattle.gc_client.specs.Rule.{Sending}
 use Rattle.gc_client.specs.OneForOne.{Wanted, of_settled, of_pending}
 use Rattle.gc_client.proofs.OneForOne.{lost_parts, expired_parts, heard_parts}
-use Rattle.gc_world.specs.Worlds.{Sent, Ends, Step, Wire, World, started, requested, with_settled, run}
+use Rattle.gc_world.specs.Worlds.{Sent, of_sent, Ends, Step, Wire, World, started, requested, with_settled, run}
 use Rattle.gc_world.specs.Clients.{by_ids, ids_open}
 use Rattle.gc_world.specs.Record.{IsOneForOne}
 use Rattle.gc_world.proofs.Stable.{IsStable, stable_all}
 use Rattle.std.proofs.lemmas.Option.{same_Some, none-some}
-
--- the target and the call of a request that was sent
-abbrev pub of_sent : {Q : Type 0} → Sent Q → Wanted Q
-of_sent r = record { target = r.target; call = r.call }
 
 module _ {Q State : Type 0} (width : ℕ) (ends : Ends Q State) where
   -- a world is whole: the settled requests, and after them those that wait, are those that were sent, in order

@@ -6,10 +6,11 @@ use Rattle.std.specs.List.{AllByRecursion}
 use mathlib.Core.Path.{ap₂}
 use Rattle.std.specs.Prelude.{slice_get}
 use Rattle.std.proofs.lemmas.List.{map-append, length-map, append-nil}
-use Rattle.std.proofs.lemmas.List.Elements.{All-append}
 use Rattle.std.proofs.lemmas.Bool.{ltb-false}
-use Rattle.gc_lines.proofs.Lists.{all_append, all_on}
+use Rattle.gc_lines.proofs.Lists.{all_append}
+use Rattle.gc_values.proofs.Every.{every_weaker as all_on}
 use Rattle.gc_catalogue.specs.declared.call.Call.{Call}
+use Rattle.gc_catalogue.specs.Readings.{IsReading}
 use Rattle.gc_client.specs.declared.window.TheConstants.{IDS}
 use Rattle.gc_client.specs.declared.heard.Hearing.{Hearing}
 use Rattle.gc_client.specs.declared.heard.Hearing.TheVariants.{Settled, Stray, Unread}
@@ -17,7 +18,8 @@ use Rattle.gc_client.specs.declared.settlement.Settlement.{Settlement}
 use Rattle.gc_client.specs.Hearing.{HearsInto}
 use Rattle.gc_client.specs.Rule.{ById, Windowed, Sending, heard, hears, place_in, id_settled, id_send, sends, restarts}
 use Rattle.gc_client.specs.Rule
-use Rattle.gc_client.specs.Settlements.{AreSettlements, settlement_seen, IsReadForCall}
+use Rattle.gc_client.specs.Settlements.{AreSettlements}
+use Rattle.gc_client.proofs.Settling.{settled_append}
 use Rattle.gc_instrument.specs.State.{State, restarted}
 use Rattle.gc_instrument.specs.Replying.{Handed, handed, kept_line, IsExchanged, AppendsExchange}
 use Rattle.gc_instrument.proofs.Answering.{handed_again, handed_new, some_line_or_none}
@@ -79,15 +81,6 @@ reports_queues : (r : Report) (w : Wire State) (up : List (Numbered Request)) (d
     → IsReport r (record w { up = up; down = down })
 reports_queues r w up down h =
     record { sent = h.sent; executed = h.executed; made = h.made; settled = h.settled; starts = h.starts; instrument = h.instrument; refused = h.refused; idle = h.idle }
-
--- where the settlements xs are us of the client's rule, and ys are vs of it, xs followed by ys are us followed by vs
-pub are_more : (xs ys : List (Settlement Call)) (us vs : List (Rule.Settlement Call)) → AreSettlements xs us → AreSettlements ys vs
-    → AreSettlements (xs ++ ys) (us ++ vs)
-are_more xs ys us vs h g =
-    record {
-      seen = map-append settlement_seen xs ys ∙ ap₂ (λ (a b : List (Rule.Settlement Call)). a ++ b) h.seen g.seen;
-      read = All-append (λ (s : Settlement Call). IsReadForCall s.call s.outcome) xs ys h.read g.read;
-    }
 
 -- settling doesn't change the next id
 settled_next : (c : ById Call) (line : List ℕ) (k : ℕ) (b : Bool) → (id_settled c line k b).client.next ≡ c.next
@@ -357,7 +350,7 @@ module _ (width : ℕ) (r : Report) (up down : List ℕ) (c : Windowed Call) (w 
           executed = h.reports.executed;
           made = h.reports.made;
           settled = subst (λ l. AreSettlements l (w.wire.settled ++ (hears w.client x.line (heard x.line)).settlements)) (sym left.settled_is)
-              (are_more r.settled left.more w.wire.settled (hears w.client x.line (heard x.line)).settlements h.reports.settled are);
+              (settled_append IsReading r.settled left.more w.wire.settled (hears w.client x.line (heard x.line)).settlements h.reports.settled are);
           starts = h.reports.starts;
           instrument = h.reports.instrument;
           refused = h.reports.refused;
@@ -386,7 +379,7 @@ module _ (width : ℕ) (r : Report) (up down : List ℕ) (c : Windowed Call) (w 
           executed = h.reports.executed;
           made = h.reports.made;
           settled = subst (λ l. AreSettlements l (w.wire.settled ++ (restarts w.client).settlements)) (sym left.settled_is)
-              (are_more r.settled left.more w.wire.settled (restarts w.client).settlements h.reports.settled are);
+              (settled_append IsReading r.settled left.more w.wire.settled (restarts w.client).settlements h.reports.settled are);
           starts = left.starts_is ∙ ap₂ (λ (l m : List ℕ). l ++ length m ∷ []) h.reports.starts h.reports.executed;
           instrument = left.state_is ∙ ap restarted h.reports.instrument;
           refused = h.reports.refused;

@@ -4,22 +4,28 @@ use Rattle.std.proofs.lemmas.List.{take_all}
 use Rattle.gc_lines.specs.Assembler.{Kept}
 use Rattle.gc_catalogue.specs.declared.call.Call.{Call}
 use Rattle.gc_client.specs.Rule.{ById, Windowed}
-use Rattle.gc_instrument.specs.State.{State}
+use Rattle.gc_instrument.specs.State.{State, restarted}
 use Rattle.gc_world.specs.declared.event.Event.{Event}
 use Rattle.gc_world.specs.declared.report.Report.{Report}
 use Rattle.gc_world.specs.Reports.{IsReport}
-use Rattle.gc_world.specs.Clients.{by_ids, ends, streamed, played}
-use Rattle.gc_world.specs.Stages.{streams_at_start, Seen, AreOfWorld, AreStreamsOf}
-use Rattle.gc_world.specs.World.{World}
+use Rattle.gc_world.specs.Clients.{by_ids, ids_open, streams_by_ids, ends, streamed, played}
+use Rattle.gc_world.specs.Stages.{Seen, AreOfWorld, AreStreamsOf}
+use Rattle.gc_world.specs.Streams.{untouched}
+use Rattle.gc_world.specs.World.{World, Ends}
 use Rattle.gc_world.proofs.Counts.{IsWithin, within_all}
 
--- none of the lists and counts of a run that `IsWithin` speaks of is above the count of its events
-pub played_within : (width : ℕ) (opening : State) (events : List Event) → IsWithin (length events) (played width opening events).wire
-played_within width opening events =
+-- none of the lists and counts of a run by ids that `IsWithin` speaks of is above the count of its events
+pub run_within : {S : Type 0} (sides : Ends S) (width : ℕ) (state : S) (events : List Event)
+    → IsWithin (length events) (streams_by_ids width sides events state).world.wire
+run_within sides width state events =
     let e : 0 + length events ≡ length events = omega arith in
-    subst (λ n. IsWithin n (played width opening events).wire) e
-    (within_all ends (by_ids width ends) events (streams_at_start opening) 0 (record
+    subst (λ n. IsWithin n (streams_by_ids width sides events state).world.wire) e
+    (within_all sides (by_ids width sides) events (untouched (ids_open state)) 0 (record
     { sent = omega arith; executed = omega arith; made = omega arith; starts = omega arith; refused = omega arith; idle = omega arith }))
+
+-- the same of the run on the simulated instrument
+pub played_within : (width : ℕ) (opening : State) (events : List Event) → IsWithin (length events) (played width opening events).wire
+played_within width opening events = run_within ends width (restarted opening) events
 
 -- where a report, two queues and a client are those of a world (`AreOfWorld`), they still are with other assemblers in the report
 with_assemblers : (width : ℕ) (r : Report) (up down : List ℕ) (c : Windowed Call) (w : World (ById Call) State) (a b : Kept) → AreOfWorld width r up down c w
@@ -36,9 +42,9 @@ with_assemblers width r up down c w a b h =
       calls = h.calls;
     }
 
--- where i is at least the count of the events, and s shows the streams after the first i of them, which are all of
--- them, the report r, which is that of s with the assemblers of its two sides, and the queues and the client of s are
--- those of the whole run (`AreOfWorld`)
+-- at the end of the loop, where i is at least the count of the events: if s shows the streams after the first i of them, and r is
+-- the report of s with the assemblers of its two sides, then r with the queues and the client of s is that of the whole run
+-- (`AreOfWorld`)
 pub at_end : (width : ℕ) (opening : State) (events : List Event) (s : Seen) (i : ℕ) (r : Report) → length events ≤ i
     → AreStreamsOf width s (streamed width opening (take i events)) → r ≡ record s.report { up = s.up.assembler; down = s.down.assembler }
     → AreOfWorld width r s.up.queue s.down.queue s.client (played width opening events)

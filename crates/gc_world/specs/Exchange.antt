@@ -1,5 +1,5 @@
 -- No part of this crate's promise: what the proofs ask of the two ends, and of the reply that an instrument keeps.
-use Rattle.std.specs.Prelude.{◌≡◌, ℕ, ◌<◌, List, true, false, Option, Some, None}
+use Rattle.std.specs.Prelude.{◌≡◌, ℕ, ◌<◌, List, true, false, Option, Some, None, IfSome}
 use Rattle.gc_instrument.specs.Replying.{kept_line}
 use Rattle.gc_instrument.specs.State.{KeptReply}
 use Rattle.gc_client.specs.Rule.{heard}
@@ -8,8 +8,7 @@ use Rattle.gc_world.specs.Worlds.{Ends}
 
 -- the line of this kept reply, if there is one, reads as a reply with the id that it is kept with
 abbrev pub ReadsWithItsId : Option KeptReply → Type 0
-ReadsWithItsId None = Unit {0}
-ReadsWithItsId (Some k) = heard k.line ≡ Some k.id
+ReadsWithItsId kept = IfSome kept (λ k. heard k.line ≡ Some k.id)
 
 -- in a good state (`Good`) the reply to a request, whose id is below `IDS`, reads as one with that id, and the state after it is
 -- good again; a restart leads from a good state to a good one

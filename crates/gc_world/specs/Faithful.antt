@@ -1,6 +1,6 @@
 -- When the report of a list of events is faithful. It has four parts; each is here first in a sentence, then in symbols. The
 -- report's lists are counted from 0, and request m is the one at place m of `sent`. This project's own.
-use Rattle.std.specs.Prelude.{◌≡◌, ℕ, ◌+◌, ◌<◌, ◌≤◌, ◌||◌, Bool, true, false, List, [], ◌∷◌, length, Some, None, map, nat_eq, slice_get, ⊤}
+use Rattle.std.specs.Prelude.{◌≡◌, ℕ, ◌+◌, ◌<◌, ◌≤◌, ◌||◌, Bool, true, false, List, [], ◌∷◌, length, Some, map, nat_eq, slice_get, ⊤}
 use Rattle.gc_catalogue.specs.declared.answer.Reading.{Reading}
 use Rattle.gc_catalogue.specs.declared.answer.Reading.TheVariants.{Value, Refused, ComFault, Unreadable}
 use Rattle.gc_catalogue.specs.declared.call.Call.{Call}
@@ -11,7 +11,7 @@ use Rattle.gc_client.specs.declared.settlement.Outcome.{Outcome}
 use Rattle.gc_client.specs.declared.settlement.Outcome.TheVariants.{Answered, Late, Lost}
 use Rattle.gc_client.specs.Settlements.{AreSettlements, ReadsAs}
 use Rattle.gc_instrument.specs.Execution.{exec}
-use Rattle.gc_instrument.specs.Replying.{executed_line, with_kept}
+use Rattle.gc_instrument.specs.Replying.{executed_line, without_kept}
 use Rattle.gc_instrument.specs.State.{State, restarted}
 use Rattle.gc_world.specs.declared.event.Event.{Event}
 use Rattle.gc_world.specs.declared.report.Made.{Made}
@@ -104,7 +104,7 @@ pub record ActsOnce (opening : State) (r : Report) : Type 0 where
   pub climbs : (i j n m : ℕ) → i < j → slice_get r.executed i ≡ Some n → slice_get r.executed j ≡ Some m → n < m
   pub before : ℕ → State
   pub states : AreBefore opening r before
-  pub last : with_kept None r.instrument ≡ before (length r.executed)
+  pub last : without_kept r.instrument ≡ before (length r.executed)
 
 -- a request of the report as the world speaks of it: its target, its call and its line's bytes
 abbrev pub sent_seen : Sent → World.Sent

@@ -1,11 +1,12 @@
 -- What the laws of the runs say of the order of the line: which numbers can be in flight. A request's number is its place
 -- among those sent, counted from 0, and a reply has its request's number. This project's own.
-use Rattle.std.specs.Prelude.{◌≡◌, ℕ, ◌+◌, ◌<◌, ◌≤◌, List, [], ◌∷◌, ◌++◌, length, map, Option, Some, None}
+use Rattle.std.specs.Prelude.{◌≡◌, ℕ, ◌+◌, ◌<◌, ◌≤◌, List, [], ◌∷◌, ◌++◌, length, map, Option, IfSome}
 use Rattle.std.specs.List.{AllByRecursion}
 use Rattle.gc_instrument.specs.State.{KeptReply}
 use Rattle.gc_world.specs.Worlds.{Numbered, Wire}
 
--- the numbers of a list never fall from one to the next, and none is below low - 1
+-- the numbers of a list never fall from one to the next, and none is below low - 1: `low` is one above the number before the
+-- list, or 0 if there is none
 abbrev pub Rising : (low : ℕ) → List ℕ → Type 0
 Rising low [] = Unit {0}
 Rising low (n ∷ ns) = (low ≤ n + 1) × Rising (n + 1) ns
@@ -21,8 +22,8 @@ in_flight w = numbers w.down ++ numbers w.up
 -- while a reply is kept, some request was executed, and each of the numbers `up` is the one executed last or one of the `width`
 -- above it
 abbrev pub IsRecent : (width : ℕ) → Option KeptReply → (executed up : List ℕ) → Type 0
-IsRecent width None executed up = Unit {0}
-IsRecent width (Some k) executed up = (earlier : List ℕ) × (last : ℕ) × (executed ≡ earlier ++ last ∷ []) × AllByRecursion (λ n. (last ≤ n) × (n ≤ last + width)) up
+IsRecent width kept executed up = IfSome kept (λ _.
+    (earlier : List ℕ) × (last : ℕ) × (executed ≡ earlier ++ last ∷ []) × AllByRecursion (λ n. (last ≤ n) × (n ≤ last + width)) up)
 
 -- the order of the line, where at most `width` requests are unsettled
 pub record IsOrderly {Q State : Type 0} (width : ℕ) (w : Wire Q State) : Type 0 where

@@ -2,6 +2,7 @@
 -- them, what may happen on it, and a run. Q is the type of what is asked for; `World.antt` has the world in which it is a call of the
 -- table. `written` is the line that the client writes with an id for what it asks for.
 use Rattle.std.specs.Prelude.{ℕ, zero, suc, ◌+◌, Bool, true, false, List, [], ◌∷◌, ◌++◌, length, Option, Some, None, if◌then◌else◌, nat_lt}
+use Rattle.gc_client.specs.OneForOne.{Wanted}
 use Rattle.gc_client.specs.Rule.{Settlement, Settled, Sending}
 use Rattle.gc_instrument.specs.Replying.{Handed}
 
@@ -12,6 +13,10 @@ pub record Sent (Q : Type 0) : Type 0 where
   pub target : ℕ
   pub call : Q
   pub line : List ℕ
+
+-- whom a request that was sent was for, and what it asks for
+abbrev pub of_sent : {Q : Type 0} → Sent Q → Wanted Q
+of_sent r = record { target = r.target; call = r.call }
 
 -- a request in flight: its line is the one that a client writes with this id for what it asks for
 pub record Request (Q : Type 0) : Type 0 where

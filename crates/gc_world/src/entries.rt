@@ -199,8 +199,9 @@ impl Entries<Settlement<Call>> {
         })
     }
 
-    // Appends the settlement of a request as lost. `Err`: memory for it was refused, and the list is as before. The function has a
-    // frame of its own, because a settlement is large.
+    // Appends the settlement of a request as lost. `Err`: memory for it was refused, and the list is as before. The function has
+    // a frame of its own, because a settlement is large; nor is it one with `push_late`, because an outcome that is passed is as
+    // large.
     #[inline(never)]
     fn push_lost(&mut self, target: u32, call: &Call) -> Result<(), AllocError>
         ensures { OnOk result (self.new ≡ self.old ++ record { target = target; call = call.now; outcome = Lost } ∷ []) }

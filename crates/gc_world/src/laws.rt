@@ -50,8 +50,7 @@ pub fn executions_are_recorded()
 /// When the last byte of a reply to an unsettled request is delivered, the unsettled requests before that request are settled as
 /// lost. The request itself is settled as answered with that very line if the client was given no time at or past the request's
 /// deadline since its send, and else as late. A further reply settles nothing. If the bytes of one event complete several
-/// replies, each is delivered in turn, by
-/// [`bytes_go_over_in_turn`].
+/// replies, each is delivered in turn, by [`bytes_go_over_in_turn`].
 pub fn first_reply_is_booked()
     ensures in_time { BooksFirstReply }
     ensures late { FirstReplyIsLate }

@@ -72,14 +72,10 @@ leads_begin width x (asked ∷ later) rest bytes =
 abbrev new : ById Asked
 new = fresh
 
--- a line in which an id is heard settles nothing of a new client, which stays new
-none_fits : (id : ℕ) (line : List ℕ) → hears new line (Some id) ≡ record { settlements = []; client = new }
-none_fits id line = ap (id_settled new line (place_in new id)) (le-ltb (place_in new id) 0 (omega arith))
-
 -- a line, whether an id is heard in it or none, settles nothing of a new client, which stays new
 none_settled : (line : List ℕ) (o : Option ℕ) → hears new line o ≡ record { settlements = []; client = new }
 none_settled line None = refl
-none_settled line (Some id) = none_fits id line
+none_settled line (Some id) = ap (id_settled new line (place_in new id)) (le-ltb (place_in new id) 0 (omega arith))
 
 -- what settles nothing of a new client leaves its course as it was
 stays_idle : (x : Course Asked) (s : Settled Asked (ById Asked)) → x.client ≡ fresh → s ≡ record { settlements = []; client = fresh } → settled_on x s ≡ x
@@ -132,8 +128,8 @@ leads_expire : (width : ℕ) (x : Course Asked) (left : List ℕ) (now : ℕ) �
 leads_expire width x [] now idle = record { turns = λ es h. (refl, h); reached = λ es. refl; behind = λ es. refl }
 leads_expire width x (asked ∷ later) now idle = leads_idle width x _ (asked ∷ later) (idle_moment width x now (idle (cons_not_nil asked later)))
 
--- the events of a restart lead to the course after it, and to the ids that are to be answered then, if the client is new unless it has
--- synchronized
+-- the events of a restart lead to the course after it, and to the ids that are to be answered then, if the client is new unless
+-- it has synchronized
 leads_restart : (width : ℕ) (x : Course Asked) (left : List ℕ) → IsIdle x left
     → Leads width x (course_after width x one.Restart) left (left_by_restart left) (step_events left (one.Restart ∷ []))
 leads_restart width x [] idle = record { turns = λ es h. (refl, h); reached = λ es. refl; behind = λ es. refl }
@@ -149,8 +145,8 @@ record Over (width : ℕ) (s : Stage) (calls : List Step) (t : Stage) : Type 0 w
   reached : t.reached ≡ course width s.reached (steps_among events)
   left : t.left ≡ left_among s.left events
 
--- calls that lead from stage s to stage t are events that lead from s to t (`Over`), if the client at s is a new one unless it has
--- synchronized
+-- calls that lead from stage s to stage t are events that lead from s to t (`Over`), if the client at s is a new one unless it
+-- has synchronized
 as_events : (width : ℕ) (s : Stage) (calls : List Step) (t : Stage) → IsIdle s.reached s.left → CallsReach width s calls t → Over width s calls t
 as_events width s [] t idle f = record { events = []; are = refl; turns = tt; reached = ap (λ (x : Stage). x.reached) f; left = ap (λ (x : Stage). x.left) f }
 as_events width s (Send target deadline procedure params ∷ calls) t idle (inl f) =

@@ -47,12 +47,13 @@ alike_all t p rest same more = ap frame_of (append_assoc t p more) ∙ same (p +
 pub alike_cut : (t p rest : List ℕ) → 513 < length (t ++ p) → GoAlike t rest → GoAlike (take 513 (t ++ p) ++ last_byte (t ++ p) ∷ []) (rest ++ p)
 alike_cut t p rest h same more = cut_same (t ++ p) more h ∙ alike_all t p rest same more
 
--- where n bytes of the piece p fill the room for 514 after t, t with these bytes begins with the same 513 bytes as t with all of p
+-- where n bytes of the piece p fill the room for 514 after t, t with these bytes begins with the same 513 bytes as t with all of
+-- p
 filled : (t p : List ℕ) (n : ℕ) → length t ≤ 514 → n ≡ 514 - length t → n ≤ length p → take 513 (t ++ take n p) ≡ take 513 (t ++ p)
 filled t p n short room fits = take-append 513 t (take n p) ∙ ap (λ xs. take 513 t ++ xs) (take-take (513 - length t) n p (omega (arith, room))) ∙ sym (take-append 513 t p)
 
--- a piece `p` comes after the n bytes `t` that are kept, neither of which has a line feed, and f more bytes are kept, in the room `bytes`;
--- `t` goes on as `rest` does, which came since the last line feed (`GoAlike`)
+-- a piece `p` comes after the n bytes `t` that are kept, neither of which has a line feed, and f more bytes are kept, in the room
+-- `bytes`; `t` goes on as `rest` does, which came since the last line feed (`GoAlike`)
 module _ (bytes t p rest : List ℕ) (n f : ℕ) (is : n ≡ length t) (clean : All (λ b. b ≢ 10) t) (cleanly : All (λ b. b ≢ 10) p) (same : GoAlike t rest) where
   -- if all of the piece was kept, what is retained stands for all bytes that came since the last line feed, `rest` and then `p`
   pub all_rest : n + f ≤ 514 → take (n + f) bytes ≡ t ++ p → IsRest (record { length = n + f; bytes = bytes }) (rest ++ p)
@@ -62,8 +63,8 @@ module _ (bytes t p rest : List ℕ) (n f : ℕ) (is : n ≡ length t) (clean : 
         same = λ more. ap (λ u. frame_of (u ++ more)) text ∙ alike_all t p rest same more;
       }
 
-  -- if the first f bytes of the piece were kept, as many as there was room for, and its last byte in the last place, 513, what is retained
-  -- stands for all bytes that came since the last line feed, `rest` and then `p`
+  -- if the first f bytes of the piece were kept, as many as there was room for, and its last byte in the last place, 513, what is
+  -- retained stands for all bytes that came since the last line feed, `rest` and then `p`
   pub cut_rest : (last : ℕ) (short : n ≤ 514) (room : f ≡ 514 - n) (more : f < length p) (text : take (n + f) bytes ≡ t ++ take f p)
       (within : 513 < length bytes)
       → last ≡ last_byte p → IsRest (record { length = n + f; bytes = slice_set bytes 513 last }) (rest ++ p)

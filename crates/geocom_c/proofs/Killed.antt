@@ -4,17 +4,16 @@
 use Rattle.std.proofs.Common.{ℕ, ◌≤◌, List, [], ◌∷◌, Option, refl}
 use Rattle.gc_instrument.specs.State.{KeptReply}
 use Rattle.gc_field.specs.World.{Ends}
-use Rattle.gc_field.specs.Begin.{IsWellFormed, UnderWay}
+use Rattle.gc_field.specs.Begin.{IsWellFormed, LacksTheWord, UnderWay}
 use Rattle.gc_field.specs.Beginnings.{AreFewKilled, AreRuns, HasRisingIds, Run, killed_if, left_by_run, left_by_runs, after_turns}
 use Rattle.gc_field.specs.Instrument.{IsAnInstrument}
 use Rattle.gc_field.proofs.BegunRuns.{IsShort, run_result, short_rising, short_word}
-use Rattle.geocom_c.specs.Laws.{MayBegin}
 
 module _ {State : Type 0} (ends : Ends State) (Good : State → Type 0) (kept : State → Option KeptReply) (is : IsAnInstrument ends Good kept) (width : ℕ) (narrow : width ≤ 7) where
   -- where what is in flight is what n runs in a row, killed while they synchronized, may leave (`IsShort n`), the word isn't in
   -- flight after further runs (`rs`) either, as long as few in a row are killed
   may_begin_after : (rs : List (Run State)) (n : ℕ) (u : UnderWay State) → IsWellFormed Good u → IsShort n u → AreRuns width ends Good kept u rs
-      → AreFewKilled width ends n u rs → MayBegin (left_by_runs width ends u rs)
+      → AreFewKilled width ends n u rs → LacksTheWord (left_by_runs width ends u rs)
   may_begin_after [] n u lines short runs few = short_word n u short
   may_begin_after (r ∷ rs) n u lines short runs few =
       let one = run_result ends Good kept is width narrow n u r (after_turns ends u r).left refl lines short runs.0.0 runs.0.1 few.0 in
@@ -23,5 +22,5 @@ module _ {State : Type 0} (ends : Ends State) (Good : State → Type 0) (kept : 
   -- where what is in flight is what a run that had synchronized may leave, or nothing (`HasRisingIds`), the word isn't in flight
   -- after further runs (`rs`), as long as few in a row are killed while they synchronize
   pub may_begin : (u : UnderWay State) → IsWellFormed Good u → HasRisingIds u → (rs : List (Run State)) → AreRuns width ends Good kept u rs
-      → AreFewKilled width ends 0 u rs → MayBegin (left_by_runs width ends u rs)
+      → AreFewKilled width ends 0 u rs → LacksTheWord (left_by_runs width ends u rs)
   may_begin u lines row rs runs few = may_begin_after rs 0 u lines (short_rising u row) runs few

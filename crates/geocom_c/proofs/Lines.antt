@@ -1,20 +1,15 @@
 -- Request lines without an id, and what they ask for.
-use Rattle.std.proofs.Common.{◌≡◌, ℕ, List, refl, sym, subst, ◌∙◌}
+use Rattle.std.proofs.Common.{◌≡◌, ℕ, List, sym, subst, ◌∙◌}
 use Rattle.std.specs.Prelude.{Ok, Err, None}
 use Rattle.gc_lines.specs.declared.fault.LineFault.{LineFault}
 use Rattle.gc_lines.specs.Requests.{RequestFields, IsRequest}
 use Rattle.gc_lines.specs.Readers.{request_at}
 use Rattle.gc_lines.proofs.Requests.{request_found, request_again}
 use Rattle.gc_catalogue.specs.declared.asked.Asked.{Asked}
-use Rattle.gc_catalogue.specs.declared.asked.Asked.TheVariants.{Table, Raw}
+use Rattle.gc_catalogue.proofs.AskedRules.{asked_id}
 use Rattle.gc_catalogue.specs.Asked.{asked_line, asked_request, IsAsked}
 use Rattle.gc_catalogue.specs.AskedLaws.{ReadsBackAsked}
 use Rattle.geocom_c.specs.State.{IsLineOf}
-
--- the request that asks for something, made without an id, has none
-has_no_id : (asked : Asked) → (asked_request None asked).id ≡ None
-has_no_id (Table call) = refl
-has_no_id (Raw raw) = refl
 
 -- the line that is written for what is asked, without an id, is one that asks for it (`IsLineOf`)
 pub own_line : (line : List ℕ) (asked : Asked) → ReadsBackAsked None asked → line ≡ asked_line None asked → IsLineOf line asked
@@ -22,7 +17,7 @@ own_line line asked back e =
     record {
       fields = asked_request None asked;
       is_request = subst (λ l. IsRequest l (asked_request None asked)) (sym e) (request_found (asked_line None asked) (asked_request None asked) back.line);
-      no_id = has_no_id asked;
+      no_id = asked_id None asked;
       is_asked = back.is_asked;
     }
 

@@ -10,7 +10,7 @@ use Rattle.gc_client.specs.OneForOne.{of_settled}
 use Rattle.gc_client.specs.Rule.{Settlement, Answered, Lost, lost}
 use Rattle.gc_client.specs.declared.pending.Pending.{Pending}
 use Rattle.gc_instrument.specs.State.{KeptReply}
-use Rattle.gc_world.proofs.Places.{in_range}
+use Rattle.gc_world.proofs.Places.{element_at}
 use Rattle.gc_field.specs.World.{Ends, Sent}
 use Rattle.gc_field.specs.Begin.{leaves}
 use Rattle.gc_field.specs.Begun.{IsFaithful}
@@ -24,15 +24,15 @@ same_asked : (r : Sent) (s : Settlement Asked) → s.target ≡ r.target → s.c
 same_asked r s t c = rw (t, c) refl
 
 module _ {State : Type 0} (width : ℕ) (ends : Ends State) (Good : State → Type 0) (kept : State → Option KeptReply) where
-  -- an answer that a faithful run settled, after the eight null procedures, is its own request's, in the list that begins with this
-  -- run, if the run's commands are safe
+  -- an answer that a faithful run settled, after the eight null procedures, is its own request's, in the list that begins with
+  -- this run, if the run's commands are safe
   own_at_place : (p : Part State) (ps : List (Part State)) → IsFaithful width ends (leaves (begun_at ends p)) p.run.moves Good kept
       → IsSafeRun width ends Good kept p → (m : ℕ) (x : Settlement Asked)
       → 8 ≤ m → slice_get (world width ends p).wire.settled m ≡ Some x → IsOwnAnswer width ends Good kept (p ∷ ps) x
   own_at_place p ps f safe m x command e = λ line is.
       let o = f.one_for_one in
       let went : m < length (world width ends p).wire.sent = omega (arith, slice_get_within (world width ends p).wire.settled m x e, o.count) in
-      let request = in_range (world width ends p).wire.sent m went in
+      let request = element_at (world width ends p).wire.sent m went in
       let s = safe m command went in
       let same = o.same m x request.0 e request.1 in
       record {

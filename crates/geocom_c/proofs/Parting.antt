@@ -16,7 +16,7 @@ use Rattle.gc_world.specs.Clients.{by_ids}
 use Rattle.gc_station.proofs.Behind.{course_append}
 use Rattle.gc_station.proofs.Lists.{all_append, all_on}
 use Rattle.gc_field.specs.World.{Ends}
-use Rattle.gc_field.specs.Begin.{InFlight, IsWellFormed, AreTurns, Asks, Comes, Foreign, Reaches, Up_lose, Up_repeat, Down_lose, Down_repeat, Anew, Changes, Model, Turn, UnderWay, asks, begins, comes, leaves, turned, turns}
+use Rattle.gc_field.specs.Begin.{InFlight, IsWellFormed, LacksTheWord, AreTurns, Asks, Comes, Foreign, Reaches, Up_lose, Up_repeat, Down_lose, Down_repeat, Anew, Changes, Model, Turn, UnderWay, asks, begins, comes, leaves, turned, turns}
 use Rattle.gc_field.specs.Beginnings.{IsOwnIf, Run, left_by_run, left_if, on_line, after_turns}
 use Rattle.gc_field.specs.Begun.{behind, ids_begun}
 use Rattle.gc_field.specs.Field.{Move, Sends, Tells, OnLine, Joins, ArePossible, seen}
@@ -29,7 +29,7 @@ use Rattle.gc_field.proofs.BegunRuns.{clean_lines}
 use Rattle.gc_field.proofs.Shown.{left_reaches}
 use Rattle.gc_field.proofs.BegunRising.{rising_lack_the_word, runs_leave_rising_ids, runs_leave_good}
 use Rattle.geocom_c.specs.Following.{CallsReach, Stage, opened}
-use Rattle.geocom_c.specs.Laws.{AreOwn, IsOwnAnswer, IsOwnPart, IsSafeRun, MayBegin}
+use Rattle.geocom_c.specs.Laws.{AreOwn, IsOwnAnswer, IsOwnPart, IsSafeRun}
 use Rattle.geocom_c.specs.Runs.{Part, ArePossibleRuns, null_of, begun_at, client_if, client_over, event_of, events_of, events_over, came_of, left_over, lost_if, parts, settled_if, settled_over, world}
 use Rattle.geocom_c.specs.Steps.{Event, Stepped, AreEvents, AreInTurn, left_among, steps_among}
 use Rattle.geocom_c.specs.declared.following.Step as call
@@ -138,12 +138,12 @@ module _ {State : Type 0} (width : ℕ) (ends : Ends State) where
     record Begins (u : UnderWay State) (r : Run State) : Type 0 where
       own : IsOwnIf width ends Good kept [] (after_turns ends u r) r.moves
       lines : IsWellFormed Good (left_if width ends [] (after_turns ends u r) r.moves)
-      may : MayBegin (left_if width ends [] (after_turns ends u r) r.moves)
+      may : LacksTheWord (left_if width ends [] (after_turns ends u r) r.moves)
 
     -- the run may begin among what was in flight before it, and its turns and moves are possible
     record MayRun (p : Part State) : Type 0 where
       lines : IsWellFormed Good p.before
-      may : MayBegin p.before
+      may : LacksTheWord p.before
       turns : AreTurns ends Good kept p.run.turns (begins p.before)
       moves : ArePossible ends Good kept (by_ids width ends) p.run.moves (ids_begun (leaves (begun_at ends p)))
 
@@ -283,7 +283,7 @@ module _ {State : Type 0} (width : ℕ) (ends : Ends State) where
 
     -- `Holds` is true of all runs, one after the other, if what is in flight at first is well-formed and hasn't the word in it,
     -- the runs are possible and safe, and their events come in their turn
-    all_hold : (rs : List (Run State)) (u : UnderWay State) (lines : IsWellFormed Good u) (may : MayBegin u) (possible : ArePossibleRuns width ends Good kept u rs)
+    all_hold : (rs : List (Run State)) (u : UnderWay State) (lines : IsWellFormed Good u) (may : LacksTheWord u) (possible : ArePossibleRuns width ends Good kept u rs)
         (safe : AllByRecursion (IsSafeRun width ends Good kept) (parts width ends u rs))
         → AreInTurn the_word (events_over width ends u rs) → Holds (parts width ends u rs) (events_over width ends u rs)
     all_hold [] u lines may possible safe h = record { settled = refl; client = refl; left = refl; own = tt; each = tt }
@@ -296,13 +296,13 @@ module _ {State : Type 0} (width : ℕ) (ends : Ends State) where
         let pass = passes p _ (events_over width ends after (next ∷ others)) refl run h in
         let s = after_turns ends u r in
         let now = subst (λ l. IsWellFormed Good (left_if width ends l s r.moves)) (sym pass.done) pass.begins.lines in
-        let again = subst (λ l. MayBegin (left_if width ends l s r.moves)) (sym pass.done) pass.begins.may in
+        let again = subst (λ l. LacksTheWord (left_if width ends l s r.moves)) (sym pass.done) pass.begins.may in
         passed_holds p (record { before = after; run = next }) (parts width ends (left_by_run width ends after next) others) (events_over width ends after (next ∷ others)) safe.0 pass
         (all_hold (next ∷ others) after now again possible.1 safe.1 pass.turns)
 
     -- the law: if the calls on a state are the events of these runs, over lines among which a run may begin, and all that is
     -- sent is safe, they are as `AreOwn` says: each answer is its own request's
-    pub owned : (calls : List call.Step) (t : Stage) (follows : CallsReach width opened calls t) (u : UnderWay State) (lines : IsWellFormed Good u) (may : MayBegin u)
+    pub owned : (calls : List call.Step) (t : Stage) (follows : CallsReach width opened calls t) (u : UnderWay State) (lines : IsWellFormed Good u) (may : LacksTheWord u)
         (rs : List (Run State)) (are : AreEvents the_word [] calls (events_over width ends u rs)) (possible : ArePossibleRuns width ends Good kept u rs)
         (safe : AllByRecursion (IsSafeRun width ends Good kept) (parts width ends u rs)) → AreOwn width ends Good kept (parts width ends u rs) t
     owned calls t follows u lines may rs are possible safe =

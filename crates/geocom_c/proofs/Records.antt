@@ -1,6 +1,5 @@
 -- Records of settlements, as the library writes them for C: numbers, and places in a text.
-use Rattle.std.proofs.Common.{◌≡◌, ℕ, zero, suc, ◌≤◌, Bool, true, false, List, [], ◌∷◌, ◌++◌, length, map, Some, None, Ok, Err, Option, Result, refl, sym, subst, ap, ◌∙◌, arith, if◌then◌else◌}
-use Rattle.std.specs.Prelude.{slice_get}
+use Rattle.std.proofs.Common.{◌≡◌, ℕ, zero, suc, ◌≤◌, Bool, true, false, List, [], ◌∷◌, ◌++◌, length, Some, None, Ok, Err, Option, Result, refl, sym, subst, ap, ◌∙◌, arith, if◌then◌else◌}
 use Rattle.std.proofs.lemmas.List.{length-map, length-take, take-append-le}
 use Rattle.gc_values.specs.Item.{kind_of}
 use Rattle.gc_values.specs.Params.{IsParams}
@@ -16,7 +15,7 @@ use Rattle.gc_catalogue.specs.declared.asked.Asked.TheVariants.{Table, Raw}
 use Rattle.gc_catalogue.specs.Answers.{answer_fields}
 use Rattle.gc_catalogue.specs.Asked.{IsAskedReading}
 use Rattle.gc_client.specs.declared.pending.Pending.{Pending}
-use Rattle.gc_client.specs.Rule.{ById, Settlement, lost, settle, place_in, id_settled, hears, id_in, fits}
+use Rattle.gc_client.specs.Rule.{ById, Settlement, settle, place_in, id_settled, hears, id_in, fits}
 use Rattle.gc_client.specs.Rule
 use Rattle.geocom_c.specs.Feeding.{line_kind, fault_number_in}
 use Rattle.geocom_c.specs.Settled.{StandsAt, AreListed, AreReadAs, IsKind, HasReading, ListsItems, HasOutcome, IsRecord, AnswerHasLine, AnswersHaveLine}
@@ -48,7 +47,7 @@ value_listed : (asked : Asked) (answer : Answer) (text : List ℕ) (count : ℕ)
 value_listed asked answer text count places reply lists reads = of_asked asked reads where
   -- the items are listed, if they are at most 16 and read as `AreReadAs` says
   listed : (a : Asked) (xs : List (List ℕ)) → IsParams reply.params xs → length xs ≤ 16 → AreReadAs a answer xs → AreListed a answer count places text reply.params
-  listed a xs split few read = let stand = lists xs split few in record { items = xs; split = split; read = read; counted = stand.counted; stand = stand.stand }
+  listed a xs split few read = record { items = xs; split = split; read = read; standing = lists xs split few }
 
   -- the lemma above, by whether the call is one of the table
   of_asked : (a : Asked) → IsAskedReading a reply (Value answer) → AreListed a answer count places text reply.params
@@ -57,7 +56,7 @@ value_listed asked answer text count places reply lists reads = of_asked asked r
       let values = (answer_fields answer).values in
       let few : length params.items ≤ 16 = omega (arith, same_count values params.items params.read, length-map values kind_of, few_values answer) in
       listed (Table call) params.items params.split few params.read
-  of_asked (Raw raw) says = listed (Raw raw) says.2.0 says.2.1 says.2.2 tt
+  of_asked (Raw raw) says = listed (Raw raw) says.2.0.0 says.2.0.1 says.2.0.2 tt
 
 -- where a text lists the items of a reply's parameters (`ListsItems`), the record r of the reply has what the reply says
 -- (`HasReading`), if its reading and its code are those of the reply (`IsKind`), and it has as many items as were listed if its
@@ -66,25 +65,25 @@ pub has_reading : (r : GeocomSettlement) (text : List ℕ) (count : ℕ) (asked 
     → ListsItems text count r.places reply.params → IsAskedReading asked reply reading → IsKind reading r.reading r.code
     → (r.reading ≡ 1 → r.items ≡ count) → ((n : ℕ) → r.reading ≡ suc (suc n) → r.items ≡ 0) → HasReading asked r text reply.params reading
 has_reading r text count asked reply (Value a) lists reads kind some none =
-    (kind.0, kind.1, subst (λ n. AreListed asked a n r.places text reply.params) (sym (some kind.0)) (value_listed asked a text count r.places reply lists reads))
-has_reading r text count asked reply (Refused rc) lists reads kind some none = (kind.0, kind.1, none 0 kind.0)
-has_reading r text count asked reply (ComFault rc) lists reads kind some none = (kind.0, kind.1, none 1 kind.0)
-has_reading r text count asked reply (Unreadable e) lists reads kind some none = (kind.0, kind.1, none 2 kind.0)
+    (kind, subst (λ n. AreListed asked a n r.places text reply.params) (sym (some kind.0)) (value_listed asked a text count r.places reply lists reads))
+has_reading r text count asked reply (Refused rc) lists reads kind some none = (kind, none 0 kind.0)
+has_reading r text count asked reply (ComFault rc) lists reads kind some none = (kind, none 1 kind.0)
+has_reading r text count asked reply (Unreadable e) lists reads kind some none = (kind, none 2 kind.0)
 
 -- a record still has its reading once more is appended to the text
 more_reading : (asked : Asked) (r : GeocomSettlement) (text more params : List ℕ) (reading : Reading) → HasReading asked r text params reading
     → HasReading asked r (text ++ more) params reading
 more_reading asked r text more params (Value a) has =
-    let are = has.2 in (
+    let are = has.1 in (
       has.0,
-      has.1,
       record {
         items = are.items;
         split = are.split;
         read = are.read;
-        counted = are.counted;
-        stand =
-            first_map (StandsAt text) (StandsAt (text ++ more)) (stands_more text more) r.places are.items are.stand;
+        standing = record {
+          counted = are.standing.counted;
+          stand = first_map (StandsAt text) (StandsAt (text ++ more)) (stands_more text more) r.places are.items are.standing.stand;
+        };
       },
     )
 more_reading asked r text more params (Refused rc) has = has
@@ -133,12 +132,6 @@ chosen_have_line c line k false = tt
 pub heard_have_line : (c : ById Asked) (line : List ℕ) (id : Option ℕ) → AnswersHaveLine line (hears c line id).settlements
 heard_have_line c line None = tt
 heard_have_line c line (Some id) = chosen_have_line c line (place_in c id) _
-
--- among the settlements of lost requests, the one at place k has the outcome `Lost`
-pub lost_at : (ps : List (Pending Asked)) (k : ℕ) (s : Settlement Asked) → slice_get (map lost ps) k ≡ Some s → s.outcome ≡ Rule.Lost
-lost_at [] k s e = cc
-lost_at (p ∷ ps) zero s e = let same : lost p ≡ s = cc in sym (ap (λ (x : Settlement Asked). x.outcome) same)
-lost_at (p ∷ ps) (suc k) s e = lost_at ps k s e
 
 -- a reply whose id is that of an outstanding request has the kind 1, of a line that settled, and the fault number 0
 pub settling : (c : ById Asked) (r : Result ReplyFields LineFault) → fits c (id_in r) ≡ true → (1 ≡ line_kind r (fits c (id_in r))) × (0 ≡ fault_number_in r)

@@ -8,7 +8,8 @@ use Rattle.gc_catalogue.specs.declared.asked.Asked.{Asked}
 use Rattle.gc_client.specs.Beginning.{the_word}
 use Rattle.gc_client.specs.OneForOne as one
 use Rattle.gc_instrument.specs.State.{KeptReply}
-use Rattle.gc_lines.proofs.Lists.{all_append, all_behind, all_front}
+use Rattle.gc_lines.proofs.Lists.{all_append}
+use Rattle.gc_values.proofs.Every.{every_behind as all_behind, every_front as all_front}
 use Rattle.gc_lines.specs.Frames.{rest_behind}
 use Rattle.gc_field.specs.Begin.{UnderWay, begins}
 use Rattle.gc_field.specs.Beginnings.{Run, left_by_run}

@@ -16,8 +16,8 @@ use Rattle.geocom_c.specs.declared.answers.GeocomBeginning.{GeocomBeginning}
 use Rattle.geocom_c.specs.declared.rest.GeocomRest.{GeocomRest}
 use Rattle.geocom_c.specs.declared.state.GeocomClient.{GeocomClient}
 
--- the ids that aren't answered after these bytes, where `left` weren't before: each line that the bytes end, after the bytes `rest`
--- since the last line feed, is heard
+-- the ids that aren't answered after these bytes, where `left` weren't before: each line that the bytes end, after the bytes
+-- `rest` since the last line feed, is heard
 abbrev pub left_by_bytes : (left rest bytes : List ℕ) → List ℕ
 left_by_bytes left rest bytes = unanswered_after left (lines_completed rest bytes)
 
@@ -52,15 +52,15 @@ abbrev pub left_by_restart : List ℕ → List ℕ
 left_by_restart [] = the_word
 left_by_restart (asked ∷ later) = asked ∷ later
 
--- these bytes were handed to the synchronization of a client in the state `old`: the fault is 0, and in the state `new` the client is
--- the same, each line that the bytes end is heard, and the bytes since the last line feed are kept
+-- these bytes were handed to the synchronization of a client in the state `old`: the fault is 0, and in the state `new` the
+-- client is the same, each line that the bytes end is heard, and the bytes since the last line feed are kept
 abbrev pub HearsBytes : (bytes : List ℕ) → (old new : GeocomClient) → (fault : ℕ) → Type 0
 HearsBytes bytes old new fault =
     (c : Windowed Asked) (rest : List ℕ) → StandsFor old c rest
     → (fault ≡ 0) × StandsFor new c (rest_behind rest bytes) × (left_of new ≡ left_by_bytes (left_of old) rest bytes)
 
--- if the call that returned `told` had no fault, `room` has the line that is sent after these bytes, where `old` and `new` are the
--- states before and after the call
+-- if the call that returned `told` had no fault, `room` has the line that is sent after these bytes, where `old` and `new` are
+-- the states before and after the call
 abbrev pub GivesLine : (bytes : List ℕ) → (old new : GeocomClient) → GeocomBeginning → (room : List ℕ) → Type 0
 GivesLine bytes old new told room = told.fault ≡ 0 → IsGiven (given bytes (left_of old) (left_of new)) told room
 
@@ -77,14 +77,14 @@ unbegun_with fault = record { fault = fault; count = 0; answered = 0; has_begun 
 abbrev pub BeginFaultLeavesAll : GeocomBeginning → (old new : GeocomClient) → (before after : List ℕ) → Type 0
 BeginFaultLeavesAll told old new before after = told.fault ≢ 0 → (told ≡ unbegun_with told.fault) × (new ≡ old) × (after ≡ before)
 
--- no part of a promise: if `bytes` have no line feed, all are used, `new` keeps them after what `old` keeps of a line, and the ids
--- that aren't answered are the same before and after (`before`, `after`)
+-- no part of a promise: if `bytes` have no line feed, all are used, `new` keeps them after what `old` keeps of a line, and the
+-- ids that aren't answered are the same before and after (`before`, `after`)
 abbrev pub KeepsUnended : (bytes : List ℕ) → (used : ℕ) → (old new : GeocomRest) → (before after : List ℕ) → Type 0
 KeepsUnended bytes used old new before after =
     (r : List ℕ) → IsRest old r → position is_line_feed bytes ≡ None → (used ≡ length bytes) × IsRest new (r ++ bytes) × (after ≡ before)
 
--- no part of a promise: if `bytes` have a line feed, those through the first are used, `new` keeps no byte of a line, and the frame that
--- they end after what `old` keeps of a line changes the ids that aren't answered from `before` to `after`
+-- no part of a promise: if `bytes` have a line feed, those through the first are used, `new` keeps no byte of a line, and the
+-- frame that they end after what `old` keeps of a line changes the ids that aren't answered from `before` to `after`
 abbrev pub HearsFirst : (bytes : List ℕ) → (used : ℕ) → (old new : GeocomRest) → (before after : List ℕ) → Type 0
 HearsFirst bytes used old new before after =
     (r : List ℕ) (at : ℕ) → IsRest old r → position is_line_feed bytes ≡ Some at

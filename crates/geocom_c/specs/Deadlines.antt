@@ -18,7 +18,8 @@ HasExpired c rest now state told targets =
     (told.fault ≡ 0) × StandsFor state (record c { ids = expires c.ids now }) rest
     × (told.count ≡ length (expiring now c.ids.waiting)) × (take told.count targets ≡ expiring now c.ids.waiting)
 
--- the moment `now` was handed to a client in the state `old`: what was returned, the state `new` and the targets are as `HasExpired` says
+-- the moment `now` was handed to a client in the state `old`: what was returned, the state `new` and the targets are as
+-- `HasExpired` says
 abbrev pub Expires : (now : ℕ) → (old new : GeocomClient) → (told : GeocomCount) → (targets : List ℕ) → Type 0
 Expires now old new told targets = (c : Windowed Asked) (rest : List ℕ) → StandsFor old c rest → HasExpired c rest now new told targets
 

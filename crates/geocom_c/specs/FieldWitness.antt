@@ -17,7 +17,7 @@ use Rattle.gc_client.specs.Rule.{IsWidth, Answered}
 use Rattle.gc_instrument.specs.State.{KeptReply, IsFittingState, simulator_opening}
 use Rattle.gc_field.specs.Simulator.{ends}
 use Rattle.gc_field.specs.World.{Ends, Up_deliver}
-use Rattle.gc_field.specs.Begin.{IsWellFormed, Turn, Asks, Comes, UnderWay, begins, leaves, turned}
+use Rattle.gc_field.specs.Begin.{IsWellFormed, LacksTheWord, Turn, Asks, Comes, UnderWay, begins, leaves, turned}
 use Rattle.gc_field.specs.Beginnings.{Run}
 use Rattle.gc_field.specs.Begun.{WasMadeOn}
 use Rattle.gc_field.specs.CountingChain as chain
@@ -28,19 +28,19 @@ use Rattle.gc_field.specs.Instrument.{IsAnInstrument, AnyState}
 use Rattle.gc_field.specs.Laws.{kept_of}
 use Rattle.gc_field.specs.Witness.{eight_answered, replies}
 use Rattle.geocom_c.specs.Following.{CallsReach, Stage, opened}
-use Rattle.geocom_c.specs.Laws.{IsSafeRun, MayBegin}
+use Rattle.geocom_c.specs.Laws.{IsSafeRun}
 use Rattle.geocom_c.specs.Runs.{ArePossibleRuns, events_over, parts}
 use Rattle.geocom_c.specs.Steps.{AreEvents, steps_among}
 use Rattle.geocom_c.specs.declared.following.Step.{Step}
 use Rattle.geocom_c.specs.declared.following.Step.TheVariants.{Send, SendRaw, Begin, Feed, Expire, Restart}
 
 -- an old reply, from before the client synchronizes, with the id that the first command has
-abbrev pub old : List ℕ
-old = codes "%R1P,0,0:0,654321"
+abbrev pub old_reply : List ℕ
+old_reply = codes "%R1P,0,0:0,654321"
 
--- that reply is in flight, and nothing else
-abbrev pub before : {State : Type 0} → State → UnderWay State
-before state = record { up = []; down = old ∷ []; state = state }
+-- the old reply is in flight, and nothing else
+abbrev pub old_reply_alone : {State : Type 0} → State → UnderWay State
+old_reply_alone state = record { up = []; down = old_reply ∷ []; state = state }
 
 -- the calls by which each of these lines is handed to the synchronization, as a reply to a null procedure; and then the calls
 -- `later`. An address is (0, 0) here, as it doesn't matter
@@ -62,7 +62,7 @@ pub record Exchange : Type 0 where
 abbrev pub calls : Exchange → List Step
 calls x =
     Begin (record { ref_ptr = (0, 0); now = [] })
-    ∷ begin_calls (old ∷ x.nulls)
+    ∷ begin_calls (old_reply ∷ x.nulls)
     (Send 7 9 5003 (record { ref_ptr = (0, 0); now = [] })
     ∷ x.second
     ∷ Expire 5
@@ -93,7 +93,7 @@ runs x = record { turns = beginning; moves = moves x } ∷ record { turns = Asks
 
 -- the stage that the calls come to
 abbrev pub end_stage : {State : Type 0} → Ends State → State → Exchange → Stage
-end_stage ends state x = record { reached = course WINDOW begun (steps_among (events_over WINDOW ends (before state) (runs x))); rest = []; left = the_word }
+end_stage ends state x = record { reached = course WINDOW begun (steps_among (events_over WINDOW ends (old_reply_alone state) (runs x))); rest = []; left = the_word }
 
 module _ {State : Type 0} (ends : Ends State) (Good : State → Type 0) (kept : State → Option KeptReply) where
   -- all premises of `EachAnswerIsOwn` hold at once of the calls of this exchange, from this state of the instrument on, and the
@@ -103,15 +103,15 @@ module _ {State : Type 0} (ends : Ends State) (Good : State → Type 0) (kept : 
     pub instrument : IsAnInstrument ends Good kept
     pub width : IsWidth WINDOW
     pub follows : CallsReach WINDOW opened (calls x) (end_stage ends state x)
-    pub lines : IsWellFormed Good (before state)
-    pub may : MayBegin (before state)
-    pub are : AreEvents the_word [] (calls x) (events_over WINDOW ends (before state) (runs x))
-    pub possible : ArePossibleRuns WINDOW ends Good kept (before state) (runs x)
-    pub safe : AllByRecursion (IsSafeRun WINDOW ends Good kept) (parts WINDOW ends (before state) (runs x))
+    pub lines : IsWellFormed Good (old_reply_alone state)
+    pub may : LacksTheWord (old_reply_alone state)
+    pub are : AreEvents the_word [] (calls x) (events_over WINDOW ends (old_reply_alone state) (runs x))
+    pub possible : ArePossibleRuns WINDOW ends Good kept (old_reply_alone state) (runs x)
+    pub safe : AllByRecursion (IsSafeRun WINDOW ends Good kept) (parts WINDOW ends (old_reply_alone state) (runs x))
     pub settlements :
         (end_stage ends state x).reached.settlements
         ≡ record { target = 7; call = Table InstrumentNo; outcome = Answered x.one } ∷ record { target = 8; call = x.asked; outcome = Answered x.other } ∷ []
-    pub made_on : WasMadeOn WINDOW ends (leaves (turned ends beginning (begins (before state)))) (moves x) 8 (Table InstrumentNo) x.one
+    pub made_on : WasMadeOn WINDOW ends (leaves (turned ends beginning (begins (old_reply_alone state)))) (moves x) 8 (Table InstrumentNo) x.one
 
 -- the exchange with the instrument that counts: the second command is for a procedure that isn't in the table
 abbrev pub counting_exchange : RawCall → Exchange

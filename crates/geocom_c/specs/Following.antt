@@ -78,14 +78,14 @@ pub record Reached (width : ℕ) (s : Stage) (steps : List Step) (state : Geocom
   pub at : IsAt width stage state
   pub on : (t : Stage) → CallsReach width stage later t → CallsReach width s steps t
 
--- no part of a promise: all these bytes but the last ones, `unfed`, were fed to a client, whatever its course, which changed its state
--- from `old` to `new` as `FedTo` says
+-- no part of a promise: all these bytes but the last ones, `unfed`, were fed to a client, whatever its course, which changed its
+-- state from `old` to `new` as `FedTo` says
 abbrev pub FeedsBut : (bytes unfed : List ℕ) → (old new : GeocomClient) → Type 0
 FeedsBut bytes unfed old new =
     (width : ℕ) (x : Course Asked) (rest : List ℕ) → StandsFor old (record { width = width; ids = x.client }) rest → FedTo width x rest bytes new unfed
 
--- no part of a promise: all these bytes were fed to a client, whatever its course, which has heard each line that they end, and changed
--- its state from `old` to `new`
+-- no part of a promise: all these bytes were fed to a client, whatever its course, which has heard each line that they end, and
+-- changed its state from `old` to `new`
 abbrev pub FeedsBytes : (bytes : List ℕ) → (old new : GeocomClient) → Type 0
 FeedsBytes bytes old new =
     (width : ℕ) (x : Course Asked) (rest : List ℕ) → StandsFor old (record { width = width; ids = x.client }) rest

@@ -6,14 +6,14 @@
 use Rattle.std.specs.Prelude.{◌≡◌, ℕ, ◌<◌, ◌≤◌, List, [], length, Option, Some, slice_get}
 use Rattle.std.specs.List.{AllByRecursion}
 use Rattle.gc_catalogue.specs.declared.asked.Asked.{Asked}
-use Rattle.gc_client.specs.Beginning.{IsSubsequence, the_word}
+use Rattle.gc_client.specs.Beginning.{the_word}
 use Rattle.gc_client.specs.OneForOne.{of_settled}
 use Rattle.gc_client.specs.Rule.{IsWidth, Settlement, Answered}
 use Rattle.gc_instrument.specs.State.{KeptReply, IsFittingState}
 use Rattle.gc_field.specs.Simulator.{ends}
 use Rattle.gc_world.specs.Record.{IsReplyTo}
 use Rattle.gc_field.specs.World.{Ends, Sent}
-use Rattle.gc_field.specs.Begin.{IsWellFormed, UnderWay, ids_under_way, leaves}
+use Rattle.gc_field.specs.Begin.{IsWellFormed, LacksTheWord, UnderWay, leaves}
 use Rattle.gc_field.specs.Beginnings.{AreFewKilled, AreRuns, IsOwnIf, HasRisingIds, Run, left_by_runs}
 use Rattle.gc_field.specs.Begun.{IsSafe, WasMadeOn}
 use Rattle.gc_field.specs.Instrument.{IsAnInstrument, AnyState, TreatsRawsAlike}
@@ -28,10 +28,6 @@ use Rattle.geocom_c.specs.declared.following.Step.TheVariants.{SendRaw}
 -- events
 abbrev pub CallsAreEvents : Type 0
 CallsAreEvents = (width : ℕ) (calls : List Step) (t : Stage) → CallsReach width opened calls t → IsOverEvents width calls t
-
--- the word isn't in flight: its ids aren't a subsequence of the ids of the replies and requests in flight
-abbrev pub MayBegin : {State : Type 0} → UnderWay State → Type 0
-MayBegin u = IsSubsequence the_word (ids_under_way u) → ⊥
 
 module _ {State : Type 0} (width : ℕ) (ends : Ends State) (Good : State → Type 0) (kept : State → Option KeptReply) where
   -- where the answer `line` of settlement `s` comes from, over the runs `ps`: it settled request m of run k, which was sent with
@@ -84,12 +80,12 @@ module _ {State : Type 0} (width : ℕ) (ends : Ends State) (Good : State → Ty
 
 -- each answer is its own request's (`AreOwn`), over the ends `ends` with states of which `Good` holds, which retain the reply
 -- `kept`: for every width, all calls on a state that are safe (`IsSafeRun`), whatever is in flight and well formed
--- (`IsWellFormed`) when the state is made, unless the word is (`MayBegin`), and all that the line and the instrument may do
+-- (`IsWellFormed`) when the state is made, unless the word is (`LacksTheWord`), and all that the line and the instrument may do
 -- meanwhile
 abbrev pub EachAnswerIsOwn : {State : Type 0} → (ends : Ends State) → (Good : State → Type 0) → (kept : State → Option KeptReply) → Type 0
 EachAnswerIsOwn {State = State} ends Good kept =
     (width : ℕ) → IsWidth width → (calls : List Step) (t : Stage) → CallsReach width opened calls t →
-    (u : UnderWay State) → IsWellFormed Good u → MayBegin u →
+    (u : UnderWay State) → IsWellFormed Good u → LacksTheWord u →
     (rs : List (Run State)) → AreEvents the_word [] calls (events_over width ends u rs) → ArePossibleRuns width ends Good kept u rs →
     AllByRecursion (IsSafeRun width ends Good kept) (parts width ends u rs) →
     AreOwn width ends Good kept (parts width ends u rs) t
@@ -109,7 +105,7 @@ abbrev pub FewKilledMayBegin : Type 0 → Type 0
 FewKilledMayBegin State =
     (ends : Ends State) (kept : State → Option KeptReply) → IsAnInstrument ends AnyState kept →
     (width : ℕ) → IsWidth width → (u : UnderWay State) → IsWellFormed AnyState u → HasRisingIds u →
-    (rs : List (Run State)) → AreRuns width ends AnyState kept u rs → AreFewKilled width ends 0 u rs → MayBegin (left_by_runs width ends u rs)
+    (rs : List (Run State)) → AreRuns width ends AnyState kept u rs → AreFewKilled width ends 0 u rs → LacksTheWord (left_by_runs width ends u rs)
 
 -- the call on a state sends no raw request
 abbrev pub IsOfTheTable : Step → Type 0

@@ -22,13 +22,13 @@ pub record IsRest (r : GeocomRest) (rest : List ℕ) : Type 0 where
   pub valid : IsValid r
   pub same : (more : List ℕ) → frame_of (kept r ++ more) ≡ frame_of (rest ++ more)
 
--- no part of a promise: without a line feed in `piece`, which comes after the bytes that `r` keeps, all of it is used, and the frame is
--- `More`
+-- no part of a promise: without a line feed in `piece`, which comes after the bytes that `r` keeps, all of it is used, and the
+-- frame is `More`
 abbrev pub UsesUnended : GeocomRest → (piece : List ℕ) → (used : ℕ) → Frame → Type 0
 UsesUnended r piece used frame = (rest : List ℕ) → IsRest r rest → position is_line_feed piece ≡ None → (used ≡ length piece) × (frame ≡ More)
 
--- no part of a promise: if `piece`, which comes after the bytes that `r` keeps, has a line feed, the bytes through the first are used, and
--- the frame is the one that it ends
+-- no part of a promise: if `piece`, which comes after the bytes that `r` keeps, has a line feed, the bytes through the first are
+-- used, and the frame is the one that it ends
 abbrev pub UsesFrame : GeocomRest → (piece : List ℕ) → (used : ℕ) → Frame → Type 0
 UsesFrame r piece used frame =
     (rest : List ℕ) (at : ℕ) → IsRest r rest → position is_line_feed piece ≡ Some at → (used ≡ at + 1) × (frame ≡ frame_of (rest ++ take at piece))

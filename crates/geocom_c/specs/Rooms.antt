@@ -35,8 +35,8 @@ ReportsNoRoom room least fault = (fault ≡ NO_ROOM) ↔ (length room < least)
 abbrev pub ReportsNoClient : {A : Type 0} → (room : List A) → (least : ℕ) → GeocomClient → (fault : ℕ) → Type 0
 ReportsNoClient room least state fault = (fault ≡ NO_CLIENT) ↔ ((least ≤ length room) × IsAstray state)
 
--- a call that returned `told`: after a fault the count is 0, and the call changed neither the state (`old` before it, `new` after)
--- nor its room (`before` and `after`)
+-- a call that returned `told`: after a fault the count is 0, and the call changed neither the state (`old` before it, `new`
+-- after) nor its room (`before` and `after`)
 abbrev pub FaultLeavesAll : {A : Type 0} → GeocomCount → (old new : GeocomClient) → (before after : List A) → Type 0
 FaultLeavesAll told old new before after = told.fault ≢ 0 → (told.count ≡ 0) × (new ≡ old) × (after ≡ before)
 

@@ -74,8 +74,8 @@ module _ {State : Type 0} (width : ℕ) (ends : Ends State) where
   parts u [] = []
   parts u (r ∷ rs) = record { before = u; run = r } ∷ parts (left_by_run width ends u r) rs
 
-  -- what happens is possible, in the synchronization of each run and after it, over an instrument with states of which `Good` holds, which
-  -- retain the reply `kept`. That the run has synchronized before its moves is no premise
+  -- what happens is possible, in the synchronization of each run and after it, over an instrument with states of which `Good`
+  -- holds, which retain the reply `kept`. That the run has synchronized before its moves is no premise
   abbrev pub ArePossibleRuns : (Good : State → Type 0) → (kept : State → Option KeptReply) → UnderWay State → List (Run State) → Type 0
   ArePossibleRuns Good kept u [] = Unit {0}
   ArePossibleRuns Good kept u (r ∷ rs) =

@@ -26,17 +26,17 @@ pub record SendEffect : Type 0 where
   pub after : List ℕ
   pub told : GeocomCount
 
--- what a send of `asked` did and returned is what the client's rule says of it (None: the rule refuses it), where `c` is the client
--- before the send and `rest` are the bytes since the last line feed. A send that is refused returns that the window is full, and
--- changes nothing; otherwise the line was written with its CR LF, and the state is the rule's
+-- what a send of `asked` did and returned is what the client's rule says of it (None: the rule refuses it), where `c` is the
+-- client before the send and `rest` are the bytes since the last line feed. A send that is refused returns that the window is
+-- full, and changes nothing; otherwise the line was written with its CR LF, and the state is the rule's
 abbrev pub SendMeets : (c : Windowed Asked) (rest : List ℕ) (asked : Asked) → Option (Sending (ById Asked)) → SendEffect → Type 0
 SendMeets c rest asked None sent = (sent.told.fault ≡ WINDOW_FULL) × (sent.new ≡ sent.old) × (sent.after ≡ sent.before)
 SendMeets c rest asked (Some s) sent =
     (sent.told.fault ≡ 0) × StandsFor sent.new (record c { ids = s.client }) rest
     × (sent.told.count ≡ length (with_end (asked_line (Some s.id) asked))) × (take sent.told.count sent.after ≡ with_end (asked_line (Some s.id) asked))
 
--- a client that has synchronized sends `to x`, for each x of which `Is` holds, to this target and with this deadline, or refuses it
--- where the window is full (`SendMeets`)
+-- a client that has synchronized sends `to x`, for each x of which `Is` holds, to this target and with this deadline, or refuses
+-- it where the window is full (`SendMeets`)
 abbrev pub SendsEach : {X : Type 0} → (to : X → Asked) → (Is : X → Type 0) → (target deadline : ℕ) → SendEffect → Type 0
 SendsEach {X = X} to Is target deadline sent =
     (c : Windowed Asked) (rest : List ℕ) (x : X) → StandsFor sent.old c rest → left_of sent.old ≡ [] → Is x
@@ -75,8 +75,8 @@ raw_number TooMany = of_value.fault_number value.TooMany
 abbrev pub send_effect : (old new : GeocomClient) → (before after : List ℕ) → (told : GeocomCount) → SendEffect
 send_effect old new before after told = record { old = old; new = new; before = before; after = after; told = told }
 
--- no part of a promise: the client `c` sends `asked` to this target and with this deadline, or refuses it where the window is full
--- (`SendMeets`), if the state before has a valid rest of a line and a valid count of answered null procedures
+-- no part of a promise: the client `c` sends `asked` to this target and with this deadline, or refuses it where the window is
+-- full (`SendMeets`), if the state before has a valid rest of a line and a valid count of answered null procedures
 abbrev pub SendsAsked : (c : Windowed Asked) → (asked : Asked) → (target deadline : ℕ) → SendEffect → Type 0
 SendsAsked c asked target deadline sent =
     (rest : List ℕ) → IsRest sent.old.rest rest → sent.old.answered ≤ 8 → SendMeets c rest asked (sends c.width c.ids target asked deadline) sent
@@ -85,13 +85,13 @@ SendsAsked c asked target deadline sent =
 abbrev pub ReportsUnbegun : GeocomClient → (fault : ℕ) → Type 0
 ReportsUnbegun state fault = fault ≡ NOT_BEGUN → left_of state ≢ []
 
--- the fault of a full window comes only of a client that has synchronized, for an x of which `Is` holds, where as many requests are
--- outstanding as its width says
+-- the fault of a full window comes only of a client that has synchronized, for an x of which `Is` holds, where as many requests
+-- are outstanding as its width says
 abbrev pub ReportsFull : {X : Type 0} → (Is : X → Type 0) → GeocomClient → (fault : ℕ) → Type 0
 ReportsFull Is state fault = fault ≡ WINDOW_FULL → WasAsked Is (λ count width. count ≡ width) state
 
--- a fault of 0 comes only of a client that has synchronized, for an x of which `Is` holds, where fewer requests are outstanding than its
--- width says
+-- a fault of 0 comes only of a client that has synchronized, for an x of which `Is` holds, where fewer requests are outstanding
+-- than its width says
 abbrev pub ReportsDone : {X : Type 0} → (Is : X → Type 0) → GeocomClient → (fault : ℕ) → Type 0
 ReportsDone Is state fault = fault ≡ 0 → WasAsked Is (λ count width. count < width) state
 

@@ -31,27 +31,43 @@ pub record StandsAt (text : List ℕ) (place : GeocomItem) (item : List ℕ) : T
 abbrev pub StandIn : (text : List ℕ) → (places : List GeocomItem) → (items : List (List ℕ)) → Type 0
 StandIn text places items = FirstAre (StandsAt text) places items
 
--- if a call of the table was asked, these items are the values of its answer; of another procedure they are texts, of which nothing
--- is said
+-- if a call of the table was asked, these items are the values of its answer; of another procedure they are texts, of which
+-- nothing is said
 abbrev pub AreReadAs : Asked → Answer → List (List ℕ) → Type 0
 AreReadAs (Table call) answer items = AreItems items (answer_fields answer).values
 AreReadAs (Raw raw) answer items = Unit {0}
 
--- `count` items of an answer are listed: they are those of the parameters, are in the text where `places` says, and, if a call of the
--- table was asked, are the values of the answer (`AreReadAs`)
+-- there are `count` items, each of which is in the text where its place says
+pub record AreStanding (count : ℕ) (places : List GeocomItem) (text : List ℕ) (items : List (List ℕ)) : Type 0 where
+  pub counted : count ≡ length items
+  pub stand : StandIn text places items
+
+-- `count` items of an answer are listed: they are those of the parameters, are in the text where `places` says, and, if a call of
+-- the table was asked, are the values of the answer (`AreReadAs`)
 pub record AreListed (asked : Asked) (answer : Answer) (count : ℕ) (places : List GeocomItem) (text params : List ℕ) : Type 0 where
   pub items : List (List ℕ)
   pub split : IsParams params items
   pub read : AreReadAs asked answer items
-  pub counted : count ≡ length items
-  pub stand : StandIn text places items
+  pub standing : AreStanding count places text items
 
--- the record has the kind and the code of this reading of what was asked; and for a value the items of the parameters, else none
+-- `kind` is the number of a reading's kind, and `code` its code: 0 for a value, else that of the refusal or of the fault
+abbrev pub IsKind : Reading → (kind code : ℕ) → Type 0
+IsKind (Value answer) kind code = (kind ≡ VALUE) × (code ≡ 0)
+IsKind (Refused rc) kind code = (kind ≡ REFUSED) × (code ≡ rc)
+IsKind (ComFault rc_com) kind code = (kind ≡ COM_FAULT) × (code ≡ rc_com)
+IsKind (Unreadable fault) kind code = (kind ≡ UNREADABLE) × (code ≡ fault_number fault)
+
+-- the items of the record, if it has this reading of what was asked: for a value they are those of the parameters, else there are
+-- none
+abbrev pub HasItems : Asked → GeocomSettlement → (text params : List ℕ) → Reading → Type 0
+HasItems asked r text params (Value answer) = AreListed asked answer r.items r.places text params
+HasItems asked r text params (Refused rc) = r.items ≡ 0
+HasItems asked r text params (ComFault rc_com) = r.items ≡ 0
+HasItems asked r text params (Unreadable fault) = r.items ≡ 0
+
+-- the record has the kind and the code of this reading of what was asked (`IsKind`), and its items (`HasItems`)
 abbrev pub HasReading : Asked → GeocomSettlement → (text params : List ℕ) → Reading → Type 0
-HasReading asked r text params (Value answer) = (r.reading ≡ VALUE) × (r.code ≡ 0) × AreListed asked answer r.items r.places text params
-HasReading asked r text params (Refused code) = (r.reading ≡ REFUSED) × (r.code ≡ code) × (r.items ≡ 0)
-HasReading asked r text params (ComFault code) = (r.reading ≡ COM_FAULT) × (r.code ≡ code) × (r.items ≡ 0)
-HasReading asked r text params (Unreadable fault) = (r.reading ≡ UNREADABLE) × (r.code ≡ fault_number fault) × (r.items ≡ 0)
+HasReading asked r text params reading = IsKind reading r.reading r.code × HasItems asked r text params reading
 
 -- a record of an answer: its line is at the front of the text, and the record has what the line says as a reply to what was
 -- asked
@@ -90,21 +106,8 @@ pub record IsRecord (text : List ℕ) (r : GeocomSettlement) (s : Rule.Settlemen
   pub procedure : IsProcedureOf r.procedure s.call
   pub outcome : HasOutcome r text s.call s.outcome
 
--- no part of a promise: `kind` is the number of a reading's kind, and `code` its code: 0 for a value, else that of the refusal or of
--- the fault
-abbrev pub IsKind : Reading → (kind code : ℕ) → Type 0
-IsKind (Value answer) kind code = (kind ≡ VALUE) × (code ≡ 0)
-IsKind (Refused rc) kind code = (kind ≡ REFUSED) × (code ≡ rc)
-IsKind (ComFault rc_com) kind code = (kind ≡ COM_FAULT) × (code ≡ rc_com)
-IsKind (Unreadable fault) kind code = (kind ≡ UNREADABLE) × (code ≡ fault_number fault)
-
--- no part of a promise: there are `count` items, each of which is in the text where its place says
-pub record AreStanding (count : ℕ) (places : List GeocomItem) (text : List ℕ) (items : List (List ℕ)) : Type 0 where
-  pub counted : count ≡ length items
-  pub stand : StandIn text places items
-
--- no part of a promise: the items of these parameters, if they are at most 16 items, are in the text, as many as `count` says, and where
--- `places` says
+-- no part of a promise: the items of these parameters, if they are at most 16 items, are in the text, as many as `count` says,
+-- and where `places` says
 abbrev pub ListsItems : (text : List ℕ) → (count : ℕ) → (places : List GeocomItem) → (params : List ℕ) → Type 0
 ListsItems text count places params = (items : List (List ℕ)) → IsParams params items → length items ≤ 16 → AreStanding count places text items
 

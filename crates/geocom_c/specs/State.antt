@@ -66,8 +66,8 @@ IsClients s = (c : Windowed Asked) × (rest : List ℕ) × StandsFor s c rest
 abbrev pub KeepsAnswered : (old new : GeocomClient) → Type 0
 KeepsAnswered old new = new.answered ≡ old.answered
 
--- no part of a promise: if the state `old` has a valid rest of a line and a valid count of answered null procedures, the state `new`
--- stands for the client `c`, with that rest
+-- no part of a promise: if the state `old` has a valid rest of a line and a valid count of answered null procedures, the state
+-- `new` stands for the client `c`, with that rest
 abbrev pub Becomes : (old new : GeocomClient) → (c : Windowed Asked) → Type 0
 Becomes old new c = (rest : List ℕ) → IsRest old.rest rest → old.answered ≤ 8 → StandsFor new c rest
 

@@ -85,8 +85,8 @@ fn ask(beginning: &Beginning, line: &mut [u8]) -> u32
     }
 }
 
-// Writes the line of the null procedure that is asked for, as `ask` does, unless its reply is still waited for: then it writes nothing
-// and returns 0.
+// Writes the line of the null procedure that is asked for, as `ask` does, unless its reply is still waited for: then it writes
+// nothing and returns 0.
 fn ask_unless(is_waiting: bool, beginning: &Beginning, line: &mut [u8]) -> u32
     requires { LINE_ROOM ≤ length line.old }
     ensures asked { (told : GeocomBeginning) → told.count ≡ result → IsGiven (given_unless is_waiting beginning.now) told line.new }
@@ -99,9 +99,9 @@ fn ask_unless(is_waiting: bool, beginning: &Beginning, line: &mut [u8]) -> u32
     ask(beginning, line)
 }
 
-// Whether the reply of the null procedure that is asked for is still waited for: bytes came, and answered none. `before` and
-// `after` are how many null procedures were answered before and after these bytes. Without bytes the result is `false`. If all
-// eight were answered before these bytes, none is asked for; the result is `true` then if bytes came.
+// Whether bytes came that answered no null procedure, so that no line is to be sent now: the reply of the one that is asked for
+// is still waited for, or all eight were answered before. `before` and `after` are how many were answered before and after these
+// bytes.
 fn is_waiting(bytes: &[u8], before: u8, after: u8) -> bool
     requires before { before ≤ 8 }
     requires after { after ≤ 8 }
@@ -110,15 +110,16 @@ fn is_waiting(bytes: &[u8], before: u8, after: u8) -> bool
     !bytes.is_empty() && before == after
 }
 
-/// Synchronizes: takes bytes that came, and writes the line of the null procedure that is to be sent next into `line`, with CR LF. These
-/// are `count` bytes; nothing is written after them. Eight null procedures are asked, one after the other, with ids 6, 5, 4, 3, 2, 1, 0
-/// and 7. A reply with the id of the one that is asked answers it, whatever its codes and parameters. All else that comes is discarded,
-/// so no old reply is taken for the answer to a later request. Once the eighth is answered, `has_begun` is 1, and requests can be sent.
+/// Synchronizes: takes bytes that came, and writes the line of the null procedure that is to be sent next into `line`, with CR
+/// LF. These are `count` bytes; nothing is written after them. Eight null procedures are asked, one after the other, with ids 6,
+/// 5, 4, 3, 2, 1, 0 and 7. A reply with the id of the one that is asked answers it, whatever its codes and parameters. All else
+/// that comes is discarded, so no old reply is taken for the answer to a later request. Once the eighth is answered, `has_begun`
+/// is 1, and requests can be sent.
 ///
 /// Call it without bytes for the first line, and again if nothing came in time: it writes the same line again. If bytes came that
-/// answered nothing, `count` is 0: read on. All bytes are used; the bytes of a line that hasn't ended are kept, and a line that ends
-/// after the eighth answer is discarded, too. Once the client has synchronized, the call writes no line, and discards each line that
-/// ends: then bytes go to `geocom_client_feed`.
+/// answered nothing, `count` is 0: read on. All bytes are used; the bytes of a line that hasn't ended are kept, and a line that
+/// ends after the eighth answer is discarded, too. Once the client has synchronized, the call writes no line, and discards each
+/// line that ends: then bytes go to `geocom_client_feed`.
 ///
 /// Faults: 62, `line` has fewer than 514 bytes; 63, the state is no client's. After a fault nothing has changed.
 #[unsafe(no_mangle)]

@@ -56,9 +56,9 @@ fn put_targets(targets: &mut [u32], due: &[u32])
     targets[..due.len()].copy_from_slice(due);
 }
 
-/// Times out each request whose deadline is at most `now`, a moment by the caller's clock. The targets of those that hadn't timed out
-/// before are written to the front of `targets`, oldest request first: `count` of them, and nothing after these. A request that has timed
-/// out stays outstanding: its reply settles it as late.
+/// Times out each request whose deadline is at most `now`, a moment by the caller's clock. The targets of those that hadn't timed
+/// out before are written to the front of `targets`, oldest request first: `count` of them, and nothing after these. A request
+/// that has timed out stays outstanding: its reply settles it as late.
 ///
 /// Faults: 62, `targets` has fewer than seven places; 63, the state is no client's. After a fault nothing has changed.
 #[unsafe(no_mangle)]

@@ -32,8 +32,9 @@ fn has_room(settlements: &[GeocomSettlement], text: &[u8]) -> bool
     settlements.len() >= WINDOW && text.len() >= TEXT_ROOM
 }
 
-// Hands a line to `client`, which is the client of `state`, stores the client in `state`, and returns what came of the line, with 0 as
-// `used`. If the line settled requests, the text of the line is written, and a record for each of them; otherwise nothing is.
+// Hands a line to `client`, which is the client of `state`, stores the client in `state`, and returns what came of the line, with
+// 0 as `used`. If the line settled requests, the text of the line is written, and a record for each of them; otherwise nothing
+// is.
 fn hear(
     state: &mut GeocomClient,
     mut client: Client<SlotsOf<Asked>>,
@@ -65,8 +66,8 @@ fn hear(
     }
 }
 
-// Hands the client the line that a frame is, if it is one, as `hear` does, and returns what came of the frame, with 0 as `used`. Any other
-// frame changes nothing.
+// Hands the client the line that a frame is, if it is one, as `hear` does, and returns what came of the frame, with 0 as `used`.
+// Any other frame changes nothing.
 fn feed_frame(
     state: &mut GeocomClient,
     client: Client<SlotsOf<Asked>>,
@@ -129,12 +130,13 @@ fn feed(
 
 /// Takes bytes as they come, through the first line feed, and writes a record for each request that the line settles.
 ///
-/// `used` says how many bytes were used: those through the first line feed, or all if there is none. If some are left, call
-/// again with these. `kind` says what the bytes ended. A line settles at most seven requests; their records are in the order in which
+/// `used` says how many bytes were used: those through the first line feed, or all if there is none. If some are left, call again
+/// with these. `kind` says what the bytes ended. A line settles at most seven requests; their records are in the order in which
 /// the requests were sent. If it settles any, it is written to the front of `text`, with the items of its parameters after it;
 /// otherwise nothing is written. After the `count` records nothing is written.
 ///
-/// While the client synchronizes, no request is outstanding, and bytes belong to `geocom_client_begin`: here no reply settles anything.
+/// While the client synchronizes, no request is outstanding, and bytes belong to `geocom_client_begin`: here no reply settles
+/// anything.
 ///
 /// Faults: 62, `settlements` has fewer than seven places or `text` fewer than 1024 bytes; 63, the state is no client's.
 /// After a fault nothing has changed, and nothing was used.
@@ -181,10 +183,10 @@ fn answered_after_restart(answered: u8) -> u8
     answered
 }
 
-/// Settles all outstanding requests as lost, in the order of sending, and writes a record for each: `count` of them, and nothing after
-/// these. The next id is 0, the bytes of a line that hasn't ended are discarded, and the width stays. A client that had synchronized
-/// has to synchronize again (`geocom_client_begin`). One that hadn't continues with the null procedure that it was at, so it
-/// may be restarted any number of times. For another instrument or line make a new client.
+/// Settles all outstanding requests as lost, in the order of sending, and writes a record for each: `count` of them, and nothing
+/// after these. The next id is 0, the bytes of a line that hasn't ended are discarded, and the width stays. A client that had
+/// synchronized has to synchronize again (`geocom_client_begin`). One that hadn't continues with the null procedure that it was
+/// at, so it may be restarted any number of times. For another instrument or line make a new client.
 ///
 /// Faults: 62, `settlements` has fewer than seven places; 63, the state is no client's. After a fault nothing has changed.
 #[unsafe(no_mangle)]

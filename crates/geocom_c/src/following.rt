@@ -20,8 +20,8 @@ use crate::state::GeocomClient;
 use gc_client::WINDOW;
 use gc_values::MOST_ITEMS;
 
-/// A call on a state: each variant is the `geocom_client_` function of its name, with the arguments but the state and the rooms for
-/// what it writes.
+/// A call on a state: each variant is the `geocom_client_` function of its name, with the arguments but the state and the rooms
+/// for what it writes.
 #[derive(Clone, Copy)]
 pub enum Step<'a> {
     Send {
@@ -56,8 +56,8 @@ const VACANT: GeocomSettlement = GeocomSettlement {
     reading: NONE,
 };
 
-// Feeds bytes through the first line feed, or all if there is none, and returns how many these are. If the feed has a fault, none is fed,
-// and all count as used.
+// Feeds bytes through the first line feed, or all if there is none, and returns how many these are. If the feed has a fault, none
+// is fed, and all count as used.
 fn feed_line(state: &mut GeocomClient, bytes: &[u8]) -> usize
     ensures used { IsUsedOf bytes.now result }
     ensures fed { FeedsBut bytes.now (drop result bytes.now) state.old state.new }
@@ -134,8 +134,8 @@ fn step_at<'a>(steps: &[Step<'a>], k: usize) -> Step<'a>
     steps[k]
 }
 
-/// Makes a client of this width, 1 to 7, and then these calls, each with ample room. Whatever the calls are, the state stands for the
-/// client that the rule makes of them, for the bytes that came since the last line feed, and for how far its synchronization
+/// Makes a client of this width, 1 to 7, and then these calls, each with ample room. Whatever the calls are, the state stands for
+/// the client that the rule makes of them, for the bytes that came since the last line feed, and for how far its synchronization
 /// came. What was settled, and after it the outstanding requests, are the sends that weren't refused, in order, each once. With
 /// another width no client is made: the calls are made on the state as it was, and nothing is said of what comes of it.
 pub fn follow(state: &mut GeocomClient, width: u8, steps: &[Step<'_>])

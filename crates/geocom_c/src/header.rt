@@ -1,5 +1,5 @@
-//! The numbers that `library/include/geocom.h` has, too. There each constant has the same name with `GEOCOM_` before it, except the
-//! faults, which are listed in the comment at its top.
+//! The numbers that `library/include/geocom.h` has, too. There each constant has the same name with `GEOCOM_` before it, except
+//! the faults, which are listed in the comment at its top.
 
 ghost use Rattle.std.specs.Prelude.{◌≡◌};
 ghost use Rattle.gc_values.specs.declared.fault.ValueFault.{ValueFault};

@@ -44,8 +44,8 @@ pub fn few_killed_may_begin<State>()
     ensures { FewKilledMayBegin State }
 {}
 
-/// Some calls meet every premise of `answers_are_their_own`, over an instrument that counts what it executes and with a request for
-/// any procedure that isn't in the table; and some every premise of `simulators_answers_are_their_own`.
+/// Some calls meet every premise of `answers_are_their_own`, over an instrument that counts what it executes and with a request
+/// for any procedure that isn't in the table; and some every premise of `simulators_answers_are_their_own`.
 pub fn some_calls_are_in_the_field()
     ensures { SomeCallsAreInField }
 {}

@@ -69,8 +69,8 @@ fn list(told: &mut ListedLine, params: &[u8])
     }
 }
 
-// The text of a line: the line, and after it the items of its parameters, if it is a reply whose parameters are a list of at most 16
-// items; otherwise no items.
+// The text of a line: the line, and after it the items of its parameters, if it is a reply whose parameters are a list of at most
+// 16 items; otherwise no items.
 pub(crate) fn list_line(line: &Line) -> ListedLine
     ensures { IsListingOf result line.now.items }
 {

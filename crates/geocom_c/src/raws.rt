@@ -31,8 +31,8 @@ fn number_of(fault: RawFault) -> u32
     }
 }
 
-/// Sends a request for a procedure that isn't in the table, as `geocom_client_send` sends one for a procedure of the table: `target`,
-/// `deadline`, `line` and `count` are as there. `params` is put into the line exactly as it is given.
+/// Sends a request for a procedure that isn't in the table, as `geocom_client_send` sends one for a procedure of the table:
+/// `target`, `deadline`, `line` and `count` are as there. `params` is put into the line exactly as it is given.
 ///
 /// An instrument that doesn't know a procedure may refuse it and still retain its reply to an earlier request. Ids repeat after
 /// eight requests, so that old reply could answer a later request. With such an instrument let one of the seven requests before

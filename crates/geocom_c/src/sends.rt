@@ -19,9 +19,9 @@ use gc_catalogue::{Asked, decode_call};
 use gc_client::{Client, SlotsOf};
 use gc_lines::Request;
 
-// Sends a request of `client`, which is the client of `state`, for what `asked` says. Stores the client in `state`, writes the request's
-// line with CR LF to the front of `line`, and returns how many bytes these are. If the window is full, the fault is 31, and nothing has
-// changed.
+// Sends a request of `client` for what `asked` says. Stores the client in `state`, writes the request's line with CR LF to the
+// front of `line`, and returns how many bytes these are. If as many requests are outstanding as the client's width allows, the
+// fault is `WINDOW_FULL`, and neither `state` nor `line` has changed.
 pub(crate) fn send_asked(
     state: &mut GeocomClient,
     mut client: Client<SlotsOf<Asked>>,
@@ -52,12 +52,12 @@ pub(crate) fn send_asked(
     }
 }
 
-/// Sends a request of a client that has synchronized: it is outstanding from now on, and its line is written into `line`, with CR LF,
-/// for the caller to write to the connection. These are `count` bytes; nothing is written after them.
+/// Sends a request of a client that has synchronized: it is outstanding from now on, and its line is written into `line`, with CR
+/// LF, for the caller to write to the connection. These are `count` bytes; nothing is written after them.
 ///
-/// `target` is any number of the caller's, which the settlement has. `deadline` is a moment by the caller's clock, in the unit in which
-/// `geocom_client_expire` gets moments. `params` is the text of the parameters, with commas between them, as `5000,1`; it is empty if
-/// the procedure has none.
+/// `target` is any number of the caller's, which the settlement has. `deadline` is a moment by the caller's clock, in the unit in
+/// which `geocom_client_expire` gets moments. `params` is the text of the parameters, with commas between them, as `5000,1`; it
+/// is empty if the procedure has none.
 ///
 /// Faults: 62, `line` has fewer than 514 bytes; 63, the state is no client's; 67, the client hasn't synchronized; 21, no
 /// procedure has the number; 11 to 15, the parameters don't read; 31, as many requests wait as the width allows. After a fault

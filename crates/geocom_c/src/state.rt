@@ -89,8 +89,8 @@ fn asked_of(request: &Request<'_>) -> Option<Asked>
     decode_asked(request)
 }
 
-// What a request line without an id asks for. `None`: the line is no such line, or it asks for neither a call of the table nor a raw
-// call.
+// What a request line without an id asks for. `None`: the line is no such line, or it asks for neither a call of the table nor a
+// raw call.
 fn asked_in(line: &[u8]) -> Option<Asked>
     ensures found { IfSome result (λ asked. IsLineOf line.now asked) }
     ensures only { (asked : Asked) → IsLineOf line.now asked → result ≡ Some asked }
@@ -101,7 +101,8 @@ fn asked_in(line: &[u8]) -> Option<Asked>
     }
 }
 
-// What a place's line asks for. `None`: the length is above 512, or the line is no request line without an id that asks for something.
+// What a place's line asks for. `None`: the length is above 512, or the line is no request line without an id that asks for
+// something.
 fn asked_at(place: &GeocomWaiting) -> Option<Asked>
     ensures within { IfSome result (λ _. place.now.length ≤ 512) }
     ensures found { IfSome result (λ asked. IsLineOf (take place.now.length place.now.line) asked) }

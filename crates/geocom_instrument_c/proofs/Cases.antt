@@ -1,6 +1,6 @@
--- What the code does in each case is what the definitions say: a feed with and without a reply, and calls of an instrument that is there.
--- s or b is the state of the instrument before a call, and n the one after it; `old` and `new` are the text before and after the reply is
--- appended.
+-- What the code does in each case is what the definitions say: a feed with and without a reply, and calls of an instrument that
+-- is there. s or b is the state of the instrument before a call, and n the one after it; `old` and `new` are the text before and
+-- after the reply is appended.
 use Rattle.std.proofs.Common.{◌≡◌, ℕ, true, false, List, [], ◌∷◌, ◌++◌, Option, Some, None, refl, sym, ap, ◌∙◌, subst}
 use Rattle.gc_lines.specs.Answering.{AppendsAnswer}
 use Rattle.gc_lines.specs.Lines.{with_end}

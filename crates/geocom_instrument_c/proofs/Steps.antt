@@ -1,5 +1,5 @@
--- The names that the proofs of the exported calls use. These proofs are written by hand, because the borrow checker follows no raw
--- pointer.
+-- The names that the proofs of the exported calls use. These proofs are written by hand, because the borrow checker follows no
+-- raw pointer.
 pub use Rattle.std.proofs.Common.{◌≡◌, ℕ, ◌≤◌, List, [], ◌∷◌, refl, sym, ap, ◌∙◌, lit<, nltb→le, w8, w32, w64, MutBor, arith}
 pub use Rattle.std.proofs.raw_atomic.Walks.{proved}
 pub use base.Fraction.{full_share}

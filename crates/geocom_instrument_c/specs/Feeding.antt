@@ -36,8 +36,8 @@ abbrev pub CarriesReply : Option (List ℕ) → (used due : ℕ) → GeocomRepli
 CarriesReply None used due r = IsWithoutReply used r
 CarriesReply (Some text) used due r = IsSent text used due r
 
--- the instrument hears a frame at the moment `now`, which changes its state from `before` to `after`; and the result has its reply,
--- if there is one
+-- the instrument hears a frame at the moment `now`, which changes its state from `before` to `after`; and the result has its
+-- reply, if there is one
 pub record Answers (before : SlowState) (frame : Frame) (now : ℕ) (after : SlowState) (used : ℕ) (r : GeocomReplied) : Type 0 where
   pub text : Option (List ℕ)
   pub hears : HearsFrame before frame now after text
@@ -49,8 +49,8 @@ pub record IsKept (before : BenchState) (bytes : List ℕ) (after : BenchState) 
   pub same : after.slow ≡ before.slow
   pub more : (rest : List ℕ) → StandsFor before.incomplete rest → StandsFor after.incomplete (rest ++ bytes)
 
--- bytes whose first line feed is at this place: the instrument hears the frame that the line feed ends, at the moment `now`, and the
--- result has its reply, if there is one. All bytes through the line feed were used, and no byte of a line is left
+-- bytes whose first line feed is at this place: the instrument hears the frame that the line feed ends, at the moment `now`, and
+-- the result has its reply, if there is one. All bytes through the line feed were used, and no byte of a line is left
 pub record HearsFirstFrame (before : BenchState) (bytes : List ℕ) (at now : ℕ) (after : BenchState) (r : GeocomReplied) : Type 0 where
   pub answers : (rest : List ℕ) → StandsFor before.incomplete rest → Answers before.slow (frame_of (rest ++ take at bytes)) now after.slow (at + 1) r
   pub start : StandsFor after.incomplete []
@@ -60,8 +60,8 @@ pub record IsFedTo (before : BenchState) (bytes : List ℕ) (now : ℕ) (after :
   pub none : position is_line_feed bytes ≡ None → IsKept before bytes after r
   pub some : (at : ℕ) → position is_line_feed bytes ≡ Some at → HearsFirstFrame before bytes at now after r
 
--- bytes were fed at the moment `now` where there may be no instrument: without one no byte was used, and the result says so; with one
--- they were fed to it (`IsFedTo`)
+-- bytes were fed at the moment `now` where there may be no instrument: without one no byte was used, and the result says so; with
+-- one they were fed to it (`IsFedTo`)
 pub record IsFed (before : Option BenchState) (bytes : List ℕ) (now : ℕ) (after : Option BenchState) (r : GeocomReplied) : Type 0 where
   pub absent : before ≡ None → (after ≡ None) × IsUnheard r
   pub present : (b : BenchState) → before ≡ Some b → (c : BenchState) × (after ≡ Some c) × IsFedTo b bytes now c r

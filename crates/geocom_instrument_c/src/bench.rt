@@ -112,7 +112,8 @@ impl GeocomInstrument {
         bench.feed(bytes, now)
     }
 
-    /// Restarts the instrument, and discards the bytes of an incomplete line. Returns 0, or the fault that there is no instrument.
+    /// Restarts the instrument, and discards the bytes of an incomplete line. Returns 0, or the fault that there is no
+    /// instrument.
     pub(crate) fn restart(&mut self) -> u32
         ensures { IsRestarted self.old self.new result }
     {

@@ -19,8 +19,8 @@ pub extern "C" fn geocom_instrument_size() -> usize {
     std::mem::size_of::<GeocomInstrument>()
 }
 
-/// Sets up the instrument of a scene's text, in its opening state, in the memory at `at`: `geocom_instrument_size` bytes, aligned to 16
-/// bytes. The call allocates memory while it reads the scene, and frees it.
+/// Sets up the instrument of a scene's text, in its opening state, in the memory at `at`: `geocom_instrument_size` bytes, aligned
+/// to 16 bytes. The call allocates memory while it reads the scene, and frees it.
 ///
 /// Faults: 41, more targets, faults, replies or delays than an instrument can have; 51, the scene's line number `line`, counted
 /// from 1, is the first that has no form; 52, memory was refused; 53, more than 65,536 bytes. After a fault no instrument is

@@ -58,8 +58,8 @@ impl GeocomReplied {
         }
     }
 
-    /// The result of a feed that used this many bytes, and got this reply of at most 514 bytes, with its CR LF, which goes out at the
-    /// moment `due`, in milliseconds.
+    /// The result of a feed that used this many bytes, and got this reply of at most 514 bytes, with its CR LF, which goes out at
+    /// the moment `due`, in milliseconds.
     pub(crate) fn sent(used: usize, text: &[u8], due: u64) -> GeocomReplied
         requires { length text.now ≤ 514 }
         ensures { IsSent text.now used due result }

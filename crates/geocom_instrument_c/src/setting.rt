@@ -10,8 +10,9 @@ use gc_texts::RunFault;
 use std::alloc::Global;
 
 impl GeocomInstrument {
-    /// Sets up the instrument of a scene's text, in its opening state. If the scene is refused, no instrument is there afterwards, and
-    /// the result has the fault, and the number of the scene's line that it names, from 1 on, or 0 if it names none.
+    /// Sets up the instrument of a scene's text, in its opening state. If the scene is refused, no instrument is there
+    /// afterwards, and the result has the fault, and the number of the scene's line that it names, from 1 on, or 0 if it names
+    /// none.
     pub(crate) fn set_up(&mut self, alloc: Global, scene: &[u8]) -> GeocomMade
         ensures { IsSetUp scene.now self.new result }
     {

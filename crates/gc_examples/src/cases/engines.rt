@@ -30,7 +30,7 @@ impl Player for Engines {
 fn play_setup(alloc: Global, case: &Case<'_>, setup: &Setup, wrong: &mut Told) {
     let whole = setup.run(alloc, setup.sizes.as_slice());
     let otherwise = if setup.sizes.is_empty() {
-        differing(alloc, setup, &whole, case.has("cuts", "each"))
+        differing(alloc, setup, &whole, case.is("cuts", "each"))
     } else {
         ""
     };

@@ -61,7 +61,7 @@ impl Came {
         self.end.compare(alloc, case, otherwise, wrong);
         case.tell("output", self.output.bytes.as_slice(), wrong);
         case.tell("sent", self.link.bytes.as_slice(), wrong);
-        if !case.has("writes", "") {
+        if !case.is("writes", "") {
             compare_writes(alloc, case, self.output.sizes.as_slice(), wrong);
         }
     }

@@ -51,7 +51,7 @@ fn form_of(word: &str) -> Option<Form> {
 // runs out for the name or the reply, `written` notes that it lacks a part. If it runs out for what is appended, `written` lacks
 // the end of the record or head, and doesn't note it.
 fn write_case(alloc: Global, case: &Case<'_>, form: Form, written: &mut Told) {
-    if case.has("command", "") {
+    if case.is("command", "") {
         let _ = write_head(&mut ToWriter::new(written.writer()), form);
         return;
     }
@@ -93,7 +93,7 @@ fn write_with_reply(
     let reading = reading_of(&command.call, &line);
     let zeroed = reading_as_zero(&command.call, &line);
     let ending = ending_of(case.value("ending"), &reading, &zeroed, &line);
-    // (always; `put_record` has to know it)
+    // Always so: the contract of `put_record` asks for it.
     if name.len() <= 64 {
         put_record(form, &when_of(case), name, command, ending, written);
     }

@@ -214,7 +214,7 @@ impl Setup {
         self.answers.link_out = case.number("link-taken", u64::MAX);
         self.most = size(case, "most", 5);
         self.link_most = size(case, "link-most", 1000);
-        self.totals = case.has("engine", "totals");
+        self.totals = case.is("engine", "totals");
         self.width = case.number("width", 7);
     }
 

@@ -37,7 +37,7 @@ fn play_text(alloc: Global, case: &Case<'_>, text: &[u8], wrong: &mut Told) {
     let mut came = Told::new(alloc);
     read(alloc, case, text, &mut came);
     case.tell_told("is", &came, wrong);
-    if !case.has("of", "") {
+    if !case.is("of", "") {
         compare_name(alloc, case, text, wrong);
     }
 }
@@ -105,7 +105,7 @@ fn append_events(events: &[Event], came: &mut Told) {
 // chained if its `mode` is `chained`. `Err`: the text is refused, or memory ran out.
 fn tasks_of(alloc: Global, case: &Case<'_>, text: &[u8]) -> Result<Tasks, RunFault> {
     let deadline = u64::from(small_number(case, "deadline", 0));
-    read_tasks(alloc, text, deadline, case.has("mode", "chained"))
+    read_tasks(alloc, text, deadline, case.is("mode", "chained"))
 }
 
 // Reads a station's text, and appends its tasks as `append_tasks` does; or the fault.
@@ -119,7 +119,7 @@ fn read_as_tasks(alloc: Global, case: &Case<'_>, text: &[u8], came: &mut Told) {
 // Appends each task in a line, and then how many targets have names. If the case says `turns told`, each line has the task's turn, too, and
 // at the end is how many tasks the setup has.
 fn append_tasks(case: &Case<'_>, all: &Tasks, came: &mut Told) {
-    let turns = case.has("turns", "told");
+    let turns = case.is("turns", "told");
     for task in all.tasks.as_slice() {
         append_task(task, came);
         append_near(task, came);

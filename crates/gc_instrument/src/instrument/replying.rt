@@ -4,11 +4,11 @@
 ghost use Rattle.std.specs.Prelude.{◌≡◌, ◌<◌, ◌≤◌, ◌+◌, ℕ, Some, length};
 ghost use Rattle.std.specs.Option.{option_map, ForSome};
 ghost use Rattle.arrayvec.specs.ArrayVec.{array_vec_len};
-ghost use Rattle.gc_lines.specs.Answering.{AppendsAnswer};
+ghost use Rattle.gc_lines.specs.Answering.{AppendsAnswer, AppendsText};
 ghost use Rattle.gc_lines.specs.Requests.{request_seen};
 ghost use Rattle.gc_catalogue.specs.Calls.{IsFitting};
 ghost use Rattle.gc_catalogue.specs.Texts.{request_line};
-ghost use Rattle.gc_instrument.specs.Replying.{IsReplied, IsExchanged, AppendsReply, AppendsCall, AppendsExchange, AppendsExecuted, com_code};
+ghost use Rattle.gc_instrument.specs.Replying.{IsReplied, IsExchanged, AppendsExchange, IsReplyToRequest, IsReplyToCall, IsReplyToExecuted, com_code};
 
 use super::Instrument;
 use crate::codes::{UNKNOWN_PROCEDURE, WRONG_PARAMETERS};
@@ -68,7 +68,7 @@ impl Instrument {
     fn reply_to<const N: usize>(&mut self, request: &Request<'_>, out: &mut ArrayVec<u8, N>)
         requires id { ForSome request.now.id (λ id. id < 8) }
         requires room { array_vec_len out.old + 512 ≤ N }
-        ensures replies { AppendsReply self.old (request_seen request.now) self.new out.old.items out.new.items }
+        ensures replies { AppendsText (IsReplyToRequest self.old (request_seen request.now) self.new) out.old.items out.new.items }
         ensures bound { length out.new.items ≤ length out.old.items + 512 }
     {
         let mut call = Call::NullProc;
@@ -88,7 +88,7 @@ impl Instrument {
     )
         requires id { ForSome id (λ id. id < 8) }
         requires room { array_vec_len out.old + 512 ≤ N }
-        ensures replies { AppendsCall self.old id call.now self.new out.old.items out.new.items }
+        ensures replies { AppendsText (IsReplyToCall self.old id call.now self.new) out.old.items out.new.items }
         ensures bound { length out.new.items ≤ length out.old.items + 512 }
     {
         if let Some(line) = self.kept.line_of(id) {
@@ -105,7 +105,7 @@ impl Instrument {
     fn carry_out_onto<const N: usize>(&mut self, id: u8, call: &Call, out: &mut ArrayVec<u8, N>)
         requires id { id < 8 }
         requires room { array_vec_len out.old + 512 ≤ N }
-        ensures replies { AppendsExecuted self.old id call.now self.new out.old.items out.new.items }
+        ensures replies { AppendsText (IsReplyToExecuted self.old id call.now self.new) out.old.items out.new.items }
         ensures bound { length out.new.items ≤ length out.old.items + 512 }
     {
         let mut answer = Answer::Nothing;

@@ -3,9 +3,9 @@
 ghost use Rattle.std.specs.Prelude.{◌≡◌};
 ghost use Rattle.gc_lines.specs.Lent.{IsLineWithin};
 ghost use Rattle.gc_lines.specs.Ports.{FailsWith};
-ghost use Rattle.gc_station.specs.Model.{Model, piece_came, piece_synchronizing, piece_at};
+ghost use Rattle.gc_station.specs.Model.{Model, piece_came, piece_synchronizing, piece_taken, piece_at};
 ghost use Rattle.gc_station.specs.Progressing.{lines_synchronizing};
-ghost use Rattle.gc_station.specs.Stations.{Refines, MovesByReading, seen, Becomes, frame_came, lines_of_frame, piece_taken};
+ghost use Rattle.gc_station.specs.Stations.{Refines, MovesByReading, seen, Becomes, frame_came, lines_of_frame};
 
 use super::Station;
 use crate::book::Book;
@@ -60,18 +60,18 @@ impl Station {
 
     // Hears a frame's line, if it has one, while the station synchronizes: a reply with the first id that is left answers its
     // null procedure.
-    fn hear_null(&mut self, frame: Lent<'_>)
+    fn hear_synchronizing(&mut self, frame: Lent<'_>)
         requires { IsLineWithin frame }
         ensures { self.new ≡ record self.old { progress = lines_synchronizing self.old.progress (lines_of_frame frame.entry) } }
     {
         if let Lent::Line(line) = frame {
-            self.progress.hear_null(line);
+            self.progress.hear_synchronizing(line);
         }
     }
 
     // Hears the lines of a piece, in order, while the station synchronizes. Lines after the last answer of the synchronization settle
     // nothing.
-    fn listen_null(&mut self, piece: &[u8])
+    fn listen_synchronizing(&mut self, piece: &[u8])
         ensures { (s : Model) → Refines self.old s → Refines self.new (piece_synchronizing piece.now s) }
     {
         let mut cut = Line::new();
@@ -79,11 +79,11 @@ impl Station {
         while at < piece.len() {
             let (used, frame) = self.assembler.next(&piece[at..], &mut cut);
             at += used;
-            self.hear_null(frame);
+            self.hear_synchronizing(frame);
         }
     }
 
-    // Hears the lines of a piece: by `listen_null` while the station synchronizes, by `listen` once it has. In a phase in which
+    // Hears the lines of a piece: by `listen_synchronizing` while the station synchronizes, by `listen` once it has. In a phase in which
     // nothing is heard the piece is discarded. `Err`: the book failed at a record.
     fn take_lines<B: Book>(&mut self, book: &mut B, piece: &[u8]) -> Result<(), PortFailed>
         ensures takes { Becomes (piece_taken piece.now) (B.text book.old) (B.taken book.old) (B.taken book.new) self.old self.new result }
@@ -94,7 +94,7 @@ impl Station {
             return Ok(());
         }
         if !self.progress.has_begun() {
-            self.listen_null(piece);
+            self.listen_synchronizing(piece);
             return Ok(());
         }
         self.listen(book, piece)

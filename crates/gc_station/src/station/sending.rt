@@ -1,5 +1,5 @@
-//! What a station sends: the line feed that clears half a request, and requests. A request whose write is cut counts as sent, and the
-//! connection is to be closed for that (`note_cut`).
+//! What a station sends: the line feed on a new connection, which ends a request that was cut off before, and requests. A request
+//! whose write is cut counts as sent, and the connection is to be closed for that (`note_cut`).
 
 ghost use Rattle.std.specs.Prelude.{◌≡◌, ◌<◌, ◌≤◌, [], ◌∷◌, false, length, drop, Option};
 ghost use Rattle.gc_client.specs.declared.window.TheConstants.{WINDOW};

@@ -2,10 +2,11 @@ use Rattle.std.proofs.Common.{◌≡◌, ℕ, ◌+◌, ◌<◌, List, [], ◌++�
 use Rattle.std.proofs.lemmas.List.{length-take, take_all}
 use Rattle.std.proofs.KnownBytes.{Consumes-trans, Consumes-nil}
 use Rattle.gc_ask.specs.Asking.{LinkEnd, idle}
+use Rattle.gc_ask.specs.Links.{SeenStep}
 use Rattle.gc_ask.specs.Listening.{heard_by, seen_through}
 use Rattle.gc_ask.specs.Looping.{BothEnd, SeenAtBoth}
 use Rattle.gc_ask.proofs.Asked.{course_start, course_all}
-use Rattle.gc_ask.proofs.Ends.{sound_start, sound_on, both_end, both_sound, ends_as, step_over}
+use Rattle.gc_ask.proofs.Ends.{sound_start, sound_on, both_end, both_sound, ends_as}
 use Rattle.gc_ask.proofs.Exchanging.{course_next, run_fault}
 use Rattle.gc_ask.proofs.ask.ask_all.Goals as goal
 use Rattle.gc_texts.proofs.SettlementLines.{at_place}
@@ -89,7 +90,7 @@ returns-in-Err-clause-asks g c =
       }) one.0 (heard_by asking.end at.now (old.ahead ++ one.0) asking.ahead) new c.in-Err.fault
           c.loop-place.invariant.client c.loop-place.invariant.instrument (place_is commands place c.loop-place-test.true)
           (one.3 at.now at.stands) c.in-Err.ensures.ends;
-      ends = ends_as (step_over before new) (BothEnd first.client new.client first.instrument new.instrument)
+      ends = ends_as (SeenStep before new) (BothEnd first.client new.client first.instrument new.instrument)
           (λ r. both_end first before new r c.loop-place.invariant.client c.loop-place.invariant.instrument)
           first.sink.failed before.sink.failed new.sink.failed c.loop-place.invariant.sink (Err c.in-Err.fault) c.in-Err.ensures.ends;
       bound = omega (arith, c.loop-place.invariant.reads, c.in-Err.ensures.reads);

@@ -22,8 +22,9 @@ handed g c = c.write_row.ensures c.write_row.new.to (sym (append-nil _), tt)
 -- the rounded answer's values, each after a comma, follow the reply's return code
 listed : (g : _) (c : goal.After-pop g) → c.pop.new.self.items ≡ c.push_reply.new.to.items ++ behind_commas (answer_fields (rounded_answer c.args.places c.args.answer.now)).values
 listed g c =
-    comma_list c.push_reply.new.to.items (shown_values (Some c.args.places) (answer_fields c.args.answer.now).values) c.push.new.self.items
-    c.write_row.new.to.items c.pop.new.self.items c.push.ensures.items (handed g c).0 c.pop.ensures.rest
+    let vs : List Value = shown_values (Some c.args.places) (answer_fields c.args.answer.now).values in
+    comma_list c.push_reply.new.to.items vs c.write_row.new.to.items c.pop.new.self.items
+    ((handed g c).0 ∙ ap (λ bytes. bytes ++ before_commas vs) c.push.ensures.items) c.pop.ensures.rest
     ∙ ap (λ vs. c.push_reply.new.to.items ++ behind_commas vs) (sym (values-rounded c.args.places c.args.answer.now))
 
 pub returns-clause-line : goal.returns-clause-line

@@ -6,7 +6,7 @@ use Rattle.gc_catalogue.specs.Calls.{call_fields}
 use Rattle.gc_catalogue.specs.Lists.{before_commas}
 use Rattle.gc_catalogue.specs.Texts.{request_of}
 use Rattle.gc_catalogue.proofs.Joining.{request_ends}
-use Rattle.gc_catalogue.proofs.LineLaws.{call_again, some_id}
+use Rattle.gc_catalogue.proofs.LineLaws.{call_again, id_in_range}
 use Rattle.gc_catalogue.proofs.Plain.{plain_params}
 use Rattle.gc_catalogue.proofs.Table.{number_fits}
 use Rattle.gc_catalogue.proofs.requests.encode_call_onto.Goals as goal
@@ -28,7 +28,7 @@ returns-clause-fitting g c = (begun g c).1
 
 pub returns-clause-plain : goal.returns-clause-plain
 returns-clause-plain g c =
-    request_plain (request_of c.args.id c.args.call.now) (record { rpc = number_fits c.args.call.now; id = some_id c.args.id c.requires.id }) (plain_params _ (begun g c).1)
+    request_plain (request_of c.args.id c.args.call.now) (record { rpc = number_fits c.args.call.now; id = id_in_range c.args.id c.requires.id }) (plain_params _ (begun g c).1)
 
 pub returns-clause-reads_back : goal.returns-clause-reads_back
-returns-clause-reads_back g c = call_again c.args.id c.args.call.now (some_id c.args.id c.requires.id) (begun g c).1
+returns-clause-reads_back g c = call_again c.args.id c.args.call.now (id_in_range c.args.id c.requires.id) (begun g c).1

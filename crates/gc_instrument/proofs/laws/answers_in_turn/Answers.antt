@@ -1,6 +1,7 @@
-use Rattle.gc_instrument.proofs.Hearing.{hears_then}
+use Rattle.gc_lines.proofs.InOrder.{in_order_then}
+use Rattle.gc_instrument.specs.Replying.{IsReplied}
 use Rattle.gc_instrument.proofs.Turns.{one_hearing, output_then}
 use Rattle.gc_instrument.proofs.laws.answers_in_turn.Goals as goal
 
 pub returns : goal.returns
-returns c = record { one = one_hearing; next = hears_then; whole = output_then }
+returns c = record { one = one_hearing; next = in_order_then IsReplied; whole = output_then }

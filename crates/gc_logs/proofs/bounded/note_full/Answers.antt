@@ -1,5 +1,7 @@
-use Rattle.gc_logs.proofs.Bounds.{takes_some}
+use Rattle.gc_logs.proofs.Bounds.{all_or_front}
 use Rattle.gc_logs.proofs.bounded.note_full.Goals as goal
 
 pub returns : goal.returns
-returns g c = takes_some _ _ _ c.write_notice.result c.write_notice.ensures.ok c.write_notice.ensures.err
+returns g c =
+    all_or_front _ _ _ c.write_whole.result (rw (c.deref.ensures.0, c.full_notice.ensures) at c.write_whole.ensures.ok)
+    (rw (c.deref.ensures.0, c.full_notice.ensures) at c.write_whole.ensures.err)

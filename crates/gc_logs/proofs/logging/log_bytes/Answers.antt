@@ -10,6 +10,6 @@ loop-b-preserved g c =
     let within = c.loop-b-test.true in
     let behind = c.loop-b.invariant.pending in
     record {
-      took = took_more p q bs i within behind _ _ _ _ _ _ c.args.utc c.args.way c.loop-b.invariant.took c.log_byte.ensures.took;
+      took = took_more p q bs i within behind c.args.utc c.args.way c.loop-b.invariant.took c.log_byte.ensures.took;
       pending = is_behind p q bs i within behind c.log_byte.new.pending c.log_byte.ensures.pending;
     }

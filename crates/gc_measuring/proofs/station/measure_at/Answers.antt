@@ -1,8 +1,9 @@
 use Rattle.std.specs.Option.{is_some}
 use Rattle.std.proofs.Common.{inl, inr, refl, false, Err, Some, sym, ap, ◌∙◌}
+use Rattle.std.proofs.lemmas.Bool.{false≢true}
 use Rattle.std.proofs.lemmas.Result.{IfOk-weaker}
 use Rattle.gc_measuring.specs.declared.stop.Stop.TheVariants.{Run}
-use Rattle.gc_measuring.proofs.Unbegun.{logged_if_none_lost, sink_is_as_it_was}
+use Rattle.gc_measuring.proofs.Unbegun.{sink_is_as_it_was}
 use Rattle.gc_measuring.proofs.station.measure_at.Goals as goal
 
 pub returns-in-Err-clause-told : goal.returns-in-Err-clause-told
@@ -13,8 +14,17 @@ returns-in-Err-clause-told g c =
       between = c.args.streams.messages;
       behind = c.report_end_of_run-ended.new.messages;
       is_lost = false;
-      logged = logged_if_none_lost _;
-      ran = inr (c.in-Err.fault, refl, c.in-Err.ensures.fault, refl, refl, refl, refl, refl);
+      logged = λ lost. absurd (false≢true lost);
+      ran = inr (record {
+        fault = c.in-Err.fault;
+        is = refl;
+        cannot = c.in-Err.ensures.fault;
+        input = refl;
+        output = refl;
+        messages = refl;
+        acts = refl;
+        turns = refl;
+      });
       fails = sink_is_as_it_was _ _ _ c.in-Err.ensures.fault;
       counts = told;
       loss = refl;
@@ -29,7 +39,7 @@ returns-in-None-clause-told g c =
       between = t.between;
       behind = c.measure_over-streams.result.0.messages;
       is_lost = false;
-      logged = logged_if_none_lost _;
+      logged = λ lost. absurd (false≢true lost);
       ran = inl (record {
         told = c.measure_over-streams.new.link.link.history.acts;
         is = ap (λ l. Some l.history.acts) c.into_link.ensures;

@@ -1,17 +1,17 @@
 use Rattle.std.proofs.Common.{◌≡◌, subst}
 use Rattle.gc_nights.specs.Runs.{AreRuns}
-use Rattle.gc_nights.proofs.Running.{runs_behind}
+use Rattle.gc_nights.proofs.Running.{runs_then}
 use Rattle.gc_nights.proofs.nights.run_night.Goals as goal
 use Rattle.gc_nights.proofs.nights.run_night.Goals.{in-Killed, in-GaveUp}
 
 pub returns-in_err-run_once : goal.returns-in_err-run_once
-returns-in_err-run_once g c = runs_behind c.args.programme.tasks.now c.args.link.now.carried c.loop.link.carried c.run_once.new.link.carried c.loop.invariant c.run_once.ensures
+returns-in_err-run_once g c = runs_then c.args.programme.tasks.now c.args.link.now.carried c.loop.link.carried c.run_once.new.link.carried c.loop.invariant c.run_once.ensures
 
 pub returns-in-Done : goal.returns-in-Done
-returns-in-Done g c = runs_behind c.args.programme.tasks.now c.args.link.now.carried c.loop.link.carried c.run_once.new.link.carried c.loop.invariant c.run_once.ensures
+returns-in-Done g c = runs_then c.args.programme.tasks.now c.args.link.now.carried c.loop.link.carried c.run_once.new.link.carried c.loop.invariant c.run_once.ensures
 
 pub returns-in-CutOff : goal.returns-in-CutOff
-returns-in-CutOff g c = runs_behind c.args.programme.tasks.now c.args.link.now.carried c.loop.link.carried c.run_once.new.link.carried c.loop.invariant c.run_once.ensures
+returns-in-CutOff g c = runs_then c.args.programme.tasks.now c.args.link.now.carried c.loop.link.carried c.run_once.new.link.carried c.loop.invariant c.run_once.ensures
 
 pub loop-preserved : goal.loop-preserved
 loop-preserved g c =
@@ -20,4 +20,4 @@ loop-preserved g c =
       | in-GaveUp w ↦ let waited = w.wait.ensures in let is = w.link-is in cc
     ] in
     subst (λ acts. AreRuns c.args.programme.tasks.now c.args.link.now.carried acts) same
-    (runs_behind c.args.programme.tasks.now c.args.link.now.carried c.loop.link.carried c.run_once.new.link.carried c.loop.invariant c.run_once.ensures)
+    (runs_then c.args.programme.tasks.now c.args.link.now.carried c.loop.link.carried c.run_once.new.link.carried c.loop.invariant c.run_once.ensures)

@@ -14,6 +14,7 @@ returns-clause-text g c =
     let procedure = decimal (procedure_of command.call) in
     let name = name_members c.args.name.now in
     let first : c.append_number.new.line.items ≡ old ++ number_member (codes "target") target = search rules in
-    let last : c.append_number-2.new.line.items ≡ c.append_target_name.new.line.items ++ number_member (codes "procedure") procedure = search rules in
-    last ∙ ap (λ l. l ++ number_member (codes "procedure") procedure) (c.append_target_name.ensures.text ∙ ap (λ l. l ++ members_text name) first)
+    let second : c.append_text_if_any.new.line.items ≡ c.append_number.new.line.items ++ members_text name = search rules in
+    let last : c.append_number-2.new.line.items ≡ c.append_text_if_any.new.line.items ++ number_member (codes "procedure") procedure = search rules in
+    last ∙ ap (λ l. l ++ number_member (codes "procedure") procedure) (second ∙ ap (λ l. l ++ members_text name) first)
     ∙ command_text old target procedure name

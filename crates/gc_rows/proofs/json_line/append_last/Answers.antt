@@ -11,6 +11,6 @@ returns-clause-text g c =
     let old = c.args.line.now.items in
     let quality = quality_members (quality_text (quality_of (ending_seen c.args.ending))) in
     let attempt = decimal c.args.when.now.stamp.turn.attempt in
-    let first : c.append_quality.new.line.items ≡ old ++ members_text quality = search rules in
-    let second : c.append_number.new.line.items ≡ c.append_quality.new.line.items ++ number_member (codes "attempt") attempt = search rules in
+    let first : c.append_text_if_any.new.line.items ≡ old ++ members_text quality = search rules in
+    let second : c.append_number.new.line.items ≡ c.append_text_if_any.new.line.items ++ number_member (codes "attempt") attempt = search rules in
     second ∙ ap (λ l. l ++ number_member (codes "attempt") attempt) first ∙ last_text old attempt quality

@@ -9,7 +9,7 @@ use Rattle.gc_station.specs.Scopes.{Scope}
 use Rattle.gc_station.specs.Model.{opening}
 use Rattle.gc_station.proofs.Readings.{reads_as_in_scope, same_readings}
 use Rattle.gc_station.proofs.Going.{on_call, went_nothing, kept_same, went_kept, went_left, went_on, went_wrong, went_nearer, has_model_on}
-use Rattle.gc_station.proofs.Noting.{noted_nothing, noted_kept, noted_same, noted_on, noted_end, noted_left, noted_wrong}
+use Rattle.gc_station.proofs.Noting.{noted_nothing, noted_kept, noted_on, noted_end, noted_closed, noted_refused}
 use Rattle.gc_station.proofs.run.run.Goals as goal
 
 pub returns-in-Err : goal.returns-in-Err
@@ -30,7 +30,7 @@ returns-in-Err g c =
           let scope : Scope = record { turns = c.args.max_turns; reads = reads } in
           let n = noted_kept plan commands scope text told taken (g.L.Link.acts c.loop-unsynced.link) (g.B.Book.taken c.loop-unsynced.book)
           (g.B.Book.taken c.sync.new.self) c.loop-unsynced.station c.args.kept.now.turns c.loop-unsynced.kept.turns c.sync.ensures.same (c.loop-unsynced.invariant.noted reads are) in
-          noted_left plan commands scope text told taken (g.L.Link.acts c.loop-unsynced.link) (g.L.Link.acts c.close.new.self) (g.B.Book.taken c.sync.new.self)
+          noted_closed plan commands scope text told taken (g.L.Link.acts c.loop-unsynced.link) (g.L.Link.acts c.close.new.self) (g.B.Book.taken c.sync.new.self)
           c.loop-unsynced.station c.args.kept.now.turns c.loop-unsynced.kept.turns n c.close.ensures;
       is_durable = tt;
       fails = c.in-Err.ensures.fails;
@@ -66,19 +66,19 @@ returns-in-Err-step g c =
           let text = g.B.Book.text c.args.book.now in
           let m = noted_kept plan commands scope text told taken (g.L.Link.acts c.loop-unsynced.link) (g.B.Book.taken c.loop-unsynced.book)
           (g.B.Book.taken c.sync.new.self) c.loop-unsynced.station c.args.kept.now.turns c.loop-unsynced.kept.turns c.sync.ensures.same (c.loop-unsynced.invariant.noted reads are) in
-          let n = noted_same plan commands scope text told taken (g.L.Link.acts c.loop-unsynced.link) (g.B.Book.taken c.sync.new.self)
+          let n = noted_kept plan commands scope text told taken (g.L.Link.acts c.loop-unsynced.link) (g.B.Book.taken c.sync.new.self)
           (g.B.Book.taken c.report_health_and_overrun-reported.new.book) c.loop-unsynced.station c.args.kept.now.turns c.loop-unsynced.kept.turns
-          c.report_health_and_overrun-reported.ensures.taken m in
+          (kept_same (g.B.Book.taken c.sync.new.self) (g.B.Book.taken c.report_health_and_overrun-reported.new.book) c.report_health_and_overrun-reported.ensures.taken) m in
           let s = state_after plan commands scope n.went.acts in
           let same = same_readings s.reads reads (reads_as_in_scope plan commands scope n.went.acts) are in
-          noted_wrong plan commands scope text told taken (g.L.Link.acts c.loop-unsynced.link) (g.L.Link.acts c.step.new.link)
+          noted_refused plan commands scope text told taken (g.L.Link.acts c.loop-unsynced.link) (g.L.Link.acts c.step.new.link)
           (g.L.Link.acts c.close-in-Err-step.new.self) (g.B.Book.taken c.report_health_and_overrun-reported.new.book)
           (g.B.Book.taken c.step.new.book) (g.B.Book.is_durable c.report_health_and_overrun-reported.new.book) c.loop-unsynced.station c.action-action.result
-          c.args.kept.now.turns c.loop-unsynced.kept.turns c.and.result.turns n
+          c.args.kept.now.turns c.loop-unsynced.kept.turns c.with_snapshot.result.turns n
           (c.action-action.ensures.action s n.went.stands same)
           (on_call c.action-action.result _ c.in_default-action.not-Stop
           (rw (c.report_health_and_overrun-reported.ensures.form ∙ c.sync.ensures.form ∙ c.loop-unsynced.invariant.form) at c.in-Err-step.ensures.does))
-          c.close-in-Err-step.ensures c.and.ensures (c.report_health_and_overrun-reported.ensures.is_durable ∙ c.in_default.ensures.is_durable);
+          c.close-in-Err-step.ensures c.with_snapshot.ensures (c.report_health_and_overrun-reported.ensures.is_durable ∙ c.in_default.ensures.is_durable);
       is_durable = tt;
       fails = c.in-Err-step.ensures.fails;
       form = c.in-Err-step.ensures.form ∙ c.report_health_and_overrun-reported.ensures.form ∙ c.sync.ensures.form ∙ c.loop-unsynced.invariant.form;
@@ -133,16 +133,16 @@ loop-unsynced-preserved g c =
           let text = g.B.Book.text c.args.book.now in
           let m = noted_kept plan commands scope text told taken (g.L.Link.acts c.loop-unsynced.link) (g.B.Book.taken c.loop-unsynced.book)
           (g.B.Book.taken c.sync.new.self) c.loop-unsynced.station c.args.kept.now.turns c.loop-unsynced.kept.turns c.sync.ensures.same (c.loop-unsynced.invariant.noted reads are) in
-          let n = noted_same plan commands scope text told taken (g.L.Link.acts c.loop-unsynced.link) (g.B.Book.taken c.sync.new.self)
+          let n = noted_kept plan commands scope text told taken (g.L.Link.acts c.loop-unsynced.link) (g.B.Book.taken c.sync.new.self)
           (g.B.Book.taken c.report_health_and_overrun-reported.new.book) c.loop-unsynced.station c.args.kept.now.turns c.loop-unsynced.kept.turns
-          c.report_health_and_overrun-reported.ensures.taken m in
+          (kept_same (g.B.Book.taken c.sync.new.self) (g.B.Book.taken c.report_health_and_overrun-reported.new.book) c.report_health_and_overrun-reported.ensures.taken) m in
           let s = state_after plan commands scope n.went.acts in
           let same = same_readings s.reads reads (reads_as_in_scope plan commands scope n.went.acts) are in
           noted_on plan commands scope text told taken (g.L.Link.acts c.loop-unsynced.link) (g.L.Link.acts c.step.new.link)
           (g.B.Book.taken c.report_health_and_overrun-reported.new.book) (g.B.Book.taken c.step.new.book) (g.B.Book.is_durable c.report_health_and_overrun-reported.new.book)
           c.loop-unsynced.station c.step.new.self c.action-action.result
-          c.args.kept.now.turns c.loop-unsynced.kept.turns c.and.result.turns n
-          (c.action-action.ensures.action s n.went.stands same) makes are c.and.ensures (c.report_health_and_overrun-reported.ensures.is_durable ∙ c.in_default.ensures.is_durable);
+          c.args.kept.now.turns c.loop-unsynced.kept.turns c.with_snapshot.result.turns n
+          (c.action-action.ensures.action s n.went.stands same) makes are c.with_snapshot.ensures (c.report_health_and_overrun-reported.ensures.is_durable ∙ c.in_default.ensures.is_durable);
       form = c.in_default-step.ensures.form ∙ c.report_health_and_overrun-reported.ensures.form ∙ c.sync.ensures.form ∙ c.loop-unsynced.invariant.form;
       failed = c.in_default-step.ensures.fails ∙ c.report_health_and_overrun-reported.ensures.failed ∙ c.in_default.ensures.fails ∙ c.loop-unsynced.invariant.failed;
     }

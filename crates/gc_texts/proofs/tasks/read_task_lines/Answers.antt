@@ -1,7 +1,7 @@
 use Rattle.std.proofs.Common.{rules, length, ◌≡◌, ◌≤◌, ◌++◌, ap, arith}
 use Rattle.std.specs.Option.{option_copied}
 use Rattle.gc_texts.specs.Tasks.{opening, setup_at, planned_at, name_at, near_at}
-use Rattle.gc_texts.proofs.TaskReading.{begun_few, place_few, link_few, cycle_few, tasks_few, task_skips, task_reads, task_fails, task_refused, task_wants}
+use Rattle.gc_texts.proofs.TaskReading.{counted, cycle_few, tasks_few, task_skips, task_reads, task_fails, task_refused, task_wants}
 use Rattle.gc_texts.proofs.tasks.read_task_lines.Goals as goal
 
 pub overflow_add-number : goal.overflow_add-number
@@ -69,17 +69,20 @@ loop-left-preserved c =
 
 pub mode_after-next-requires-clause-begun : goal.mode_after-next-requires-clause-begun
 mode_after-next-requires-clause-begun c =
-    let few : c.loop-left.mode.begun ≤ 65537 = begun_few c.args.text.now c.args.deadline c.args.chained (option_copied c.loop-left.left) c.loop-left.number _ c.requires c.loop-left.invariant in
+    let few : c.loop-left.mode.begun ≤ 65537 =
+    (counted c.args.text.now c.args.deadline c.args.chained (option_copied c.loop-left.left) c.loop-left.number _ c.requires c.loop-left.invariant).begun in
     omega (arith, few)
 
 pub mode_after-next-requires-clause-place : goal.mode_after-next-requires-clause-place
 mode_after-next-requires-clause-place c =
-    let few : c.loop-left.mode.place ≤ 65537 = place_few c.args.text.now c.args.deadline c.args.chained (option_copied c.loop-left.left) c.loop-left.number _ c.requires c.loop-left.invariant in
+    let few : c.loop-left.mode.place ≤ 65537 =
+    (counted c.args.text.now c.args.deadline c.args.chained (option_copied c.loop-left.left) c.loop-left.number _ c.requires c.loop-left.invariant).place in
     omega (arith, few)
 
 pub mode_after-next-requires-clause-link : goal.mode_after-next-requires-clause-link
 mode_after-next-requires-clause-link c =
-    let few : c.loop-left.mode.link ≤ 65537 = link_few c.args.text.now c.args.deadline c.args.chained (option_copied c.loop-left.left) c.loop-left.number _ c.requires c.loop-left.invariant in
+    let few : c.loop-left.mode.link ≤ 65537 =
+    (counted c.args.text.now c.args.deadline c.args.chained (option_copied c.loop-left.left) c.loop-left.number _ c.requires c.loop-left.invariant).link in
     omega (arith, few)
 
 pub lay_out-requires : goal.lay_out-requires

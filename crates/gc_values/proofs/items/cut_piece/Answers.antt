@@ -1,6 +1,7 @@
 use Rattle.std.proofs.Common.{◌≡◌, ℕ, true, ◌+◌, ◌-◌, arith, ap, ◌∙◌, get_or, take, drop, length, refl}
 use Rattle.std.proofs.lemmas.Grind.{common_steps}
-use Rattle.gc_values.proofs.Scanning.{parity_after, scanned_none, scanned_more, scanned_cut, scanned_all}
+use Rattle.gc_values.specs.Params.{quoted_after}
+use Rattle.gc_values.proofs.Scanning.{scanned_none, scanned_more, scanned_cut, scanned_all}
 use Rattle.std.proofs.lemmas.List.{drop-drop, take_rest}
 use Rattle.gc_values.proofs.items.cut_piece.Goals as goal
 use Rattle.gc_values.proofs.items.cut_piece.Goals.{then-byte-eq34, else-byte-eq34, else-byte-eq44-via-then-byte-eq44+else-not-quoted, else-byte-eq44-via-else-byte-eq44}
@@ -15,7 +16,7 @@ loop-i-preserved c =
       | else-byte-eq44-via-then-byte-eq44+else-not-quoted w ↦ grind (arith, common_steps)
       | else-byte-eq44-via-else-byte-eq44 w ↦ absurd (w.if-byte-eq44.false h)
     ] in
-    let step : c.if-byte-eq34.quoted ≡ parity_after b c.loop-i.quoted = elim c.if-byte-eq34.branch [
+    let step : c.if-byte-eq34.quoted ≡ quoted_after b c.loop-i.quoted = elim c.if-byte-eq34.branch [
       | then-byte-eq34 w ↦ grind (arith, common_steps)
       | else-byte-eq34 w ↦ grind (arith, common_steps)
     ] in

@@ -1,6 +1,7 @@
-use Rattle.std.proofs.Common.{◌≡◌, ◌+◌, length, take, refl, ◌∙◌, arith}
+use Rattle.std.proofs.Common.{◌≡◌, ◌+◌, length, take, refl, sym, ◌∙◌, arith}
 use Rattle.gc_lines.specs.Lines.{with_end}
-use Rattle.gc_world.proofs.Pieces.{fed_line, fed_end, fed_feed}
+use Rattle.gc_lines.proofs.Plain.{plain_frame}
+use Rattle.gc_world.proofs.Pieces.{fed_line, fed_feed}
 use Rattle.gc_world.proofs.feeding.feed_rest.Goals as goal
 
 pub returns-then-gone-line-clause-line : goal.returns-then-gone-line-clause-line
@@ -8,7 +9,7 @@ returns-then-gone-line-clause-line c =
     let line = c.args.line.now in
     (c.next-then-gone-line.ensures.frame 1 refl).1 line (fed_line c.args.assembler.now c.next.new.self line c.requires.plain c.args.gone
     (omega (arith, c.if-gone-line.true)) c.next.ensures.more c.requires.stands)
-    ∙ fed_end line c.requires.within
+    ∙ sym (plain_frame line c.requires.within)
 
 pub returns-else-gone-line-clause-line : goal.returns-else-gone-line-clause-line
 returns-else-gone-line-clause-line c =

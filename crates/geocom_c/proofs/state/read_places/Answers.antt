@@ -5,7 +5,7 @@ use Rattle.std.proofs.lemmas.List.{take_all}
 use Rattle.gc_catalogue.specs.declared.asked.Asked.{Asked}
 use Rattle.gc_client.proofs.Lists.{take_turn}
 use Rattle.gc_client.specs.declared.pending.Pending.{Pending}
-use Rattle.gc_world.proofs.Places.{in_range}
+use Rattle.gc_world.proofs.Places.{element_at}
 use Rattle.geocom_c.specs.FirstAre.{FirstAre}
 use Rattle.geocom_c.specs.State.{IsPlace}
 use Rattle.geocom_c.proofs.Places.{first_more, first_at}
@@ -33,7 +33,7 @@ loop-k-preserved c =
       found = subst (λ (w : List (Pending Asked)). FirstAre IsPlace places w) (sym e)
           (first_more IsPlace places c.loop-k.window _ c.in-Some.p before.found (ap (slice_get places) before.count ∙ here) c.in-Some.ensures.found);
       only = λ ps n are.
-          let it = in_range ps k (omega (arith, n, c.loop-k-test.true)) in
+          let it = element_at ps k (omega (arith, n, c.loop-k-test.true)) in
           let both : Some c.in-Some.p ≡ Some it.0 = sym c.in-Some.is ∙ c.read_place.ensures.only it.0 (first_at IsPlace places ps k _ it.0 are here it.1) in
           let same : c.in-Some.p ≡ it.0 = cc in
           let next : suc k ≡ k + 1 = omega arith in
@@ -46,7 +46,7 @@ returns-in_default-clause-only c = λ ps n are.
     let k = c.loop-k.k in
     let places = c.args.places.now in
     let within : k < length places = omega (arith, c.loop-k-test.true, c.requires.there) in
-    let it = in_range ps k (omega (arith, n, c.loop-k-test.true)) in
+    let it = element_at ps k (omega (arith, n, c.loop-k-test.true)) in
     let here = slice_get-get_or places k _ within in
     absurd (c.in_default.not-Some it.0 (c.read_place.ensures.only it.0 (first_at IsPlace places ps k _ it.0 are here it.1)))
 

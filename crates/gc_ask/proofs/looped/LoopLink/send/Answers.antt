@@ -1,13 +1,11 @@
-use Rattle.std.proofs.Common.{false, true, ◌≡◌, Err, inl, inr, refl}
+use Rattle.std.proofs.Common.{false, Err, inl, inr, refl}
+use Rattle.std.proofs.lemmas.Bool.{false≢true}
 use Rattle.gc_lines.specs.Answering.{ports_of}
 use Rattle.gc_lines.specs.Lines.{with_end}
 use Rattle.gc_ask.specs.Asking.{taken_by}
 use Rattle.gc_ask.proofs.Ends.{sends_not_too_many, step_none, step_sends}
 use Rattle.gc_ask.proofs.Exchanging.{takes_answered, takes_sent}
 use Rattle.gc_ask.proofs.looped.LoopLink.send.Goals as goal
-
-not_remote : false ≡ true → ⊥
-not_remote e = cc
 
 pub returns-in-Err-clause-takes : goal.returns-in-Err-clause-takes
 returns-in-Err-clause-takes g c = takes_sent false c.args.place (with_end c.args.request.now.items)
@@ -30,7 +28,7 @@ returns-in-Err-clause-too_many g c is = absurd (sends_not_too_many c.args.place 
 
 pub returns-clause-takes : goal.returns-clause-takes
 returns-clause-takes g c = takes_answered false c.args.place (with_end c.args.request.now.items) (g.B.Sink.taken c.args.self.now.client_out.now)
-    (g.B.Sink.taken c.send_line.new.sink) c.answer_line.result not_remote c.in_default.ensures.0 c.answer_line.ensures.count
+    (g.B.Sink.taken c.send_line.new.sink) c.answer_line.result false≢true c.in_default.ensures.0 c.answer_line.ensures.count
 
 pub returns-clause-ends : goal.returns-clause-ends
 returns-clause-ends g c =

@@ -1,4 +1,5 @@
-use Rattle.gc_catalogue.proofs.RawLines.{filled_front, filled_long, filled_zeros}
+use Rattle.std.proofs.Transfers.{drop-appended}
+use Rattle.gc_catalogue.proofs.RawLines.{filled_front, filled_long}
 use Rattle.gc_catalogue.proofs.raw_text.RawText.new.Goals as goal
 
 pub invariant_of-result : goal.invariant_of-result
@@ -6,7 +7,7 @@ invariant_of-result c =
     record {
       few = c.requires;
       long = filled_long c.args.bytes.now c.filled_up.result c.filled_up.ensures c.requires;
-      zeros = filled_zeros c.args.bytes.now c.filled_up.result c.filled_up.ensures;
+      zeros = drop-appended c.args.bytes.now c.filled_up.result _ c.filled_up.ensures;
     }
 
 pub returns : goal.returns

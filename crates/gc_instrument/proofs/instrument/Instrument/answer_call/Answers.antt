@@ -1,9 +1,10 @@
-use Rattle.std.proofs.Common.{◌≡◌, ℕ, None, sym, ap, ◌∙◌, subst}
+use Rattle.std.proofs.Common.{◌≡◌, ℕ, Option, None, sym, ap, ◌∙◌, subst}
 use Rattle.std.specs.Prelude.{unwrap_or}
 use Rattle.std.specs.Option.{option_map}
-use Rattle.gc_instrument.specs.Replying.{AppendsExecuted, IsAnswered, kept_after, kept_line}
-use Rattle.gc_instrument.specs.Seen.{state_of}
-use Rattle.gc_instrument.specs.State.{State}
+use Rattle.gc_lines.specs.Answering.{AppendsText}
+use Rattle.gc_instrument.specs.Replying.{IsReplyToCall, IsReplyToExecuted, IsAnswered, kept_after, kept_line, with_kept}
+use Rattle.gc_instrument.specs.Seen.{IsSoundState, state_of}
+use Rattle.gc_instrument.specs.State.{KeptReply, State}
 use Rattle.gc_instrument.proofs.Keeping.{appended_bytes, sound_keeping, kept_anew}
 use Rattle.gc_instrument.proofs.instrument.Instrument.answer_call.Goals as goal
 
@@ -13,8 +14,9 @@ invariant_of-self g c =
     let line : _ ≡ h.text = appended_bytes c.args.out.now.items c.deref.result.now h.text c.len-start.result (c.deref.ensures.0 ∙ h.appended) c.len-start.ensures.value in
     let kept : c.keep.new.self ≡ kept_after c.self-2.inside.kept c.args.id h.text = c.keep.ensures ∙ ap (kept_after c.self-2.inside.kept c.args.id) line in
     let says : IsAnswered c.args.self.now (unwrap_or c.args.id 0) c.args.call.now h.text =
-    subst (λ (n : ℕ). IsAnswered c.args.self.now n c.args.call.now h.text) c.unwrap_or.ensures h.says in
-    sound_keeping (state_of c.self-2.inside) c.args.self.now c.args.id c.keep.new.self c.args.call.now h.text c.self-2.invariant.0 c.self-2.invariant.1 kept says h.plain
+    subst (λ (n : ℕ). IsAnswered c.args.self.now n c.args.call.now h.text) c.unwrap_or.ensures h.is.says in
+    subst (λ (k : Option KeptReply). IsSoundState (with_kept k (state_of c.self-2.inside))) (sym kept)
+    (sound_keeping (state_of c.self-2.inside) c.args.self.now c.args.id c.args.call.now h.text c.self-2.invariant says h.is.plain)
 
 pub returns-clause-replies : goal.returns-clause-replies
 returns-clause-replies g c =
@@ -23,10 +25,16 @@ returns-clause-replies g c =
     let old = c.args.out.now.items in
     let new = c.carry_out_onto.new.out.items in
     let after : State = state_of c.self-2.inside in
-    let h : AppendsExecuted c.args.self.now (unwrap_or id 0) call after old new =
-    subst (λ (n : ℕ). AppendsExecuted c.args.self.now n call after old new) c.unwrap_or.ensures
-    (subst (λ (s : State). AppendsExecuted c.args.self.now c.unwrap_or.result call s old new) (sym c.self-2.view_is) c.carry_out_onto.ensures.replies) in
+    let h : AppendsText (IsReplyToExecuted c.args.self.now (unwrap_or id 0) call after) old new =
+    subst (λ (n : ℕ). AppendsText (IsReplyToExecuted c.args.self.now n call after) old new) c.unwrap_or.ensures
+    (subst (λ (s : State). AppendsText (IsReplyToExecuted c.args.self.now c.unwrap_or.result call s) old new) (sym c.self-2.view_is) c.carry_out_onto.ensures.replies) in
     let line : _ ≡ h.text = appended_bytes old c.deref.result.now h.text c.len-start.result (c.deref.ensures.0 ∙ h.appended) c.len-start.ensures.value in
     let none : kept_line c.self.inside.kept id ≡ None = sym c.line_of.ensures.line ∙ ap (option_map (λ r. r.now)) c.in_default.is in
     let own : c.self.inside.kept ≡ c.args.self.now.kept = ap (λ (s : State). s.kept) c.self.view_is in
-    kept_anew c.args.self.now after id call old new c.keep.new.self (ap (λ k. kept_line k id) (sym own) ∙ none) h (c.keep.ensures ∙ ap (kept_after c.self-2.inside.kept id) line)
+    let kept : c.keep.new.self ≡ kept_after after.kept id h.text = c.keep.ensures ∙ ap (kept_after c.self-2.inside.kept id) line in
+    record {
+      text = h.text;
+      appended = h.appended;
+      is = subst (λ (k : Option KeptReply). IsReplyToCall c.args.self.now id call (with_kept k after) h.text) (sym kept)
+          (kept_anew c.args.self.now after id call h.text (ap (λ k. kept_line k id) (sym own) ∙ none) h.is);
+    }

@@ -1,8 +1,11 @@
-use Rattle.std.proofs.Common.{◌≡◌, ◌≢◌, sym, ap, ◌∙◌, rules}
+use Rattle.std.proofs.Common.{◌≡◌, ◌≢◌, sym, ap, ◌∙◌, subst, rules}
+use Rattle.gc_catalogue.specs.Laws.{ReadsBackValue, ReadsBackRefusal}
+use Rattle.gc_catalogue.specs.Texts.{reply_line}
 use Rattle.gc_catalogue.specs.declared.answer.Answer.TheVariants.{Nothing}
 use Rattle.gc_instrument.specs.Execution.{Executed}
+use Rattle.gc_instrument.specs.Replying.{IsAnswered, executed_line}
 use Rattle.gc_instrument.specs.State.{State}
-use Rattle.gc_instrument.proofs.Answering.{executed_is, made_answered}
+use Rattle.gc_instrument.proofs.Answering.{reads_executed}
 use Rattle.gc_instrument.proofs.Executions.{exec_outcome}
 use Rattle.gc_instrument.proofs.instrument.Instrument.carry_out_onto.Goals as goal
 
@@ -16,14 +19,21 @@ encode_answer_onto-requires g c =
 
 pub returns-clause-replies : goal.returns-clause-replies
 returns-clause-replies g c =
-    let after : State = c.carry_out-rc.new.self in
-    let places : c.self.inside.settings.precision ≡ after.precision = ap (λ (s : State). s.precision) c.self.view_is in
-    let call = c.args.call.now in
+    let s = c.args.self.now in
+    let id = c.args.id in
+    let x : Executed = record { state = c.carry_out-rc.new.self; rc = c.carry_out-rc.result; answer = c.carry_out-rc.new.answer } in
+    let precision = c.self.inside.settings.precision in
+    let places : precision ≡ x.state.precision = ap (λ (t : State). t.precision) c.self.view_is in
+    let line : reply_line id x.rc x.answer precision ≡ executed_line id x = ap (reply_line id x.rc x.answer) places in
+    let says : IsAnswered s id c.args.call.now (executed_line id x) = reads_executed s id c.args.call.now x c.carry_out-rc.ensures
+    (subst (ReadsBackValue id x.rc x.answer) places c.encode_answer_onto.ensures.reads_back) (subst (ReadsBackRefusal id x.rc x.answer) places c.encode_answer_onto.ensures.refused) in
     record {
       text = _;
       appended = c.encode_answer_onto.ensures.line;
-      plain = c.encode_answer_onto.ensures.plain;
-      state = sym (ap (λ (x : Executed). x.state) c.carry_out-rc.ensures);
-      line = executed_is c.args.self.now after call c.args.id _ _ _ c.carry_out-rc.ensures places;
-      says = made_answered c.args.self.now after call c.args.id _ _ _ c.carry_out-rc.ensures places c.encode_answer_onto.ensures.reads_back c.encode_answer_onto.ensures.refused;
+      is = record {
+        plain = c.encode_answer_onto.ensures.plain;
+        state = sym (ap (λ (y : Executed). y.state) c.carry_out-rc.ensures);
+        line = line ∙ sym (ap (executed_line id) c.carry_out-rc.ensures);
+        says = subst (IsAnswered s id c.args.call.now) (sym line) says;
+      };
     }

@@ -5,14 +5,21 @@ use Rattle.gc_instrument.proofs.Answering.{refused_reply, request_call}
 use Rattle.gc_instrument.proofs.instrument.Instrument.reply_to.Goals as goal
 
 pub returns-in-Ok-clause-replies : goal.returns-in-Ok-clause-replies
-returns-in-Ok-clause-replies g c = request_call c.args.self.now c.answer_call.new.self
-    (request_seen c.args.request.now) c.decode_call_into.new.call _ _ c.in-Ok.ensures.found c.answer_call.ensures.replies
+returns-in-Ok-clause-replies g c =
+    let h = c.answer_call.ensures.replies in
+    record {
+      text = h.text;
+      appended = h.appended;
+      is = request_call c.args.self.now c.answer_call.new.self (request_seen c.args.request.now) c.decode_call_into.new.call h.text c.in-Ok.ensures.found h.is;
+    }
 
 pub returns-in-Err-clause-replies : goal.returns-in-Err-clause-replies
 returns-in-Err-clause-replies g c = record {
   text = _;
   appended = c.push_reply.ensures.items;
-  answers = refused_reply c.args.self.now _ c.in-Err.fault c.unwrap_or.result _ c.in-Err.ensures.fault c.unwrap_or.ensures (rw c.com_code.ensures refl);
-  plain = λ call is. absurd (no_refusal _ _ call c.in-Err.fault is c.in-Err.ensures.fault);
-  says = λ call is new. absurd (no_refusal _ _ call c.in-Err.fault is c.in-Err.ensures.fault);
+  is = record {
+    answers = refused_reply c.args.self.now _ c.in-Err.fault c.unwrap_or.result _ c.in-Err.ensures.fault c.unwrap_or.ensures (rw c.com_code.ensures refl);
+    plain = λ call is. absurd (no_refusal _ _ call c.in-Err.fault is c.in-Err.ensures.fault);
+    says = λ call is new. absurd (no_refusal _ _ call c.in-Err.fault is c.in-Err.ensures.fault);
+  };
 }

@@ -1,12 +1,12 @@
 use Rattle.std.proofs.Common.{[], ◌∷◌, ◌++◌, codes, ◌∙◌}
 use Rattle.gc_logs.specs.Logging.{entries_of_pending, link_entry}
 use Rattle.gc_logs.specs.declared.logging.Direction.TheVariants.{Went, Came}
-use Rattle.gc_logs.proofs.LogLines.{takes_last}
+use Rattle.gc_logs.proofs.LogLines.{takes_both_lists}
 use Rattle.gc_logs.proofs.logged.LoggedLink.close.Goals as goal
 
 pub returns-clause-logs : goal.returns-clause-logs
 returns-clause-logs g c = record {
-  took = takes_last _ _ _ _ _ _ c.args.self.now.log.utc _ (entries_of_pending Went c.args.self.now.log.went.bytes.items
+  took = takes_both_lists c.args.self.now.log.utc _ (entries_of_pending Went c.args.self.now.log.went.bytes.items
       ++ entries_of_pending Came c.args.self.now.log.came.bytes.items) (link_entry (codes "closed") ∷ []) c.flush.ensures.utc
       c.flush.ensures.took c.add_word.ensures.took;
   went = c.add_word.ensures.went ∙ c.flush.ensures.went;

@@ -1,7 +1,7 @@
 use Rattle.std.proofs.Common.{sym, subst}
 use Rattle.gc_rehearsal.specs.Carrying.{HasComeTo}
 use Rattle.gc_rehearsal.specs.Queues.{texts}
-use Rattle.gc_rehearsal.proofs.Happened.{lines, put_may}
+use Rattle.gc_rehearsal.proofs.Happened.{lines, put_may_arrive}
 use Rattle.gc_rehearsal.proofs.carried.Carried.put.Goals as goal
 
 pub invariant_of-self : goal.invariant_of-self
@@ -9,4 +9,4 @@ invariant_of-self c =
     let i = c.self.inside in
     let up = c.add_request.new.queue.items in
     subst (λ acts. HasComeTo acts (lines (texts up) (texts i.down.items) i.instrument)) (sym c.then-self-inside.ensures)
-    (put_may i.history.acts c.args.bytes.now i.up.items up (texts i.down.items) i.instrument c.add_request.ensures c.self.invariant)
+    (put_may_arrive i.history.acts c.args.bytes.now i.up.items up (texts i.down.items) i.instrument c.add_request.ensures c.self.invariant)

@@ -18,7 +18,7 @@ returns c =
     let played : AppendsAnswer (IsPlayed s.instrument request.items did.new.self) c.new-reply.result.items did.new.out.items did.result =
     subst (λ (l : List ℕ). AppendsAnswer (IsPlayed s.instrument l did.new.self) c.new-reply.result.items did.new.out.items did.result) c.as_slice.ensures.value did.ensures.played in
     let notes : Notes s.instrument.repeats (kept_id s.instrument.base.kept) (kept_id did.new.self.base.kept) s.counts.executed noted.new.executed =
-    notes_are c.repeats-repeats.result _ c.kept_id-before.result _ c.kept_id-after.result _ _ _ c.repeats-repeats.ensures c.kept_id-before.ensures c.kept_id-after.ensures
+    notes_are c.repeats-repeats.ensures c.kept_id-before.ensures c.kept_id-after.ensures
     (record { same = noted.ensures.same; another = noted.ensures.another; never = noted.ensures.never }) in
     on_ok_weaker c.push.result
     (λ pushed width v h. streams_up_deliver width (seen s) v h (record {

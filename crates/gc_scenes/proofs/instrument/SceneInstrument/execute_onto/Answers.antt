@@ -1,10 +1,11 @@
 use Rattle.std.proofs.Common.{rules}
-use Rattle.gc_scenes.proofs.Playing.{refuses, executed}
+use Rattle.gc_scenes.proofs.Playing.{unanswered_where_refused, executed}
 use Rattle.gc_scenes.proofs.instrument.SceneInstrument.execute_onto.Goals as goal
 
 pub reply_executed_onto-requires : goal.reply_executed_onto-requires
 reply_executed_onto-requires g c =
-    let none = refuses c.args.self.now c.execute-rc.new.self c.args.call.now c.execute-rc.result c.execute-rc.new.answer c.disturb.new.answer c.execute-rc.ensures.gives c.disturb.ensures.answer in
+    let none = unanswered_where_refused c.args.self.now c.execute-rc.new.self c.args.call.now c.execute-rc.result c.execute-rc.new.answer
+    c.disturb.new.answer c.execute-rc.ensures.gives c.disturb.ensures.answer in
     (search rules, (search rules, (none, search rules)))
 
 pub returns-clause-played : goal.returns-clause-played

@@ -19,7 +19,7 @@ returns-clause-hears g c s start stands so =
     let items = c.hear-hearing.new.settled.items in
     let same = (c.hear-hearing.ensures.settled short).seen ∙ ap (λ y. y.settlements) seen in
     let reply = c.is_reply.ensures _ _ line _ (c.hear-hearing.ensures.heard short) in
-    let t = settles_ok (g.B.Book.text c.args.book.now) c.args.self.now _ c.write.new.self s x (map settlement_seen items) (length items) start (g.B.Book.taken c.write.new.book)
+    let t = settles_ok (g.B.Book.text c.args.book.now) c.args.self.now _ s x (map settlement_seen items) c.write.new.self (length items) start (g.B.Book.taken c.write.new.book)
     stands
     (record {
       ids_are = ap (λ w. w.ids) client ∙ ap (λ y. y.client) seen;

@@ -2,7 +2,7 @@ use Rattle.std.proofs.Common.{ap, ◌∙◌}
 use Rattle.gc_links.specs.Acts.{Told}
 use Rattle.gc_station.specs.declared.progress.Progress.{Progress}
 use Rattle.gc_station.specs.Marks.{commands_in}
-use Rattle.gc_station.specs.Model.{next_left_out, with_passes}
+use Rattle.gc_station.specs.Model.{next_left_out, with_more_passes}
 use Rattle.gc_station.specs.NextCommand.{is_chained_after, others_after}
 use Rattle.gc_station.specs.Progressing.{early_noted, attempts_left_out}
 use Rattle.gc_station.specs.Stations.{Refines}
@@ -21,7 +21,7 @@ returns-in-Ok g c text known =
       act = Told m;
       tells = c.in-Ok.ensures;
       goes = λ s start stands so.
-          let there : Refines old (with_passes (next_left_out plan commands s.progress) s) = record {
+          let there : Refines old (with_more_passes (next_left_out plan commands s.progress) s) = record {
             progress = stands.progress;
             ids = stands.ids;
             width = stands.width;
@@ -42,7 +42,7 @@ returns-in-Ok g c text known =
           ∙ ap goes_on stands.progress) in (
             tt,
             refines_expired old c.expire.new.self c.note_early.new.self (early_noted plan (commands_in s.marks) (goes_on s.progress)) m
-                (with_passes (next_left_out plan commands s.progress) s) there progress c.expire.ensures,
+                (with_more_passes (next_left_out plan commands s.progress) s) there progress c.expire.ensures,
             so,
           );
     }

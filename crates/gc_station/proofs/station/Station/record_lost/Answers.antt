@@ -16,7 +16,7 @@ returns-clause-ends g c s start stands so =
     let items = c.restart-self.result.items in
     let same = c.restart-self.ensures.settled.seen ∙ ap (λ y. y.settlements) seen in
     let loses = sym c.if-not-loses_all.false ∙ c.loses_all.ensures ∙ ap loses_all stands.progress in
-    let t = settles_either (g.B.Book.text c.args.book.now) c.args.self.now _ c.write.new.self s x (map settlement_seen items) (length items) start (g.B.Book.taken c.write.new.book) c.write.result
+    let t = settles_either (g.B.Book.text c.args.book.now) c.args.self.now _ s x (map settlement_seen items) c.write.new.self (length items) start (g.B.Book.taken c.write.new.book) c.write.result
     stands
     (record {
       ids_are = ap (λ w. w.ids) client ∙ ap (λ y. y.client) seen;

@@ -7,7 +7,7 @@ use Rattle.gc_links.specs.Acts.{Told, Untold}
 use Rattle.gc_station.specs.Marks.{commands_in}
 use Rattle.gc_station.specs.Progressing.{failing, skipped, early_noted}
 use Rattle.gc_station.specs.Records.{Record, texts_of}
-use Rattle.gc_station.specs.Model.{Model, listed_after_skip, unsent_record, with_progress, with_listed, with_records, listed_unsent}
+use Rattle.gc_station.specs.Model.{Model, listed_after_skip, unsent_record, with_progress, with_listed, with_more_records, listed_unsent}
 use Rattle.gc_station.specs.NextCommand.{place_next, mark_next, is_chained_after_next, others_after_next}
 use Rattle.gc_station.specs.Stations.{Refines, Took}
 use Rattle.gc_station.proofs.Hearing.{refines_expired}
@@ -35,14 +35,14 @@ returns-in_default-clause-does g c =
           let listed = listed_after_skip plan commands s (Told m) in
           let is = stands.progress in
           let same = ap (λ (x : Station). x.progress) c.in_default.ensures.after ∙ is in
-          let here_stands : Refines mid (with_listed listed (with_records rs s)) = skipped_refines old mid s rs
+          let here_stands : Refines mid (with_listed listed (with_more_records rs s)) = skipped_refines old mid s rs
           (listed_unsent plan commands p old.recorded.listed) listed stands
           (λ b. skips_unwell b p m (mark_next plan commands p) (drop (place_next commands p) commands) here.0 here.1 here.2)
           (λ are. ap (λ b. listed_unsent plan commands p b) (stands.listed are) ∙ ap (λ (x : Progress). listed_unsent plan commands x s.listed) is)
           c.in_default.ensures.after in
           let rs' = ap (λ (x : Progress). unsent_record plan commands x (Told m)) is in
-          let there : Refines mid (with_listed listed (with_records (unsent_record plan commands q (Told m)) s)) = subst
-          (λ (xs : List Record). Refines mid (with_listed listed (with_records xs s))) rs' here_stands in
+          let there : Refines mid (with_listed listed (with_more_records (unsent_record plan commands q (Told m)) s)) = subst
+          (λ (xs : List Record). Refines mid (with_listed listed (with_more_records xs s))) rs' here_stands in
           let waiting = c.commands_waiting-waiting.ensures ∙ ap commands_in there.marks in
           let progress =
           c.note_early.ensures ∙ ap (λ n. early_noted plan n c.skip.new.self) waiting
@@ -52,7 +52,7 @@ returns-in_default-clause-does g c =
           ∙ ap (skipped next_is_chained behind m) same) in (
             tt,
             refines_expired mid c.expire.new.self c.note_early.new.self (early_noted plan (commands_in s.marks) (skipped next_is_chained behind m q)) m
-                (with_listed listed (with_records (unsent_record plan commands q (Told m)) s)) there progress c.expire.ensures,
+                (with_listed listed (with_more_records (unsent_record plan commands q (Told m)) s)) there progress c.expire.ensures,
             λ are. subst (λ (xs : List Record). Appends start (g.B.Book.taken c.write_unsent.new.book)
                 (texts_of (g.B.Book.text c.args.book.now) (s.records ++ xs))) rs' (c.in_default.ensures.wrote start s.records (so are)),
           );

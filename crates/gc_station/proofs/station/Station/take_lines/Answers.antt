@@ -20,8 +20,8 @@ returns-then-not-has_begun-clause-takes g c s start stands so =
     let taken = g.B.Book.taken c.args.book.now in
     let heard = sym c.if-not-is_heard.false ∙ c.is_heard.ensures ∙ ap (λ (p : Progress). is_heard p.phase) stands.progress in
     let begun = sym (sym c.if-not-has_begun.true ∙ c.has_begun.ensures ∙ ap (λ (p : Progress). is_none_left p.word) stands.progress) in
-    subst (λ b. Refines c.listen_null.new.self (after_piece b s.progress.word piece s) × Took (g.B.Book.text c.args.book.now) start taken (after_piece b s.progress.word piece s)) heard
-    (subst (λ (x : Model). Refines c.listen_null.new.self x × Took (g.B.Book.text c.args.book.now) start taken x) (sym (came_asked s.progress.word piece s begun)) (c.listen_null.ensures s stands, so))
+    subst (λ b. Refines c.listen_synchronizing.new.self (after_piece b s.progress.word piece s) × Took (g.B.Book.text c.args.book.now) start taken (after_piece b s.progress.word piece s)) heard
+    (subst (λ (x : Model). Refines c.listen_synchronizing.new.self x × Took (g.B.Book.text c.args.book.now) start taken x) (sym (came_asked s.progress.word piece s begun)) (c.listen_synchronizing.ensures s stands, so))
 
 pub returns-clause-takes : goal.returns-clause-takes
 returns-clause-takes g c s start stands so =

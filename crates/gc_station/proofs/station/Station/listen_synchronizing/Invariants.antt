@@ -2,7 +2,7 @@ use Rattle.std.proofs.Common.{◌≤◌, ◌-◌, length, drop}
 use Rattle.gc_station.specs.Model.{Model}
 use Rattle.gc_station.specs.Stations.{Refines}
 use Rattle.gc_station.proofs.Hearing.{Asking}
-use Rattle.gc_station.proofs.station.Station.listen_null.Given as goal
+use Rattle.gc_station.proofs.station.Station.listen_synchronizing.Given as goal
 
 -- the first `at` bytes of the piece were heard (`Asking`), while the station synchronizes
 abbrev pub invariant-loop-at : goal.invariant-loop-at

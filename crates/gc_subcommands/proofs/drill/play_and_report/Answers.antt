@@ -1,7 +1,7 @@
 use Rattle.std.specs.Process.{exit_status}
 use Rattle.std.proofs.lemmas.Result.{IfOk-weaker}
 use Rattle.gc_subcommands.proofs.Played.{played_at_0, read_at_0}
-use Rattle.gc_subcommands.proofs.drill.drill.Goals as goal
+use Rattle.gc_subcommands.proofs.drill.play_and_report.Goals as goal
 
 pub returns-clause-done : goal.returns-clause-done
 returns-clause-done g c =

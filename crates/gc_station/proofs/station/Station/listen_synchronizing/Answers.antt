@@ -6,7 +6,7 @@ use Rattle.gc_lines.proofs.Passing.{Takes, takes}
 use Rattle.gc_station.specs.Model.{Model}
 use Rattle.gc_station.specs.Stations.{Refines}
 use Rattle.gc_station.proofs.Hearing.{Asking, asking_on}
-use Rattle.gc_station.proofs.station.Station.listen_null.Goals as goal
+use Rattle.gc_station.proofs.station.Station.listen_synchronizing.Goals as goal
 
 pub loop-at-preserved : goal.loop-at-preserved
 loop-at-preserved c =
@@ -24,7 +24,7 @@ loop-at-preserved c =
           let h = c.loop-at.invariant.asking s stands in
           let t : Takes h.now.rest left used frame c.next-used.new.self = takes h.now.rest left used frame c.next-used.new.self
           (λ e. let m = more e in (m.0, m.1, m.2 h.now.rest h.stands.assembles)) (λ i e. let m = whole i e in (m.0, m.1 h.now.rest h.stands.assembles, m.2)) in
-          rw (← drop-drop used at piece) (asking_on c.loop-at.self c.hear_null.new.self s piece left used frame c.next-used.new.self h t c.hear_null.ensures);
+          rw (← drop-drop used at piece) (asking_on c.loop-at.self c.hear_synchronizing.new.self s piece left used frame c.next-used.new.self h t c.hear_synchronizing.ensures);
     }
 
 pub returns : goal.returns

@@ -1,5 +1,5 @@
 use Rattle.std.proofs.Common.{length}
-use Rattle.gc_layer_cases.proofs.measuring.Station.hear.Given as goal
+use Rattle.gc_layer_cases.proofs.measuring.StationEnd.hear.Given as goal
 
 abbrev pub invariant-loop-left : goal.invariant-loop-left
 invariant-loop-left l = Unit

@@ -1,4 +1,4 @@
--- The ghost value of `then` has one snapshot more. Assumes `Logic`.
+-- The ghost value of `with_turn` has one snapshot more. Assumes `Logic`.
 use Rattle.std.proofs.Common.{List, [], ◌∷◌, ◌++◌, refl}
 use seplogic.Ra.Ura.{Ura}
 use mir.Syntax.{Fn, Args, a_type}
@@ -29,21 +29,21 @@ use denote.Triple.Table.{entered}
 use denote.Triple.Walked.{says, Stays, stay_dropped, walk_of, ends_at, walk_Meets, Goes-dropped}
 use Rattle.gc_lines.proofs.Walks.{none, none_made}
 use Rattle.gc_station.specs.contracts.kept.Kept as Kept
-use Rattle.gc_station.specs.contracts.kept.Kept.then as F
-use Rattle.gc_station.specs.contracts.kept.Kept.then.Key.{name as #self}
-use Rattle.gc_station.proofs.kept.Kept.then.Statement as stated
-use Rattle.gc_station.proofs.kept.Kept.then.Code as code
+use Rattle.gc_station.specs.contracts.kept.Kept.with_turn as F
+use Rattle.gc_station.specs.contracts.kept.Kept.with_turn.Key.{name as #self}
+use Rattle.gc_station.proofs.kept.Kept.with_turn.Statement as stated
+use Rattle.gc_station.proofs.kept.Kept.with_turn.Code as code
 
 module _ (A B : RattleType) where
   -- the types of the link and of the book
   abbrev args : Args
   args = layouts (a_type ∷ a_type ∷ []) (A, (B, tt))
 
-  -- the body of `then`
+  -- the body of `with_turn`
   abbrev function : Fn
   function = inst_fn args code.function
 
-  -- the signature and the clauses of `then`
+  -- the signature and the clauses of `with_turn`
   abbrev ended : Ended
   ended = F.ended A B
 
@@ -104,10 +104,10 @@ module _ (A B : RattleType) where
         ) held
         (WpFn 𝓤 H 𝓣.C 𝓣.Λ function) (WpFn-mono 𝓤 H 𝓛.laws 𝓣 function) (walks 𝓣.C 𝓣.Λ)
 
--- the contract of `then`, as the kit states it
-pub then_spec : {M : Type 1} → stated.statement M
+-- the contract of `with_turn`, as the kit states it
+pub with_turn_spec : {M : Type 1} → stated.statement M
 unfolding tables_of
-then_spec 𝓤 𝓛 𝓜 𝓡 wired A B LA LB =
+with_turn_spec 𝓤 𝓛 𝓜 𝓡 wired A B LA LB =
     let 𝓣 : Tables 𝓤 𝓛.H = tables_of 𝓤 𝓛.H 𝓜 (tables 𝓤 𝓛.H 𝓜 𝓡 𝓡.env) in
     entered 𝓤 𝓛.H (triple_of 𝓛 (ended A B).signature (closing 𝓛 (ended A B) (held A B 𝓛 𝓜.mem 𝓡.returns))) 𝓣.C 𝓣.Λ (#self (args A B)) (function A B)
     (code.unfolded 𝓤 𝓛.H 𝓜 𝓡 wired (A, (B, tt))) (meets A B 𝓛 𝓜.mem 𝓡.returns 𝓣)

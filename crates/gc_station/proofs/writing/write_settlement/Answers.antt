@@ -3,7 +3,7 @@ use Rattle.gc_texts.specs.Endings.{ending_seen}
 use Rattle.gc_client.specs.Settlements.{settlement_seen}
 use Rattle.gc_station.specs.Records.{Record, WritesPart}
 use Rattle.gc_station.proofs.Records.{part_one, record_as, record_same}
-use Rattle.gc_station.proofs.writing.write_one.Goals as goal
+use Rattle.gc_station.proofs.writing.write_settlement.Goals as goal
 
 pub returns-in-Err-clause-wrote : goal.returns-in-Err-clause-wrote
 returns-in-Err-clause-wrote g c reads are start before so =

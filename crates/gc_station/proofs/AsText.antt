@@ -1,0 +1,289 @@
+-- Each mark expects of its command's answer what the text says, and each record is as its text says: it has the turn of its
+-- command; an answer that ends as answered is near the place or has no direction, and one that ends as elsewhere isn't near it;
+-- and its quality is as listed. Besides, `listed` of a model is what its records say. `KeepsToText` says all of this of a
+-- model. An act is one call on the link, with its result. A mark says which command an outstanding request is of, and what is
+-- expected of its answer.
+use Rattle.std.proofs.Common.{◌≡◌, ℕ, zero, suc, Bool, List, [], ◌∷◌, ◌++◌, drop, Option, Some, None, refl, sym, ap, ◌∙◌, subst, ◌+◌, ◌-◌, ◌<◌, ◌||◌, true, false, length, if◌then◌else◌, nat_eq, arith, append-nil}
+use Rattle.std.specs.Prelude.{slice_get}
+use Rattle.std.specs.List.{AllByRecursion}
+use Rattle.gc_values.proofs.Every.{every_drop}
+use Rattle.gc_catalogue.specs.declared.answer.Reading.{Reading}
+use Rattle.gc_catalogue.specs.declared.asked.Asked.{Asked}
+use Rattle.gc_catalogue.specs.declared.asked.Asked.TheVariants.{Table}
+use Rattle.gc_catalogue.specs.declared.call.Call.TheVariants.{NullProc}
+use Rattle.gc_client.specs.Rule
+use Rattle.gc_client.specs.Rule.{heard, hears, restarts}
+use Rattle.gc_texts.specs.Endings.{Answered, Elsewhere, Skipped, Missed}
+use Rattle.gc_texts.specs.Nears.{is_elsewhere}
+use Rattle.gc_texts.specs.declared.near.Expected.{Expected}
+use Rattle.gc_texts.specs.Tasks.{call_at}
+use Rattle.gc_texts.specs.declared.tasks.Task.{Task}
+use Rattle.gc_texts.proofs.Placing.{near_unless_elsewhere, elsewhere_is}
+use Rattle.gc_links.specs.Acts.{Act, Told, Gave, Cut}
+use Rattle.gc_links.specs.declared.link.Moment.{Moment}
+use Rattle.gc_station.specs.Marks.{record_of, records_of, end_of}
+use Rattle.gc_station.specs.Model.{Model, opening, action_at, asks, asks_next, with_progress, with_moment, line_came, is_heard, after_piece, first_unsent_record, losing, moved, after, asks_setup, waiting_of, listed_unsent}
+use Rattle.gc_station.specs.NextCommand.{expected_first, mark_next, place_next, mark_setup, cycles_begun}
+use Rattle.gc_station.specs.Nearness.{IsAtItsTarget, HasAnswer, ElsewhereIsJustified}
+use Rattle.gc_station.specs.Qualities.{IsOfQuality, IsAsListed, accepted_at}
+use Rattle.gc_station.specs.Progressing.{turned, moment_noted, loses_all}
+use Rattle.gc_station.specs.Records.{Record}
+use Rattle.gc_station.specs.Runs.{state_after}
+use Rattle.gc_station.specs.Scopes.{Scope}
+use Rattle.gc_station.specs.declared.mark.Mark.{Mark}
+use Rattle.gc_station.specs.declared.plan.Plan.{Plan}
+use Rattle.gc_station.specs.declared.progress.Action.{Action}
+use Rattle.gc_station.specs.declared.progress.Action.TheVariants as actions
+use Rattle.gc_station.specs.declared.progress.Progress.{Progress}
+use Rattle.gc_station.proofs.Booking.{all_settled}
+use Rattle.gc_station.proofs.Lists.{all_append}
+use Rattle.gc_station.proofs.Qualified.{ended_near, ended_away, ended_quality}
+use Rattle.gc_station.proofs.Tasked.{no_end_of_sent}
+use Rattle.gc_station.proofs.Walk.{came_along, first_along, setup_along, losing_along, acts_along, moved_changed}
+use Rattle.std.proofs.lemmas.List.{length-drop}
+use Rattle.gc_texts.specs.Again.{repeats_after}
+use Rattle.gc_texts.specs.declared.again.Again.{Again}
+use Rattle.gc_station.specs.Attempts.{code_of, listed_by}
+use Rattle.gc_station.specs.Reasons.{HoldsBefore}
+use Rattle.gc_station.specs.Retries.{turn_at, rule_at, code_of_end, HasItsTurn}
+use Rattle.gc_station.proofs.EachRun.{invariant_after, invariant_opening}
+use Rattle.gc_station.proofs.Facts.{action_for, not_none}
+use Rattle.gc_station.proofs.Invariant.{Invariant}
+use Rattle.gc_station.proofs.Listed.{code_there, named_by, any_listed, any_append, expected_as, turn_expected, rule_expected, near_expected, accepted_expected}
+
+-- what is expected of the answer of the command at a place is what its task says
+expected_there : (commands : List Task) (k : ℕ) (task : Task) → slice_get commands k ≡ Some task → expected_first (drop k commands) ≡ expected_first (task ∷ [])
+expected_there [] zero task e = cc
+expected_there [] (suc k) task e = cc
+expected_there (t ∷ commands) zero task e = let same : t ≡ task = cc in ap (λ (x : Task). expected_first (x ∷ [])) same
+expected_there (t ∷ commands) (suc k) task e = expected_there commands k task e
+
+module _ (plan : Plan) (commands : List Task) (scope : Scope) where
+  -- a mark expects of its command's answer what the text says; of a command of the setup, in the attempt of its turn
+  abbrev pub ExpectsAsText : Option Mark → Type 0
+  ExpectsAsText None = Unit {0}
+  ExpectsAsText (Some mark) = mark.expected ≡ expected_as (nat_eq mark.cycle 0) mark.expected.turn.attempt (expected_first (drop mark.place commands))
+
+  -- a record is as its text says: `HasItsTurn`, `IsAtItsTarget`, `ElsewhereIsJustified` and `IsAsListed` hold of it
+  abbrev pub IsAsItsText : Record → Type 0
+  IsAsItsText r = HasItsTurn commands r × IsAtItsTarget commands r × ElsewhereIsJustified scope.reads commands r × IsAsListed scope.reads commands r
+
+  -- a mark that is `ExpectsAsText` expects the place of its command's target
+  near_as_text : (mark : Mark) → ExpectsAsText (Some mark) → mark.expected.near ≡ (expected_first (drop mark.place commands)).near
+  near_as_text mark placed = ap (λ (k : Expected). k.near) placed ∙ near_expected (nat_eq mark.cycle 0) mark.expected.turn.attempt (expected_first (drop mark.place commands))
+
+  -- a mark that is `ExpectsAsText` accepts the return codes of its command (`accepted_at`)
+  codes_as_text : (mark : Mark) → ExpectsAsText (Some mark) → mark.expected.accepted ≡ accepted_at commands mark.place
+  codes_as_text mark placed = ap (λ (k : Expected). k.accepted) placed ∙ accepted_expected (nat_eq mark.cycle 0) mark.expected.turn.attempt (expected_first (drop mark.place commands))
+
+  -- a mark that is `ExpectsAsText` expects the turn of its command (`turn_at`)
+  turn_as_text : (mark : Mark) → ExpectsAsText (Some mark) → mark.expected.turn ≡ turn_at commands mark.cycle mark.expected.turn.attempt mark.place
+  turn_as_text mark placed = ap (λ (k : Expected). k.turn) placed ∙ turn_expected (nat_eq mark.cycle 0) mark.expected.turn.attempt (expected_first (drop mark.place commands))
+
+  -- a mark that is `ExpectsAsText` has the rule of its command (`rule_at`)
+  rule_as_text : (mark : Mark) → ExpectsAsText (Some mark) → mark.expected.again ≡ rule_at commands mark.cycle mark.place
+  rule_as_text mark placed = ap (λ (k : Expected). k.again) placed ∙ rule_expected (nat_eq mark.cycle 0) mark.expected.turn.attempt (expected_first (drop mark.place commands))
+
+  -- the record of a settlement whose mark is `ExpectsAsText` is as its text says
+  record_keeps : (utc : ℕ) (mark : Mark) (x : Rule.Settlement Asked) → ExpectsAsText (Some mark) → IsAsItsText (record_of scope.reads utc mark x)
+  record_keeps utc mark x placed = (
+    turn_as_text mark placed,
+    (λ task near quality answer line d at has e toward.
+        let stands : mark.expected.near ≡ Some near = near_as_text mark placed ∙ ap (λ (k : Expected). k.near) (expected_there commands mark.place task at) ∙ has in
+        near_unless_elsewhere near answer d
+        (ap (λ o. is_elsewhere o answer) (sym stands) ∙ ended_near scope.reads mark.expected x.call line x.outcome quality answer e) toward),
+    (λ task line at e.
+        let away = ended_away scope.reads mark.expected x.call line x.outcome e in
+        let is = elsewhere_is mark.expected.near away.0 away.2 in
+        let near_there = near_as_text mark placed ∙ ap (λ (k : Expected). k.near) (expected_there commands mark.place task at) in
+        let there = codes_as_text mark placed ∙ ap (λ (k : Expected). k.accepted) (expected_there commands mark.place task at) in (
+          away.0,
+          is.0,
+          is.1,
+          subst (λ codes. HasAnswer scope.reads codes x.call line away.0) there away.1,
+          sym near_there ∙ is.2,
+          is.3,
+          is.4,
+        )),
+    (λ quality said line e.
+        subst (λ codes. IsOfQuality scope.reads codes x.call quality said line) (codes_as_text mark placed)
+        (ended_quality scope.reads mark.expected x.call line quality said x.outcome e)),
+  )
+
+  -- once a cycle has begun, the mark of the next command of a cycle is `ExpectsAsText`
+  next_placed : (p : Progress) → 0 < cycles_begun plan p → ExpectsAsText (Some (mark_next plan commands p))
+  next_placed p many =
+      let expected = expected_first (drop (place_next commands p) commands) in
+      ap (λ (b : Bool). expected_as b expected.turn.attempt expected) (sym (not_none (cycles_begun plan p) many))
+
+  -- `listed_by` of settlements is `any_listed` of their records, if their marks are `ExpectsAsText`
+  listed_as_recorded : (utc : ℕ) (marks : List (Option Mark)) (xs : List (Rule.Settlement Asked)) (b : Bool) → AllByRecursion ExpectsAsText marks
+      → listed_by scope.reads b marks xs ≡ any_listed scope.reads commands b (records_of scope.reads utc marks xs)
+  listed_as_recorded utc [] xs b all = refl
+  listed_as_recorded utc (mark ∷ marks) [] b all = refl
+  listed_as_recorded utc (None ∷ marks) (x ∷ xs) b all = listed_as_recorded utc marks xs b all.1
+  listed_as_recorded utc (Some mark ∷ marks) (x ∷ xs) b all =
+      let end = end_of scope.reads mark.expected x.call x.outcome in
+      let code = code_of scope.reads x.call x.outcome in
+      let kept = if nat_eq mark.expected.turn.link 0 then false else b in
+      let same = named_by scope.reads mark.expected.again x.call code end (λ q said l e. code_there scope.reads mark.expected x.call x.outcome q said l e)
+      ∙ ap (λ (k : Again). repeats_after k (code_of_end scope.reads x.call end) end) (rule_as_text mark all.0) in
+      listed_as_recorded utc marks xs (kept || repeats_after mark.expected.again code end) all.1
+      ∙ ap (λ y. any_listed scope.reads commands (kept || y) (records_of scope.reads utc marks xs)) same
+
+  -- a model reads replies as the scope does, each of its marks is `ExpectsAsText`, each of its records `IsAsItsText`, and its
+  -- `listed` is what its records say
+  pub record KeepsToText (s : Model) : Type 0 where
+    pub reads : s.reads ≡ scope.reads
+    pub marks : AllByRecursion ExpectsAsText s.marks
+    pub records : AllByRecursion IsAsItsText s.records
+    pub listed : s.listed ≡ any_listed scope.reads commands false s.records
+
+  -- if `KeepsToText` holds of `s`, its records and those of the settlements `x` after them are all `IsAsItsText`
+  settles_keeps : (s : Model) (x : List (Rule.Settlement Asked)) → KeepsToText s → AllByRecursion IsAsItsText (s.records ++ records_of s.reads s.progress.moment.utc s.marks x)
+  settles_keeps s x k =
+      let utc = s.progress.moment.utc in
+      subst (λ (reads : Asked → List ℕ → Reading). AllByRecursion IsAsItsText (s.records ++ records_of reads utc s.marks x)) (sym k.reads)
+      (all_settled ExpectsAsText IsAsItsText scope.reads utc s.marks s.records x (record_keeps utc) k.marks k.records)
+
+  -- if `KeepsToText` holds of `s`, `listed_by` of the settlements `x` is what its records and those of `x` after them say
+  settles_listed : (s : Model) (x : List (Rule.Settlement Asked)) → KeepsToText s
+      → listed_by s.reads s.listed s.marks x ≡ any_listed scope.reads commands false (s.records ++ records_of s.reads s.progress.moment.utc s.marks x)
+  settles_listed s x k =
+      let utc = s.progress.moment.utc in
+      ap (λ (reads : Asked → List ℕ → Reading). listed_by reads s.listed s.marks x) k.reads
+      ∙ listed_as_recorded utc s.marks x s.listed k.marks
+      ∙ ap (λ b. any_listed scope.reads commands b (records_of scope.reads utc s.marks x)) k.listed
+      ∙ sym (any_append scope.reads commands s.records (records_of scope.reads utc s.marks x) false)
+      ∙ sym (ap (λ (reads : Asked → List ℕ → Reading). any_listed scope.reads commands false (s.records ++ records_of reads utc s.marks x)) k.reads)
+
+  -- `KeepsToText` is preserved by a line that is heard
+  line_keeps : (s : Model) (line : List ℕ) → KeepsToText s → KeepsToText (line_came s line)
+  line_keeps s line k =
+      let x = hears s.client line (heard line) in
+      record { reads = k.reads; marks = every_drop ExpectsAsText s.marks _ k.marks; records = settles_keeps s x.settlements k; listed = settles_listed s x.settlements k }
+
+  -- `KeepsToText` is preserved by a piece
+  came_keeps : (heard : Bool) (word piece : List ℕ) (s : Model) → KeepsToText s → KeepsToText (after_piece heard word piece s)
+  came_keeps heard word piece s k =
+      came_along KeepsToText line_keeps heard word piece s (record { reads = k.reads; marks = k.marks; records = k.records; listed = k.listed })
+      (record { reads = k.reads; marks = k.marks; records = k.records; listed = k.listed }) k
+
+  -- `KeepsToText` is preserved by the loss of what is outstanding
+  losing_keeps : (all : Bool) (s : Model) → KeepsToText s → KeepsToText (losing all s)
+  losing_keeps all s k =
+      let x = restarts s.client in
+      losing_along KeepsToText all s
+      (record { reads = k.reads; marks = every_drop ExpectsAsText s.marks _ k.marks; records = settles_keeps s x.settlements k; listed = settles_listed s x.settlements k }) k
+
+  -- `KeepsToText` is preserved by a request that is sent, if its mark is `ExpectsAsText`
+  asks_keeps : (wait target : ℕ) (call : Asked) (mark : Option Mark) (s : Model) → ExpectsAsText mark → KeepsToText s → KeepsToText (asks wait target call mark s)
+  asks_keeps wait target call mark s placed k = record { reads = k.reads; marks = all_append ExpectsAsText s.marks _ k.marks (placed, tt); records = k.records; listed = k.listed }
+
+  -- `KeepsToText` is preserved by the send of the next command of a cycle, once one has begun
+  next_keeps : (s : Model) → 0 < cycles_begun plan s.progress → KeepsToText s → KeepsToText (asks_next plan commands s)
+  next_keeps s many k =
+      let mark = mark_next plan commands s.progress in
+      first_along KeepsToText mark (drop (place_next commands s.progress) commands) s
+      (λ task. asks_keeps task.deadline task.command.target (call_at task mark.sent) (Some mark) s (next_placed s.progress many) k) k
+
+  -- `KeepsToText` is preserved by the send of the next command of the setup
+  setup_keeps : (s : Model) → KeepsToText s → KeepsToText (asks_setup plan commands s)
+  setup_keeps s k =
+      let mark = mark_setup commands s.progress in
+      setup_along KeepsToText plan mark (drop s.progress.prepared commands) s
+      (λ task. asks_keeps task.deadline task.command.target (call_at task mark.sent) (Some mark) s refl k) (asks_keeps plan.deadline 0 (Table NullProc) None s tt k)
+
+  -- whether a rule names the end of a command that isn't sent is the same without a code and with the code of that end
+  unsent_named : (again : Again) (call : Asked) (missed : Bool)
+      → repeats_after again None (if missed then Missed else Skipped) ≡ repeats_after again (code_of_end scope.reads call (if missed then Missed else Skipped)) (if missed then Missed else Skipped)
+  unsent_named again call true = refl
+  unsent_named again call false = refl
+
+  -- the record of a command that isn't sent, and whose mark is `ExpectsAsText`, is as its text says
+  skips_keeps : (p : Progress) (m : Moment) (mark : Mark) (left : List Task) → ExpectsAsText (Some mark) → AllByRecursion IsAsItsText (first_unsent_record p m mark left)
+  skips_keeps p m mark [] placed = tt
+  skips_keeps p m mark (task ∷ others) placed = (
+    (
+      turn_as_text mark placed,
+      (λ t near quality answer line d at has e toward. absurd (no_end_of_sent p.missed (Answered quality (Some answer) line) refl e)),
+      (λ t line at e. absurd (no_end_of_sent p.missed (Elsewhere line) refl e)),
+      (λ quality said line e. absurd (no_end_of_sent p.missed (Answered quality said line) refl e)),
+    ),
+    tt,
+  )
+
+  -- once a cycle has begun, `listed_unsent` of the next command, of which there is one, is `any_listed` of its
+  -- record
+  skips_listed : (b : Bool) (p : Progress) (m : Moment) (left : List Task) → 0 < cycles_begun plan p → 0 < length left
+      → listed_unsent plan commands p b ≡ any_listed scope.reads commands b (first_unsent_record p m (mark_next plan commands p) left)
+  skips_listed b p m [] many some = absurd (omega (arith, some))
+  skips_listed b p m (task ∷ others) many some =
+      let mark = mark_next plan commands p in
+      let end = if p.missed then Missed else Skipped in
+      ap (λ x. (if nat_eq mark.expected.turn.link 0 then false else b) || x)
+      (unsent_named mark.expected.again task.command.call p.missed ∙ ap (λ (k : Again). repeats_after k (code_of_end scope.reads task.command.call end) end) (rule_as_text mark (next_placed p many)))
+
+  -- if this action sends the next command of a cycle, or records it without sending it, a cycle has begun, and there is such a
+  -- command
+  abbrev HasItsCommand : Action → Model → Type 0
+  HasItsCommand actions.Send s = (0 < cycles_begun plan s.progress) × (0 < length (drop (place_next commands s.progress) commands))
+  HasItsCommand actions.Skip s = (0 < cycles_begun plan s.progress) × (0 < length (drop (place_next commands s.progress) commands))
+  HasItsCommand next s = Unit {0}
+
+  -- `KeepsToText` is preserved by an act of each action of which `HasItsCommand` holds, before what is outstanding is lost
+  moved_keeps : (next : Action) (s : Model) (act : Act) → HasItsCommand next s → KeepsToText s → KeepsToText (moved plan commands next s act)
+  moved_keeps actions.Prepare s (Cut bytes count) some k = let n = setup_keeps s k in record { reads = n.reads; marks = n.marks; records = n.records; listed = n.listed }
+  moved_keeps actions.Prepare s act some k = let n = setup_keeps s k in record { reads = n.reads; marks = n.marks; records = n.records; listed = n.listed }
+  moved_keeps actions.Send s (Cut bytes count) some k = let n = next_keeps s some.0 k in record { reads = n.reads; marks = n.marks; records = n.records; listed = n.listed }
+  moved_keeps actions.Send s act some k = let n = next_keeps s some.0 k in record { reads = n.reads; marks = n.marks; records = n.records; listed = n.listed }
+  moved_keeps actions.Flush s (Cut bytes count) some k = let n = asks_keeps plan.deadline 0
+      (Table NullProc) None s tt k in record { reads = n.reads; marks = n.marks; records = n.records; listed = n.listed }
+  moved_keeps actions.Flush s act some k = let n = asks_keeps plan.deadline 0 (Table NullProc) None s tt k in record { reads = n.reads; marks = n.marks; records = n.records; listed = n.listed }
+  moved_keeps actions.Skip s (Told m) some k =
+      let left = drop (place_next commands s.progress) commands in
+      let p = s.progress in
+      let rs = first_unsent_record p m (mark_next plan commands p) left in
+      record {
+        reads = k.reads;
+        marks = k.marks;
+        records = all_append IsAsItsText s.records _ k.records (skips_keeps p m (mark_next plan commands p) left (next_placed p some.0));
+        listed = skips_listed s.listed p m left some.0 some.1 ∙ ap (λ b. any_listed scope.reads commands b rs) k.listed ∙ sym (any_append scope.reads commands s.records rs false);
+      }
+  moved_keeps actions.Skip s act some k = record {
+    reads = k.reads;
+    marks = k.marks;
+    records = all_append IsAsItsText s.records [] k.records tt;
+    listed = k.listed ∙ sym (ap (any_listed scope.reads commands false) (append-nil s.records));
+  }
+  moved_keeps (actions.Read until) s (Gave bytes m) some k =
+      let n = came_keeps (is_heard s.progress.phase) s.progress.word bytes (with_moment m (with_progress (moment_noted m) s))
+      (record { reads = k.reads; marks = k.marks; records = k.records; listed = k.listed }) in
+      record { reads = n.reads; marks = n.marks; records = n.records; listed = n.listed }
+  moved_keeps (actions.Read until) s act some k = record { reads = k.reads; marks = k.marks; records = k.records; listed = k.listed }
+  moved_keeps next s act some k = subst KeepsToText (sym (moved_changed plan commands next s act)) (record { reads = k.reads; marks = k.marks; records = k.records; listed = k.listed })
+
+  -- `KeepsToText` is preserved by an act, if `Invariant` holds before it
+  after_keeps : (s : Model) (act : Act) → Invariant plan commands s → KeepsToText s → KeepsToText (after plan commands s act)
+  after_keeps s act fine k =
+      let t = moved plan commands (action_at plan s) (with_progress turned s) act in
+      losing_keeps (loses_all t.progress) t (moved_keeps (action_at plan s) (with_progress turned s) act (there (action_at plan s) (action_for plan s.progress (waiting_of s)))
+      (record { reads = k.reads; marks = k.marks; records = k.records; listed = k.listed })) where
+        -- if a command is unsent, a cycle has begun, and there is a next command
+        one_left : 0 < s.progress.unsent → (0 < cycles_begun plan s.progress) × (0 < length (drop (place_next commands s.progress) commands))
+        one_left unsent =
+            let many = length-drop (place_next commands s.progress) commands in
+            let within = fine.unsent in
+            let below = fine.begun unsent in (omega (arith, below), omega (arith, many, unsent, within))
+
+        -- `HasItsCommand` holds of the action that is next
+        there : (next : Action) → HoldsBefore plan s.progress (waiting_of s) next → HasItsCommand next (with_progress turned s)
+        there actions.Send needs = one_left needs.2
+        there actions.Skip needs = one_left needs.2
+        there next needs = tt
+
+  -- `KeepsToText` holds after any acts
+  pub kept_all : (acts : List Act) → KeepsToText (state_after plan commands scope acts)
+  kept_all acts =
+      (acts_along plan commands (λ (s : Model). Invariant plan commands s × KeepsToText s) (λ s act h. (invariant_after plan commands s act h.0, after_keeps s act h.0 h.1))
+      (opening plan scope) acts (invariant_opening plan commands scope, record { reads = refl; marks = tt; records = tt; listed = refl })).1

@@ -1,5 +1,0 @@
-use Rattle.gc_station.proofs.kept.Kept.and.Given as goal
-
--- the snapshot that is added: what the link has recorded, what the book has taken, and whether the book is durable
-abbrev pub ghost-then : goal.ghost-then
-ghost-then g a = record { acts = g.L.Link.acts a._link.now; taken = g.B.Book.taken a._book.now; lasts = g.B.Book.is_durable a._book.now }
