@@ -64,3 +64,8 @@ end_of_caller (Err (serving.TooManyReads _)) = Err TooManyReads
 abbrev pub most_callers : Option ℕ → ℕ
 most_callers None = 2 ^ 64 - 1
 most_callers (Some connections) = connections
+
+-- a kept port or device served as many callers as `most_callers` has it, as `ServesCallers` says; how their
+-- connections ended isn't known
+abbrev pub ServesConnections : (connections : Option ℕ) → (all_written : Bool) → (messages_old messages_new : Option (List ℕ)) → Type 0
+ServesConnections connections all_written messages_old messages_new = ServesCallers (most_callers connections) all_written None None messages_old messages_new

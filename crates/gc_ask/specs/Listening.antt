@@ -19,7 +19,7 @@ use Rattle.gc_ask.specs.declared.client_end.ClientEnd.{ClientEnd}
 use Rattle.gc_ask.specs.declared.link.Link.{Ghosts as Link}
 use Rattle.gc_ask.specs.declared.unused.TheConstants.{ROOM}
 use Rattle.gc_ask.specs.Asking.{Written, LinkEnd, taken_by, first_reply, asked, waiting_for, request_text, lost_of, AsksAll, WritesPart, EndsWith, RunsText}
-use Rattle.gc_ask.specs.Links.{BothStep, OnlyReads, TakesRequest}
+use Rattle.gc_ask.specs.Links.{BothStep, OnlyReads, SeenStep, TakesRequest}
 use Rattle.gc_ask.specs.Looping.{BothEnd, LoopsPart, LoopsUpTo, SeenAtBoth, seen_at, written_there}
 use Rattle.gc_texts.specs.WholeTexts.{Input}
 use Rattle.gc_texts.specs.declared.commands.Command.{Command}
@@ -34,6 +34,14 @@ seen_through of_link link of_sink sink = seen_at (of_link.client link) (of_link.
 abbrev pub reads_of : {L : Type 0} → Link L → L → ℕ
 reads_of of_link link = (of_link.client link).reads + (of_link.instrument link).reads
 
+-- what was done took a link from `old` to `new`, and the number of reads that are left from `before` to `after`: the client's
+-- end answered no fewer reads than before, each read that either end answered is one that isn't left any more, and the link
+-- holds the references that it held
+pub record SpendsReads {L : Type 0} (of_link : Link L) (old new : L) (before after : ℕ) : Type 0 where
+  pub grows : (of_link.client old).reads ≤ (of_link.client new).reads
+  pub reads : reads_of of_link new + after ≡ reads_of of_link old + before
+  pub held : of_link.held new ≡ of_link.held old
+
 -- one step, with this result, took both ends of a link from `old` to `new`
 abbrev pub LinkSteps : {L : Type 0} → Link L → (old new : L) → LinkEnd → Type 0
 LinkSteps of_link old new result = BothStep (of_link.client old) (of_link.client new) (of_link.instrument old) (of_link.instrument new) result
@@ -42,10 +50,6 @@ LinkSteps of_link old new result = BothStep (of_link.client old) (of_link.client
 abbrev pub LinkOnlyReads : {L : Type 0} → Link L → (old new : L) → Type 0
 LinkOnlyReads of_link old new =
     OnlyReads (of_link.client old) (of_link.client new) (of_link.instrument old) (of_link.instrument new) (of_link.held old) (of_link.held new)
-
--- from `old` to `new` the ports of both ends of a link stayed as they were, and nothing was written to the sink
-abbrev pub TakesNothing : (old new : SeenAtBoth) → Type 0
-TakesNothing old new = (new.client ≡ old.client) × (new.instrument ≡ old.instrument) × (new.sink.bytes ≡ old.sink.bytes)
 
 -- from `old` to `new` nothing was read: what the assembler keeps, the bytes that aren't used yet and the number of reads left are the same
 abbrev pub HasReadNothing : (old new : AskState) → Type 0
@@ -157,6 +161,12 @@ Exchanges is_remote place command hearing old new (Err _) =
     × (is_remote ≡ true → first_reply (waiting_for place command) (lines_completed hearing.rest hearing.bytes) ≡ None)
     × (hearing.client ≡ waiting_for place command)
 
+-- an exchange, by how it ended (`Exchanges`), over a link that was `old` before it and is `new` after it
+abbrev pub ExchangesOver : {L : Type 0} → Link L → (place : ℕ) → Command → (from to : AskState) → (old new : L) → LinkEnd → Type 0
+ExchangesOver of_link place command from to old new result =
+    HearsOn from to (of_link.client old) (of_link.client new)
+    (λ hearing. Exchanges of_link.is_remote place command hearing (of_link.client old).taken (of_link.client new).taken result)
+
 -- the sink failed as it took the line of a settlement. Where the link had ended well (left case), the request was sent whole, and
 -- that is the settlement by the reply; after a fault of the link (right case), the first bytes of the request were sent, or none
 -- or all of them, and that is the settlement that says the command is lost
@@ -184,6 +194,12 @@ AsksOne is_remote place command hearing w over (Err _) =
     Appends w.link_old w.link_new (request_text place command)
     × (is_remote ≡ true → first_reply (waiting_for place command) (lines_completed hearing.rest hearing.bytes) ≡ None)
     × Appends w.sink_old w.sink_new (lines_from place (lost_of command ∷ []))
+
+-- one command was asked, by how that ended (`AsksOne`), over a link and a sink of which `old` was seen before it, and `new`
+-- after it
+abbrev pub AsksOneOver : (is_remote : Bool) → (place : ℕ) → Command → (from to : AskState) → (old new : SeenAtBoth) → LinkEnd → Type 0
+AsksOneOver is_remote place command from to old new result =
+    HearsOn from to old.client new.client (λ hearing. AsksOne is_remote place command hearing (written_there old new) (SeenStep old new) result)
 
 -- Runs.
 

@@ -6,7 +6,7 @@ use Rattle.gc_lines.specs.Answering.{Ports, all_of, ports_of}
 use Rattle.gc_lines.specs.declared.ports.Source.{Ghosts as Source}
 use Rattle.gc_lines.specs.declared.ports.Sink.{Ghosts as Sink}
 use Rattle.gc_texts.specs.declared.commands.Command.{Command}
-use Rattle.gc_texts.specs.declared.fault.RunFault.TheVariants.{Read, Write, TooManyReads, LinkClosed, Output, Socket}
+use Rattle.gc_texts.specs.declared.fault.RunFault.TheVariants.{Read, Write, TooManyReads, LinkClosed, Output, Memory, Socket}
 use Rattle.gc_texts.specs.WholeTexts.{Input}
 use Rattle.gc_ask.specs.declared.looped.Duplex.{Duplex}
 use Rattle.gc_ask.specs.Asking.{taken_by, request_text, request_texts, Taken, Written, LinkEnd, AsksAll, LosesOne, WritesPart, LinkEnds, EndsWith, RunsText}
@@ -63,12 +63,9 @@ seen_of of_a a of_b b of_c c of_d d of_k k = seen_at (ports_of of_a a of_b b) (p
 abbrev pub seen_over : {A B C D K : Type 0} → Source A → Sink B → Duplex A B → Source C → Sink D → Duplex C D → Sink K → K → SeenAtBoth
 seen_over of_a of_b client of_c of_d instrument of_k k = seen_of of_a client.source of_b client.sink of_c instrument.source of_d instrument.sink of_k k
 
--- from `old` to `new` nothing was read of either end of a link, and nothing was written to either end or to the sink
-abbrev pub IsUnused : (old new : SeenAtBoth) → Type 0
-IsUnused old new =
-    (new.client.remaining ≡ old.client.remaining) × (new.client.reads ≡ old.client.reads)
-    × (new.instrument.remaining ≡ old.instrument.remaining) × (new.instrument.reads ≡ old.instrument.reads)
-    × (new.client.taken ≡ old.client.taken) × (new.instrument.taken ≡ old.instrument.taken) × (new.sink.bytes ≡ old.sink.bytes)
+-- from `old` to `new` the ports of both ends of a link stayed as they were, and nothing was written to the sink
+abbrev pub TakesNothing : (old new : SeenAtBoth) → Type 0
+TakesNothing old new = (new.client ≡ old.client) × (new.instrument ≡ old.instrument) × (new.sink.bytes ≡ old.sink.bytes)
 
 -- what the client's end and the sink had taken before, and have taken now
 abbrev pub written_there : (old new : SeenAtBoth) → Written
@@ -86,6 +83,14 @@ pub record LoopsOver (commands : List Command) (old new : SeenAtBoth) (result : 
 -- written; or its commands were asked
 abbrev pub LoopRuns : (text_old text_new : Input) → (old new : SeenAtBoth) → LinkEnd → Type 0
 LoopRuns text_old text_new old new result = RunsText text_old text_new result (new ≡ old) (λ commands. LoopsOver commands old new result)
+
+-- a run as `LoopRuns` has it, in at most `most` reads of both ends, and in exactly as many where the fault is `TooManyReads`;
+-- where it is `Memory`, nothing was read of the link, sent or written
+pub record LoopsWithin (text_old text_new : Input) (most : ℕ) (old new : SeenAtBoth) (result : LinkEnd) : Type 0 where
+  pub loops : LoopRuns text_old text_new old new result
+  pub bound : new.client.reads + new.instrument.reads ≤ old.client.reads + old.instrument.reads + most
+  pub too_many : result ≡ Err TooManyReads → new.client.reads + new.instrument.reads ≡ old.client.reads + old.instrument.reads + most
+  pub memory : result ≡ Err Memory → TakesNothing old new
 
 -- commands were asked, in at most `most` reads of both ends and with this result, which is `TooManyReads` only once these are used up, over
 -- some connection with an instrument of this program at its other end; neither end had failed, and nothing was read of them before

@@ -6,8 +6,9 @@ ghost use Rattle.gc_lines.specs.Assembler.{StandsFor};
 ghost use Rattle.gc_lines.specs.Lines.{with_end};
 ghost use Rattle.gc_ask.specs.AskRuns.{AskRuns, IsUnused, seen_of_link};
 ghost use Rattle.gc_ask.specs.Asking.{EndsWith, idle, request_text, waiting_for};
-ghost use Rattle.gc_ask.specs.Listening.{AsksAt, AsksOne, Exchanges, HasReadNothing, HearsOn, LinkSteps, RunsAt, TakesNothing, reads_of, seen_through};
-ghost use Rattle.gc_ask.specs.Looping.{written_there};
+ghost use Rattle.gc_ask.specs.Listening.{AsksAt, AsksOneOver, ExchangesOver, HasReadNothing, LinkSteps, RunsAt, SpendsReads};
+ghost use Rattle.gc_ask.specs.Listening.{reads_of, seen_through};
+ghost use Rattle.gc_ask.specs.Looping.{TakesNothing};
 ghost use Rattle.gc_texts.specs.declared.fault.RunFault.{RunFault};
 ghost use Rattle.gc_texts.specs.declared.text.TheConstants.{TEXT_LIMIT};
 ghost use Rattle.gc_texts.specs.WholeTexts.{input_of};
@@ -73,13 +74,10 @@ impl AskState {
         link: &mut L,
     ) -> Result<(), RunFault>
         requires { self.old.end.client.ids ≡ idle place }
-        ensures exchanges { HearsOn self.old self.new (L.client link.old) (L.client link.new)
-            (λ h. Exchanges L.is_remote place command.now h (L.client link.old).taken (L.client link.new).taken result) }
+        ensures exchanges { ExchangesOver L.Link place command.now self.old self.new link.old link.new result }
         ensures ends { LinkSteps L.Link link.old link.new result }
-        ensures grows { (L.client link.old).reads ≤ (L.client link.new).reads }
-        ensures reads { reads_of L.Link link.new + self.new.reads ≡ reads_of L.Link link.old + self.old.reads }
+        ensures spends { SpendsReads L.Link link.old link.new self.old.reads self.new.reads }
         ensures too_many { result ≡ Err RunFault.TooManyReads → self.new.reads ≡ 0 }
-        ensures held { L.held link.new ≡ L.held link.old }
     {
         let line = self.request(place, command);
         if let Err(fault) = link.send(place, &line, &mut self.reads) {
@@ -99,15 +97,13 @@ impl AskState {
     ) -> Result<(), RunFault>
         requires idle { self.old.end.client.ids ≡ idle place }
         requires stands { (rest : List ℕ) × StandsFor self.old.end.assembler rest }
-        ensures asks { HearsOn self.old self.new (L.client link.old) (L.client link.new)
-            (λ h. AsksOne L.is_remote place command.now h
-            (written_there (seen_through L.Link link.old K.Sink sink.old) (seen_through L.Link link.new K.Sink sink.new))
-            (LinkSteps L.Link link.old link.new) result) }
+        ensures asks { AsksOneOver L.is_remote place command.now self.old self.new
+            (seen_through L.Link link.old K.Sink sink.old)
+            (seen_through L.Link link.new K.Sink sink.new)
+            result }
         ensures ends { EndsWith (LinkSteps L.Link link.old link.new) (K.failed sink.old) (K.failed sink.new) result }
-        ensures grows { (L.client link.old).reads ≤ (L.client link.new).reads }
-        ensures reads { reads_of L.Link link.new + self.new.reads ≡ reads_of L.Link link.old + self.old.reads }
+        ensures spends { SpendsReads L.Link link.old link.new self.old.reads self.new.reads }
         ensures too_many { result ≡ Err RunFault.TooManyReads → self.new.reads ≡ 0 }
-        ensures held { L.held link.new ≡ L.held link.old }
     {
         match self.exchange(place, command, link) {
             Ok(()) => write_settlements(sink, place, self.end.settled.as_slice()),

@@ -3,7 +3,9 @@
 ghost use Rattle.std.specs.Prelude.{◌≤◌, length, IfOk, IfSome};
 
 use crate::busy_clock::BusyClock;
-use gc_lines::{PortFailed, Source};
+use crate::simulated::Simulates;
+use gc_instrument::{ServeFault, Served};
+use gc_lines::{PortFailed, Source, ToWriter};
 use gc_links::{Wire, read_stream_within, write_stream};
 use std::io::{self, ErrorKind, Read, Write};
 use std::net::TcpStream;
@@ -81,23 +83,13 @@ impl<'a, R: Clock> End<'a, R> {
     }
 }
 
-/// The writing end of a connection. A reply of an instrument whose replies take time waits here until it is to be sent.
+// The writing end of a connection. A reply of an instrument whose replies take time, of which `clock` is the clock, waits here
+// until it is to be sent.
 #[derive(Drop)]
-pub(crate) struct ReplyWriter<'a, R> {
+struct ReplyWriter<'a, R> {
     rt: &'a R,
     end: &'a End<'a, R>,
     clock: Option<&'a BusyClock>,
-}
-
-impl<'a, R: Clock> ReplyWriter<'a, R> {
-    /// The writing end of a connection. `clock` is the clock of an instrument whose replies take time. Without one no reply waits.
-    pub(crate) fn new(
-        rt: &'a R,
-        end: &'a End<'a, R>,
-        clock: Option<&'a BusyClock>,
-    ) -> ReplyWriter<'a, R> {
-        ReplyWriter { rt, end, clock }
-    }
 }
 
 // Each write is sent at once, so there is nothing to flush.
@@ -153,6 +145,21 @@ impl<'a, R: Clock> RequestReader<'a, R> {
             broken: false,
             is_idle: false,
         }
+    }
+
+    /// Serves the caller of this connection with the instrument, which is restarted for it, in at most `max_reads` reads. The
+    /// faults are those of `serve`.
+    pub(crate) fn serve<I: Simulates>(
+        &mut self,
+        instrument: &mut I,
+        max_reads: u32,
+    ) -> Result<Served, ServeFault> {
+        let mut writer = ToWriter::new(ReplyWriter {
+            rt: self.rt,
+            end: self.end,
+            clock: self.clock,
+        });
+        instrument.serve_anew(self, &mut writer, max_reads)
     }
 
     /// Whether a read failed because it had timed out (`is_time_out`); `false` while none has failed.

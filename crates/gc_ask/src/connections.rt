@@ -12,7 +12,7 @@ ghost use Rattle.gc_texts.specs.declared.fault.RunFault.{RunFault};
 use crate::address::Address;
 use crate::ask::ask_all;
 use crate::busy_clock::BusyClock;
-use crate::caller::{End, ReplyWriter, RequestReader};
+use crate::caller::{End, RequestReader};
 use crate::instrument_end::InstrumentEnd;
 use crate::link::Remote;
 use crate::looped::Loop;
@@ -28,7 +28,7 @@ use std::net::{Net, TcpListener, TcpStream};
 use std::rt::Files;
 use std::time::Clock;
 
-/// The most connections that one call of `serve_tcp`, `serve_on` or `serve_device` serves. A kept port or device has no such bound.
+/// The most connections that one call of `serve_tcp` or `serve_device` serves. A kept port or device has no such bound.
 pub const MOST_CONNECTIONS: u32 = 1000;
 
 /// Reads the whole command text of a source, binds a free port of 127.0.0.1, connects to it, and asks the commands over that one
@@ -143,11 +143,8 @@ pub fn serve_tcp<R: Net<Listener = TcpListener, Stream = TcpStream> + Clock, I: 
 
 /// Accepts `connections` connections of a port one after the other, and serves each with the instrument, which is restarted for
 /// it, in at most `max_reads` reads. `clock` is the clock of an instrument whose replies take time. A silent caller is waited for
-/// without end; further callers wait in the system's queue.
-///
-/// `Socket` comes where an accept failed. A fault of a connection ends the call with it: `Read`, `Write` and `TooManyReads`
-/// as `serve` has them. The instrument is left as the last connection that was served left it, and as it was where none was
-/// served.
+/// without end; further callers wait in the system's queue. The faults, and how the instrument is left, are as `serve_tcp` has
+/// them.
 pub fn serve_on<R: Clock, I: Simulates>(
     rt: &R,
     listener: &TcpListener,
@@ -155,19 +152,14 @@ pub fn serve_on<R: Clock, I: Simulates>(
     instrument: &mut I,
     clock: Option<&BusyClock>,
     max_reads: u32,
-) -> Result<(), RunFault>
-    requires { connections ≤ 1000 }
-{
+) -> Result<(), RunFault> {
     for _ in 0..connections {
         let Ok(stream) = accept(listener) else {
             return Err(RunFault::Socket);
         };
         let end = End::Stream(&stream, None);
-        let served = instrument.serve_anew(
-            &mut RequestReader::new(rt, &end, clock),
-            &mut ToWriter::new(ReplyWriter::new(rt, &end, clock)),
-            max_reads,
-        );
+        let mut reader = RequestReader::new(rt, &end, clock);
+        let served = reader.serve(instrument, max_reads);
         end_of_serving(served)?;
     }
     Ok(())

@@ -1,16 +1,15 @@
 //! An instrument at the end of a serial line: a device that is served as a connection is, a number of times or for good.
 
 ghost use Rattle.std.specs.Prelude.{◌≡◌, ◌≤◌, None, IfErr, IfOk};
-ghost use Rattle.gc_ask.specs.Keeping.{ServesCallers, most_callers};
+ghost use Rattle.gc_ask.specs.Keeping.{ServesConnections};
 ghost use Rattle.gc_ask.specs.Places.{IsFaultOfDevice};
 
 use crate::busy_clock::BusyClock;
-use crate::caller::{End, ReplyWriter, RequestReader};
+use crate::caller::{End, RequestReader};
 use crate::callers::{CallerFault, Callers, PAUSE, end_of_caller, keep};
 use crate::connections::{end_of_serving, fault_of_reason, fault_of_unusable};
 use crate::kept_port::Keeping;
 use crate::simulated::Simulates;
-use gc_lines::ToWriter;
 use gc_links::{Unusable, Wire, wire_on};
 use gc_texts::RunFault;
 use std::fs::File;
@@ -41,11 +40,8 @@ pub fn serve_device<R: Files<File = File> + Clock, I: Simulates>(
             Err(reason) => return Err(fault_of_reason(reason)),
         };
         let end = End::Device(&wire);
-        let served = instrument.serve_anew(
-            &mut RequestReader::new(rt, &end, clock),
-            &mut ToWriter::new(ReplyWriter::new(rt, &end, clock)),
-            max_reads,
-        );
+        let mut reader = RequestReader::new(rt, &end, clock);
+        let served = reader.serve(instrument, max_reads);
         end_of_serving(served)?;
     }
     Ok(())
@@ -68,7 +64,7 @@ pub fn keep_device<R: Files<File = File> + Clock, I: Simulates, E: Write>(
     clock: Option<&BusyClock>,
     messages: &mut E,
 ) -> Result<bool, RunFault>
-    ensures kept { IfOk result (λ all_written. ServesCallers (most_callers keeping.connections) all_written None None (E.contents messages.old) (E.contents messages.new)) }
+    ensures kept { IfOk result (λ all_written. ServesConnections keeping.connections all_written (E.contents messages.old) (E.contents messages.new)) }
     ensures fault { IfErr result (λ fault. (messages.new ≡ messages.old) × IsFaultOfDevice fault) }
 {
     let first = match wire_on(rt, path) {
@@ -122,11 +118,8 @@ impl<'a, R: Files<File = File> + Clock, I> DeviceCallers<'a, R, I> {
         I: Simulates,
     {
         let end = End::Device(&wire);
-        let served = self.instrument.serve_anew(
-            &mut RequestReader::new(self.rt, &end, self.clock),
-            &mut ToWriter::new(ReplyWriter::new(self.rt, &end, self.clock)),
-            self.max_reads,
-        );
+        let mut reader = RequestReader::new(self.rt, &end, self.clock);
+        let served = reader.serve(self.instrument, self.max_reads);
         end_of_caller(served)
     }
 

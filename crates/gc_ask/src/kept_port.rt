@@ -1,15 +1,14 @@
 //! A port of this machine that is kept: each connection is served with a restarted instrument, and none waits for ever.
 
 ghost use Rattle.std.specs.Prelude.{◌≡◌, None, IfErr, IfOk};
-ghost use Rattle.gc_ask.specs.Keeping.{ServesCallers, most_callers};
+ghost use Rattle.gc_ask.specs.Keeping.{ServesConnections, most_callers};
 ghost use Rattle.gc_texts.specs.declared.fault.RunFault.{RunFault};
 
 use crate::address::Address;
 use crate::busy_clock::BusyClock;
-use crate::caller::{End, ReplyWriter, RequestReader};
+use crate::caller::{End, RequestReader};
 use crate::callers::{CallerFault, Callers, PAUSE, end_of_caller, keep};
 use crate::simulated::Simulates;
-use gc_lines::ToWriter;
 use gc_links::accept;
 use gc_texts::RunFault;
 use std::io::{self, Write};
@@ -55,7 +54,7 @@ pub fn keep_tcp<R: Net<Listener = TcpListener, Stream = TcpStream> + Clock, I: S
     clock: Option<&BusyClock>,
     messages: &mut E,
 ) -> Result<bool, RunFault>
-    ensures kept { IfOk result (λ all_written. ServesCallers (most_callers keeping.connections) all_written None None (E.contents messages.old) (E.contents messages.new)) }
+    ensures kept { IfOk result (λ all_written. ServesConnections keeping.connections all_written (E.contents messages.old) (E.contents messages.new)) }
     ensures fault { IfErr result (λ fault. (fault ≡ RunFault.Socket) × (messages.new ≡ messages.old)) }
 {
     let Ok(listener) = address.listen(rt) else {
@@ -74,7 +73,7 @@ pub fn keep_on<R: Clock, I: Simulates, E: Write>(
     clock: Option<&BusyClock>,
     messages: &mut E,
 ) -> bool
-    ensures { ServesCallers (most_callers keeping.connections) result None None (E.contents messages.old) (E.contents messages.new) }
+    ensures { ServesConnections keeping.connections result (E.contents messages.old) (E.contents messages.new) }
 {
     let mut callers = PortCallers {
         rt,
@@ -114,11 +113,7 @@ impl<'a, R: Clock, I: Simulates> Callers for PortCallers<'a, R, I> {
         };
         let connection = End::Stream(&stream, Some(self.idle));
         let mut reader = RequestReader::new(self.rt, &connection, self.clock);
-        let served = self.instrument.serve_anew(
-            &mut reader,
-            &mut ToWriter::new(ReplyWriter::new(self.rt, &connection, self.clock)),
-            self.max_reads,
-        );
+        let served = reader.serve(self.instrument, self.max_reads);
         let end = end_of_caller(served);
         match end {
             Err(CallerFault::Read) if reader.is_idle() => Err(CallerFault::Idle),

@@ -68,7 +68,12 @@ impl<'a, 'b, I: Source, O: Sink> Link for Remote<'a, 'b, I, O> {
     ghost instrument = { λ _. no_ports };
 
     // There is no instrument's end: the client's references are named in its place.
-    ghost held = { λ a. record { client_in = a.source.ghost_name; client_out = a.sink.ghost_name; instrument_in = a.source.ghost_name; instrument_out = a.sink.ghost_name } };
+    ghost held = { λ a. record {
+      client_in = a.source.ghost_name;
+      client_out = a.sink.ghost_name;
+      instrument_in = a.source.ghost_name;
+      instrument_out = a.sink.ghost_name;
+    } };
 
     // Sends the request. Whoever is at the other end answers it. The only fault is `Write`.
     fn send(&mut self, place: usize, request: &Line, _reads: &mut u32) -> Result<(), RunFault> {

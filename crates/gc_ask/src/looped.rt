@@ -1,10 +1,7 @@
 //! A loop: commands are asked over a link at whose other end this program answers them itself, in one thread.
 
-ghost use Rattle.std.specs.Prelude.{◌≡◌, ◌+◌, ◌≤◌, Err};
 ghost use Rattle.gc_lines.specs.Answering.{ports_of};
-ghost use Rattle.gc_ask.specs.Asking.{taken_by};
-ghost use Rattle.gc_ask.specs.Looping.{IsUnused, LoopRuns, seen_of, seen_over};
-ghost use Rattle.gc_texts.specs.declared.fault.RunFault.{RunFault};
+ghost use Rattle.gc_ask.specs.Looping.{LoopsWithin, seen_of, seen_over};
 ghost use Rattle.gc_texts.specs.WholeTexts.{input_of};
 
 use crate::ask::run_over;
@@ -33,19 +30,12 @@ pub fn run_loop<S: Source, A: Source, B: Sink, C: Source, D: Sink, K: Sink>(
     max_reads: u32,
 ) -> Result<(), RunFault>
     // Which text was read, and how its commands were asked: what the client's end took and gave, what the sink took, and which
-    // ports have failed.
-    ensures loops { LoopRuns (input_of S.Source commands.old) (input_of S.Source commands.new)
+    // ports have failed. At most `max_reads` reads of both ends were answered, and exactly as many where `TooManyReads` is the
+    // fault. Where memory was refused, nothing was read of the link, sent or written.
+    ensures loops { LoopsWithin (input_of S.Source commands.old) (input_of S.Source commands.new) max_reads
         (seen_of A.Source client_in.old B.Sink client_out.old C.Source instrument_in.old D.Sink instrument_out.old K.Sink sink.old)
         (seen_of A.Source client_in.new B.Sink client_out.new C.Source instrument_in.new D.Sink instrument_out.new K.Sink sink.new)
         result }
-
-    // At most `max_reads` reads of both ends were answered, and exactly as many where `TooManyReads` is the fault.
-    ensures bound { A.reads client_in.new + C.reads instrument_in.new ≤ A.reads client_in.old + C.reads instrument_in.old + max_reads }
-    ensures too_many { result ≡ Err RunFault.TooManyReads → A.reads client_in.new + C.reads instrument_in.new ≡ A.reads client_in.old + C.reads instrument_in.old + max_reads }
-
-    // Where memory was refused, nothing was read of the link, sent or written.
-    ensures memory { result ≡ Err RunFault.Memory → IsUnused (seen_of A.Source client_in.old B.Sink client_out.old C.Source instrument_in.old D.Sink instrument_out.old K.Sink sink.old)
-        (seen_of A.Source client_in.new B.Sink client_out.new C.Source instrument_in.new D.Sink instrument_out.new K.Sink sink.new) }
 {
     let mut answering = InstrumentEnd::new(Instrument::simulator());
     let mut link = Loop {
@@ -68,7 +58,7 @@ pub struct Duplex<I, O> {
 }
 
 /// Asks the commands of a source as `run_loop` does, with any instrument in place of the simulator, also that of a scene with rules.
-/// The faults and the meaning of the clauses are the same.
+/// The faults and the clause are the same.
 pub fn run_loop_on<S: Source, A: Source, B: Sink, C: Source, D: Sink, K: Sink, T: Answers + Drop>(
     alloc: Global,
     instrument: T,
@@ -78,14 +68,10 @@ pub fn run_loop_on<S: Source, A: Source, B: Sink, C: Source, D: Sink, K: Sink, T
     sink: &mut K,
     max_reads: u32,
 ) -> Result<(), RunFault>
-    ensures loops { LoopRuns (input_of S.Source commands.old) (input_of S.Source commands.new)
+    ensures loops { LoopsWithin (input_of S.Source commands.old) (input_of S.Source commands.new) max_reads
         (seen_over A.Source B.Sink client.old C.Source D.Sink instrument_end.old K.Sink sink.old)
         (seen_over A.Source B.Sink client.new C.Source D.Sink instrument_end.new K.Sink sink.new)
         result }
-    ensures bound { A.reads client.new.source + C.reads instrument_end.new.source ≤ A.reads client.old.source + C.reads instrument_end.old.source + max_reads }
-    ensures too_many { result ≡ Err RunFault.TooManyReads → A.reads client.new.source + C.reads instrument_end.new.source ≡ A.reads client.old.source + C.reads instrument_end.old.source + max_reads }
-    ensures memory { result ≡ Err RunFault.Memory → IsUnused (seen_over A.Source B.Sink client.old C.Source D.Sink instrument_end.old K.Sink sink.old)
-        (seen_over A.Source B.Sink client.new C.Source D.Sink instrument_end.new K.Sink sink.new) }
 {
     let mut answering = InstrumentEnd::new(instrument);
     let mut link = Loop {
@@ -118,7 +104,12 @@ impl<'a, 'b, 'c, 'd, 'e, A: Source, B: Sink, C: Source, D: Sink, T: Answers> Lin
 
     ghost instrument = { λ l. ports_of C.Source l.instrument_in.now D.Sink l.instrument_out.now };
 
-    ghost held = { λ l. record { client_in = l.client_in.ghost_name; client_out = l.client_out.ghost_name; instrument_in = l.instrument_in.ghost_name; instrument_out = l.instrument_out.ghost_name } };
+    ghost held = { λ l. record {
+      client_in = l.client_in.ghost_name;
+      client_out = l.client_out.ghost_name;
+      instrument_in = l.instrument_in.ghost_name;
+      instrument_out = l.instrument_out.ghost_name;
+    } };
 
     // Sends the request at the client's end, and has the instrument answer one line at its own. The faults are those of `send_line` and
     // of `InstrumentEnd::answer_line`.

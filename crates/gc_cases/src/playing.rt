@@ -13,6 +13,13 @@ pub trait Player {
     fn play(&self, rt: &HostRuntime, case: &Case<'_>, wrong: &mut Told) -> io::Result<()>;
 }
 
+// How many cases a file has, and how many of them came to what they expect.
+#[derive(Clone, Copy)]
+struct Counts {
+    cases: u64,
+    right: u64,
+}
+
 /// Plays each file of a folder whose name has this ending, as `.stations`, in the order of their names. For each it prints what
 /// differs from what its cases expect, and a line with the counts. It returns whether all cases of all files came to what they
 /// expect, and `true` where there is no such file. Where memory runs out for what came of a case, the case counts as one that
@@ -91,9 +98,9 @@ fn play_file<P: Player>(
 ) -> io::Result<bool> {
     let text = text_of_file(rt, folder, name)?;
     let mut wrong = Told::new(rt.alloc());
-    let (count, right) = play_text(rt, text.as_str(), player, &mut wrong);
+    let counts = play_text(rt, text.as_str(), player, &mut wrong);
     let wrong = str::from_utf8(wrong.as_bytes()).unwrap_or("no text");
-    tell_file(rt, name, count, right, wrong)
+    tell_file(rt, name, counts, wrong)
 }
 
 // Reads the text of a file of a folder. `Err`: the file can't be read or isn't UTF-8, or memory ran out.
@@ -102,23 +109,18 @@ fn text_of_file(rt: &HostRuntime, folder: &str, name: &str) -> io::Result<String
     fs::read_to_string(rt, path.as_str())
 }
 
-// Prints `wrong`, the text of what differs from what a file's cases expect, and a line with the counts: `right` of its `count`
-// cases came to what they expect. It returns whether all did. `Err`: it can't be printed.
-fn tell_file(
-    rt: &HostRuntime,
-    name: &str,
-    count: u64,
-    right: u64,
-    wrong: &str,
-) -> io::Result<bool> {
-    let otherwise = count.saturating_sub(right);
+// Prints `wrong`, the text of what differs from what a file's cases expect, and a line with the counts. It returns whether all
+// cases came to what they expect. `Err`: it can't be printed.
+fn tell_file(rt: &HostRuntime, name: &str, counts: Counts, wrong: &str) -> io::Result<bool> {
+    let Counts { cases, right } = counts;
+    let otherwise = cases.saturating_sub(right);
     println!(rt; "{wrong}{name}: {right} as expected, {otherwise} otherwise")?;
     Ok(otherwise == 0)
 }
 
 // Plays the cases of a text, and returns how many there are, and how many came to what they expect. A text has no more cases than bytes.
-fn play_text<P: Player>(rt: &HostRuntime, text: &str, player: &P, wrong: &mut Told) -> (u64, u64) {
-    let mut count = 0u64;
+fn play_text<P: Player>(rt: &HostRuntime, text: &str, player: &P, wrong: &mut Told) -> Counts {
+    let mut cases = 0u64;
     let mut right = 0u64;
     let mut rest = text;
     for _ in 0..text.len() {
@@ -126,12 +128,12 @@ fn play_text<P: Player>(rt: &HostRuntime, text: &str, player: &P, wrong: &mut To
             break;
         };
         rest = behind;
-        count = count.saturating_add(1);
+        cases = cases.saturating_add(1);
         if play_case(rt, player, &case, wrong) {
             right = right.saturating_add(1);
         }
     }
-    (count, right)
+    Counts { cases, right }
 }
 
 // Plays a case, and returns whether it came to what it expects: nothing was appended to `wrong`, and `wrong` lacks no part

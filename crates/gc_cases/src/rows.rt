@@ -17,36 +17,28 @@ pub trait Rows {
 }
 
 /// Plays the rows of a case, and none after the first 10,000. Where something else came than what follows a row's arrow, a line
-/// with what came is appended to `wrong`. If the case has no row, or an empty one first, none is played, and a line says so. Once
-/// memory ran out for a row's bytes or for what came of the row, there is a line for that row and each later one.
+/// with what came is appended to `wrong`. If the case has no row, or an empty one first, none is played, and a line says so.
+/// There is also a line for each row for whose bytes, or for what came of it, memory ran out.
 pub fn play_rows<R: Rows>(alloc: Global, case: &Case<'_>, rows: &mut R, wrong: &mut Told) {
     if case.value("do").is_empty() {
         return case.tell_wrong("rows", b"none", wrong);
     }
-    let mut came = Told::new(alloc);
     for place in 0..MOST_ROWS {
         let Some(row) = case.value_at("do", place) else {
             break;
         };
-        came.clear();
-        play_row(alloc, case, row, rows, &mut came, wrong);
+        play_row(alloc, case, row, rows, wrong);
     }
 }
 
-// Plays one row of a case. Where something else came than what follows the row's arrow, or `came`, which is empty before the row,
-// lacks a part, it appends a line with what came to `wrong`.
-fn play_row<R: Rows>(
-    alloc: Global,
-    case: &Case<'_>,
-    row: &str,
-    rows: &mut R,
-    came: &mut Told,
-    wrong: &mut Told,
-) {
+// Plays one row of a case. Where something else came than what follows the row's arrow, or memory ran out for what came, it
+// appends a line with what came to `wrong`.
+fn play_row<R: Rows>(alloc: Global, case: &Case<'_>, row: &str, rows: &mut R, wrong: &mut Told) {
     let (given, expected) = row.split_once(" -> ").unwrap_or((row, ""));
-    play_given(alloc, given, rows, came);
+    let mut came = Told::new(alloc);
+    play_given(alloc, given, rows, &mut came);
     if !came.is(expected) {
-        tell_row(case, given, came, wrong);
+        tell_row(case, given, &came, wrong);
     }
 }
 
@@ -63,8 +55,7 @@ fn play_given<R: Rows>(alloc: Global, given: &str, rows: &mut R, came: &mut Told
 // Appends a line to `wrong` for a row of which something else came than the case expects: what is before the row's arrow (`given`), and
 // what came.
 fn tell_row(case: &Case<'_>, given: &str, came: &Told, wrong: &mut Told) {
-    wrong.text(case.name);
-    wrong.text(": do is ");
+    case.begin_wrong("do", wrong);
     wrong.text(given);
     wrong.text(" -> ");
     wrong.escaped(came.as_bytes());
@@ -76,9 +67,8 @@ pub fn cut_word(text: &str) -> (&str, &str) {
     text.split_once(' ').unwrap_or((text, ""))
 }
 
-/// The bytes behind the first word of a text and the space after that word; none if there is no space. `bytes` are those for
-/// which the text stands, and `word` is its first word, which has to be without a backslash: so it stands for as many bytes as
-/// it has.
+/// The bytes after the first word of a row's text and the space that follows it; none if there is no space. `bytes` are all
+/// bytes for which the text stands. `word` is its first word, and has no backslash, so that each of its bytes stands for itself.
 pub fn bytes_behind<'a>(word: &str, bytes: &'a [u8]) -> &'a [u8] {
     bytes.get(word.len().saturating_add(1)..).unwrap_or(b"")
 }

@@ -1,5 +1,4 @@
-//! What players share: the errors that a runtime of their own returns, which takes the place of the system's so that the case decides
-//! which files and addresses there are; and the port of a listener.
+//! What players share: the errors that a case's runtime returns (`runtime.rt`), and the port of a listener.
 
 use std::io::{self, ErrorKind};
 use std::net::TcpListener;

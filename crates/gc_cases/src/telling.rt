@@ -27,11 +27,16 @@ impl<'a> Case<'a> {
 
     /// Appends a line with what came for a key to `wrong`, as a value spells it: `NAME: KEY is CAME`.
     pub fn tell_wrong(&self, key: &str, came: &[u8], wrong: &mut Told) {
+        self.begin_wrong(key, wrong);
+        wrong.escaped(came);
+        wrong.text("\n");
+    }
+
+    // Appends the beginning of such a line to `wrong`: `NAME: KEY is `.
+    pub(crate) fn begin_wrong(&self, key: &str, wrong: &mut Told) {
         wrong.text(self.name);
         wrong.text(": ");
         wrong.text(key);
         wrong.text(" is ");
-        wrong.escaped(came);
-        wrong.text("\n");
     }
 }

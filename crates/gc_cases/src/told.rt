@@ -3,7 +3,7 @@
 use crate::escapes::spells;
 use std::alloc::Global;
 use std::fmt;
-use std::io::Write;
+use std::io::{self, Write};
 
 /// A text to which what came is appended. Its calls return no error, so that a player has none to pass on: where memory runs
 /// out, the text notes that it lacks a part, and from then on it is what no case expects.
@@ -26,11 +26,6 @@ impl Told {
     /// The bytes of the text.
     pub fn as_bytes(&self) -> &[u8] {
         self.bytes.as_slice()
-    }
-
-    /// The bytes of the text, for a caller that appends to them by itself, and calls `lack` where it gets no memory.
-    pub fn writer(&mut self) -> &mut Vec<u8> {
-        &mut self.bytes
     }
 
     /// Whether memory ran out for a part of the text, even if the text was emptied since (`clear`).
@@ -93,7 +88,8 @@ impl Told {
         self.display(value);
     }
 
-    /// Appends a value as `Display` prints it, usually a number, and then the text `what`, which says what it counts.
+    /// Appends a value as `Display` prints it, usually a number, and then a text: what the number counts, or what separates it
+    /// from what comes next.
     pub fn counted<T: fmt::Display>(&mut self, value: &T, what: &str) {
         self.display(value);
         self.text(what);
@@ -116,6 +112,18 @@ impl Told {
             b' '..=b'~' => self.bytes(&[byte]),
             _ => self.bytes(&[b'\\', b'x', hex_of(byte / 16), hex_of(byte % 16)]),
         }
+    }
+}
+
+impl Write for Told {
+    // Appends the bytes. It never fails: where memory runs out, the text lacks a part.
+    fn write(&mut self, buf: &[u8]) -> io::Result<usize> {
+        self.bytes(buf);
+        Ok(buf.len())
+    }
+
+    fn flush(&mut self) -> io::Result<()> {
+        Ok(())
     }
 }
 

@@ -32,12 +32,17 @@ shown (Some places) v = v
 abbrev pub shown_values : (places : Option ℕ) → List Value → List Value
 shown_values places vs = map (λ v. shown places v) vs
 
--- taking these values one by one leads from the parameters `old` to `new`: where none are left in `new`, `old` reads as these
--- values. `reads` is that of the trait `Parameters`
+-- taking these values one by one leads from the parameters `old` to `new`: where `vs` are left in `new`, `old` reads as these
+-- values and then `vs`. `reads` is that of the trait `Parameters`
 abbrev pub ReadsAll : {P : Type 0} → (reads : P → List Value → Type 0) → (old new : P) → (values : List Value) → Type 0
-ReadsAll reads old new values = reads new [] → reads old values
+ReadsAll reads old new values = (vs : List Value) → reads new vs → reads old (values ++ vs)
 
--- taking parameters of the kinds of these values one by one leads from `old` to `new`: a fault of `new` where nothing more is to
--- be taken is a fault of `old` as parameters of these kinds. `fails` is that of the trait `Parameters`
+-- taking parameters of the kinds of these values one by one leads from `old` to `new`: a fault of `new` where the kinds `ks` are
+-- taken next is a fault of `old` where those of these values and then `ks` are. `fails` is that of the trait `Parameters`
 abbrev pub FailsAll : {P : Type 0} → (fails : P → List Kind → ValueFault → Type 0) → (old new : P) → (values : List Value) → Type 0
-FailsAll fails old new values = (e : ValueFault) → fails new [] e → fails old (kinds_of values) e
+FailsAll fails old new values = (ks : List Kind) (e : ValueFault) → fails new ks e → fails old (kinds_of values ++ ks) e
+
+-- a row, or a part of one, takes these values one by one from the parameters `old`, and leaves `new`: it says how `old` reads,
+-- and with which fault it fails
+abbrev pub ReadsRow : {P : Type 0} → (reads : P → List Value → Type 0) → (fails : P → List Kind → ValueFault → Type 0) → (old new : P) → (values : List Value) → Type 0
+ReadsRow reads fails old new values = ReadsAll reads old new values × FailsAll fails old new values

@@ -1,14 +1,10 @@
 //! The rows for reading: of which kinds the parameters of each procedure are, and the values of each shape of answer. A row reads
 //! them one by one, in their order on the line.
 
-ghost use Rattle.std.specs.Prelude.{◌≡◌, ◌++◌, [], List, IsTrue, IsFalse};
-ghost use Rattle.gc_values.specs.Lists.{kinds_of};
-ghost use Rattle.gc_values.specs.declared.fault.ValueFault.{ValueFault};
-ghost use Rattle.gc_values.specs.declared.value.Kind.{Kind};
-ghost use Rattle.gc_values.specs.declared.value.Value.{Value};
+ghost use Rattle.std.specs.Prelude.{◌≡◌, IsTrue, IsFalse};
 ghost use Rattle.gc_catalogue.specs.Answers.{answer_fields};
 ghost use Rattle.gc_catalogue.specs.Calls.{call_fields, IsNoProcedure};
-ghost use Rattle.gc_catalogue.specs.Lists.{FailsAll, ReadsAll};
+ghost use Rattle.gc_catalogue.specs.Lists.{ReadsRow};
 ghost use Rattle.gc_catalogue.specs.Structs.{date_values, station_values};
 ghost use Rattle.gc_catalogue.specs.declared.answer.Shape.TheVariants as shape;
 
@@ -16,13 +12,13 @@ use crate::answer::{Answer, Shape};
 use crate::call::{Call, DateTime, Station};
 use gc_values::Parameters;
 
-/// Reads the parameters of the procedure with this number, and makes a call of them in `call`. It returns `false` if no procedure has the
-/// number; `call` may then be any call. `true` doesn't say that the parameters were read: for one that wasn't, a zero of its kind (or
-/// `false`) stands in the call. Whether all were, and none is left, `Quick::is_done` or `Listed::finish` says afterwards.
+/// Reads the parameters of the procedure with this number, and makes a call of them in `call`. It returns `false` if no procedure
+/// has the number; `call` may then be any call. `true` doesn't say that the parameters were read: for one that wasn't, a zero of
+/// its kind (or `false`) stands in the call. Whether all were, and none is left, `Quick::is_done` or `Listed::finish` says
+/// afterwards.
 pub(crate) fn read_row<P: Parameters>(rpc: u16, params: &mut P, call: &mut Call) -> bool
     ensures found { IsTrue result → (call_fields call.new).number ≡ rpc }
-    ensures reads { IsTrue result → ReadsAll P.reads params.old params.new (call_fields call.new).values }
-    ensures fails { IsTrue result → FailsAll P.fails params.old params.new (call_fields call.new).values }
+    ensures row { IsTrue result → ReadsRow P.reads P.fails params.old params.new (call_fields call.new).values }
     ensures none { IsFalse result → IsNoProcedure rpc }
 {
     match rpc {
@@ -80,15 +76,15 @@ pub(crate) fn read_row<P: Parameters>(rpc: u16, params: &mut P, call: &mut Call)
     true
 }
 
-// The rows with large values are in functions of their own, so that the stack frames of `read_row` and `read_answer_row` stay small.
-// Each function has the contract of its table for its own row: that of `read_row` for one number, or of `read_answer_row` for one shape.
+// The rows with large values are in functions of their own, so that the stack frames of `read_row` and `read_answer_row` stay
+// small. Each has the contract of its table for its own row: that of `read_row` for one number, or of `read_answer_row` for one
+// shape.
 
 // The row of CSV_SetDateTime: a date and a time of day.
 #[inline(never)]
 fn read_set_date<P: Parameters>(params: &mut P, call: &mut Call)
     ensures number { (call_fields call.new).number ≡ 5007 }
-    ensures reads { ReadsAll P.reads params.old params.new (call_fields call.new).values }
-    ensures fails { FailsAll P.fails params.old params.new (call_fields call.new).values }
+    ensures row { ReadsRow P.reads P.fails params.old params.new (call_fields call.new).values }
 {
     *call = Call::SetDate(read_date(params));
 }
@@ -97,8 +93,7 @@ fn read_set_date<P: Parameters>(params: &mut P, call: &mut Call)
 #[inline(never)]
 fn read_set_station<P: Parameters>(params: &mut P, call: &mut Call)
     ensures number { (call_fields call.new).number ≡ 2010 }
-    ensures reads { ReadsAll P.reads params.old params.new (call_fields call.new).values }
-    ensures fails { FailsAll P.fails params.old params.new (call_fields call.new).values }
+    ensures row { ReadsRow P.reads P.fails params.old params.new (call_fields call.new).values }
 {
     *call = Call::SetStation(read_station(params));
 }
@@ -107,8 +102,7 @@ fn read_set_station<P: Parameters>(params: &mut P, call: &mut Call)
 #[inline(never)]
 fn read_set_height<P: Parameters>(params: &mut P, call: &mut Call)
     ensures number { (call_fields call.new).number ≡ 2012 }
-    ensures reads { ReadsAll P.reads params.old params.new (call_fields call.new).values }
-    ensures fails { FailsAll P.fails params.old params.new (call_fields call.new).values }
+    ensures row { ReadsRow P.reads P.fails params.old params.new (call_fields call.new).values }
 {
     *call = Call::SetHeight(params.double());
 }
@@ -117,8 +111,7 @@ fn read_set_height<P: Parameters>(params: &mut P, call: &mut Call)
 #[inline(never)]
 fn read_position<P: Parameters>(params: &mut P, call: &mut Call)
     ensures number { (call_fields call.new).number ≡ 9027 }
-    ensures reads { ReadsAll P.reads params.old params.new (call_fields call.new).values }
-    ensures fails { FailsAll P.fails params.old params.new (call_fields call.new).values }
+    ensures row { ReadsRow P.reads P.fails params.old params.new (call_fields call.new).values }
 {
     *call = Call::Position {
         hz: params.double(),
@@ -133,8 +126,7 @@ fn read_position<P: Parameters>(params: &mut P, call: &mut Call)
 #[inline(never)]
 fn read_fine_adjust<P: Parameters>(params: &mut P, call: &mut Call)
     ensures number { (call_fields call.new).number ≡ 9037 }
-    ensures reads { ReadsAll P.reads params.old params.new (call_fields call.new).values }
-    ensures fails { FailsAll P.fails params.old params.new (call_fields call.new).values }
+    ensures row { ReadsRow P.reads P.fails params.old params.new (call_fields call.new).values }
 {
     *call = Call::FineAdjust {
         area_hz: params.double(),
@@ -143,12 +135,12 @@ fn read_fine_adjust<P: Parameters>(params: &mut P, call: &mut Call)
     };
 }
 
-/// Reads the values of an answer of this shape, and makes an answer of them in `answer`. As in `read_row`, a zero (or an empty string)
-/// stands in it for each value that wasn't read. Whether all were, and none is left, `Quick::is_done` or `Listed::finish` says afterwards.
+/// Reads the values of an answer of this shape, and makes an answer of them in `answer`. As in `read_row`, a zero (or an empty
+/// string) stands in it for each value that wasn't read. Whether all were, and none is left, `Quick::is_done` or `Listed::finish`
+/// says afterwards.
 pub(crate) fn read_answer_row<P: Parameters>(shape: Shape, params: &mut P, answer: &mut Answer)
     ensures found { (answer_fields answer.new).shape ≡ shape }
-    ensures reads { ReadsAll P.reads params.old params.new (answer_fields answer.new).values }
-    ensures fails { FailsAll P.fails params.old params.new (answer_fields answer.new).values }
+    ensures row { ReadsRow P.reads P.fails params.old params.new (answer_fields answer.new).values }
 {
     match shape {
         Shape::Nothing => *answer = Answer::Nothing,
@@ -172,8 +164,7 @@ pub(crate) fn read_answer_row<P: Parameters>(shape: Shape, params: &mut P, answe
 #[inline(never)]
 fn read_name<P: Parameters>(params: &mut P, answer: &mut Answer)
     ensures shape { (answer_fields answer.new).shape ≡ shape.Name }
-    ensures reads { ReadsAll P.reads params.old params.new (answer_fields answer.new).values }
-    ensures fails { FailsAll P.fails params.old params.new (answer_fields answer.new).values }
+    ensures row { ReadsRow P.reads P.fails params.old params.new (answer_fields answer.new).values }
 {
     *answer = Answer::Name(params.text());
 }
@@ -182,8 +173,7 @@ fn read_name<P: Parameters>(params: &mut P, answer: &mut Answer)
 #[inline(never)]
 fn read_date_answer<P: Parameters>(params: &mut P, answer: &mut Answer)
     ensures shape { (answer_fields answer.new).shape ≡ shape.Date }
-    ensures reads { ReadsAll P.reads params.old params.new (answer_fields answer.new).values }
-    ensures fails { FailsAll P.fails params.old params.new (answer_fields answer.new).values }
+    ensures row { ReadsRow P.reads P.fails params.old params.new (answer_fields answer.new).values }
 {
     *answer = Answer::Date(read_date(params));
 }
@@ -192,8 +182,7 @@ fn read_date_answer<P: Parameters>(params: &mut P, answer: &mut Answer)
 #[inline(never)]
 fn read_temperature<P: Parameters>(params: &mut P, answer: &mut Answer)
     ensures shape { (answer_fields answer.new).shape ≡ shape.Temperature }
-    ensures reads { ReadsAll P.reads params.old params.new (answer_fields answer.new).values }
-    ensures fails { FailsAll P.fails params.old params.new (answer_fields answer.new).values }
+    ensures row { ReadsRow P.reads P.fails params.old params.new (answer_fields answer.new).values }
 {
     *answer = Answer::Temperature(params.double());
 }
@@ -202,8 +191,7 @@ fn read_temperature<P: Parameters>(params: &mut P, answer: &mut Answer)
 #[inline(never)]
 fn read_place<P: Parameters>(params: &mut P, answer: &mut Answer)
     ensures shape { (answer_fields answer.new).shape ≡ shape.Place }
-    ensures reads { ReadsAll P.reads params.old params.new (answer_fields answer.new).values }
-    ensures fails { FailsAll P.fails params.old params.new (answer_fields answer.new).values }
+    ensures row { ReadsRow P.reads P.fails params.old params.new (answer_fields answer.new).values }
 {
     *answer = Answer::Place(read_station(params));
 }
@@ -212,8 +200,7 @@ fn read_place<P: Parameters>(params: &mut P, answer: &mut Answer)
 #[inline(never)]
 fn read_height<P: Parameters>(params: &mut P, answer: &mut Answer)
     ensures shape { (answer_fields answer.new).shape ≡ shape.Height }
-    ensures reads { ReadsAll P.reads params.old params.new (answer_fields answer.new).values }
-    ensures fails { FailsAll P.fails params.old params.new (answer_fields answer.new).values }
+    ensures row { ReadsRow P.reads P.fails params.old params.new (answer_fields answer.new).values }
 {
     *answer = Answer::Height(params.double());
 }
@@ -222,8 +209,7 @@ fn read_height<P: Parameters>(params: &mut P, answer: &mut Answer)
 #[inline(never)]
 fn read_angles<P: Parameters>(params: &mut P, answer: &mut Answer)
     ensures shape { (answer_fields answer.new).shape ≡ shape.Angles }
-    ensures reads { ReadsAll P.reads params.old params.new (answer_fields answer.new).values }
-    ensures fails { FailsAll P.fails params.old params.new (answer_fields answer.new).values }
+    ensures row { ReadsRow P.reads P.fails params.old params.new (answer_fields answer.new).values }
 {
     *answer = Answer::Angles {
         hz: params.double(),
@@ -235,8 +221,7 @@ fn read_angles<P: Parameters>(params: &mut P, answer: &mut Answer)
 #[inline(never)]
 fn read_measured<P: Parameters>(params: &mut P, answer: &mut Answer)
     ensures shape { (answer_fields answer.new).shape ≡ shape.Measured }
-    ensures reads { ReadsAll P.reads params.old params.new (answer_fields answer.new).values }
-    ensures fails { FailsAll P.fails params.old params.new (answer_fields answer.new).values }
+    ensures row { ReadsRow P.reads P.fails params.old params.new (answer_fields answer.new).values }
 {
     *answer = Answer::Measured {
         hz: params.double(),
@@ -249,8 +234,7 @@ fn read_measured<P: Parameters>(params: &mut P, answer: &mut Answer)
 #[inline(never)]
 fn read_measured_mode<P: Parameters>(params: &mut P, answer: &mut Answer)
     ensures shape { (answer_fields answer.new).shape ≡ shape.MeasuredMode }
-    ensures reads { ReadsAll P.reads params.old params.new (answer_fields answer.new).values }
-    ensures fails { FailsAll P.fails params.old params.new (answer_fields answer.new).values }
+    ensures row { ReadsRow P.reads P.fails params.old params.new (answer_fields answer.new).values }
 {
     *answer = Answer::MeasuredMode {
         hz: params.double(),
@@ -260,10 +244,10 @@ fn read_measured_mode<P: Parameters>(params: &mut P, answer: &mut Answer)
     };
 }
 
-// Reads the six parameters of a date and time of day, and makes a `DateTime` of them. As in `read_row`, zeros stand for those not read.
+// Reads the six parameters of a date and time of day, and makes a `DateTime` of them. As in `read_row`, zeros stand for those not
+// read.
 fn read_date<P: Parameters>(params: &mut P) -> DateTime
-    ensures reads { (vs : List Value) → P.reads params.new vs → P.reads params.old (date_values result ++ vs) }
-    ensures fails { (ks : List Kind) (e : ValueFault) → P.fails params.new ks e → P.fails params.old (kinds_of (date_values result) ++ ks) e }
+    ensures row { ReadsRow P.reads P.fails params.old params.new (date_values result) }
 {
     DateTime {
         year: params.short(),
@@ -277,8 +261,7 @@ fn read_date<P: Parameters>(params: &mut P) -> DateTime
 
 // Reads the four parameters of a station, and makes a station of them. As in `read_row`, zeros stand for those not read.
 fn read_station<P: Parameters>(params: &mut P) -> Station
-    ensures reads { (vs : List Value) → P.reads params.new vs → P.reads params.old (station_values result ++ vs) }
-    ensures fails { (ks : List Kind) (e : ValueFault) → P.fails params.new ks e → P.fails params.old (kinds_of (station_values result) ++ ks) e }
+    ensures row { ReadsRow P.reads P.fails params.old params.new (station_values result) }
 {
     Station {
         e0: params.double(),

@@ -1,6 +1,7 @@
 -- Which lines have the forms of a scene, and that a text is one scene.
-use Rattle.std.proofs.Common.{◌≡◌, arith, ℕ, ℤ, List, ◌∷◌, ◌++◌, get_or, length, Option, Some, None, ap, subst, sym, ◌∙◌, codes}
+use Rattle.std.proofs.Common.{◌≡◌, arith, ℕ, ℤ, List, [], ◌∷◌, ◌++◌, get_or, length, Option, Some, None, ap, subst, sym, refl, ◌∙◌, codes}
 use Rattle.std.specs.Prelude.{filter}
+use Rattle.std.specs.List.{filter_map}
 use Rattle.std.proofs.lemmas.List.{append_cancel_left}
 use Rattle.gc_values.specs.Whole.{NamesWhole}
 use Rattle.gc_values.specs.declared.decimal.Decimal.{Decimal}
@@ -118,6 +119,11 @@ one_line line a b x y = by_kind a b x y (sym (head_is line a x) ∙ head_is line
 -- the lines of a text say one list of serial numbers, names and targets at most
 one_lines : (text : List ℕ) (xs ys : List SceneLine) → IsText IsSceneLine text xs → IsText IsSceneLine text ys → xs ≡ ys
 one_lines text xs ys h k = one_list IsSceneLine one_line (filter is_kept (text_lines text)) xs ys h k
+
+-- in lines without rules none is left out as a rule
+pub all_plain : (lines : List SceneLine) → filter_map Some lines ≡ lines
+all_plain [] = refl
+all_plain (line ∷ lines) = ap (λ ls. line ∷ ls) (all_plain lines)
 
 -- a text sets up one instrument at most
 pub one_state : (text : List ℕ) (s t : State) → IsScene text s → IsScene text t → s ≡ t

@@ -1,6 +1,6 @@
 -- What a schedule that is played writes: this project's own. A run of events ends with a wire: the line, the instrument, and
 -- the lists and counts of what has happened.
-use Rattle.std.specs.Prelude.{◌≡◌, ℕ, ◌+◌, ◌<◌, ◌≤◌, Bool, true, false, List, [], ◌++◌, length, Option, Result, Ok, Err, if◌then◌else◌}
+use Rattle.std.specs.Prelude.{◌≡◌, ℕ, ◌+◌, ◌<◌, ◌≤◌, Bool, true, false, List, length, Option, Result, Ok, Err}
 use Rattle.std.specs.Io.KnownBytes.{Appends}
 use Rattle.gc_lines.specs.Ports.{TakesFront}
 use Rattle.gc_instrument.specs.State.{State, simulator_opening}
@@ -8,8 +8,7 @@ use Rattle.gc_world.specs.declared.event.Event.{Event}
 use Rattle.gc_world.specs.Clients.{played}
 use Rattle.gc_world.specs.World.{Wire}
 use Rattle.gc_texts.specs.LineForms.{MemoryOnlyIf}
-use Rattle.gc_texts.specs.Settlements.{settlement_lines}
-use Rattle.gc_engines.specs.Reports.{totals_text}
+use Rattle.gc_engines.specs.Reports.{run_text, totals_text}
 use Rattle.gc_engines.specs.Schedule.{IsSchedule, IsFirstFaulty}
 use Rattle.gc_texts.specs.WholeTexts.{Input, IsReadToEnd}
 use Rattle.gc_texts.specs.declared.text.TheConstants.{TEXT_LIMIT}
@@ -22,7 +21,7 @@ totals_line w = totals_text (length w.sent) (length w.executed) (length w.made) 
 
 -- what is written of a run: its settlements, and after them the totals if they are asked for
 abbrev pub wire_text : {S : Type 0} → Wire S → (totals : Bool) → List ℕ
-wire_text w totals = settlement_lines w.settled ++ (if totals then totals_line w else [])
+wire_text w totals = run_text w.settled (totals_line w) totals
 
 -- what is written of events that are played on an instrument with this opening state, with a window of this width
 unfoldable pub drill_text_on : (opening : State) → (width : ℕ) → List Event → (totals : Bool) → List ℕ

@@ -1,5 +1,6 @@
 -- A scene's text that may have rules, which is called a scene with rules, and the instrument that it sets up: this project's own.
-use Rattle.std.specs.Prelude.{◌≡◌, ◌⊎◌, ℕ, ℤ, suc, ◌==◌, ◌<◌, ◌≤◌, Bool, true, false, List, [], ◌∷◌, length, Option, Some, None, if◌then◌else◌, codes, MatchOption}
+use Rattle.std.specs.Prelude.{◌≡◌, ◌⊎◌, ℕ, suc, ◌==◌, ◌<◌, ◌≤◌, Bool, true, false, List, [], ◌∷◌, length, Option, Some, None, if◌then◌else◌, codes, MatchOption}
+use Rattle.std.specs.List.{filter_map}
 use Rattle.gc_catalogue.specs.RawTexts.{raw_bytes}
 use Rattle.gc_catalogue.specs.declared.raw.RawCall.{RawCall}
 use Rattle.gc_instrument.specs.State.{opening, simulator_opening}
@@ -23,7 +24,8 @@ use Rattle.gc_texts.specs.Words.{first_word, second_word, third_word, after_two_
 use Rattle.gc_texts.specs.declared.fault.RunFault.{RunFault}
 use Rattle.gc_texts.specs.declared.fault.RunFault.TheVariants.{SceneFull}
 use Rattle.gc_texts.specs.declared.text.TheConstants.{TEXT_LIMIT}
-use Rattle.gc_engines.specs.Scenes.{IsSerial, IsName, IsTarget}
+use Rattle.gc_engines.specs.Scenes.{IsSceneLine, serial_of, name_of, targets_of}
+use Rattle.gc_engines.specs.declared.scene_line.SceneLine.{SceneLine}
 use Rattle.gc_engines.specs.declared.rule_line.RuleLine.{RuleLine}
 use Rattle.gc_engines.specs.declared.rule_line.RuleLine.TheVariants as says
 use Rattle.gc_engines.specs.declared.rule_line.Blocked.{Blocked}
@@ -113,9 +115,7 @@ way_line way.Real = codes "behave real"
 
 -- the line is written in the form of this item of a scene with rules
 abbrev pub IsRuleLine : List ℕ → RuleLine → Type 0
-IsRuleLine line (says.Serial n) = IsSerial line n
-IsRuleLine line (says.Name bytes) = IsName line bytes
-IsRuleLine line (says.Target target) = IsTarget line target
+IsRuleLine line (says.Plain plain) = IsSceneLine line plain
 IsRuleLine line (says.Fault f) = IsFault line f
 IsRuleLine line (says.Answer a) = IsAnswer line a
 IsRuleLine line (says.Blocked b) = IsBlocked line b
@@ -134,23 +134,14 @@ IsStillLine line rule = IsRuleLine line rule × (GivesClock line → ⊥)
 
 -- What lines say together.
 
--- the serial number of the last line `serial`, or `n` if there is none
-abbrev pub rules_serial : ℤ → List RuleLine → ℤ
-rules_serial n [] = n
-rules_serial n (says.Serial m ∷ rest) = rules_serial m rest
-rules_serial n (other ∷ rest) = rules_serial n rest
+-- the line as one of a scene without rules; none if it is a rule
+abbrev pub plain_of : RuleLine → Option SceneLine
+plain_of (says.Plain line) = Some line
+plain_of rule = None
 
--- the name of the last line `name`, or the argument `name` if there is none
-abbrev pub rules_name : List ℕ → List RuleLine → List ℕ
-rules_name name [] = name
-rules_name name (says.Name bytes ∷ rest) = rules_name bytes rest
-rules_name name (other ∷ rest) = rules_name name rest
-
--- the targets of the lines, in order
-abbrev pub rules_targets : List RuleLine → List Target
-rules_targets [] = []
-rules_targets (says.Target target ∷ rest) = target ∷ rules_targets rest
-rules_targets (other ∷ rest) = rules_targets rest
+-- those of the lines that aren't rules, in order, as the lines of a scene without rules
+abbrev pub plain_lines : List RuleLine → List SceneLine
+plain_lines lines = filter_map plain_of lines
 
 -- the faults of the lines, in order
 abbrev pub rules_faults : List RuleLine → List Fault
@@ -204,8 +195,8 @@ rules_prisms lines number (t ∷ ts) = rules_prism number lines (still t) ∷ ru
 -- targets, faults, replies and all else are those of the lines alone
 abbrev pub rules_opening : List RuleLine → SceneState
 rules_opening lines = record {
-  base = opening (rules_serial simulator_opening.serial lines) (rules_name simulator_opening.name lines) [];
-  prisms = rules_prisms lines 1 (rules_targets lines);
+  base = opening (serial_of simulator_opening.serial (plain_lines lines)) (name_of simulator_opening.name (plain_lines lines)) [];
+  prisms = rules_prisms lines 1 (targets_of (plain_lines lines));
   faults = rules_faults lines;
   answers = rules_answers lines;
   noise = rules_noise None lines;
@@ -218,13 +209,13 @@ rules_opening lines = record {
 
 -- the lines have no more targets, faults and replies than an instrument has room for
 pub record FitAnInstrument (lines : List RuleLine) : Type 0 where
-  pub targets : length (rules_targets lines) ≤ 32
+  pub targets : length (targets_of (plain_lines lines)) ≤ 32
   pub faults : length (rules_faults lines) ≤ 32
   pub answers : length (rules_answers lines) ≤ 16
 
 -- the lines have more targets, more faults or more replies than an instrument has room for
 abbrev pub OverfillAnInstrument : List RuleLine → Type 0
-OverfillAnInstrument lines = (32 < length (rules_targets lines)) ⊎ ((32 < length (rules_faults lines)) ⊎ (16 < length (rules_answers lines)))
+OverfillAnInstrument lines = (32 < length (targets_of (plain_lines lines))) ⊎ ((32 < length (rules_faults lines)) ⊎ (16 < length (rules_answers lines)))
 
 -- the text is a scene of lines in this form, of at most 32 targets, 32 faults and 16 replies, and this is the opening state of its
 -- instrument

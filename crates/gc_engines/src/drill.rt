@@ -3,7 +3,7 @@
 ghost use Rattle.std.specs.Prelude.{◌≡◌, ◌+◌, ◌≤◌, IfOk};
 ghost use Rattle.gc_texts.specs.WholeTexts.{Gave, input_of};
 ghost use Rattle.gc_texts.specs.declared.text.TheConstants.{TEXT_LIMIT};
-ghost use Rattle.gc_engines.specs.Drill.{drill_text_on, Drills, DrillsOn, HasEndedIfWhole, HasReadIfMemory, source_failed, sink_failed};
+ghost use Rattle.gc_engines.specs.Drill.{drill_text_on, Drills, DrillsAs, DrillsOn, HasEndedIfWhole, HasReadIfMemory, source_failed, sink_failed};
 
 use crate::report_text::text_of;
 use crate::schedule::read_schedule;
@@ -13,6 +13,73 @@ use gc_lines::{Sink, Source, write_whole};
 use gc_texts::{RunFault, read_text};
 use gc_world::{Event, play_width};
 use std::alloc::{AllocError, Global};
+
+/// An instrument on which the events of a schedule can be played.
+pub(crate) trait Playable: Drop {
+    ghost use Rattle.std.specs.Prelude.{ℕ, List, Bool};
+    ghost use Rattle.gc_world.specs.declared.event.Event.{Event};
+
+    /// What is written of events that are played on it, with a window of this width, and with the line of totals if that is asked for.
+    ghost text: { Self → ℕ → List Event → Bool → List ℕ };
+
+    /// The text to be written when these events are played on it. `Err`: memory was refused.
+    fn output(
+        self,
+        alloc: Global,
+        events: &[Event],
+        totals: bool,
+        width: u8,
+    ) -> Result<Vec<u8>, AllocError>
+        requires least { 1 ≤ width }
+        requires most { width ≤ WINDOW }
+        ensures { IfOk result (λ written. written.items ≡ text self width events.now totals) };
+}
+
+impl Playable for Instrument {
+    ghost use Rattle.gc_engines.specs.Drill.{drill_text_on};
+
+    ghost text = { drill_text_on };
+
+    fn output(
+        self,
+        alloc: Global,
+        events: &[Event],
+        totals: bool,
+        width: u8,
+    ) -> Result<Vec<u8>, AllocError> {
+        output_of(alloc, self, events, totals, width)
+    }
+}
+
+/// Plays the schedule that a source gives as `run_drill_on` does, on any instrument. The clauses mean what they mean there.
+pub(crate) fn drill_any<I: Playable, S: Source, K: Sink>(
+    alloc: Global,
+    instrument: I,
+    source: &mut S,
+    sink: &mut K,
+    totals: bool,
+    width: u8,
+) -> Result<(), RunFault>
+    requires least { 1 ≤ width }
+    requires most { width ≤ WINDOW }
+    ensures drills { Gave (input_of S.Source source.old) (input_of S.Source source.new) (λ given.
+        DrillsAs (I.text instrument width) given totals (K.taken sink.old) (K.taken sink.new) result) }
+    ensures bounded { S.reads source.new ≤ S.reads source.old + (TEXT_LIMIT + 1) }
+    ensures whole { HasEndedIfWhole (input_of S.Source source.old) (input_of S.Source source.new) result }
+    ensures memory { HasReadIfMemory (input_of S.Source source.old) (input_of S.Source source.new) result }
+    ensures source { S.failed source.new ≡ source_failed result (S.failed source.old) }
+    ensures sink { K.failed sink.new ≡ sink_failed result (K.failed sink.old) }
+{
+    let text = read_text(alloc, source)?;
+    let events = read_schedule(alloc, text.as_slice())?;
+    let Ok(output) = instrument.output(alloc, events.as_slice(), totals, width) else {
+        return Err(RunFault::Memory);
+    };
+    match write_whole(sink, output.as_slice()) {
+        Ok(()) => Ok(()),
+        Err(_) => Err(RunFault::Output),
+    }
+}
 
 /// Plays the schedule that a source gives, on an instrument and with a client that lets at most `width` requests wait at once. It writes
 /// a line for each settlement, and with `totals` one more line after them. Nothing is written before the whole schedule was read and
@@ -50,15 +117,7 @@ pub fn run_drill_on<S: Source, K: Sink>(
     ensures source { S.failed source.new ≡ source_failed result (S.failed source.old) }
     ensures sink { K.failed sink.new ≡ sink_failed result (K.failed sink.old) }
 {
-    let text = read_text(alloc, source)?;
-    let events = read_schedule(alloc, text.as_slice())?;
-    let Ok(output) = output_of(alloc, instrument, events.as_slice(), totals, width) else {
-        return Err(RunFault::Memory);
-    };
-    match write_whole(sink, output.as_slice()) {
-        Ok(()) => Ok(()),
-        Err(_) => Err(RunFault::Output),
-    }
+    drill_any(alloc, instrument, source, sink, totals, width)
 }
 
 /// Plays a schedule as `run_drill_on` does, on the simulator. The faults are the same, and the clauses mean what they mean there.

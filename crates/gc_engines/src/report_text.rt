@@ -1,9 +1,12 @@
 //! The text of a report: the lines of its settlements, and the line of totals.
 
-ghost use Rattle.std.specs.Prelude.{◌≡◌, ◌++◌, length, OnOk, IfOk};
+ghost use Rattle.std.specs.Prelude.{◌≡◌, ◌++◌, length, map, OnOk, IfOk};
 ghost use Rattle.std.specs.Fmt.{decimal};
-ghost use Rattle.gc_engines.specs.Reports.{totals_text, report_text, scene_report_text};
+ghost use Rattle.gc_client.specs.Settlements.{settlement_seen};
+ghost use Rattle.gc_engines.specs.Reports.{totals_text, run_text, report_text, scene_report_text};
 
+use gc_catalogue::Call;
+use gc_client::Settlement;
 use gc_scene_world::SceneReport;
 use gc_texts::append_settlements;
 use gc_world::Report;
@@ -25,20 +28,15 @@ struct Totals {
 pub(crate) fn text_of(alloc: Global, report: &Report, totals: bool) -> Result<Vec<u8>, AllocError>
     ensures { IfOk result (λ text. text.items ≡ report_text report.now totals) }
 {
-    let mut text = Vec::new(alloc);
-    append_settlements(&mut text, report.settled.as_slice())?;
-    if totals {
-        let counts = Totals {
-            sent: report.sent.len(),
-            executed: report.executed.len(),
-            made: report.made.len(),
-            settled: report.settled.len(),
-            refused: report.refused_sends,
-            idle: report.idle_events,
-        };
-        append_totals(&mut text, counts)?;
-    }
-    Ok(text)
+    let counts = Totals {
+        sent: report.sent.len(),
+        executed: report.executed.len(),
+        made: report.made.len(),
+        settled: report.settled.len(),
+        refused: report.refused_sends,
+        idle: report.idle_events,
+    };
+    run_text(alloc, report.settled.as_slice(), counts, totals)
 }
 
 /// The same lines as `text_of`, of the report of a run on the instrument of a scene with rules. `Err`: memory was refused.
@@ -49,17 +47,31 @@ pub(crate) fn scene_text_of(
 ) -> Result<Vec<u8>, AllocError>
     ensures { IfOk result (λ text. text.items ≡ scene_report_text report.now totals) }
 {
+    let counts = Totals {
+        sent: report.counts.sent,
+        executed: report.counts.executed,
+        made: report.counts.made,
+        settled: report.settled.len(),
+        refused: report.counts.refused_sends,
+        idle: report.counts.idle_events,
+    };
+    run_text(alloc, report.settled.as_slice(), counts, totals)
+}
+
+// The lines of these settlements, and with `totals` the line of totals after them, which has these counts. `Err`: memory was
+// refused.
+fn run_text(
+    alloc: Global,
+    settled: &[Settlement<Call>],
+    counts: Totals,
+    totals: bool,
+) -> Result<Vec<u8>, AllocError>
+    ensures { IfOk result (λ text. text.items ≡ run_text (map settlement_seen settled.now)
+        (totals_text counts.sent counts.executed counts.made counts.settled counts.refused counts.idle) totals) }
+{
     let mut text = Vec::new(alloc);
-    append_settlements(&mut text, report.settled.as_slice())?;
+    append_settlements(&mut text, settled)?;
     if totals {
-        let counts = Totals {
-            sent: report.counts.sent,
-            executed: report.counts.executed,
-            made: report.counts.made,
-            settled: report.settled.len(),
-            refused: report.counts.refused_sends,
-            idle: report.counts.idle_events,
-        };
         append_totals(&mut text, counts)?;
     }
     Ok(text)

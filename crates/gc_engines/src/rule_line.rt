@@ -11,14 +11,12 @@ ghost use Rattle.gc_scenes.specs.declared.ways.Way.{Way};
 ghost use Rattle.gc_engines.specs.RuleScenes.{IsRuleLine, IsFault, IsAnswer, IsBlocked, IsOffset, IsDrift, IsNoise, IsSpan, IsTimes, IsStillLine, Scripts, GivesClock, way_line};
 
 use crate::event::COUNT_MAX;
-use crate::scene_line::{read_name, read_serial, read_target};
+use crate::scene_line::{AnySceneLine, SceneLine, put_found, read_scene_line};
 use gc_catalogue::raw_call;
-use gc_instrument::Target;
 use gc_scenes::{Fault, Noise, Offset, Scripted, Way};
 use gc_texts::{LineForm, before, behind, is_word, number_of, read_double};
-use gc_values::Text;
 
-// The count that stands for "without end", which it is only where `after` isn't 0 (`Span`).
+// How many requests a fault meets whose line has no `for`: if its `after` isn't 0, it then never ends (`Span`).
 const NO_END: u32 = 4294967295;
 
 // The greatest number of a procedure, and the greatest return code.
@@ -55,12 +53,8 @@ pub struct Span {
 /// What a line of a scene with rules says.
 #[derive(Clone, Copy, Debug, PartialEq, Eq)]
 pub enum RuleLine {
-    /// The instrument's serial number.
-    Serial(i32),
-    /// The instrument's name.
-    Name(Text),
-    /// One more target.
-    Target(Target),
+    /// What a line of a scene without rules says, too.
+    Plain(SceneLine),
     /// A procedure that is answered with a return code.
     Fault(Fault),
     /// The reply to a procedure that isn't in the table.
@@ -77,6 +71,19 @@ pub enum RuleLine {
     NoRepeats,
 }
 
+impl AnySceneLine for RuleLine {
+    ghost use Rattle.gc_engines.specs.RuleScenes.{plain_of};
+
+    ghost plain = { plain_of };
+
+    fn plain(&self) -> Option<&SceneLine> {
+        match self {
+            RuleLine::Plain(line) => Some(line),
+            _ => None,
+        }
+    }
+}
+
 /// The form of the lines of a scene with rules.
 pub(crate) struct RuleForm;
 
@@ -90,13 +97,7 @@ impl LineForm for RuleForm {
     }
 
     fn read(line: &[u8], says: &mut RuleLine) -> bool {
-        match read_rule_line(line) {
-            Some(found) => {
-                *says = found;
-                true
-            }
-            None => false,
-        }
+        put_found(read_rule_line(line), says)
     }
 }
 
@@ -131,14 +132,8 @@ pub(crate) fn gives_clock(line: &[u8]) -> bool
 pub(crate) fn read_rule_line(line: &[u8]) -> Option<RuleLine>
     ensures { MatchOption result ((says : RuleLine) → IsRuleLine line.now says → ⊥) (λ says. IsRuleLine line.now says) }
 {
-    if let Some(serial) = read_serial(line) {
-        return Some(RuleLine::Serial(serial));
-    }
-    if let Some(name) = read_name(line) {
-        return Some(RuleLine::Name(name));
-    }
-    if let Some(target) = read_target(line) {
-        return Some(RuleLine::Target(target));
+    if let Some(plain) = read_scene_line(line) {
+        return Some(RuleLine::Plain(plain));
     }
     if let Some(fault) = read_fault(line) {
         return Some(RuleLine::Fault(fault));

@@ -1,19 +1,18 @@
 //! The text of a scene with rules, read into the instrument that it sets up.
 
 ghost use Rattle.std.specs.Prelude.{◌≡◌, ◌<◌, ◌≤◌, length, Err, IfErr, IfOk, MatchOption, None, true};
-ghost use Rattle.gc_instrument.specs.State.{simulator_opening};
 ghost use Rattle.gc_texts.specs.LineForms.{FirstFaulty, NamesFaulty, RefusesLong};
 ghost use Rattle.gc_texts.specs.declared.fault.RunFault.{RunFault};
 ghost use Rattle.gc_scenes.specs.Laws.{still};
 ghost use Rattle.gc_scenes.specs.Ways.{no_ways};
-ghost use Rattle.gc_engines.specs.RuleScenes.{FitAnInstrument, OverfillAnInstrument, IsOverfullOf, IsRuleLine, IsRuleScene, IsStillLine, IsStillScene, SceneFaultOf, ruled, rules_answers, rules_faults, rules_name, rules_noise, rules_opening, rules_prism, rules_prisms, rules_repeat, rules_serial, rules_targets, rules_ways};
+ghost use Rattle.gc_engines.specs.RuleScenes.{FitAnInstrument, OverfillAnInstrument, IsOverfullOf, IsRuleLine, IsRuleScene, IsSceneOf, IsStillLine, IsStillScene, SceneFaultOf, ruled, rules_answers, rules_faults, rules_noise, rules_opening, rules_prism, rules_prisms, rules_repeat, rules_ways};
 
 use crate::rule_line::{RuleForm, RuleLine, StillForm};
+use crate::scene::{name_of, serial_of, targets_of};
 use arrayvec::ArrayVec;
-use gc_instrument::{Target, simulator_name};
+use gc_instrument::Target;
 use gc_scenes::{Fault, Noise, Prism, SceneInstrument, SceneRules, Scripted, Ways};
-use gc_texts::{RunFault, read_items};
-use gc_values::Text;
+use gc_texts::{LineForm, RunFault, read_items};
 use std::alloc::Global;
 
 /// Reads the text of a scene with rules, and returns the instrument that it sets up, in its opening state.
@@ -37,14 +36,7 @@ pub fn read_rule_scene(alloc: Global, text: &[u8]) -> Result<SceneInstrument, Ru
     ensures full { result ≡ Err RunFault.SceneFull → IsOverfullOf IsRuleLine text.now }
     ensures faults { IfErr result (λ e. SceneFaultOf IsRuleLine text.now e) }
 {
-    let lines = match read_items::<RuleForm>(alloc, text) {
-        Ok(lines) => lines,
-        Err(fault) => return Err(fault),
-    };
-    match set_up(lines.as_slice()) {
-        Some(instrument) => Ok(instrument),
-        None => Err(RunFault::SceneFull),
-    }
+    read_scene_of::<RuleForm>(alloc, text)
 }
 
 /// Reads the text of a scene as `read_rule_scene` does, for an instrument without a clock: `behave clock` and `behave real`, which
@@ -56,7 +48,22 @@ pub fn read_still_scene(alloc: Global, text: &[u8]) -> Result<SceneInstrument, R
     ensures full { result ≡ Err RunFault.SceneFull → IsOverfullOf IsStillLine text.now }
     ensures faults { IfErr result (λ e. SceneFaultOf IsStillLine text.now e) }
 {
-    let lines = match read_items::<StillForm>(alloc, text) {
+    read_scene_of::<StillForm>(alloc, text)
+}
+
+// Reads the text of a scene whose lines have the form `F`, and returns the instrument that it sets up, in its opening state. The
+// faults are those of `read_rule_scene`.
+fn read_scene_of<F: LineForm<Item = RuleLine>>(
+    alloc: Global,
+    text: &[u8],
+) -> Result<SceneInstrument, RunFault>
+    ensures found { IfOk result (λ instrument. IsSceneOf F.form text.now instrument) }
+    ensures too_long { RefusesLong text.now result }
+    ensures faulty { NamesFaulty (FirstFaulty F.form text.now) result }
+    ensures full { result ≡ Err RunFault.SceneFull → IsOverfullOf F.form text.now }
+    ensures faults { IfErr result (λ e. SceneFaultOf F.form text.now e) }
+{
+    let lines = match read_items::<F>(alloc, text) {
         Ok(lines) => lines,
         Err(fault) => return Err(fault),
     };
@@ -88,50 +95,6 @@ pub(crate) fn set_up(lines: &[RuleLine]) -> Option<SceneInstrument>
         ways: ways_of(lines),
     };
     Some(SceneInstrument::new(serial_of(lines), name_of(lines), rules))
-}
-
-// The serial number of the last line `serial`, or the simulator's, 123456.
-fn serial_of(lines: &[RuleLine]) -> i32
-    ensures { result ≡ rules_serial simulator_opening.serial lines.now }
-{
-    let mut serial = 123456;
-    for line in lines {
-        let RuleLine::Serial(said) = *line else {
-            continue;
-        };
-        serial = said;
-    }
-    serial
-}
-
-// The name of the last line `name`, or the simulator's.
-fn name_of(lines: &[RuleLine]) -> Text
-    ensures { result ≡ rules_name simulator_opening.name lines.now }
-{
-    let mut name = simulator_name();
-    for line in lines {
-        let RuleLine::Name(said) = *line else {
-            continue;
-        };
-        name = said;
-    }
-    name
-}
-
-// The targets of these lines, in order. `None`: they are more than 32.
-fn targets_of(lines: &[RuleLine]) -> Option<ArrayVec<Target, 32>>
-    ensures { MatchOption result (32 < length (rules_targets lines.now)) (λ targets. targets.items ≡ rules_targets lines.now) }
-{
-    let mut targets = ArrayVec::new();
-    for line in lines {
-        let RuleLine::Target(target) = *line else {
-            continue;
-        };
-        if targets.try_push(target).is_err() {
-            return None;
-        }
-    }
-    Some(targets)
 }
 
 // The faults of these lines, in order. `None`: they are more than 32.

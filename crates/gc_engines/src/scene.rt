@@ -1,13 +1,14 @@
 //! The text of a scene, read into the instrument that it sets up.
 
 ghost use Rattle.std.specs.Prelude.{◌≡◌, ◌<◌, ◌↔◌, ℤ, ℕ, List, length, Err, IfOk, IfErr, IsErr, MatchOption};
+ghost use Rattle.std.specs.List.{filter_map};
 ghost use Rattle.gc_instrument.specs.State.{IsFittingState, simulator_opening};
 ghost use Rattle.gc_texts.specs.declared.fault.RunFault.{RunFault};
 ghost use Rattle.gc_texts.specs.LineForms.{RefusesLong};
 ghost use Rattle.gc_engines.specs.Scenes.{IsScene, IsOverfullScene, SceneFault, scene_opening, serial_of, name_of, targets_of};
 ghost use Rattle.gc_engines.specs.declared.scene_line.SceneLine.{SceneLine};
 
-use crate::scene_line::{SceneForm, SceneLine};
+use crate::scene_line::{AnySceneLine, SceneForm, SceneLine};
 use arrayvec::ArrayVec;
 use gc_instrument::{Instrument, SceneFull, Target, simulator_name};
 use gc_texts::{RunFault, read_items};
@@ -16,6 +17,9 @@ use std::alloc::Global;
 
 // The most targets of an instrument.
 const MOST_TARGETS: usize = 32;
+
+// The simulator's serial number.
+const SIMULATOR_SERIAL: i32 = 123456;
 
 /// Reads the text of a scene, and returns the instrument that it sets up, in its opening state.
 ///
@@ -56,44 +60,45 @@ fn set_up(lines: &[SceneLine]) -> Result<Instrument, SceneFull>
     }
 }
 
-// The serial number of the last line `serial`, or the simulator's, 123456.
-fn serial_of(lines: &[SceneLine]) -> i32
-    ensures { result ≡ serial_of simulator_opening.serial lines.now }
+// The serial number of the last line `serial`, or the simulator's.
+pub(crate) fn serial_of<L: AnySceneLine>(lines: &[L]) -> i32
+    ensures { result ≡ serial_of simulator_opening.serial (filter_map L.plain lines.now) }
 {
-    let mut serial = 123456;
+    let mut serial = SIMULATOR_SERIAL;
     for line in lines {
-        let SceneLine::Serial(said) = *line else {
+        let Some(SceneLine::Serial(said)) = line.plain() else {
             continue;
         };
-        serial = said;
+        serial = *said;
     }
     serial
 }
 
 // The name of the last line `name`, or the simulator's.
-fn name_of(lines: &[SceneLine]) -> Text
-    ensures { result ≡ name_of simulator_opening.name lines.now }
+pub(crate) fn name_of<L: AnySceneLine>(lines: &[L]) -> Text
+    ensures { result ≡ name_of simulator_opening.name (filter_map L.plain lines.now) }
 {
     let mut name = simulator_name();
     for line in lines {
-        let SceneLine::Name(said) = *line else {
+        let Some(SceneLine::Name(said)) = line.plain() else {
             continue;
         };
-        name = said;
+        name = *said;
     }
     name
 }
 
 // The targets of these lines, in order. `None`: they are more than `MOST_TARGETS`.
-fn targets_of(lines: &[SceneLine]) -> Option<ArrayVec<Target, MOST_TARGETS>>
-    ensures { MatchOption result (32 < length (targets_of lines.now)) (λ targets. targets.items ≡ targets_of lines.now) }
+pub(crate) fn targets_of<L: AnySceneLine>(lines: &[L]) -> Option<ArrayVec<Target, MOST_TARGETS>>
+    ensures { MatchOption result (32 < length (targets_of (filter_map L.plain lines.now)))
+        (λ targets. targets.items ≡ targets_of (filter_map L.plain lines.now)) }
 {
     let mut targets = ArrayVec::new();
     for line in lines {
-        let SceneLine::Target(target) = *line else {
+        let Some(SceneLine::Target(target)) = line.plain() else {
             continue;
         };
-        if targets.try_push(target).is_err() {
+        if targets.try_push(*target).is_err() {
             return None;
         }
     }

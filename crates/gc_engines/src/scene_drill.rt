@@ -6,13 +6,13 @@ ghost use Rattle.gc_texts.specs.declared.text.TheConstants.{TEXT_LIMIT};
 ghost use Rattle.gc_engines.specs.Drill.{HasEndedIfWhole, HasReadIfMemory, source_failed, sink_failed};
 ghost use Rattle.gc_engines.specs.SceneDrill.{scene_drill_text, DrillsScene};
 
+use crate::drill::{Playable, drill_any};
 use crate::report_text::scene_text_of;
-use crate::schedule::read_schedule;
 use gc_client::WINDOW;
-use gc_lines::{Sink, Source, write_whole};
+use gc_lines::{Sink, Source};
 use gc_scene_world::play_scene;
 use gc_scenes::SceneInstrument;
-use gc_texts::{RunFault, read_text};
+use gc_texts::RunFault;
 use gc_world::Event;
 use std::alloc::{AllocError, Global};
 
@@ -39,14 +39,22 @@ pub fn run_drill_scene<S: Source, K: Sink>(
     ensures source { S.failed source.new ≡ source_failed result (S.failed source.old) }
     ensures sink { K.failed sink.new ≡ sink_failed result (K.failed sink.old) }
 {
-    let text = read_text(alloc, source)?;
-    let events = read_schedule(alloc, text.as_slice())?;
-    let Ok(output) = output_of(alloc, instrument, events.as_slice(), totals, width) else {
-        return Err(RunFault::Memory);
-    };
-    match write_whole(sink, output.as_slice()) {
-        Ok(()) => Ok(()),
-        Err(_) => Err(RunFault::Output),
+    drill_any(alloc, instrument, source, sink, totals, width)
+}
+
+impl Playable for SceneInstrument {
+    ghost use Rattle.gc_engines.specs.SceneDrill.{scene_drill_text};
+
+    ghost text = { scene_drill_text };
+
+    fn output(
+        self,
+        alloc: Global,
+        events: &[Event],
+        totals: bool,
+        width: u8,
+    ) -> Result<Vec<u8>, AllocError> {
+        output_of(alloc, self, events, totals, width)
     }
 }
 

@@ -1,10 +1,11 @@
 //! The reading of one line of a scene. Besides `scene_trouble.rt`, the words of a scene are known here alone.
 
-ghost use Rattle.std.specs.Prelude.{◌≡◌, ℕ, ℤ, List, MatchOption};
+ghost use Rattle.std.specs.Prelude.{◌≡◌, ℕ, ℤ, List, MatchOption, IsTrue, IsFalse};
 ghost use Rattle.gc_values.specs.Text.{IsText};
 ghost use Rattle.gc_values.specs.Whole.{NamesWhole, FitsLong};
 ghost use Rattle.gc_instrument.specs.declared.target.Target.{Target};
 ghost use Rattle.gc_engines.specs.Scenes.{IsSerial, IsName, IsTargetWords, IsTarget, IsSceneLine};
+ghost use Rattle.gc_engines.specs.declared.scene_line.SceneLine.{SceneLine};
 
 use gc_instrument::Target;
 use gc_texts::{LineForm, after_word, cut_at, read_double};
@@ -21,6 +22,29 @@ pub enum SceneLine {
     Target(Target),
 }
 
+/// A line of a scene, with rules or without them.
+pub(crate) trait AnySceneLine: Copy {
+    ghost use Rattle.std.specs.Prelude.{Option};
+    ghost use Rattle.std.specs.Option.{option_map};
+
+    /// The line as one of a scene without rules; none if it is a rule.
+    ghost plain: { Self → Option SceneLine };
+
+    /// The line as one of a scene without rules. `None`: it is a rule.
+    fn plain(&self) -> Option<&SceneLine>
+        ensures { option_map (λ line. line.now) result ≡ plain self.now };
+}
+
+impl AnySceneLine for SceneLine {
+    ghost use Rattle.std.specs.Prelude.{Some};
+
+    ghost plain = { Some };
+
+    fn plain(&self) -> Option<&SceneLine> {
+        Some(self)
+    }
+}
+
 /// The form of a scene's lines.
 pub(crate) struct SceneForm;
 
@@ -34,18 +58,25 @@ impl LineForm for SceneForm {
     }
 
     fn read(line: &[u8], says: &mut SceneLine) -> bool {
-        match read_scene_line(line) {
-            Some(found) => {
-                *says = found;
-                true
-            }
-            None => false,
+        put_found(read_scene_line(line), says)
+    }
+}
+
+// Writes what was found over `item`, and returns whether anything was found. If nothing was, `item` stays.
+pub(crate) fn put_found<T: Copy>(found: Option<T>, item: &mut T) -> bool
+    ensures { MatchOption found (IsFalse result × (item.new ≡ item.old)) (λ said. IsTrue result × (item.new ≡ said)) }
+{
+    match found {
+        Some(said) => {
+            *item = said;
+            true
         }
+        None => false,
     }
 }
 
 // Reads one line of a scene. `None`: it has the form of no such line.
-fn read_scene_line(line: &[u8]) -> Option<SceneLine>
+pub(crate) fn read_scene_line(line: &[u8]) -> Option<SceneLine>
     ensures { MatchOption result ((says : SceneLine) → IsSceneLine line.now says → ⊥) (λ says. IsSceneLine line.now says) }
 {
     if let Some(serial) = read_serial(line) {
@@ -61,7 +92,7 @@ fn read_scene_line(line: &[u8]) -> Option<SceneLine>
 }
 
 // Reads `serial N`: a serial number, a whole number of 32 bits that may have a sign. `None`: the line has no such form.
-pub(crate) fn read_serial(line: &[u8]) -> Option<i32>
+fn read_serial(line: &[u8]) -> Option<i32>
     ensures { MatchOption result ((n : ℤ) → IsSerial line.now n → ⊥) (λ n. IsSerial line.now n) }
 {
     match after_word(b"serial ", line) {
@@ -81,7 +112,7 @@ fn long_of(digits: &[u8]) -> Option<i32>
 }
 
 // Reads `name TEXT`: an instrument's name, as `name_from` takes it. `None`: the line has no such form.
-pub(crate) fn read_name(line: &[u8]) -> Option<Text>
+fn read_name(line: &[u8]) -> Option<Text>
     ensures { MatchOption result ((bytes : List ℕ) → IsName line.now bytes → ⊥) (λ bytes. IsName line.now bytes) }
 {
     match after_word(b"name ", line) {
@@ -102,7 +133,7 @@ fn name_from(bytes: &[u8]) -> Option<Text>
 
 // Reads `target HZ V DISTANCE`: a target's angles in radians and its slope distance in metres. `None`: the line has no such form,
 // or `read_double` refuses a number, as one further than 10^13 from zero.
-pub(crate) fn read_target(line: &[u8]) -> Option<Target>
+fn read_target(line: &[u8]) -> Option<Target>
     ensures { MatchOption result ((target : Target) → IsTarget line.now target → ⊥) (λ target. IsTarget line.now target) }
 {
     match after_word(b"target ", line) {

@@ -358,6 +358,7 @@ fn answer_trouble(line: &[u8]) -> SceneTrouble
     if is_no_number(before(b',', reply), CODE_MAX) {
         return SceneTrouble::Rc;
     }
+    // The procedure's number reads, as was found above.
     match number_of(before(b' ', rest), CODE_MAX) {
         Some(rpc) => reply_trouble(rpc as u16, behind(b',', reply)),
         None => SceneTrouble::Form(SceneWord::Answer),

@@ -6,6 +6,7 @@ ghost use Rattle.gc_scenes.specs.declared.delay.Delay.{Delay};
 ghost use Rattle.gc_engines.specs.TimedScenes.{IsTimedLine, IsDelayLine};
 
 use crate::rule_line::{CODE_MAX, RuleLine, read_rule_line};
+use crate::scene_line::put_found;
 use gc_scenes::Delay;
 use gc_texts::{LineForm, before, behind, is_word, number_of};
 
@@ -38,13 +39,7 @@ impl LineForm for TimedForm {
     }
 
     fn read(line: &[u8], says: &mut TimedLine) -> bool {
-        match read_timed_line(line) {
-            Some(found) => {
-                *says = found;
-                true
-            }
-            None => false,
-        }
+        put_found(read_timed_line(line), says)
     }
 }
 

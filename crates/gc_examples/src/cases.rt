@@ -12,7 +12,7 @@ mod texts;
 mod world;
 
 use engines::Engines;
-pub use engines::differing;
+pub use engines::first_differing_recut;
 use failing::Failing;
 use gc_cases::play_folder;
 use records::Records;
@@ -22,7 +22,7 @@ use texts::Texts;
 use world::World;
 
 /// Plays the cases of a folder, as `play_folder` does for each of the five endings, and returns whether all came to what they expect.
-/// Files with other endings are passed over. `Err`: as `play_folder`, and no further file is played.
+/// Files with other endings are ignored. `Err`: as `play_folder`, and no further file is played.
 pub fn play_cases(rt: &HostRuntime, folder: &str) -> io::Result<bool> {
     let mut are_right = play_folder(rt, folder, ".engines", &Engines)?;
     are_right &= play_folder(rt, folder, ".failing", &Failing)?;

@@ -1,6 +1,6 @@
 //! One example: what goes in, and what must come out.
 
-use crate::cases::{Engine, Setup, differing};
+use crate::cases::{Engine, Setup, first_differing_recut};
 use std::alloc::Global;
 use std::{fs, io};
 
@@ -18,7 +18,7 @@ impl Example {
     /// memory ran out.
     pub fn find(rt: &HostRuntime, name: &str) -> io::Result<Option<Example>> {
         match parts_of(name) {
-            Some((engine, stem, ending)) => Ok(Some(read(rt, engine, name, stem, ending)?)),
+            Some(parts) => Ok(Some(read(rt, name, parts)?)),
             None => Ok(None),
         }
     }
@@ -31,34 +31,57 @@ impl Example {
         if !whole.wrote(self.expected.as_slice()) {
             return ", whole";
         }
-        differing(alloc, &self.setup, &whole, true)
+        match first_differing_recut(alloc, &self.setup, &whole, true) {
+            Some(way) => way.words(),
+            None => "",
+        }
     }
 }
 
-// The engine of an input's name, the name's stem, and how the name of the output ends. `None`: no input has such a name.
-fn parts_of(name: &str) -> Option<(Engine, &str, &'static str)> {
+// What the name of an example's input says of it.
+#[derive(Clone, Copy)]
+struct Parts<'a> {
+    engine: Engine,
+    // The name up to its first `.`; the names of the example's other files begin with it.
+    stem: &'a str,
+    // What follows the stem in the name of the file of the expected output.
+    ending: &'static str,
+}
+
+// What the name of an input says. `None`: no input has such a name.
+fn parts_of(name: &str) -> Option<Parts<'_>> {
     let (stem, ending) = name.split_once('.')?;
+    let (engine, ending) = engine_and_output(ending)?;
+    Some(Parts {
+        engine,
+        stem,
+        ending,
+    })
+}
+
+// The engine of an input whose name has this ending, and the ending of its output's name. `None`: no input has it.
+fn engine_and_output(ending: &str) -> Option<(Engine, &'static str)> {
     match ending {
-        "requests" => Some((Engine::Exec, stem, ".replies")),
-        "recording" => Some((Engine::Check, stem, ".verdicts")),
-        "schedule" => Some((Engine::Drill, stem, ".expected")),
-        "scene-requests" => Some((Engine::Rules, stem, ".scene-replies")),
-        "scene-schedule" => Some((Engine::DrillRules, stem, ".scene-expected")),
+        "requests" => Some((Engine::Exec, ".replies")),
+        "recording" => Some((Engine::Check, ".verdicts")),
+        "schedule" => Some((Engine::Drill, ".expected")),
+        "scene-requests" => Some((Engine::Rules, ".scene-replies")),
+        "scene-schedule" => Some((Engine::DrillRules, ".scene-expected")),
         _ => None,
     }
 }
 
-// Reads an example: the file `input`, its expected output in the file whose name is `stem` and then `ending`, and, if the engine has a
-// scene's instrument, the scene in the file whose name is `stem` and then `.scene`. `Err`: one of these can't be read, or memory ran out.
-fn read(
-    rt: &HostRuntime,
-    engine: Engine,
-    input: &str,
-    stem: &str,
-    ending: &str,
-) -> io::Result<Example> {
+// Reads the example whose input is the file of this name, which says `parts`: the input, the expected output, and, if the engine
+// has a scene's instrument, the scene in the file whose name is the stem and then `.scene`. `Err`: one of these can't be read, or
+// memory ran out.
+fn read(rt: &HostRuntime, name: &str, parts: Parts<'_>) -> io::Result<Example> {
+    let Parts {
+        engine,
+        stem,
+        ending,
+    } = parts;
     let output = format!(in rt.alloc(); "{stem}{ending}")?;
-    let input = fs::read(rt, input)?;
+    let input = fs::read(rt, name)?;
     let mut setup = Setup::new(rt.alloc(), engine, input);
     if engine == Engine::Rules || engine == Engine::DrillRules {
         let scene = format!(in rt.alloc(); "{stem}.scene")?;

@@ -7,10 +7,9 @@ use gc_probes::{PieceSink, PieceSource, Pipe};
 use gc_texts::RunFault;
 use std::alloc::Global;
 
-/// Asks two commands over a link that gives a stray and then the two answers. Returns `Exact` if the run ended well, both
-/// requests were sent and both answers written; `NoMemory` if memory ran out for the run, and nothing was sent or written;
-/// `PortLacksMemory` if the run ended because memory ran out for what was sent, or for the output, which took a first part of the
-/// answers, or nothing; and else `Other`.
+/// Asks two commands over a link that gives a stray and then the two answers. The outcome is that of `Outcome::of`, with these
+/// exceptions: `PortLacksMemory` if memory ran out for what was sent, and `Other` if a run that ended well sent anything but the
+/// two requests, or one for which memory ran out sent anything.
 pub fn ask(alloc: Global) -> Outcome {
     let sent = b"%R1Q,5003,0:\r\n%R1Q,0,1:\r\n";
     let told = b"0 7 answered %R1P,0,0:0,123456\n1 8 answered %R1P,0,1:0\n";
@@ -34,10 +33,9 @@ pub fn ask(alloc: Global) -> Outcome {
     }
 }
 
-/// Asks three commands of the simulator over two pipes. Returns `Exact` if the run ended well and the three answers were written;
-/// `NoMemory` if memory ran out for the run, nothing was written and no byte is in a pipe; `PortLacksMemory` if the run ended
-/// because memory ran out for what was sent over a pipe, or for the output, which took a first part of the answers, or nothing;
-/// and else `Other`.
+/// Asks three commands of the simulator over two pipes. The outcome is that of `Outcome::of`, with these exceptions:
+/// `PortLacksMemory` if memory ran out for what was sent over a pipe, and `Other` if memory ran out for the run and a byte is in
+/// a pipe.
 pub fn loop_commands(alloc: Global) -> Outcome {
     let told =
         b"0 7 answered %R1P,0,0:0,123456\n1 8 answered %R1P,0,1:0\n2 9 answered %R1P,0,2:0,1\n";

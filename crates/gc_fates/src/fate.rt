@@ -8,6 +8,25 @@ use crate::draw::{Draws, among, happens};
 use crate::rule::Word;
 use crate::rules::Rules;
 
+// The number of the draw of `lose` among a line's draws, counted from 1; those of the other words follow. `docs/BAD-LINES.md` lists
+// them all. The word `kill` is about no line, and has none.
+const LOSE_DRAW: u64 = 1;
+
+const REPEAT_DRAW: u64 = 2;
+
+const DELAY_DRAW: u64 = 3;
+
+const HOLD_DRAW: u64 = 4;
+
+const CLOSE_DRAW: u64 = 5;
+
+const REFUSE_DRAW: u64 = 6;
+
+const RESTART_DRAW: u64 = 8;
+
+// The end is a reset if the lower 32 bits of the draw of `close` are at least this, which is half of their range.
+const LEAST_OF_RESET: u64 = 2_147_483_648;
+
 /// What happens to a line. Times are in milliseconds.
 #[derive(Clone, Copy, Debug, PartialEq, Eq)]
 pub struct Fate {
@@ -62,7 +81,7 @@ fn drawn_if(hit: bool, chance: Option<Chance>, draw: u64) -> u64
 pub fn restarts_at(rules: &Rules, draws: Draws, line: u64) -> bool
     ensures { result ≡ (fate_of rules.now draws.start line).restarts }
 {
-    hits(rules.chance(Word::Restart), draws.draw(line, 8))
+    hits(rules.chance(Word::Restart), draws.draw(line, RESTART_DRAW))
 }
 
 /// What happens by these rules and draws to a line of one direction, counted from 1. Each word but `kill`, which is about no
@@ -74,14 +93,14 @@ pub fn restarts_at(rules: &Rules, draws: Draws, line: u64) -> bool
 pub fn fate_of(rules: &Rules, draws: Draws, line: u64) -> Fate
     ensures { result ≡ fate_of rules.now draws.start line }
 {
-    let is_lost = hits(rules.chance(Word::Lose), draws.draw(line, 1));
-    let end = draws.draw(line, 5);
+    let is_lost = hits(rules.chance(Word::Lose), draws.draw(line, LOSE_DRAW));
+    let end = draws.draw(line, CLOSE_DRAW);
     let closes = !is_lost && hits(rules.chance(Word::Close), end);
-    let repeats = hits(rules.chance(Word::Repeat), draws.draw(line, 2));
-    let hold = draws.draw(line, 4);
-    let refuse = draws.draw(line, 6);
+    let repeats = hits(rules.chance(Word::Repeat), draws.draw(line, REPEAT_DRAW));
+    let hold = draws.draw(line, HOLD_DRAW);
+    let refuse = draws.draw(line, REFUSE_DRAW);
     Fate {
-        wait: drawn(rules.chance(Word::Delay), draws.draw(line, 3)),
+        wait: drawn(rules.chance(Word::Delay), draws.draw(line, DELAY_DRAW)),
         is_lost,
         is_repeated: !is_lost && !closes && repeats,
         hold: drawn_if(
@@ -90,7 +109,7 @@ pub fn fate_of(rules: &Rules, draws: Draws, line: u64) -> Fate
             hold,
         ),
         closes,
-        is_reset: closes && end % 4_294_967_296 >= 2_147_483_648,
+        is_reset: closes && end % 4_294_967_296 >= LEAST_OF_RESET,
         refuse: drawn_if(
             closes && hits(rules.chance(Word::Refuse), refuse),
             rules.chance(Word::Refuse),

@@ -14,7 +14,7 @@ use Rattle.gc_client.specs.Rule.{heard}
 use Rattle.gc_instrument.specs.Replying.{Handed, kept_after}
 use Rattle.gc_instrument.specs.State.{KeptReply}
 use Rattle.gc_scenes.proofs.Codes.{fault_bound, call_bound}
-use Rattle.gc_scenes.specs.Rules.{fault_of, answer_of}
+use Rattle.gc_scenes.specs.Rules.{fault_of, scripted_reply}
 use Rattle.gc_scenes.specs.Params.{scripted_params}
 use Rattle.gc_scenes.specs.SceneExecution.{Played, played_call, played_raw, unless_faulted_raw, scripted, counting}
 use Rattle.gc_scenes.specs.SceneReplying.{IsPlayed, answers, names_call, names_none, resent_line, again_or_played, handed_call, handed_raw, played_or_refused, played_line}
@@ -65,7 +65,7 @@ scripted_bound s (Some a) p e = subst (λ (q : Played). q.rc < 65536) (same_Some
 -- any, is
 raw_bound : (s : SceneState) (rpc : ℕ) (o : Option ℕ) (p : Played) → ((code : ℕ) → o ≡ Some code → code < 65536) → unless_faulted_raw s rpc o ≡ Some p → p.rc < 65536
 raw_bound s rpc (Some code) p is e = subst (λ (q : Played). q.rc < 65536) (same_Some {A = Played} (record { state = s; rc = code; params = [] }) p e) (is code refl)
-raw_bound s rpc None p is e = scripted_bound s (answer_of rpc s.answers) p e
+raw_bound s rpc None p is e = scripted_bound s (scripted_reply rpc s.answers) p e
 
 -- what the instrument does with a call of the table, with an id below 8, meets the clauses
 call_does : (s : SceneState) (id : ℕ) (call : Call) → id < 8 → MeetsClauses s id true (handed_call s (call_fields call).number (Some id) call)

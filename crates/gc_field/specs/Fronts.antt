@@ -1,6 +1,6 @@
--- Requests that are cut, this project's own. If only the front of one got through, with a line feed after it, or only its tail,
--- as after a start of the instrument, no request got through. So a request that was cut reaches the instrument whole or not at
--- all.
+-- Requests for calls of the table that are cut, this project's own. If only the front of one got through, with a line feed after it,
+-- or only its tail, as after a start of the instrument, no request got through. So a request that was cut reaches the instrument
+-- whole or not at all.
 use Rattle.std.specs.Prelude.{◌≡◌, ℕ, ◌+◌, ◌<◌, ◌≤◌, List, [], ◌∷◌, ◌++◌, length, take, drop, Some}
 use Rattle.gc_lines.specs.Frames.{lines}
 use Rattle.gc_lines.specs.Lines.{with_end}

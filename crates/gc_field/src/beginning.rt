@@ -62,6 +62,6 @@ pub fn some_runs_are_their_own()
 
 /// Why the ids 6 5 4 3 2 1 0 7 may not be in flight in this order: replies from before would answer all null procedures of the
 /// synchronization, and a further reply from before would be booked for the first command, which was never executed.
-pub fn the_word_under_way_is_booked_wrong()
+pub fn the_word_in_flight_is_booked_wrong()
     ensures { IsBookedFromBefore }
 {}

@@ -124,21 +124,21 @@ pub fn what_is_asked_is_needed()
     ensures { IsAllNeeded }
 {}
 
-/// A request that is cut reaches the instrument complete or not at all: a front without the CR gives no line, though a line feed
-/// follows it; no line of what is left of it after a front is a request; and the front with the CR, with a line feed after it, is
-/// the whole request.
+/// A request for a call of the table, with values in range, reaches the instrument complete or not at all if it is cut: a front
+/// without the CR gives no line, though a line feed follows it; no line of what is left of it after a front is a request; and the
+/// front with the CR, with a line feed after it, is the whole request. (The parameters of a raw request may contain a request.)
 pub fn cut_requests_are_whole_or_nothing()
     ensures { CutRequestsAreWholeOrNothing }
 {}
 
-/// If the line feed that clears the front of a request is lost, the front and the next request are one line. If that line is a
-/// request at all, it has the front's id and procedure.
+/// If the line feed that clears the front of a request for a call of the table is lost, the front and the next request are one
+/// line. If that line is a request at all, it has the front's id and procedure.
 pub fn joined_requests_have_the_fronts_id()
     ensures { JoinedRequestsHaveTheFrontsId }
 {}
 
-/// Why the line feed that clears the front of a request has to arrive: if it is lost, the reply to the joined line is booked
-/// for the request that was cut, which was not executed.
+/// Why the line feed that clears the front of a request has to arrive: in some run of the simulator it is lost, and the reply to
+/// the joined line is booked for the request that was cut, which was not executed.
 pub fn a_lost_line_feed_is_booked_wrong()
     ensures { IsBookedJoined }
 {}
@@ -173,7 +173,7 @@ pub fn some_late_record_is_in_the_field()
 /// Some run resynchronizes, on the same connection, after seven requests have timed out: a request and a reply of these are in
 /// flight then, each with an id that is used again, and the command after that has the answer that was made on executing its
 /// own request.
-pub fn some_run_begins_anew()
+pub fn some_run_resynchronizes()
     ensures { IsAnsweredAnew }
 {}
 

@@ -17,26 +17,31 @@ ran_synced held steps bytes ran =
 
 -- an opening, and what is written after it, are a run, as `OpeningsAreRuns` has it
 pub calls_opened : OpeningsAreRuns
-calls_opened head held opening later front rows kept left ran puts is_front are few were = record {
-  rows = are;
-  steps = inr (
-    start_of head held ++ front,
+calls_opened head held run did are few were =
+    let ran = did.opened in
+    let later = did.later in
+    let puts = did.puts in
+    let is_front = did.is_front in
     record {
-      later = ran.later ++ later;
-      split = ap (λ (xs : List Step). xs ++ later) ran.split ∙ append_assoc (mended held) ran.later later;
-      puts = record {
-        none_cut = cuts_two ran.later later ran.puts.none_cut puts.none_cut;
-        all = appended_two ran.later later ∙ ap (λ (xs : List ℕ). xs ++ appended later) ran.puts.all ∙ ap (λ (xs : List ℕ). start_of head held ++ xs) puts.all;
-      };
-    },
-    record {
-      rest = is_front.rest;
-      split = ap (λ (xs : List ℕ). start_of head held ++ xs) is_front.split ∙ sym (append_assoc (start_of head held) front is_front.rest);
-    },
-  );
-  few = few;
-  kept = were;
-}
+      rows = are;
+      steps = inr (
+        start_of head held ++ did.front,
+        record {
+          later = ran.later ++ later;
+          split = did.split ∙ ap (λ (xs : List Step). xs ++ later) ran.split ∙ append_assoc (mended held) ran.later later;
+          puts = record {
+            none_cut = cuts_two ran.later later ran.puts.none_cut puts.none_cut;
+            all = appended_two ran.later later ∙ ap (λ (xs : List ℕ). xs ++ appended later) ran.puts.all ∙ ap (λ (xs : List ℕ). start_of head held ++ xs) puts.all;
+          };
+        },
+        record {
+          rest = is_front.rest;
+          split = ap (λ (xs : List ℕ). start_of head held ++ xs) is_front.split ∙ sym (append_assoc (start_of head held) did.front is_front.rest);
+        },
+      );
+      few = few;
+      kept = were;
+    }
 
 -- an opening that failed is a run, as `FailedOpeningsAreRuns` has it
 pub calls_failed : FailedOpeningsAreRuns

@@ -120,13 +120,22 @@ abbrev pub KillsLoseNothing : Type 0
 KillsLoseNothing = (head : List ℕ) → IsHead head → (life : Life) (runs : List Run) → AreKilled head life runs
     → HasRows head (table head (content life)) runs (content (life_after life runs))
 
--- an opening, and after it writes and syncs of rows as far as they came, are a run of these rows; the first `kept` of the rows,
--- if these were kept (`WereKept`), count as kept
+-- the steps of this run, over a file that held `held`, are those of an opening, and after them those of writes and syncs of the
+-- run's rows, as far as they came
+pub record OpensAndWrites (head held : List ℕ) (run : Run) : Type 0 where
+  pub opening : List Step
+  pub later : List Step
+  pub split : run.steps ≡ opening ++ later
+  pub opened : MendedAndPut held opening (start_of head held)
+  pub front : List ℕ
+  pub puts : Puts later front
+  pub is_front : IsFront front (lines run.rows)
+
+-- an opening, and after it writes and syncs of rows as far as they came, are a run of these rows, if the first `kept` of the rows
+-- were kept (`WereKept`)
 abbrev pub OpeningsAreRuns : Type 0
-OpeningsAreRuns = (head held : List ℕ) (opening later : List Step) (front : List ℕ) (rows : List (List ℕ)) (kept : ℕ) (left : Option (List ℕ))
-    (ran : MendedAndPut held opening (start_of head held)) (puts : Puts later front) (is_front : IsFront front (lines rows))
-    (are : AreRows rows) (few : kept ≤ length rows) (were : WereKept head held rows kept (opening ++ later))
-    → IsRun head held (record { rows = rows; steps = opening ++ later; kept = kept; left = left })
+OpeningsAreRuns = (head held : List ℕ) (run : Run) → OpensAndWrites head held run
+    → AreRows run.rows → run.kept ≤ length run.rows → WereKept head held run.rows run.kept run.steps → IsRun head held run
 
 -- an opening that failed, as far as it came (`ComesTo`), is a run without rows
 abbrev pub FailedOpeningsAreRuns : Type 0

@@ -1,7 +1,7 @@
 //! A file of rows is looked at before it is touched: only what begins as such a file is taken, and what a crash left of its
 //! last row is cut off.
 
-ghost use Rattle.std.specs.Prelude.{◌≡◌, ◌<◌, ◌≤◌, ◌+◌, ◌-◌, ◌^◌, ◌++◌, [], List, ℕ, length, take, drop, true, false, Some, IfOk, IfErr, OnOk, OnErr, IsErrOf, IsTrue, IsFalse};
+ghost use Rattle.std.specs.Prelude.{◌≡◌, ◌<◌, ◌≤◌, ◌+◌, ◌-◌, ◌^◌, ◌++◌, [], List, ℕ, length, take, drop, true, false, Some, IfOk, IfErr, OnOk, OnErr, IsErrOf};
 ghost use Rattle.gc_files.specs.declared.opening.Refused.TheVariants.{Foreign};
 ghost use Rattle.gc_files.specs.Sinks.{life_in, has_failed, torn_in, steps_in, IsOpenedAs};
 ghost use Rattle.gc_files.specs.Files.{Life, content};
@@ -32,15 +32,6 @@ fn behind(bytes: &[u8], at: usize) -> &[u8]
     ensures { result.now ≡ drop at bytes.now }
 {
     &bytes[at..]
-}
-
-// Whether a text begins with this piece, which is no longer than the text.
-fn is_front(text: &[u8], piece: &[u8]) -> bool
-    requires { length piece.now ≤ length text.now }
-    ensures same { IsTrue result → take (length piece.now) text.now ≡ piece.now }
-    ensures differ { IsFalse result → take (length piece.now) text.now ≡ piece.now → ⊥ }
-{
-    &text[..piece.len()] == piece
 }
 
 // Fills the buffer with the file's bytes after the first `at`. It fails where a read failed or gave nothing.
@@ -80,7 +71,7 @@ fn has_sign<F: Appending>(file: &F, len: u64, sign: &[u8]) -> Result<bool, PortF
             Ok(()) => {}
             Err(failed) => return Err(failed),
         }
-        if !is_front(rest, block) {
+        if !rest.starts_with(block) {
             return Ok(false);
         }
         at += size;

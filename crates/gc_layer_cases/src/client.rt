@@ -116,8 +116,7 @@ impl<W: Window<Asked = Call>> Clients<W> {
 /// follows the first space, or 0 if that is no number of 64 bits.
 pub fn target_and_deadline(words: &str) -> (u32, u64) {
     let (target, deadline) = cut_word(words);
-    let target = u32::try_from(number_or(target, 0)).unwrap_or(0);
-    (target, number_or(deadline, 0))
+    (target.parse::<u32>().unwrap_or(0), number_or(deadline, 0))
 }
 
 // Reports settlements: each with its target, and how its request ended.

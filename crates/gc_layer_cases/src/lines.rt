@@ -1,6 +1,6 @@
 //! Rows of lines: requests and replies read and written again, headers, and what an assembler makes of a piece.
 
-use gc_cases::{Rows, Told, cut_word, number_or};
+use gc_cases::{Rows, Told, cut_word};
 use gc_lines::{
     Assembler, Lent, Line, LineFault, is_plain, push_reply, push_request, read_reply, read_request,
     write_reply, write_request,
@@ -70,11 +70,6 @@ fn rewrite_reply(line: &[u8], came: &mut Told) {
     }
 }
 
-// The number of 16 bits that a word writes. `None`: it writes none.
-fn u16_of(word: &str) -> Option<u16> {
-    u16::try_from(number_or(word, u64::MAX)).ok()
-}
-
 // Reports a header: of a request if there is one word, the procedure number; of a reply if there are three, the communication code, the
 // id and the return code. Reports that there is no header for other words.
 fn tell_header(words: &str, came: &mut Told) {
@@ -88,18 +83,18 @@ fn tell_header(words: &str, came: &mut Told) {
 // is above 7.
 fn header_of(words: &str) -> Option<Line> {
     let (first, rest) = cut_word(words);
-    let first = u16_of(first)?;
+    let first = first.parse::<u16>().ok()?;
     let mut line = Line::new();
     if rest.is_empty() {
         push_request(&mut line, first, None);
         return Some(line);
     }
     let (id, code) = cut_word(rest);
-    let id = u8::try_from(u16_of(id)?).ok()?;
+    let id = id.parse::<u8>().ok()?;
     if id > 7 {
         return None;
     }
-    push_reply(&mut line, first, id, u16_of(code)?);
+    push_reply(&mut line, first, id, code.parse::<u16>().ok()?);
     Some(line)
 }
 

@@ -136,56 +136,42 @@ impl Stations {
         }
     }
 
-    // Hands the station the bytes of a read, which are those in `bytes` behind the word `now`, and the moment that this word
-    // writes (0 if it is no number). `Err`: memory ran out.
-    fn hear(&mut self, now: &str, bytes: &[u8], told: &mut String) -> Result<(), AllocError> {
-        let read = bytes_behind(now, bytes);
-        self.station.hear(read, number_or(now, 0), told)
-    }
-
-    // Plays a row at which the station reports how requests ended, into `told`: `hear` with a moment and bytes, or `restart`. `Err`:
-    // memory ran out.
-    fn play_report(
-        &mut self,
-        word: &str,
-        what: &str,
-        bytes: &[u8],
-        told: &mut String,
-    ) -> Result<(), AllocError> {
-        match word {
-            "hear" => self.hear(cut_word(what).0, bytes, told),
-            "restart" => self.station.restart(told),
-            _ => told.push_str("an unknown word"),
-        }
-    }
-
-    // Plays a row as `play_report` does, and reports in `came` what the station reported. If memory runs out, `came` lacks a
-    // part.
-    fn tell_report(
-        &mut self,
-        alloc: Global,
-        word: &str,
-        what: &str,
-        bytes: &[u8],
-        came: &mut Told,
-    ) {
+    // Hands the station the bytes of a read, those in `bytes` after the word `now`, and the moment that this word writes (0 if it
+    // is no number). Reports what the station reported.
+    fn hear(&mut self, alloc: Global, now: &str, bytes: &[u8], came: &mut Told) {
         let mut told = String::new(alloc);
-        if self.play_report(word, what, bytes, &mut told).is_err() {
-            came.lack();
-        }
-        came.text(told.as_str());
+        let read = bytes_behind(now, bytes);
+        let heard = self.station.hear(read, number_or(now, 0), &mut told);
+        tell_report(heard, told.as_str(), came);
+    }
+
+    // Restarts the station, and reports what it reported.
+    fn restart(&mut self, alloc: Global, came: &mut Told) {
+        let mut told = String::new(alloc);
+        let restarted = self.station.restart(&mut told);
+        tell_report(restarted, told.as_str(), came);
+    }
+}
+
+// Reports the text `told` in which a station reported how requests ended; where memory ran out for it, `came` lacks a part.
+fn tell_report(end: Result<(), AllocError>, told: &str, came: &mut Told) {
+    came.text(told);
+    if end.is_err() {
+        came.lack();
     }
 }
 
 impl Rows for Stations {
-    // Plays a row: `ask` with a target and a deadline, `deadline`, `go_on`, `sent`, or a word of `play_report`.
+    // Plays a row: `ask` with a target and a deadline, `hear` with a moment and bytes, `restart`, `deadline`, `go_on` or `sent`.
     fn play(&mut self, alloc: Global, word: &str, what: &str, bytes: &[u8], came: &mut Told) {
         match word {
             "ask" => self.ask(what, came),
+            "hear" => self.hear(alloc, cut_word(what).0, bytes, came),
+            "restart" => self.restart(alloc, came),
             "deadline" => came.debug(&self.station.client.next_deadline()),
             "go_on" => self.station.go_on(),
             "sent" => came.bytes(self.connection.as_slice()),
-            _ => self.tell_report(alloc, word, what, bytes, came),
+            _ => came.text("an unknown word"),
         }
     }
 }

@@ -56,7 +56,7 @@ impl Rows for Ports {
             "source" => read_through(false, what, came),
             "ahead" => read_through(true, what, came),
             "sink" => write_through(what, came),
-            "lines" => write_lines(&mut [0; 16], came),
+            "lines" => write_lines(came),
             _ => came.text("an unknown word"),
         }
     }
@@ -128,8 +128,9 @@ fn write_four_times<K: Sink>(sink: &mut K, came: &mut Told) {
     }
 }
 
-// Writes a line three times into `room`, reports how that went (`write_thrice`), and what `room` holds then.
-fn write_lines(room: &mut [u8; 16], came: &mut Told) {
+// Writes a line three times into a writer with room for 16 bytes, reports how that went (`write_thrice`), and what it holds then.
+fn write_lines(came: &mut Told) {
+    let mut room = [0u8; 16];
     let line = begin_request(0, Some(1));
     write_thrice(&mut ToWriter::new(&mut room[..]), &line, came);
     came.bytes(room.as_slice());

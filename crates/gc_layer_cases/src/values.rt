@@ -97,7 +97,7 @@ fn tell_parts(decimal: &Decimal, came: &mut Told) {
 
 // The number of 8 bits that a word writes, and 255 for any other word.
 fn byte_or_255(word: &str) -> u8 {
-    u8::try_from(number_or(word, 255)).unwrap_or(255)
+    word.parse::<u8>().unwrap_or(255)
 }
 
 // Reports how the decimals of two words compare, or that a word is no decimal.

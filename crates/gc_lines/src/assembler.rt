@@ -15,8 +15,9 @@ use std::marker::Model;
 
 /// Takes the pieces of a stream, and gives its frames.
 ///
-/// Of the bytes since the last line feed it keeps at most the first 513, and the last one, so its size does not grow with the
-/// stream. Contracts say with `StandsFor` which bytes may have come since the last line feed; at first none have.
+/// Of the bytes since the last line feed it keeps at most the first 513, which the longest line has with its CR, and the last
+/// one, so its size does not grow with the stream. Contracts say with `StandsFor` which bytes may have come since the last line
+/// feed; at first none have.
 #[derive(Drop)]
 pub struct Assembler {
     // The bytes since the last line feed, or since the start: only the first 513 where there are more.

@@ -74,6 +74,7 @@ impl Session {
                 return Err(bytes);
             }
         }
+        // The result is passed on as it is, but by two branches, since `ok` and `err` are proved in one each.
         if let Err(bytes) = self.write_texts(sink) {
             return Err(bytes);
         }
@@ -112,14 +113,15 @@ impl Session {
         if self.may_wait() {
             return Ok(());
         }
+        // By two branches, as at the end of `answer_piece`.
         if let Err(bytes) = self.write_texts(sink) {
             return Err(bytes);
         }
         Ok(())
     }
 
-    // Whether the texts that wait may wait for one more: texts are gathered, and there is room for one of 514 bytes and for its
-    // length.
+    // Whether the texts that wait may wait for one more: texts are gathered, and there is room for one of 514 bytes among the
+    // 8192 of `Outgoing`, and for its length among the 256 of `Lengths`.
     #[inline]
     fn may_wait(&self) -> bool
         ensures { result ≡ true → HasRoom self.now.text.items self.now.lengths self.now.gathers }

@@ -61,26 +61,19 @@ impl<'a, R: Net<Listener = TcpListener, Stream = TcpStream> + Clock> TcpLink<'a,
         })
     }
 
-    // Reads, and returns how many bytes came, 0 at the end of the stream. It waits for them `millis` milliseconds at most, where 0
-    // counts as 1, but the system may end the wait too late. `None`: nothing came, the read was interrupted, or there is no connection.
-    fn read_for(&mut self, buf: &mut [u8], millis: u64) -> io::Result<Option<usize>>
+    // Reads the connection as `read_timed` does. `None`: as there, or there is no connection.
+    fn read_for(&self, buf: &mut [u8], millis: u64) -> io::Result<Option<usize>>
         ensures { IfOk result (λ read. IfSome read (λ n. n ≤ length buf.new)) }
     {
-        let Some(stream) = &mut self.stream else {
-            return Ok(None);
-        };
-        // A timeout of zero would be an error, and without one the read would wait for ever.
-        stream.set_read_timeout(Some(Duration::from_millis(millis.max(1))))?;
-        match stream.read(buf) {
-            Ok(n) => Ok(Some(n)),
-            Err(error) if is_silence(error.kind()) => Ok(None),
-            Err(error) => Err(error),
+        match &self.stream {
+            Some(stream) => read_timed(stream, buf, millis),
+            None => Ok(None),
         }
     }
 
     // Reads with the shortest timeout, a millisecond. The moment of a silence is taken before the read: since the read gave nothing,
     // nothing had come by that moment, even if this program was stopped for a while before it.
-    fn read_briefly(&mut self, buf: &mut [u8]) -> Came
+    fn read_briefly(&self, buf: &mut [u8]) -> Came
         ensures { IsWithin result buf.new }
     {
         let Ok(moment) = self.timer.moment() else {
@@ -108,9 +101,29 @@ fn is_interrupted(error: &io::Error) -> bool {
     error.kind() == ErrorKind::Interrupted
 }
 
-/// Whether an error of a read counts as silence: nothing came in its time, the read was interrupted, or the system gave the
-/// connection up because the other end answered nothing (`TimedOut`).
-pub(crate) fn is_silence(kind: ErrorKind) -> bool {
+/// Reads a connection, and returns how many bytes came, 0 at the end of the stream. It waits for them `millis` milliseconds at
+/// most, where 0 counts as 1, but the system may end the wait too late. `None`: nothing came in that time, or the read was
+/// interrupted. It also fails where the system can't set how long a read may wait. Later reads wait no longer than this one.
+pub(crate) fn read_timed(
+    stream: &TcpStream,
+    buf: &mut [u8],
+    millis: u64,
+) -> io::Result<Option<usize>>
+    ensures { IfOk result (λ read. IfSome read (λ n. n ≤ length buf.new)) }
+{
+    let mut stream = stream;
+    // A timeout of zero would be an error, and without one the read would wait for ever.
+    stream.set_read_timeout(Some(Duration::from_millis(millis.max(1))))?;
+    match stream.read(buf) {
+        Ok(n) => Ok(Some(n)),
+        Err(error) if is_silence(error.kind()) => Ok(None),
+        Err(error) => Err(error),
+    }
+}
+
+// Whether an error of a read counts as silence: nothing came in its time, the read was interrupted, or the system gave the
+// connection up because the other end answered nothing (`TimedOut`).
+fn is_silence(kind: ErrorKind) -> bool {
     matches!(
         kind,
         ErrorKind::WouldBlock | ErrorKind::TimedOut | ErrorKind::Interrupted

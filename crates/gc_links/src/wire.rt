@@ -5,7 +5,7 @@ ghost use Rattle.std.specs.Prelude.{◌≤◌, length, IfOk, IfSome};
 use crate::connection::{PATIENCE, Peer, connect};
 use crate::device::{REST, Unusable, is_not_ready, open_device, rest, write_some};
 use crate::place::Place;
-use crate::tcp::is_silence;
+use crate::tcp::read_timed;
 use std::fs::File;
 use std::io::{self, ErrorKind, Read, Write};
 use std::net::{Net, TcpListener, TcpStream};
@@ -121,15 +121,9 @@ pub fn read_stream_within(
 ) -> io::Result<Option<usize>>
     ensures { IfOk result (λ read. IfSome read (λ n. n ≤ length buf.new)) }
 {
-    // A timeout of zero would be an error.
-    stream.set_read_timeout(Some(Duration::from_millis(millis.max(1))))?;
-    let read = read_from(stream, buf);
+    let read = read_timed(stream, buf, millis);
     stream.set_read_timeout(longest)?;
-    match read {
-        Ok(n) => Ok(Some(n)),
-        Err(error) if is_silence(error.kind()) => Ok(None),
-        Err(error) => Err(error),
-    }
+    read
 }
 
 // Reads what has come over a device, and rests for about `millis` milliseconds at most until something has. `None`: nothing had come

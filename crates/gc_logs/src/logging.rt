@@ -39,11 +39,14 @@ impl Direction {
     }
 }
 
-// The pending bytes of one direction: those of a line whose line feed hasn't come yet, at most 513, as a line of 512 bytes with its CR
-// has; of a longer line, the last ones.
+// The most pending bytes of one direction: as many as a line of 512 bytes has with its CR.
+const PENDING_ROOM: usize = 513;
+
+// The pending bytes of one direction: those of a line whose line feed hasn't come yet; of a line of more than `PENDING_ROOM`
+// bytes, the last ones.
 #[derive(Drop)]
 struct Unwritten {
-    bytes: ArrayVec<u8, 513>,
+    bytes: ArrayVec<u8, PENDING_ROOM>,
     // Whether the first bytes of this line are no longer pending: they were written as parts, unless the sink had failed.
     is_long: bool,
 }
@@ -144,7 +147,7 @@ impl<K: Sink> Log<K> {
 }
 
 // Logs bytes of this direction that come after the pending ones, in order, as `log_byte` does it: each line that they end is
-// written, and of a longer line each 513 bytes as a part. What isn't written is pending then.
+// written, and of a longer line each `PENDING_ROOM` bytes as a part. What isn't written is pending then.
 fn log_bytes<K: Sink>(sink: &mut K, utc: u64, way: Direction, pending: &mut Unwritten, bytes: &[u8])
     ensures took { TakesEntries K.Sink sink.old sink.new utc (entries way pending.old bytes.now) }
     ensures pending { pending.new ≡ pending_behind pending.old bytes.now }
@@ -154,8 +157,8 @@ fn log_bytes<K: Sink>(sink: &mut K, utc: u64, way: Direction, pending: &mut Unwr
     }
 }
 
-// Logs one more byte. A line feed ends a line, which is written. Any other byte is pending; if 513 bytes are pending already, these are
-// first written as a part of their line.
+// Logs one more byte. A line feed ends a line, which is written. Any other byte is pending; if `PENDING_ROOM` bytes are pending
+// already, these are first written as a part of their line.
 fn log_byte<K: Sink>(sink: &mut K, utc: u64, way: Direction, pending: &mut Unwritten, b: u8)
     ensures took { TakesEntries K.Sink sink.old sink.new utc (entries_at way pending.old b) }
     ensures pending { pending.new ≡ pending_at pending.old b }
@@ -164,7 +167,7 @@ fn log_byte<K: Sink>(sink: &mut K, utc: u64, way: Direction, pending: &mut Unwri
         log_line_end(sink, utc, way, pending);
         return;
     }
-    if pending.bytes.len() < 513 {
+    if pending.bytes.len() < PENDING_ROOM {
         pending.bytes.push(b);
         return;
     }

@@ -6,7 +6,7 @@ use Rattle.gc_measuring.specs.Logging.{ReportsLoss}
 use Rattle.gc_measuring.specs.Measuring.{PortsSeen, MeasuresGiven, MeasuresBegun, IsMeasured, AllLast, ReportsEndOfRun}
 use Rattle.gc_measuring.specs.Recording.{unfit_text}
 use Rattle.gc_measuring.specs.Stops.{IsFaultWithoutLink, with_fault}
-use Rattle.gc_words.specs.Stations.{appended, begun_at}
+use Rattle.gc_words.specs.Stations.{begun_at, for_file}
 use Rattle.gc_words.specs.declared.settings.Settings.{Settings}
 use Rattle.gc_measuring.specs.declared.stop.Stop.{Stop}
 use Rattle.gc_measuring.specs.declared.stop.Stop.TheVariants.{Run}
@@ -161,7 +161,7 @@ pub record ReportsAppended {S F K E : Type 0} (views : Views S F E) (has_log : B
   pub begun : Streams S F E
   pub ended : Streams S F E
   pub filed : IsFiled views.sink old.streams new.streams begun ended file
-  pub run : ReportsRun views has_log (appended station) (stage begun old.acts old.turns) (stage ended new.acts new.turns) status
+  pub run : ReportsRun views has_log (for_file station) (stage begun old.acts old.turns) (stage ended new.acts new.turns) status
 
 -- a file of records can't be had, which is reported (`RefusesFile`); or a run appended to it, and its end is reported
 -- (`ReportsAppended`)
@@ -178,4 +178,4 @@ pub record AppendsAll {S F K E : Type 0} (views : Views S F E) (station : Settin
   pub begun : Streams S F E
   pub ended : Streams S F E
   pub filed : IsFiled views.sink old.streams new.streams begun ended file
-  pub all : MeasuresAllAtLink views (appended station) (stage begun old.acts old.turns) (stage ended new.acts new.turns)
+  pub all : MeasuresAllAtLink views (for_file station) (stage begun old.acts old.turns) (stage ended new.acts new.turns)

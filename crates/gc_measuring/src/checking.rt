@@ -54,9 +54,8 @@ pub fn check_task_text<S: Source, K: Sink, E: Write>(
     (streams, status)
 }
 
-// Reports what looks wrong in the text of these tasks, and is no fault: angles outside one turn, targets of which the text says
-// where they are, though no command measures their direction, names of targets without a command, and spaces or tabs at ends of
-// lines. `Err`: the messages couldn't be written, and what comes after that isn't reported.
+// Reports what looks wrong in the text of these tasks, and is no fault, as `check_task_text` says. `Err`: the messages couldn't be
+// written, and what comes after that isn't reported.
 fn report_doubts<E: Write>(text: &[u8], tasks: &Tasks, messages: &mut E) -> io::Result<()> {
     report_odd_angles(text, tasks, messages)?;
     report_unasked(tasks, messages)?;

@@ -1,12 +1,12 @@
 //! A station that appends its records, as rows, to a file that outlasts the program.
 
-ghost use Rattle.std.specs.Prelude.{◌≡◌, ◌≤◌, [], Some, Ok, IfOk, OnOk, OnErr};
+ghost use Rattle.std.specs.Prelude.{◌≡◌, ◌≤◌, [], Ok, IfOk, OnOk, OnErr};
 ghost use Rattle.std.specs.Io.KnownBytes.{Appends};
 ghost use Rattle.std.specs.Option.{is_some};
 ghost use Rattle.std.specs.Process.{exit_status};
 ghost use Rattle.gc_measuring.specs.Recording.{IsOpenedFor, ReportsOpening, fault_of_unfit, opened_lines, rotation_line, unfit_text};
-ghost use Rattle.gc_measuring.specs.Appending.{file_of, acts_in};
-ghost use Rattle.gc_measuring.specs.Telling.{ReportsAppending, AppendsAll, stage, views_by};
+ghost use Rattle.gc_measuring.specs.Appending.{AppendsWhole, TellsAppending, appending_run};
+ghost use Rattle.gc_measuring.specs.Telling.{views_by};
 ghost use Rattle.gc_files.specs.Sinks.{steps_in};
 
 use crate::counts::report_end_of_run;
@@ -162,14 +162,15 @@ pub fn append_at<
     // Either the file can't be had, which is reported with status 1, and nothing was read. Or the messages report the file's
     // opening and then, with the status, how the run ended; and the file that is handed back has the run's rows: those of the
     // acts that the link recorded. At each act the file had all rows that the acts before it settled, and they lasted.
-    ensures told { IfOk result.1 (λ status. ReportsAppending
-        (views_by S.Source ⟦<Followed<'a, R> as Sink>⟧ ⟦<Followed<'a, R> as Durable>⟧.is_durable E.contents) (is_some spot.entry.site.log) station
-        (stage streams (Some []) kept.old.turns) (stage result.0 (acts_in result.2) kept.new.turns) (file_of result.2) (exit_status status)) }
+    ensures told { IfOk result.1 (λ status. TellsAppending
+        (views_by S.Source ⟦<Followed<'a, R> as Sink>⟧ ⟦<Followed<'a, R> as Durable>⟧.is_durable E.contents)
+        (is_some spot.entry.site.log) station
+        (appending_run streams result.0 kept.old.turns kept.new.turns result.2) (exit_status status)) }
 
     // Status 0 only if the source gave a text to its end, and the run over its commands is done, or its end was asked for.
-    ensures done { IfOk result.1 (λ status. exit_status status ≡ 0
-        → AppendsAll (views_by S.Source ⟦<Followed<'a, R> as Sink>⟧ ⟦<Followed<'a, R> as Durable>⟧.is_durable E.contents) station
-        (stage streams (Some []) kept.old.turns) (stage result.0 (acts_in result.2) kept.new.turns) (file_of result.2)) }
+    ensures done { IfOk result.1 (λ status. exit_status status ≡ 0 → AppendsWhole
+        (views_by S.Source ⟦<Followed<'a, R> as Sink>⟧ ⟦<Followed<'a, R> as Durable>⟧.is_durable E.contents) station
+        (appending_run streams result.0 kept.old.turns kept.new.turns result.2)) }
 
     // Nothing is written on the output.
     ensures output { result.0.output ≡ streams.output }
@@ -180,7 +181,7 @@ pub fn append_at<
         Ok((rows, _)) => {
             let followed = Followed::new(rt, alloc, recording.path, rows, spot.noticed);
             let (filed, output) = streams.with_output(followed);
-            let (filed, ended, link) = measure_at(rt, alloc, spot, station.appended(), filed, kept);
+            let (filed, ended, link) = measure_at(rt, alloc, spot, station.for_file(), filed, kept);
             let (streams, file) = filed.with_output(output);
             (streams, ended, Some(Appended { file, link }))
         }

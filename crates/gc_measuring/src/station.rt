@@ -133,6 +133,7 @@ fn link_at<'a, R: Net<Listener = TcpListener, Stream = TcpStream> + Clock + File
     };
     match link.now() {
         Ok(moment) => Ok((link, moment)),
+        // The clock can't be read.
         Err(_) => Err(fault_without_link(None)),
     }
 }

@@ -16,7 +16,6 @@ use std::process::ExitCode;
 
 /// Reports, with status 2, that a number on the command line is out of its range. `Err`: the messages couldn't be written.
 pub fn refuse_numbers<E: Write>(messages: &mut E) -> io::Result<ExitCode>
-    ensures status { IfOk result (λ status. exit_status status ≡ 2) }
     ensures told { IfOk result (λ status. (exit_status status ≡ 2) × Appends (E.contents messages.old) (E.contents messages.new) range_line) }
 {
     writeln!(

@@ -73,6 +73,12 @@ impl<'a, R: Files<File = File>> Followed<'a, R> {
         let seen = self.noticed.get();
         self.noticed.set(Noticed { files, ..seen });
     }
+
+    // Notes whether the path leads astray: it isn't known to lead to the file, and no new one can be had there.
+    fn note_astray(&self, is_astray: bool) {
+        let files = self.noticed.get().files;
+        self.note(FilesSeen { is_astray, ..files });
+    }
 }
 
 impl<'a, R: Files<File = File>> Sink for Followed<'a, R> {
@@ -108,14 +114,8 @@ impl<'a, R: Files<File = File>> Durable for Followed<'a, R> {
             Ok(()) => {}
             Err(failed) => return Err(failed),
         }
-        let files = self.noticed.get().files;
         if self.rows.file().is_at(self.rt, self.path) {
-            if files.is_astray {
-                self.note(FilesSeen {
-                    is_astray: false,
-                    ..files
-                });
-            }
+            self.note_astray(false);
             return Ok(());
         }
         let opened = open_at(
@@ -128,6 +128,7 @@ impl<'a, R: Files<File = File>> Durable for Followed<'a, R> {
         );
         match opened {
             Ok((rows, copied)) => {
+                let files = self.noticed.get().files;
                 self.note(FilesSeen {
                     moves: files.moves.saturating_add(1),
                     copied,
@@ -143,10 +144,7 @@ impl<'a, R: Files<File = File>> Durable for Followed<'a, R> {
                 }
             }
             Err(_) => {
-                self.note(FilesSeen {
-                    is_astray: true,
-                    ..files
-                });
+                self.note_astray(true);
                 Ok(())
             }
         }

@@ -32,45 +32,37 @@ pub fn report_odd_angles<E: Write>(text: &[u8], all: &Tasks, messages: &mut E) -
     let mut setup = all.tasks.iter().take(all.setup);
     let mut cycle = all.tasks.iter().skip(all.setup);
     let mut is_setup = false;
-    let mut line = 1u32;
-    let mut begins = true;
-    for (place, byte) in text.iter().enumerate() {
-        if begins {
-            let rest = text.get(place..).unwrap_or(b"");
-            is_setup = is_setup_after(rest, is_setup);
-        }
+    for (at, line) in text.split(|byte| *byte == b'\n').enumerate() {
+        is_setup = is_setup_after(line, is_setup);
         // A command's line begins with a digit of its target, and no other line does. So the tasks of a section are those of its
         // lines that begin so, in order; those of a cycle once more for each further attempt.
-        if begins && byte.is_ascii_digit() {
-            let task = if is_setup {
-                setup.next()
-            } else {
-                cycle.find(|task| task.turn.attempt == 1)
-            };
-            if let Some(task) = task {
-                report_odd_angles_of(line, task, messages)?;
-            }
+        if !line.first().is_some_and(|byte| byte.is_ascii_digit()) {
+            continue;
         }
-        begins = *byte == b'\n';
-        if begins {
-            line = line.saturating_add(1);
+        let task = if is_setup {
+            setup.next()
+        } else {
+            cycle.find(|task| task.turn.attempt == 1)
+        };
+        if let Some(task) = task {
+            report_odd_angles_of(at + 1, task, messages)?;
         }
     }
     Ok(())
 }
 
-// Whether the commands after the line at the front of `rest` are those of the setup; `is_setup` says it of those before that line. As the
-// text was read as tasks, only its lines `at start` and `each cycle` begin with these words.
-fn is_setup_after(rest: &[u8], is_setup: bool) -> bool {
+// Whether the commands after this line are those of the setup; `is_setup` says it of those before it. As the text was read as
+// tasks, only its lines `at start` and `each cycle` begin with these words.
+fn is_setup_after(line: &[u8], is_setup: bool) -> bool {
     if is_setup {
-        !rest.starts_with(b"each cycle")
+        !line.starts_with(b"each cycle")
     } else {
-        rest.starts_with(b"at start")
+        line.starts_with(b"at start")
     }
 }
 
 // Writes a line for each angle outside one turn, if the task of the line with this number is a positioning; else nothing.
-fn report_odd_angles_of<E: Write>(line: u32, task: &Task, messages: &mut E) -> io::Result<()> {
+fn report_odd_angles_of<E: Write>(line: usize, task: &Task, messages: &mut E) -> io::Result<()> {
     let Asked::Table(Call::Position { hz, v, .. }) = task.command.call else {
         return Ok(());
     };
@@ -85,7 +77,7 @@ fn report_odd_angles_of<E: Write>(line: u32, task: &Task, messages: &mut E) -> i
 
 // Writes the line of an angle that lies outside one turn. `name`: what the command's line calls it, HZ or V.
 fn report_angle<E: Write>(
-    line: u32,
+    line: usize,
     name: &str,
     angle: Decimal,
     messages: &mut E,

@@ -1,22 +1,17 @@
 -- What it means that rows are true: this project's own. A claim is what a row says of a reply, and a truth is a reply that came, with the
 -- request on whose execution the instrument made it.
-use Rattle.std.specs.Prelude.{◌≡◌, ℕ, ◌+◌, ◌<◌, ◌≤◌, ◌⊎◌, Bool, false, true, List, [], ◌∷◌, slice_get, Some}
+use Rattle.std.specs.Prelude.{◌≡◌, ◌↔◌, ℕ, ◌+◌, ◌<◌, ◌⊎◌, true, List, [], ◌∷◌, slice_get, Some}
 use Rattle.gc_catalogue.specs.Asked.{asked_line}
 use Rattle.gc_nights.specs.declared.claim.Claim.{Claim}
 use Rattle.gc_rehearsal.specs.declared.truth.Truth.{Truth}
 
--- a reply to a request that was sent at `sent` came at the moment `at`: before the deadline, which is `deadline` after `sent`, if it came
--- in time (`true`), and otherwise not before it. `at` may be before `sent`, because the clock may go back
-abbrev pub IsInTimeIff : (in_time : Bool) (sent at deadline : ℕ) → Type 0
-IsInTimeIff true sent at deadline = at < sent + deadline
-IsInTimeIff false sent at deadline = sent + deadline ≤ at
-
--- the claim speaks of this reply: the reply came at the claim's moment, in time exactly if the claim has a line, which then is the
--- reply's; and its request asked for the claim's command, with one of the ids 0 to 7, and was sent when the claim says
+-- the claim speaks of this reply: the reply came at the claim's moment, in time exactly if the claim has a line, which then is
+-- the reply's; and its request asked for the claim's command, with one of the ids 0 to 7, and was sent when the claim says. A
+-- reply is in time if it came before the moment `deadline` after `sent`. `at` may be before `sent`, as the clock may go back
 pub record SpeaksOf (claim : Claim) (truth : Truth) : Type 0 where
   pub at : claim.at ≡ truth.given
   pub sent : claim.sent ≡ truth.sent
-  pub timed : IsInTimeIff claim.has_line claim.sent claim.at claim.deadline
+  pub timed : claim.has_line ≡ true ↔ claim.at < claim.sent + claim.deadline
   pub asked : (id : ℕ) × (id < 8) × (truth.asked.items ≡ asked_line (Some id) claim.call)
   pub line : claim.has_line ≡ true → claim.line.items ≡ truth.reply.items
 

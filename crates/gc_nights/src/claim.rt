@@ -1,9 +1,9 @@
 //! Claims: what rows say of replies, and the comparison with the truth. The contract of each test here says what `true` means; of `false`
 //! it says nothing.
 
-ghost use Rattle.std.specs.Prelude.{◌≡◌, ◌<◌, ℕ, IsTrue, IfNone, IfSome, length, Some, true};
+ghost use Rattle.std.specs.Prelude.{◌≡◌, ◌↔◌, ◌+◌, ◌<◌, ℕ, IsTrue, IfNone, IfSome, length, Some, true};
 ghost use Rattle.gc_catalogue.specs.Asked.{asked_line};
-ghost use Rattle.gc_nights.specs.Claims.{IsInTimeIff, SpeaksOf, IsTrueAt, MatchesNext, AreTrue};
+ghost use Rattle.gc_nights.specs.Claims.{SpeaksOf, IsTrueAt, MatchesNext, AreTrue};
 
 use gc_catalogue::{Asked, encode_asked};
 use gc_lines::Line;
@@ -62,17 +62,12 @@ fn same_line(has_line: bool, line: &[u8], reply: &[u8]) -> bool
     !has_line || line == reply
 }
 
-// Of a reply that came at the moment `at`, to a request that was sent at the moment `sent`: if `in_time` is set, whether it came
-// before the deadline, which is `deadline` milliseconds after `sent`; else whether it came at the deadline or later. A reply
-// before `sent`, as a clock that was set back gives it, counts as one before the deadline, also if `deadline` is 0.
-fn is_in_time_iff(in_time: bool, sent: u64, at: u64, deadline: u64) -> bool
-    ensures { IsTrue result → IsInTimeIff in_time sent at deadline }
+// Whether the claim's reply came before its deadline. A reply before `sent`, as a clock that was set back gives it, counts as one
+// in time, also if `deadline` is 0.
+fn is_in_time(claim: &Claim) -> bool
+    ensures { IsTrue result ↔ claim.now.at < claim.now.sent + claim.now.deadline }
 {
-    if in_time {
-        at < sent || at - sent < deadline
-    } else {
-        sent <= at && deadline <= at - sent
-    }
+    claim.at < claim.sent || claim.at - claim.sent < claim.deadline
 }
 
 // Whether a reply (`truth`) is the one that a claim speaks of: it came at the claim's moment, in time exactly if the claim has a line,
@@ -82,7 +77,7 @@ fn speaks_of(claim: &Claim, truth: &Truth) -> bool
 {
     claim.at == truth.given
         && claim.sent == truth.sent
-        && is_in_time_iff(claim.has_line, claim.sent, claim.at, claim.deadline)
+        && is_in_time(claim) == claim.has_line
         && same_line(
             claim.has_line,
             claim.line.as_slice(),

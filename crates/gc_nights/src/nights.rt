@@ -1,6 +1,7 @@
 //! Nights: the runs of a station over the line of a rehearsal. A station that was killed, or gave up, begins again.
 
-ghost use Rattle.std.specs.Prelude.{[], ◌≡◌};
+ghost use Rattle.std.specs.Prelude.{[], ◌≡◌, OnOk};
+ghost use Rattle.gc_nights.specs.Claims.{AreTrue};
 ghost use Rattle.gc_nights.specs.Runs.{AreRuns, AreFaithfulRuns};
 
 use crate::book::RunBook;
@@ -237,7 +238,7 @@ fn run_by_plan<K: Sink>(
 }
 
 // Runs the station over the line for this many cycles, in at most `acts` acts, and until it has read the moment `until`, in milliseconds
-// since 1970, or a later one. Then the rows of the run are compared with the truth (`compare`), and if that succeeds, the end of
+// since 1970, or a later one. Then the rows of the run are compared with the truth (`check_rows`), and if that succeeds, the end of
 // the run is judged (`end_of_run`). It fails as these two do.
 fn run_once<K: Sink>(
     link: &mut Rehearsed<Seeded>,
@@ -257,7 +258,7 @@ fn run_once<K: Sink>(
     link.begin();
     book.begin(programme.start.saturating_add(link.elapsed()), acts, until);
     let fault = run_by_plan(link, book, programme, &plan);
-    compare(link, book, programme.seed)?;
+    check_rows(link, book, programme.seed)?;
     end_of_run(book, fault)
 }
 
@@ -288,16 +289,15 @@ fn end_of_run<K>(book: &mut RunBook<K>, fault: Option<RunFault>) -> Result<RunEn
 // Compares each row of a run that says that a reply came with the truth, and fails with `Untrue` at the first false one. If
 // memory was refused in this run or an earlier one, so that claims, counts or truths are missing, it compares none, and fails
 // with the fault `Memory`.
-fn compare<K>(link: &Rehearsed<Seeded>, book: &RunBook<K>, seed: u64) -> Result<(), Halt> {
+fn check_rows<K>(link: &Rehearsed<Seeded>, book: &RunBook<K>, seed: u64) -> Result<(), Halt>
+    ensures { OnOk result (AreTrue book.now.seen.claims.items link.now.state.truths.items) }
+{
     if book.seen.lacks_memory || link.missing_truths() > 0 {
         return Err(Halt::Fault(RunFault::Memory));
     }
-    let Some(place) = first_false(book.seen.claims.as_slice(), link.truths()) else {
-        return Ok(());
-    };
-    match book.seen.claims.get(place) {
-        Some(claim) => Err(Halt::Untrue(seed, FalseRow::of(claim))),
-        // Never: there is a claim at the place of a false one.
+    let claims = book.seen.claims.as_slice();
+    match first_false(claims, link.truths()) {
+        Some(place) => Err(Halt::Untrue(seed, FalseRow::of(&claims[place]))),
         None => Ok(()),
     }
 }

@@ -22,8 +22,7 @@ pub(crate) fn tell_summary<E: Write>(
 ) -> io::Result<()> {
     tell_nights(programme, runs, summary.rows, messages)?;
     tell_tally(summary.tally, messages)?;
-    // If memory for the sorting is refused, the spans stay in their order, and only the figures that are taken from them may be
-    // wrong.
+    // If this fails, the spans stay in their order.
     let _ = summary.spans.sort();
     tell_cycles(programme, summary, messages)?;
     for target in &summary.targets {

@@ -88,12 +88,16 @@ impl<'a> Rows for Played<'a> {
 }
 
 // The number that digits write, if it is at most `most`; otherwise, or if the word isn't of digits, 0.
-fn u64_up_to(digits: &str, most: u64) -> u64 {
+fn u64_up_to(digits: &str, most: u64) -> u64
+    ensures { result ≤ most }
+{
     number_of(digits.as_bytes(), most).unwrap_or(0)
 }
 
 // What `u64_up_to` returns, in 32 bits.
-fn u32_up_to(digits: &str, most: u32) -> u32 {
+fn u32_up_to(digits: &str, most: u32) -> u32
+    ensures { result ≤ most }
+{
     u32::try_from(u64_up_to(digits, u64::from(most))).unwrap_or(0)
 }
 
@@ -217,8 +221,7 @@ impl<'a> Played<'a> {
     // else counts as 0.
     fn serve(&mut self, what: &str, came: &mut Told) {
         let (count, reads) = cut_word(what);
-        // The count is at most 9 as it is; `min` shows `serve_on` that it is at most 1000.
-        let count = u32_up_to(count, 9).min(1000);
+        let count = u32_up_to(count, 9);
         let reads = u32_up_to(reads, 9);
         let end = serve_on(
             self.rt,
@@ -231,10 +234,10 @@ impl<'a> Played<'a> {
         tell_end(end, came)
     }
 
-    // Serves a caller with an instrument whose reply to a procedure takes time. `what` is `drop` or `queue`, the procedure and
-    // the time in milliseconds, at most 9999; a procedure or a time that is no such number counts as 0. Reports how serving
-    // ended, and `late` if it took at least that time by the clock; or `no clock`, with nobody served, if the clock can't be
-    // read.
+    // Serves a caller, in at most 99 reads, with an instrument whose reply to a procedure takes time. `what` is `drop` or
+    // `queue`, the procedure and the time in milliseconds, at most 9999; a procedure or a time that is no such number counts as
+    // 0. Reports how serving ended, and `late` if it took at least that time by the clock; or `no clock`, with nobody served, if
+    // the clock can't be read.
     fn serve_slowly(&mut self, what: &str, came: &mut Told) {
         let (busy, rest) = cut_word(what);
         let (rpc, ms) = cut_word(rest);

@@ -3,7 +3,7 @@
 
 use crate::links::{await_silence, dots, put_counted};
 use crate::rig::{Done, Rig};
-use gc_cases::Told;
+use gc_cases::{CaseRuntime, Told};
 use gc_links::{Came, Link, Place, PlacedLink, TcpLink, Unusable};
 use std::alloc::Global;
 use std::cell::RefCell;
@@ -101,10 +101,12 @@ fn device_outcome(rt: &HostRuntime, much: &[u8]) -> Outcome {
 // other opening, isn't refused then, and otherwise what the first link's acts come to.
 fn opened_twice_outcome(rt: &HostRuntime, devices: &[File], much: &[u8]) -> Outcome {
     let done = RefCell::new(Done::nothing());
-    let rig = Rig {
-        devices,
-        connections: &[],
-        done: &done,
+    let rig = CaseRuntime {
+        stand_in: Rig {
+            devices,
+            connections: &[],
+            done: &done,
+        },
     };
     let Some(mut link) = device_link(rt, &rig) else {
         return Outcome::Held;
@@ -116,7 +118,7 @@ fn opened_twice_outcome(rt: &HostRuntime, devices: &[File], much: &[u8]) -> Outc
 }
 
 // Whether a link over a rig's second opening of a device is refused as held, while another link has the first opening.
-fn is_held(rig: &Rig<'_, '_, '_>) -> bool {
+fn is_held(rig: &CaseRuntime<Rig<'_, '_, '_>>) -> bool {
     match PlacedLink::new(rig, Place::Device("/dev/1")) {
         Err(Some(unusable)) => unusable == Unusable::Held,
         _ => false,
@@ -143,8 +145,8 @@ fn device_acts_outcome<L: Link>(link: &mut L, much: &[u8]) -> Outcome {
 // tried every 20 milliseconds. `None`: none could be had within four seconds.
 fn device_link<'a, 'b, 'c, 'd>(
     rt: &HostRuntime,
-    rig: &'a Rig<'b, 'c, 'd>,
-) -> Option<PlacedLink<'a, Rig<'b, 'c, 'd>>> {
+    rig: &'a CaseRuntime<Rig<'b, 'c, 'd>>,
+) -> Option<PlacedLink<'a, CaseRuntime<Rig<'b, 'c, 'd>>>> {
     for _ in 0..200 {
         match PlacedLink::new(rig, Place::Device("/dev/0")) {
             Ok(link) => return Some(link),
@@ -162,10 +164,12 @@ fn pulled_outcome(rt: &HostRuntime) -> Outcome {
     };
     let devices = [device];
     let done = RefCell::new(Done::nothing());
-    let rig = Rig {
-        devices: devices.as_slice(),
-        connections: &[],
-        done: &done,
+    let rig = CaseRuntime {
+        stand_in: Rig {
+            devices: devices.as_slice(),
+            connections: &[],
+            done: &done,
+        },
     };
     match device_link(rt, &rig) {
         Some(mut link) => failure_outcome(&mut link),
@@ -201,20 +205,17 @@ fn opening_outcome<L: Link>(link: &mut L) -> Outcome {
 // link can't be made.
 fn named_outcome(connections: &[Option<TcpStream>]) -> Outcome {
     let done = RefCell::new(Done::nothing());
-    let rig = Rig {
-        devices: &[],
-        connections,
-        done: &done,
+    let rig = CaseRuntime {
+        stand_in: Rig {
+            devices: &[],
+            connections,
+            done: &done,
+        },
     };
-    match named_link(&rig) {
-        Some(mut link) => opening_outcome(&mut link),
-        None => Outcome::Nothing,
+    match TcpLink::to_host(&rig, "station:4001") {
+        Ok(mut link) => opening_outcome(&mut link),
+        Err(_) => Outcome::Nothing,
     }
-}
-
-// A link to a name, which has two addresses in a rig. `None`: it can't be made.
-fn named_link<'a, 'b, 'c, 'd>(rig: &'a Rig<'b, 'c, 'd>) -> Option<TcpLink<'a, Rig<'b, 'c, 'd>>> {
-    TcpLink::to_host(rig, "station:4001").ok()
 }
 
 // What a link comes to whose name has a first address that doesn't answer and a second one that does. It should be `Open`. `Nothing`: there

@@ -15,6 +15,8 @@
 //!     do go, deaf              the far end goes away; nobody listens any more
 //!     do device, pulled, second_address, own_connection   in devices.rt
 
+ghost use Rattle.std.specs.Prelude.{◌<◌, length};
+
 use crate::devices::tell_outcome;
 use crate::streams::{accepted, hear, listener_at_1024, tell_end_behind};
 use gc_cases::{Case, Player, Rows, Told, play_rows};
@@ -102,8 +104,8 @@ impl<'a> Rows for Played<'a> {
             "close" => self.link.close(),
             "put" => self.put(bytes, came),
             "stall" => self.stall(alloc, came),
-            "read" => self.read(came),
-            "look" => self.look(came),
+            "read" => self.read(&mut [0; 2], 1000, came),
+            "look" => self.read(&mut [0; 16], 1, came),
             "wait" => self.wait(what, came),
             "hear" => self.hear(alloc, came),
             "accept" => self.far = self.accept(),
@@ -151,18 +153,12 @@ impl<'a> Played<'a> {
         came.text("a part, in its time")
     }
 
-    // Reads at most two bytes within a second, and reports what came.
-    fn read(&mut self, came: &mut Told) {
-        let mut buf = [0; 2];
-        let ended = self.link.read(&mut buf, 1000);
-        tell_came(ended, buf.as_slice(), came)
-    }
-
-    // Reads at most sixteen bytes within a millisecond, and reports what came.
-    fn look(&mut self, came: &mut Told) {
-        let mut buf = [0; 16];
-        let ended = self.link.read(&mut buf, 1);
-        tell_came(ended, buf.as_slice(), came)
+    // Reads at most as many bytes as `buf` has room for, within this many milliseconds, and reports what came.
+    fn read(&mut self, buf: &mut [u8], millis: u64, came: &mut Told)
+        requires { 0 < length buf.old }
+    {
+        let ended = self.link.read(buf, millis);
+        tell_came(ended, buf, came)
     }
 
     // Waits until the link was silent for as many milliseconds as `what` says (0 if it is no number). Reports that the link was

@@ -1,17 +1,18 @@
 //! The far end of a case: a connection of one process, at which a simulator answers while the station waits, and a clock that
-//! goes only as it waits. So no case waits, and each moment is known.
+//! goes only as it waits. So no case waits, and each moment is known. No file is there; which were to be opened is noted.
 
-use gc_cases::{Told, in_use};
+use gc_cases::{StandIn, Told, in_use, not_found};
 use gc_console::{Oddities, run_exec};
 use gc_lines::{FromReader, ToWriter};
 use gc_links::millis_of;
 use std::alloc::Global;
 use std::cell::RefCell;
+use std::fs::File;
 use std::io::{self, ErrorKind, Read, Write};
-use std::net::{Net, SocketAddr, TcpListener, TcpStream};
+use std::net::{Net, TcpStream};
 use std::os::fd::OwnedFd;
 use std::os::unix::net::UnixStream;
-use std::time::{Clock, Duration};
+use std::time::Duration;
 
 // 2026-11-22T23:08:00Z, when the clock starts, in milliseconds since 1970.
 const BEGIN: u64 = 1_795_388_880_000;
@@ -48,12 +49,6 @@ impl Seen {
     fn pass(&mut self, millis: u64) {
         self.elapsed = self.elapsed.saturating_add(millis);
     }
-
-    // Counts one more attempt to connect, and returns how many there were, this one included.
-    fn count_attempt(&mut self) -> u64 {
-        self.tried = self.tried.saturating_add(1);
-        u64::from(self.tried)
-    }
 }
 
 // Makes a connection, and returns both ends, the station's first. They are a pair of Unix sockets, because what is written to one
@@ -82,7 +77,7 @@ fn stream_of(end: UnixStream) -> TcpStream {
     TcpStream::from(OwnedFd::from(end))
 }
 
-// A runtime with this connection alone, and with a clock of its own.
+// A stand-in for the system with this connection alone, and with a clock of its own.
 #[derive(Drop)]
 pub struct FarEnd<'a, 'b> {
     pub ends: &'a (TcpStream, TcpStream),
@@ -107,14 +102,6 @@ impl<'a, 'b> FarEnd<'a, 'b> {
             return Ok(0);
         };
         Ok(millis_of(wait))
-    }
-
-    // Counts one more attempt to connect, and returns how many there were, this one included. `Err`: `seen` is in use.
-    fn count_attempt(&self) -> io::Result<u64> {
-        match self.seen.try_borrow_mut() {
-            Ok(mut seen) => Ok(seen.count_attempt()),
-            Err(_) => Err(in_use()),
-        }
     }
 
     // Answers the requests of a piece, after an echo of it if the line echoes. Returns whether it sent a reply; `false` also if
@@ -149,7 +136,7 @@ impl<'a, 'b> FarEnd<'a, 'b> {
             self.wait(seen, patience);
         }
         if seen.elapsed > self.until {
-            return Err(in_use());
+            return Err(io::Error::from(ErrorKind::Unsupported));
         }
         Ok(Duration::from_millis(seen.elapsed))
     }
@@ -202,10 +189,10 @@ impl<'a> Write for Changing<'a> {
     }
 }
 
-impl<'a, 'b> Clock for FarEnd<'a, 'b> {
+impl<'a, 'b> StandIn for FarEnd<'a, 'b> {
     // How much time has passed. If the station has waited in a read before it asks, that wait is played first (`moment`). `Err`: as of
     // `moment`, or `seen` is in use.
-    fn monotonic(&self) -> io::Result<Duration> {
+    fn elapsed(&self) -> io::Result<Duration> {
         match self.seen.try_borrow_mut() {
             Ok(mut seen) => self.moment(&mut seen),
             Err(_) => Err(in_use()),
@@ -222,35 +209,33 @@ impl<'a, 'b> Clock for FarEnd<'a, 'b> {
     }
 
     // Lets this much time pass by the clock, in whole milliseconds, and returns at once. If `seen` is in use, none passes.
-    fn sleep(&self, duration: Duration) {
+    fn pass(&self, time: Duration) {
         if let Ok(mut seen) = self.seen.try_borrow_mut() {
-            seen.pass(millis_of(duration));
+            seen.pass(millis_of(time));
         }
     }
-}
 
-impl<'a, 'b> Net for FarEnd<'a, 'b> {
-    type Stream = TcpStream;
-
-    type Listener = TcpListener;
-
-    // No port can be listened at.
-    fn bind(&self, _addr: SocketAddr) -> io::Result<TcpListener> {
-        Err(io::Error::from(ErrorKind::Unsupported))
-    }
-
-    // Counts the attempt, and makes no connection: a station connects with a time-out.
-    fn connect(&self, _addr: SocketAddr) -> io::Result<TcpStream> {
-        let _ = self.count_attempt()?;
-        Err(io::Error::from(ErrorKind::Unsupported))
-    }
-
-    // Counts the attempt. It refuses the first connections, as many as `refused` says. Each further one is the station's end of the same
-    // connection. `Err`: the connection is refused, no further handle of that end can be had, or `seen` is in use.
-    fn connect_timeout(&self, _addr: SocketAddr, _timeout: Duration) -> io::Result<TcpStream> {
-        if self.count_attempt()? <= self.refused {
+    // Counts the attempt to connect. It refuses the first connections, as many as `refused` says. Each further one is the
+    // station's end of the same connection. `Err`: the connection is refused, no further handle of that end can be had, or
+    // `seen` is in use.
+    fn connect(&self) -> io::Result<TcpStream> {
+        let Ok(mut seen) = self.seen.try_borrow_mut() else {
+            return Err(in_use());
+        };
+        seen.tried = seen.tried.saturating_add(1);
+        if u64::from(seen.tried) <= self.refused {
             return Err(io::Error::from(ErrorKind::ConnectionRefused));
         }
         self.ends.0.try_clone()
+    }
+
+    // Notes the file's path, unless `seen` is in use, and opens nothing: it always fails.
+    fn open(&self, path: &str) -> io::Result<File> {
+        let Ok(mut seen) = self.seen.try_borrow_mut() else {
+            return Err(in_use());
+        };
+        seen.files.text(path);
+        seen.files.text("\n");
+        not_found()
     }
 }

@@ -3,7 +3,6 @@
 #![tactic(auto)]
 
 mod far_end;
-mod far_files;
 mod parts;
 mod program;
 mod room;

@@ -17,7 +17,7 @@
 
 use crate::far_end::{FarEnd, Seen, both_ends};
 use crate::said::{Said, tell_seen};
-use gc_cases::{Case, Player, Told, cut_word, input_of, port_of};
+use gc_cases::{Case, CaseRuntime, Player, Told, input_of, port_of};
 use gc_console::{Oddities, Standard, Streams, run_program};
 use gc_links::listen;
 use std::alloc::{AllocError, Global};
@@ -108,22 +108,24 @@ fn run_far(
     }
 }
 
-// The far end that a case has, over the connection with these two ends. Its answers take `answer` milliseconds; `None`: it gives none.
-// What comes there is noted in `seen`.
+// A runtime with the far end that a case has, over the connection with these two ends. Its answers take `answer`
+// milliseconds; `None`: it gives none. What comes there is noted in `seen`.
 fn far_end_of<'a, 'b>(
     case: &Case<'_>,
     answer: Option<u64>,
     ends: &'a (TcpStream, TcpStream),
     seen: &'b RefCell<Seen>,
-) -> FarEnd<'a, 'b> {
-    FarEnd {
-        ends,
-        seen,
-        answer,
-        until: case.number("until", HOUR),
-        refused: case.number("refused", 0),
-        silent: case.number("silent", u64::MAX),
-        odd: oddities_of(case),
+) -> CaseRuntime<FarEnd<'a, 'b>> {
+    CaseRuntime {
+        stand_in: FarEnd {
+            ends,
+            seen,
+            answer,
+            until: case.number("until", HOUR),
+            refused: case.number("refused", 0),
+            silent: case.number("silent", u64::MAX),
+            odd: oddities_of(case),
+        },
     }
 }
 
@@ -199,11 +201,8 @@ fn push_words(
     all: &mut Vec<String>,
 ) -> Result<(), AllocError> {
     push_word(alloc, "geocom", all)?;
-    let mut rest = words;
-    for _ in 0..words.len() {
-        let (word, behind) = cut_word(rest);
+    for word in words.split(' ') {
         push_word(alloc, port_or_word(word, port), all)?;
-        rest = behind;
     }
     Ok(())
 }

@@ -34,13 +34,16 @@ impl Said {
     }
 
     /// Reports where the status, the output or the messages came otherwise than the case has them, and each part that the case
-    /// asks for and that the output or the messages lack. Without a far end the messages have `PORT` for the digits `port`.
+    /// asks for and that the output, which counts as empty if it isn't UTF-8, or the messages lack. Without a far end the
+    /// messages have `PORT` for the digits `port`.
     pub fn tell(&self, alloc: Global, case: &Case<'_>, port: &str, wrong: &mut Told) {
         let mut told = Told::new(alloc);
         self.append_messages(alloc, case, port, &mut told);
         case.tell("status", self.status_text(case).as_bytes(), wrong);
         case.tell("output", self.compared_output(case), wrong);
-        self.compare_messages_and_parts(alloc, case, &told, wrong);
+        compare_messages(case, &told, wrong);
+        let output = str::from_utf8(self.output.bytes.as_slice()).unwrap_or("");
+        tell_parts(alloc, case, output, &told, wrong);
     }
 
     // The status in a digit, or `any` if the case takes any; or that there is none, which no case takes.
@@ -76,24 +79,15 @@ impl Said {
             append_without_waits(messages, told);
         }
     }
+}
 
-    // Compares the messages, `told`, with the case's `messages`; but a case that asks for parts of the messages must have no
-    // `messages`, and is reported if it has. Then reports each part that the output or the messages lack; an output that isn't
-    // UTF-8 counts as empty.
-    fn compare_messages_and_parts(
-        &self,
-        alloc: Global,
-        case: &Case<'_>,
-        told: &Told,
-        wrong: &mut Told,
-    ) {
-        if asks_for_parts(case) {
-            case.tell("messages", b"", wrong);
-        } else {
-            case.tell_told("messages", told, wrong);
-        }
-        let output = str::from_utf8(self.output.bytes.as_slice()).unwrap_or("");
-        tell_parts(alloc, case, output, told, wrong);
+// Compares the messages, `told`, with the case's `messages`. A case that asks for parts of the messages must have no
+// `messages`, and is reported if it has.
+fn compare_messages(case: &Case<'_>, told: &Told, wrong: &mut Told) {
+    if asks_for_parts(case) {
+        case.tell("messages", b"", wrong);
+    } else {
+        case.tell_told("messages", told, wrong);
     }
 }
 

@@ -80,7 +80,7 @@ appends_are_runs source sink K E taken lasts shown has_log station old new file 
   | inl ran ↦
       let it = same_Some file tells.ended.output tells.filed.left in
       let m = ran.measured in
-      elim (found (begun_at m.0 (words.appended station)) m.1.0 _ _ tells.run.end ran.told file refl refl refl tells.filed.fresh
+      elim (found (begun_at m.0 (words.for_file station)) m.1.0 _ _ tells.run.end ran.told file refl refl refl tells.filed.fresh
       (subst (λ f. sink.taken f ≡ Some (bytes_in file)) it (taken file)) m.1.2) [
         | inl none ↦ inl none
         | inr some ↦ inr (some.0, some.1, some.2, ran.is ∙ ap (λ (l : List Act). Some l) (sym some.3), some.4, some.5)

@@ -7,7 +7,7 @@ use Rattle.gc_files.specs.Failing.{Sides, Event, Ran, Failed, Copied, Crashed, f
 use Rattle.gc_files.specs.Files.{Step, Append, Cut, Sync, Life, has_sync, content}
 use Rattle.gc_files.specs.Rows.{whole, table, start_of, mended, cuts_none, appended, IsFront}
 use Rattle.gc_files.specs.Rows as opening
-use Rattle.gc_files.specs.Runs.{synced, Run, lines, IsRun, WereKept, Happen, life_after, life_once_ended, rows_of, AreRowCounts, HasRows}
+use Rattle.gc_files.specs.Runs.{synced, Run, lines, IsRun, WereKept, OpensAndWrites, Happen, life_after, life_once_ended, rows_of, AreRowCounts, HasRows}
 use Rattle.gc_files.proofs.Killing.{calls_opened}
 use Rattle.gc_files.proofs.Moments.{two_steps, mend_synced, no_sync}
 use Rattle.gc_files.proofs.Whole.{whole_more}
@@ -99,9 +99,17 @@ module _ (head held : List ℕ) (steps was since : List Step) (rest : List ℕ) 
   is_run rest_whole none front =
       let all = appended was ++ rest in
       let all_whole : whole all ≡ all = whole_more (appended was) rest is_whole ∙ ap (λ (l : List ℕ). appended was ++ l) rest_whole in
-      calls_opened head held steps (was ++ since) (appended (was ++ since)) (pieces all) (feeds (appended was)) None opened (record { none_cut = none; all = refl })
-      (subst (λ (l : List ℕ). IsFront (appended (was ++ since)) l) (sym (pieces_whole all all_whole)) front)
-      (pieces_rows all) (pieces_fit (appended was) rest is_whole) were_kept
+      let run = run_by steps (was ++ since) (appended was) all in
+      let did : OpensAndWrites head held run = record {
+        opening = steps;
+        later = was ++ since;
+        split = refl;
+        opened = opened;
+        front = appended (was ++ since);
+        puts = record { none_cut = none; all = refl };
+        is_front = subst (λ (l : List ℕ). IsFront (appended (was ++ since)) l) (sym (pieces_whole all all_whole)) front;
+      } in
+      calls_opened head held run did (pieces_rows all) (pieces_fit (appended was) rest is_whole) were_kept
 
 -- After other runs and events.
 

@@ -14,6 +14,32 @@ use std::alloc::Global;
 use std::collections::VecDeque;
 use std::marker::Model;
 
+/// The last reply that an instrument stored, and the request on which it made that reply.
+#[derive(Drop)]
+pub(crate) struct Stored {
+    // The reply's line. Empty if the instrument has stored none since its restart: then `origin` says nothing.
+    pub line: Line,
+    pub origin: Origin,
+}
+
+impl Stored {
+    // Returns the request that `reply` answers; the instrument has just sent `reply` on `request`. `was_stored` says whether the
+    // instrument had stored a reply with the id of `request` before, and `is_stored` whether it has now. If it had, and `reply`
+    // is the line noted here, the stored reply was sent again, and answers the request that it was made on (`origin`). Otherwise
+    // `reply` answers `request`; and if a reply with this id is stored now, and none was before, both are noted here.
+    fn note(&mut self, reply: &Line, request: Origin, was_stored: bool, is_stored: bool) -> Origin {
+        if was_stored {
+            if self.line.as_slice() == reply.as_slice() {
+                return self.origin.copy();
+            }
+        } else if is_stored {
+            self.line = line_from(reply.as_slice());
+            self.origin = request.copy();
+        }
+        request
+    }
+}
+
 /// The requests and the replies in flight, the one that was sent first in front, and the instrument. Contracts see this value as the acts
 /// of the link so far: the results of its calls, in order.
 #[derive(Drop)]
@@ -21,10 +47,7 @@ pub(crate) struct Carried {
     instrument: SceneInstrument,
     up: VecDeque<Flight>,
     down: VecDeque<Flight>,
-    // The last reply that the instrument stored, and the request that this reply answered. Empty if the instrument has stored
-    // none since its restart: then `origin` says nothing.
-    made: Line,
-    origin: Origin,
+    stored: Stored,
     history: History,
 }
 
@@ -54,11 +77,13 @@ impl Carried {
             instrument,
             up: VecDeque::new(alloc),
             down: VecDeque::new(alloc),
-            made: Line::new(),
-            origin: Origin {
-                request: 0,
-                sent: 0,
-                asked: Line::new(),
+            stored: Stored {
+                line: Line::new(),
+                origin: Origin {
+                    request: 0,
+                    sent: 0,
+                    asked: Line::new(),
+                },
             },
             history: History::new(),
         }
@@ -142,7 +167,7 @@ impl Carried {
         ensures { self.new ≡ self.old }
     {
         self.instrument.restart();
-        self.made = Line::new();
+        self.stored.line = Line::new();
     }
 
     /// Lets time pass at the instrument: sets its clock to this moment, in milliseconds since the line was made.
@@ -162,8 +187,7 @@ impl Carried {
             &mut self.instrument,
             &mut self.up,
             &mut self.down,
-            &mut self.made,
-            &mut self.origin,
+            &mut self.stored,
             lost,
             arrives,
         )
@@ -188,14 +212,13 @@ impl Carried {
 }
 
 // Takes the first request from the queue `up`, and hands it to the instrument. Its reply, if it makes one, is put at the back of
-// the queue `down` or is lost, as `send` does it. `made` and `origin` are the stored reply and its request (`note_origin`).
-// Returns whether the instrument made a reply, also one that is lost; `false` if `up` is empty.
+// the queue `down` or is lost, as `send` does it. Returns whether the instrument made a reply, also one that is lost; `false` if
+// `up` is empty.
 fn answer(
     instrument: &mut SceneInstrument,
     up: &mut VecDeque<Flight>,
     down: &mut VecDeque<Flight>,
-    made: &mut Line,
-    origin: &mut Origin,
+    stored: &mut Stored,
     lost: bool,
     arrives: u64,
 ) -> bool
@@ -211,7 +234,7 @@ fn answer(
         return false;
     }
     let is_stored = has_stored(instrument, id);
-    let answered = note_origin(made, origin, &reply, request.origin, was_stored, is_stored);
+    let answered = stored.note(&reply, request.origin, was_stored, is_stored);
     send(down, reply, lost, arrives, &answered);
     true
 }
@@ -230,30 +253,6 @@ fn has_stored(instrument: &SceneInstrument, id: Option<u8>) -> bool {
         (Some(stored), Some(id)) => stored == id,
         _ => false,
     }
-}
-
-// Returns the request that `reply` answers; the instrument has just sent `reply` on `request`. `was_stored` says whether the
-// instrument had stored a reply with the id of `request` before, and `is_stored` whether it has now. If it had, and `reply` is
-// the stored line (`made`), the stored reply was sent again, and answers the request that it was made on (`origin`). Otherwise
-// `reply` answers `request`; and if a reply with this id is stored now, and none was before, `reply` becomes `made`, and
-// `request` becomes `origin`.
-fn note_origin(
-    made: &mut Line,
-    origin: &mut Origin,
-    reply: &Line,
-    request: Origin,
-    was_stored: bool,
-    is_stored: bool,
-) -> Origin {
-    if was_stored {
-        if made.as_slice() == reply.as_slice() {
-            return origin.copy();
-        }
-    } else if is_stored {
-        *made = line_from(reply.as_slice());
-        *origin = request.copy();
-    }
-    request
 }
 
 // Puts a reply to the request `origin`, which arrives at the moment `arrives`, at the back of the queue `down`. The reply is lost

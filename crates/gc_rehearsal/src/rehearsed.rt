@@ -6,7 +6,7 @@ ghost use Rattle.gc_rehearsal.specs.Carrying.{IsOfLine};
 ghost use Rattle.gc_rehearsal.specs.Reading.{MayRead, Reads};
 
 use crate::carried::Carried;
-use crate::chance::Chance;
+use crate::chance::{Chance, Fate};
 use crate::counts::Counts;
 use crate::line_state::{LineState, Next};
 use crate::truth::Truth;
@@ -60,7 +60,9 @@ impl<C> Rehearsed<C> {
     }
 
     /// The truth of each reply that reads gave since the present run began, in their order, but for those that are missing.
-    pub fn truths(&self) -> &[Truth] {
+    pub fn truths(&self) -> &[Truth]
+        ensures { result.now ≡ self.now.state.truths.items }
+    {
         self.state.truths.as_slice()
     }
 
@@ -183,20 +185,20 @@ impl<C: Chance> Rehearsed<C> {
         }
     }
 
-    // Sends a whole request. If `lost`, nothing arrives. Otherwise it arrives at the moment `arrives`, and if `repeated` a second
-    // time directly after that, unless memory is refused for the second one. Bytes that aren't a line with its CR LF don't
-    // arrive, nor does a line of more than 512 bytes without that, or one for which memory is refused; `repeated` then applies to
-    // the last request that is in flight, if there is one.
-    fn send(&mut self, bytes: &[u8], lost: bool, repeated: bool, arrives: u64)
+    // Sends a whole request with this fate. If that loses it, nothing arrives. Otherwise it arrives at the moment `arrives`, and if
+    // the fate repeats it, a second time directly after that, unless memory is refused for the second one. Bytes that aren't a
+    // line with its CR LF don't arrive, nor does a line of more than 512 bytes without that, or one for which memory is refused;
+    // the fate then repeats the last request that is in flight, if there is one.
+    fn send(&mut self, bytes: &[u8], fate: Fate, arrives: u64)
         ensures { self.new.carried ≡ self.old.carried ++ Put bytes.now ∷ [] }
     {
-        if lost {
+        if fate.lost {
             self.carried.put_nothing(bytes);
             return;
         }
         let request = self.state.counts.requests.saturating_sub(1);
         self.carried.put(bytes, arrives, request, self.state.now);
-        if repeated {
+        if fate.repeated {
             self.carried.repeat_request();
         }
     }
@@ -225,7 +227,7 @@ impl<C: Chance> Rehearsed<C> {
             return Err(self.cut(bytes));
         }
         let arrives = self.state.schedule_request(fate);
-        self.send(bytes, fate.lost, fate.repeated, arrives);
+        self.send(bytes, fate, arrives);
         Ok(())
     }
 

@@ -8,16 +8,18 @@ ghost use Rattle.gc_rows.specs.Items.{split_items};
 ghost use Rattle.gc_values.specs.Params.{bytes_in};
 ghost use Rattle.gc_texts.specs.Endings.{ending_seen};
 ghost use Rattle.gc_texts.specs.Logs.{escaped};
-ghost use Rattle.gc_rows.specs.declared.json_line.TheConstants.{NAME_ROOM, VALUE_ROOM, STRINGS_ROOM, LIST_ROOM, ANSWER_ROOM, LAST_ROOM, AFTER_ENDING_ROOM};
+ghost use Rattle.gc_rows.specs.declared.json_line.TheConstants.{NAME_ROOM, TEXT_ROOM, NUMBER_ROOM, SENT_ROOM, WHEN_ROOM, COMMAND_ROOM, REPLY_ROOM, ENDING_ROOM, OWN_ROOM, VALUE_ROOM, STRINGS_ROOM, LIST_ROOM, ANSWER_ROOM, LAST_ROOM, AFTER_ENDING_ROOM};
 ghost use Rattle.gc_rows.specs.JsonLines.{behind_backslash, in_quotes, named, string_text, text_member, number_member, comma_where, strings_text, items_list, item_members, members_text, without_zeros, sent_members, when_members, text_if_any, command_members, fault_members, reply_members, ending_members, value_members, values_members, answer_members, quantity_members, attempt_members, last_members, members_after_ending, json_line, json_members};
 
-use crate::quantity::{answer_values, column_of, quantity_name, quantity_text};
+use crate::quantity::{
+    MOST_VALUES, QUANTITY_ROOM, answer_values, column_of, quantity_name, quantity_text,
+};
 use crate::row::texts_of;
 use crate::when::When;
 use arrayvec::ArrayVec;
 use gc_catalogue::{Answer, Asked};
 use gc_lines::{Line, append};
-use gc_texts::{Ending, Wish, before, behind, escaped, stamp_text};
+use gc_texts::{Ending, STAMP_ROOM, Wish, before, behind, escaped, stamp_text};
 use gc_values::{Items, Value, ValueFault, split};
 use itoa::Buffer;
 
@@ -27,9 +29,38 @@ pub(crate) const JSON_ROOM: usize = 40_960;
 // The most bytes of a member's name of at most 37 bytes, with a comma before it, within quotes, and with a colon after.
 const NAME_ROOM: usize = 1 + 2 + 37 + 1;
 
-// The most bytes of a value's members: those of a number are the number with its name, and what the reply wrote, of at most 512 bytes,
-// with its name; a text's one member is shorter.
-const VALUE_ROOM: usize = 8 * 512 + 640;
+// The most bytes of a member that is a string, besides those within its quotes. Each byte that the string holds takes at most
+// eight: it may be escaped as four, and each of these come after a backslash.
+const TEXT_ROOM: usize = NAME_ROOM + 2;
+
+// The most bytes of a member that is a word of at most 16 bytes.
+const WORD_ROOM: usize = TEXT_ROOM + 8 * 16;
+
+// The most bytes of a member that is a number of at most 20 digits.
+const NUMBER_ROOM: usize = NAME_ROOM + 20;
+
+// The most bytes of the member `sent`, which is a moment.
+const SENT_ROOM: usize = TEXT_ROOM + 8 * STAMP_ROOM;
+
+// The most bytes of the members that say when a command was sent and ended, and which one of its run it was: two moments and two
+// numbers.
+const WHEN_ROOM: usize = 2 * SENT_ROOM + 2 * NUMBER_ROOM;
+
+// The most bytes of the members of a command: its target, a name of at most 64 bytes, and the procedure's number.
+const COMMAND_ROOM: usize = TEXT_ROOM + 8 * 64 + 2 * NUMBER_ROOM;
+
+// The most bytes of the members of a reply's line of 512 bytes: two codes as they are, and its values as a string.
+const REPLY_ROOM: usize = 2 * (NAME_ROOM + 512) + TEXT_ROOM + 8 * 512;
+
+// The most bytes of the members that say how a command ended: a word, a fault's number, and those of the reply's line.
+const ENDING_ROOM: usize = WORD_ROOM + NUMBER_ROOM + REPLY_ROOM;
+
+// The most bytes of a value's members besides what the reply wrote of it: those of a text, which is one member. The names of a
+// number, and the number itself, have fewer.
+const OWN_ROOM: usize = TEXT_ROOM + 8 * QUANTITY_ROOM;
+
+// The most bytes of a value's members: those of a number and, as a string, what the reply wrote of it, of at most 512 bytes.
+const VALUE_ROOM: usize = OWN_ROOM + 8 * 512;
 
 // The most bytes of up to 16 strings that hold 512 bytes together: each byte may be escaped as four, each of these come after a
 // backslash, and each string has its quotes and a comma.
@@ -38,15 +69,11 @@ const STRINGS_ROOM: usize = 8 * 512 + 3 * 16;
 // The most bytes of the member `items`: its name, the brackets, and the strings.
 const LIST_ROOM: usize = NAME_ROOM + 2 + STRINGS_ROOM;
 
-// The most bytes of the members of an answer, which are those of six values, or the list of its items.
-const ANSWER_ROOM: usize = 6 * VALUE_ROOM;
+// The most bytes of the members of an answer, which are those of its values, or the list of its items.
+const ANSWER_ROOM: usize = MOST_VALUES * VALUE_ROOM;
 
-// The most bytes of the member `quality`: its name, the quotes, and a word of at most 16 bytes, each with the room of one that is
-// escaped.
-const QUALITY_ROOM: usize = NAME_ROOM + 2 + 8 * 16;
-
-// The most bytes of the members after all others: the quality, and the attempt, a name and at most 20 digits.
-const LAST_ROOM: usize = QUALITY_ROOM + NAME_ROOM + 20;
+// The most bytes of the members after all others: the quality, which is a word, and the attempt.
+const LAST_ROOM: usize = WORD_ROOM + NUMBER_ROOM;
 
 // The most bytes of the members after how a command ended: those of its answer and the last ones.
 const AFTER_ENDING_ROOM: usize = ANSWER_ROOM + LAST_ROOM;
@@ -92,13 +119,13 @@ fn append_name<const N: usize>(line: &mut ArrayVec<u8, N>, name: &[u8], suffix: 
     append(line, b"\":");
 }
 
-// Appends a member that is a string of these bytes. It takes at most eight bytes for each, and 43 for the name, its marks and the quotes.
+// Appends a member that is a string of these bytes.
 fn append_text<const N: usize>(line: &mut ArrayVec<u8, N>, name: &[u8], bytes: &[u8])
     requires named { length name.now ≤ 32 }
     requires short { length bytes.now ≤ 514 }
-    requires room { array_vec_len line.old + 8 * length bytes.now + 43 ≤ N }
+    requires room { array_vec_len line.old + 8 * length bytes.now + TEXT_ROOM ≤ N }
     ensures text { line.new.items ≡ line.old.items ++ text_member name.now bytes.now }
-    ensures room { array_vec_len line.new ≤ array_vec_len line.old + 8 * length bytes.now + 43 }
+    ensures room { array_vec_len line.new ≤ array_vec_len line.old + 8 * length bytes.now + TEXT_ROOM }
 {
     append_name(line, name, b"");
     append_string(line, bytes);
@@ -116,22 +143,22 @@ fn append_number<const N: usize>(line: &mut ArrayVec<u8, N>, name: &[u8], digits
     append(line, digits);
 }
 
-// Appends the member that says when a command was sent; nothing if it wasn't. It has at most 384 bytes.
+// Appends the member that says when a command was sent; nothing if it wasn't.
 fn append_sent<const N: usize>(line: &mut ArrayVec<u8, N>, sent: Option<u64>)
-    requires { array_vec_len line.old + 384 ≤ N }
+    requires { array_vec_len line.old + SENT_ROOM ≤ N }
     ensures text { line.new.items ≡ line.old.items ++ members_text (sent_members sent) }
-    ensures room { array_vec_len line.new ≤ array_vec_len line.old + 384 }
+    ensures room { array_vec_len line.new ≤ array_vec_len line.old + SENT_ROOM }
 {
     if let Some(utc) = sent {
         append_text(line, b"sent", &stamp_text(utc));
     }
 }
 
-// Appends the members that say when a command was sent and ended, and which command of its run it was: at most 1024 bytes.
+// Appends the members that say when a command was sent and ended, and which command of its run it was.
 fn append_when<const N: usize>(line: &mut ArrayVec<u8, N>, when: &When)
-    requires { array_vec_len line.old + 1024 ≤ N }
+    requires { array_vec_len line.old + WHEN_ROOM ≤ N }
     ensures text { line.new.items ≡ line.old.items ++ members_text (when_members when.now) }
-    ensures room { array_vec_len line.new ≤ array_vec_len line.old + 1024 }
+    ensures room { array_vec_len line.new ≤ array_vec_len line.old + WHEN_ROOM }
 {
     let mut digits = Buffer::new();
     append_sent(line, when.stamp.sent);
@@ -148,21 +175,21 @@ fn append_when<const N: usize>(line: &mut ArrayVec<u8, N>, when: &When)
 fn append_text_if_any<const N: usize>(line: &mut ArrayVec<u8, N>, name: &[u8], bytes: &[u8])
     requires named { length name.now ≤ 32 }
     requires short { length bytes.now ≤ 514 }
-    requires room { array_vec_len line.old + 8 * length bytes.now + 43 ≤ N }
+    requires room { array_vec_len line.old + 8 * length bytes.now + TEXT_ROOM ≤ N }
     ensures text { line.new.items ≡ line.old.items ++ members_text (text_if_any name.now bytes.now) }
-    ensures room { array_vec_len line.new ≤ array_vec_len line.old + 8 * length bytes.now + 43 }
+    ensures room { array_vec_len line.new ≤ array_vec_len line.old + 8 * length bytes.now + TEXT_ROOM }
 {
     if !bytes.is_empty() {
         append_text(line, name, bytes);
     }
 }
 
-// Appends the members of a command's target, the target's name, and the number of the procedure: at most 1408 bytes.
+// Appends the members of a command's target, the target's name, and the number of the procedure.
 fn append_command<const N: usize>(line: &mut ArrayVec<u8, N>, command: &Wish, name: &[u8])
     requires short { length name.now ≤ 64 }
-    requires room { array_vec_len line.old + 1408 ≤ N }
+    requires room { array_vec_len line.old + COMMAND_ROOM ≤ N }
     ensures text { line.new.items ≡ line.old.items ++ members_text (command_members command.now name.now) }
-    ensures room { array_vec_len line.new ≤ array_vec_len line.old + 1408 }
+    ensures room { array_vec_len line.new ≤ array_vec_len line.old + COMMAND_ROOM }
 {
     let mut digits = Buffer::new();
     append_number(line, b"target", digits.format(command.target).as_bytes());
@@ -185,11 +212,11 @@ fn without_zeros(digits: &[u8]) -> &[u8]
     }
 }
 
-// Appends the member of a fault's number; nothing if there is no fault. It has at most 64 bytes.
+// Appends the member of a fault's number; nothing if there is no fault.
 fn append_fault<const N: usize>(line: &mut ArrayVec<u8, N>, fault: Option<ValueFault>)
-    requires { array_vec_len line.old + 64 ≤ N }
+    requires { array_vec_len line.old + NUMBER_ROOM ≤ N }
     ensures text { line.new.items ≡ line.old.items ++ members_text (fault_members fault) }
-    ensures room { array_vec_len line.new ≤ array_vec_len line.old + 64 }
+    ensures room { array_vec_len line.new ≤ array_vec_len line.old + NUMBER_ROOM }
 {
     if let Some(fault) = fault {
         append_number(
@@ -201,11 +228,11 @@ fn append_fault<const N: usize>(line: &mut ArrayVec<u8, N>, fault: Option<ValueF
 }
 
 // Appends the members of a reply's line: its communication code and its return code, as numbers without leading zeros, and its values, as
-// a string. They have at most 5346 bytes.
+// a string.
 fn append_reply_texts<const N: usize>(line: &mut ArrayVec<u8, N>, reply: &Line)
-    requires { array_vec_len line.old + 5346 ≤ N }
+    requires { array_vec_len line.old + REPLY_ROOM ≤ N }
     ensures text { line.new.items ≡ line.old.items ++ members_text (reply_members (Some reply.now.items)) }
-    ensures room { array_vec_len line.new ≤ array_vec_len line.old + 5346 }
+    ensures room { array_vec_len line.new ≤ array_vec_len line.old + REPLY_ROOM }
 {
     let texts = texts_of(reply);
     append_number(line, b"rc_com", without_zeros(texts.com));
@@ -215,20 +242,20 @@ fn append_reply_texts<const N: usize>(line: &mut ArrayVec<u8, N>, reply: &Line)
 
 // Appends the members of a reply's line, as `append_reply_texts`; nothing if there is no line.
 fn append_reply<const N: usize>(line: &mut ArrayVec<u8, N>, reply: Option<&Line>)
-    requires { array_vec_len line.old + 5346 ≤ N }
+    requires { array_vec_len line.old + REPLY_ROOM ≤ N }
     ensures text { line.new.items ≡ line.old.items ++ members_text (reply_members (option_map (λ l. l.now.items) reply.entry)) }
-    ensures room { array_vec_len line.new ≤ array_vec_len line.old + 5346 }
+    ensures room { array_vec_len line.new ≤ array_vec_len line.old + REPLY_ROOM }
 {
     if let Some(reply) = reply {
         append_reply_texts(line, reply);
     }
 }
 
-// Appends the members that say how a command ended: its word, its fault, and those of the reply's line, at most 5632 bytes.
+// Appends the members that say how a command ended: its word, its fault, and those of the reply's line.
 fn append_ending<const N: usize>(line: &mut ArrayVec<u8, N>, ending: Ending<'_>)
-    requires { array_vec_len line.old + 5632 ≤ N }
+    requires { array_vec_len line.old + ENDING_ROOM ≤ N }
     ensures text { line.new.items ≡ line.old.items ++ members_text (ending_members (ending_seen ending.entry)) }
-    ensures room { array_vec_len line.new ≤ array_vec_len line.old + 5632 }
+    ensures room { array_vec_len line.new ≤ array_vec_len line.old + ENDING_ROOM }
 {
     append_text(line, b"outcome", ending.word());
     append_fault(line, ending.fault());
@@ -241,9 +268,9 @@ fn append_ending<const N: usize>(line: &mut ArrayVec<u8, N>, ending: Ending<'_>)
 fn append_value<const N: usize>(line: &mut ArrayVec<u8, N>, name: &[u8], value: &Value, came: &[u8])
     requires named { length name.now ≤ 32 }
     requires short { length came.now ≤ 514 }
-    requires room { array_vec_len line.old + 8 * length came.now + 640 ≤ N }
+    requires room { array_vec_len line.old + 8 * length came.now + OWN_ROOM ≤ N }
     ensures text { line.new.items ≡ line.old.items ++ members_text (value_members name.now value.now came.now) }
-    ensures room { array_vec_len line.new ≤ array_vec_len line.old + 8 * length came.now + 640 }
+    ensures room { array_vec_len line.new ≤ array_vec_len line.old + 8 * length came.now + OWN_ROOM }
 {
     match value {
         Value::Text(text) => append_text(line, name, text.as_bytes()),

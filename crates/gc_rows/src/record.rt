@@ -4,6 +4,7 @@ ghost use Rattle.std.specs.Prelude.{◌≡◌, ℕ, ◌+◌, ◌≤◌, ◌++◌
 ghost use Rattle.std.specs.Io.KnownBytes.{Appends};
 ghost use Rattle.gc_lines.specs.Ports.{FailsWith, TakesFront};
 ghost use Rattle.gc_texts.specs.Endings.{ending_seen};
+ghost use Rattle.gc_rows.specs.declared.record.TheConstants.{FAULT_ROOM, REPLY_ROOM};
 ghost use Rattle.gc_rows.specs.Records.{spaced_fault, spaced_line, ending_text, record_line, record_text, head_text, sign_text};
 ghost use Rattle.arrayvec.specs.ArrayVec.{array_vec_len};
 
@@ -12,7 +13,7 @@ use crate::row::csv_row;
 use crate::when::When;
 use arrayvec::ArrayVec;
 use gc_lines::{Line, Sink, append, write_whole};
-use gc_texts::{Ending, Wish, append_escaped, stamp_text};
+use gc_texts::{Ending, STAMP_ROOM, Wish, append_escaped, stamp_text};
 use gc_values::ValueFault;
 use itoa::Buffer;
 
@@ -94,11 +95,17 @@ pub fn write_record<K: Sink>(
     }
 }
 
-// The most bytes of how a command ended: the word, a fault, and the reply's line, each byte of which may be written as four.
-const ENDING_ROOM: usize = 1 + 16 + 21 + 1 + 4 * 512;
+// The most bytes of a space and a fault's number, which has at most 20 digits.
+const FAULT_ROOM: usize = 1 + 20;
 
-// The most bytes of a record's line: a moment, a place and a target, the words, and the reply's line.
-const LINE_ROOM: usize = 40 + 1 + 20 + 1 + 10 + ENDING_ROOM + 1;
+// The most bytes of a space and a reply's line, each byte of which may be written as four.
+const REPLY_ROOM: usize = 1 + 4 * 512;
+
+// The most bytes of how a command ended: a space and a word of at most 16 bytes, a fault, and the reply's line.
+const ENDING_ROOM: usize = 1 + 16 + FAULT_ROOM + REPLY_ROOM;
+
+// The most bytes of a record's line: a moment, a place and a target, and how the command ended.
+const LINE_ROOM: usize = STAMP_ROOM + 1 + 20 + 1 + 10 + ENDING_ROOM + 1;
 
 // The line of a record, with its line feed: when the command ended, its place, its target, and how it ended.
 fn record_line(when: &When, command: &Wish, ending: Ending<'_>) -> ArrayVec<u8, LINE_ROOM>
@@ -131,9 +138,9 @@ fn ending_text(ending: Ending<'_>) -> ArrayVec<u8, ENDING_ROOM>
 
 // Appends a space and the number of a fault, if there is a fault.
 fn append_fault<const N: usize>(text: &mut ArrayVec<u8, N>, fault: Option<ValueFault>)
-    requires { array_vec_len text.old + 21 ≤ N }
+    requires { array_vec_len text.old + FAULT_ROOM ≤ N }
     ensures text { text.new.items ≡ text.old.items ++ spaced_fault fault }
-    ensures room { array_vec_len text.new ≤ array_vec_len text.old + 21 }
+    ensures room { array_vec_len text.new ≤ array_vec_len text.old + FAULT_ROOM }
 {
     if let Some(fault) = fault {
         append(text, b" ");
@@ -143,7 +150,7 @@ fn append_fault<const N: usize>(text: &mut ArrayVec<u8, N>, fault: Option<ValueF
 
 // Appends a space and the line of a reply, escaped as in a log, if there is a line.
 fn append_line<const N: usize>(text: &mut ArrayVec<u8, N>, line: Option<&Line>)
-    requires { array_vec_len text.old + 2049 ≤ N }
+    requires { array_vec_len text.old + REPLY_ROOM ≤ N }
     ensures { text.new.items ≡ text.old.items ++ spaced_line (option_map (λ l. l.now.items) line.entry) }
 {
     if let Some(line) = line {

@@ -8,10 +8,12 @@ ghost use Rattle.gc_texts.specs.Cuts.{before, behind};
 ghost use Rattle.gc_texts.specs.Endings.{ending_seen};
 ghost use Rattle.gc_rows.specs.Rows.{com_of, code_of, values_of, AreNoLonger, is_special, within_quotes, csv_field, field_text, behind_comma, behind_commas, fault_field, reply_fields, ending_fields, moment_text, when_fields, command_fields, answer_columns, quantity_fields, last_fields, fields_after_ending, spread, value_text, row_of, row_fields};
 ghost use Rattle.gc_rows.specs.Quantities.{column_of, quantity_text};
-ghost use Rattle.gc_rows.specs.declared.row.TheConstants.{VALUE_ROOM, QUANTITIES_ROOM, LAST_ROOM, AFTER_ENDING_ROOM};
+ghost use Rattle.gc_rows.specs.declared.row.TheConstants.{WHEN_ROOM, COMMAND_ROOM, REPLY_ROOM, ENDING_ROOM, VALUE_ROOM, QUANTITIES_ROOM, LAST_ROOM, AFTER_ENDING_ROOM};
 ghost use Rattle.gc_catalogue.specs.Answers.{answer_fields};
 
-use crate::quantity::{QUANTITIES, QUANTITY_ROOM, answer_values, column_of, quantity_text};
+use crate::quantity::{
+    MOST_VALUES, QUANTITIES, QUANTITY_ROOM, answer_values, column_of, quantity_text,
+};
 use crate::when::When;
 use arrayvec::ArrayVec;
 use gc_catalogue::{Answer, Asked, Call};
@@ -24,16 +26,36 @@ use itoa::Buffer;
 pub(crate) const ROW_ROOM: usize = 24_576;
 
 // The most bytes of a value in a row: a comma, and a field of at most 64 bytes, each of which may be escaped as four, and each of
-// these be doubled, within quotes.
+// these be doubled, within quotes. The other fields have room by the same count.
 const VALUE_ROOM: usize = 1 + 8 * QUANTITY_ROOM + 2;
 
-// The most bytes of the quantities of an answer in a row: six values, and a comma for each column.
-const QUANTITIES_ROOM: usize = 6 * VALUE_ROOM + QUANTITIES;
+// The most bytes of a moment in a row.
+const MOMENT_ROOM: usize = 1 + 8 * STAMP_ROOM + 2;
 
-// The most bytes of the fields after all others: a comma and the word of a quality, of at most 16 bytes, and a comma and the
-// digits of an attempt, of which there are at most 20. Each of these bytes has the room of one that is escaped and doubled
-// within quotes.
-const LAST_ROOM: usize = (1 + 8 * 16 + 2) + (1 + 8 * 20 + 2);
+// The most bytes of a word in a row, which has at most 16.
+const WORD_ROOM: usize = 1 + 8 * 16 + 2;
+
+// The most bytes of a number in a row, which has at most 20 digits.
+const NUMBER_ROOM: usize = 1 + 8 * 20 + 2;
+
+// The most bytes of the fields that say when a command was sent and ended, and which one of its run it was: two moments and two
+// numbers.
+const WHEN_ROOM: usize = 2 * MOMENT_ROOM + 2 * NUMBER_ROOM;
+
+// The most bytes of the fields of a command: its target, a name of at most 64 bytes, and the procedure's number.
+const COMMAND_ROOM: usize = 2 * NUMBER_ROOM + (1 + 8 * 64 + 2);
+
+// The most bytes of the three fields of a reply's line, each of at most 512 bytes.
+const REPLY_ROOM: usize = 3 * (1 + 8 * 512 + 2);
+
+// The most bytes of the fields that say how a command ended: a word, a fault's number, and the fields of the reply's line.
+const ENDING_ROOM: usize = WORD_ROOM + NUMBER_ROOM + REPLY_ROOM;
+
+// The most bytes of the quantities of an answer in a row: its values, and a comma for each column.
+const QUANTITIES_ROOM: usize = MOST_VALUES * VALUE_ROOM + QUANTITIES;
+
+// The most bytes of the fields after all others: the word of a quality, and the number of an attempt.
+const LAST_ROOM: usize = WORD_ROOM + NUMBER_ROOM;
 
 // The most bytes of the fields of a row after its first thirteen: the quantities and the last ones.
 const AFTER_ENDING_ROOM: usize = QUANTITIES_ROOM + LAST_ROOM;
@@ -147,11 +169,11 @@ fn moment_text(moment: Option<u64>) -> ArrayVec<u8, STAMP_ROOM>
     }
 }
 
-// Appends when a command was sent and ended, and which command of its run it was: four fields, of at most 1024 bytes together.
+// Appends when a command was sent and ended, and which command of its run it was: four fields.
 fn append_when<const N: usize>(row: &mut ArrayVec<u8, N>, when: &When)
-    requires { array_vec_len row.old + 1024 ≤ N }
+    requires { array_vec_len row.old + WHEN_ROOM ≤ N }
     ensures text { row.new.items ≡ row.old.items ++ behind_commas (when_fields when.now) }
-    ensures room { array_vec_len row.new ≤ array_vec_len row.old + 1024 }
+    ensures room { array_vec_len row.new ≤ array_vec_len row.old + WHEN_ROOM }
 {
     let mut digits = Buffer::new();
     append_field_after_comma(row, &moment_text(when.stamp.sent));
@@ -160,12 +182,12 @@ fn append_when<const N: usize>(row: &mut ArrayVec<u8, N>, when: &When)
     append_field_after_comma(row, digits.format(when.stamp.turn.place).as_bytes());
 }
 
-// Appends the target of a command, the target's name, and the number of the procedure: three fields, of at most 5120 bytes together.
+// Appends the target of a command, the target's name, and the number of the procedure: three fields.
 fn append_command<const N: usize>(row: &mut ArrayVec<u8, N>, command: &Wish, name: &[u8])
     requires short { length name.now ≤ 64 }
-    requires room { array_vec_len row.old + 5120 ≤ N }
+    requires room { array_vec_len row.old + COMMAND_ROOM ≤ N }
     ensures text { row.new.items ≡ row.old.items ++ behind_commas (command_fields command.now name.now) }
-    ensures room { array_vec_len row.new ≤ array_vec_len row.old + 5120 }
+    ensures room { array_vec_len row.new ≤ array_vec_len row.old + COMMAND_ROOM }
 {
     let mut digits = Buffer::new();
     append_field_after_comma(row, digits.format(command.target).as_bytes());
@@ -185,11 +207,11 @@ fn fault_text(fault: Option<ValueFault>) -> ArrayVec<u8, 20>
 }
 
 // Appends the communication code, the return code and the values of a reply's line. The three fields are empty if there is no
-// line. They have at most 12297 bytes: each a comma, two quotes, and 512 bytes of which each may take eight.
+// line.
 fn append_reply<const N: usize>(row: &mut ArrayVec<u8, N>, line: Option<&Line>)
-    requires { array_vec_len row.old + 12297 ≤ N }
+    requires { array_vec_len row.old + REPLY_ROOM ≤ N }
     ensures text { row.new.items ≡ row.old.items ++ behind_commas (reply_fields (option_map (λ l. l.now.items) line.entry)) }
-    ensures room { array_vec_len row.new ≤ array_vec_len row.old + 12297 }
+    ensures room { array_vec_len row.new ≤ array_vec_len row.old + REPLY_ROOM }
 {
     match line {
         Some(line) => {
@@ -202,12 +224,11 @@ fn append_reply<const N: usize>(row: &mut ArrayVec<u8, N>, line: Option<&Line>)
     }
 }
 
-// Appends how a command ended: its word, its fault, and the three fields of its reply's line. The five fields have at most 12800
-// bytes together.
+// Appends how a command ended: its word, its fault, and the three fields of its reply's line.
 fn append_ending<const N: usize>(row: &mut ArrayVec<u8, N>, ending: Ending<'_>)
-    requires { array_vec_len row.old + 12800 ≤ N }
+    requires { array_vec_len row.old + ENDING_ROOM ≤ N }
     ensures text { row.new.items ≡ row.old.items ++ behind_commas (ending_fields (ending_seen ending.entry)) }
-    ensures room { array_vec_len row.new ≤ array_vec_len row.old + 12800 }
+    ensures room { array_vec_len row.new ≤ array_vec_len row.old + ENDING_ROOM }
 {
     append_field_after_comma(row, ending.word());
     append_field_after_comma(row, &fault_text(ending.fault()));
@@ -278,21 +299,6 @@ fn append_last<const N: usize>(row: &mut ArrayVec<u8, N>, when: &When, ending: E
     );
 }
 
-// Appends the quantities of a command's answer, each in its column, and the last fields: the quality and the attempt.
-fn append_quantities_and_last<const N: usize>(
-    row: &mut ArrayVec<u8, N>,
-    when: &When,
-    asked: &Asked,
-    ending: Ending<'_>,
-)
-    requires { array_vec_len row.old + AFTER_ENDING_ROOM ≤ N }
-    ensures text { row.new.items ≡ row.old.items ++ behind_commas (fields_after_ending true when.now asked.now (ending_seen ending.entry)) }
-    ensures room { array_vec_len row.new ≤ array_vec_len row.old + AFTER_ENDING_ROOM }
-{
-    append_quantities(row, asked, ending);
-    append_last(row, when, ending);
-}
-
 // Appends the fields after those of `append_ending`: the quantities of a command's answer, each in its column, if `columns` is true, and
 // then the last fields, which are the quality and the attempt.
 fn append_after_ending<const N: usize>(
@@ -307,10 +313,9 @@ fn append_after_ending<const N: usize>(
     ensures room { array_vec_len row.new ≤ array_vec_len row.old + AFTER_ENDING_ROOM }
 {
     if columns {
-        append_quantities_and_last(row, when, asked, ending);
-    } else {
-        append_last(row, when, ending);
+        append_quantities(row, asked, ending);
     }
+    append_last(row, when, ending);
 }
 
 /// The row of a record, with its line feed; it has a column for each quantity if `columns` is true. `name` is the target's, empty if it

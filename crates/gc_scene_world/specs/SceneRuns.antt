@@ -8,9 +8,9 @@ use Rattle.gc_instrument.specs.Replying.{Handed}
 use Rattle.gc_scenes.specs.SceneReplying.{handed_call}
 use Rattle.gc_scenes.specs.SceneState.{SceneState, scene_restarted}
 use Rattle.gc_world.specs.declared.event.Event.{Event}
-use Rattle.gc_world.specs.Clients.{streams_by_ids, streams_by_numbers}
+use Rattle.gc_world.specs.Clients.{streamed_between, played_between}
 use Rattle.gc_world.specs.Streams.{Streams}
-use Rattle.gc_world.specs.World.{Ends, Wire, World}
+use Rattle.gc_world.specs.World.{Ends, World}
 
 -- what the instrument does with the request line of this call with this id
 abbrev pub scene_handed : SceneState → ℕ → Call → Handed SceneState
@@ -21,15 +21,10 @@ scene_handed s id call = handed_call s (call_fields call).number (Some id) call
 abbrev pub scene_ends : Ends SceneState
 scene_ends = record { handed = scene_handed; restarted = scene_restarted; heard = heard; joint = true }
 
--- the streams that the run by ids of these events leaves, from the restarted opening state, with a window of this width
+-- the streams that the run by ids of these events leaves on the instrument of a scene (`streamed_between`)
 abbrev pub scene_streamed : ℕ → SceneState → List Event → Streams (ById Call) SceneState
-scene_streamed width opening events = streams_by_ids width scene_ends events (scene_restarted opening)
+scene_streamed width opening events = streamed_between scene_ends width opening events
 
--- the world that the run by ids of these events leaves, from the restarted opening state, with a window of this width
+-- the world that the run by ids of these events leaves on the instrument of a scene
 abbrev pub scene_played : ℕ → SceneState → List Event → World (ById Call) SceneState
-scene_played width opening events = (scene_streamed width opening events).world
-
--- the wire that the run by numbers of these events leaves, from the restarted opening state, with a window of this width: the run
--- in which the client is told each reply's request
-abbrev pub scene_by_numbers : ℕ → SceneState → List Event → Wire SceneState
-scene_by_numbers width opening events = (streams_by_numbers width scene_ends events (scene_restarted opening)).world.wire
+scene_played width opening events = played_between scene_ends width opening events

@@ -1,5 +1,6 @@
 -- The return code of a call has 16 bits, whatever faults the scene has.
-use Rattle.std.proofs.Common.{◌≡◌, ℕ, ◌<◌, Bool, true, false, cond, List, [], ◌∷◌, Option, Some, None, refl, subst}
+use Rattle.std.proofs.Common.{◌≡◌, ℕ, ◌<◌, List, Option, Some, None, refl, subst}
+use Rattle.std.specs.Prelude.{find, option_map}
 use Rattle.std.proofs.lemmas.Option.{same_Some}
 use Rattle.gc_catalogue.specs.declared.call.Call.{Call}
 use Rattle.gc_scenes.proofs.Acted.{outcome_sound}
@@ -8,16 +9,14 @@ use Rattle.gc_scenes.specs.SceneExecution.{plays, unless_faulted}
 use Rattle.gc_scenes.specs.SceneState.{SceneState}
 use Rattle.gc_scenes.specs.declared.rules.Fault.{Fault}
 
--- the code of a fault, if that fault is due (b), or else of a later one, is below 65536, where that holds of the later ones
-fault_by : (f : Fault) (b : Bool) (later : Option ℕ) (code : ℕ) → (later ≡ Some code → code < 65536) → cond b (Some f.rc) later ≡ Some code
-    → code < 65536
-fault_by f true later code rest e = subst (λ (c : ℕ). c < 65536) (same_Some f.rc code e) f.fits
-fault_by f false later code rest e = rest e
+-- the code of a fault, if there is one, is below 65536
+code_bound : (o : Option Fault) (code : ℕ) → option_map (λ f. f.rc) o ≡ Some code → code < 65536
+code_bound None code e = let wrong : ⊥ = cc in absurd wrong
+code_bound (Some f) code e = subst (λ (c : ℕ). c < 65536) (same_Some f.rc code e) f.fits
 
 -- the code of the fault that is due at a procedure is below 65536
 pub fault_bound : (rpc : ℕ) (fs : List Fault) (code : ℕ) → fault_of rpc fs ≡ Some code → code < 65536
-fault_bound rpc [] code e = let wrong : ⊥ = cc in absurd wrong
-fault_bound rpc (f ∷ fs) code e = fault_by f (is_due rpc f) (fault_of rpc fs) code (fault_bound rpc fs code) e
+fault_bound rpc fs code e = code_bound (find (is_due rpc) fs) code e
 
 -- where the code of a fault is below 65536, so is the return code of a call, with that fault or without one
 pub call_bound : (s : SceneState) (call : Call) (o : Option ℕ) → ((code : ℕ) → o ≡ Some code → code < 65536) → (unless_faulted s call o).rc < 65536

@@ -15,7 +15,7 @@ use Rattle.gc_catalogue.specs.declared.fault.CallFault.TheVariants.{Unknown, Par
 use Rattle.gc_instrument.specs.Execution.{Executed}
 use Rattle.gc_instrument.specs.Replying.{refusal_line, reply_id}
 use Rattle.gc_scenes.specs.Appending.{AppendsHanded, AppendsPlayed}
-use Rattle.gc_scenes.specs.Rules.{fault_of, answer_of, noisy, noise_after}
+use Rattle.gc_scenes.specs.Rules.{fault_of, scripted_reply, noisy, noise_after}
 use Rattle.gc_scenes.specs.SceneExecution.{Played, Reports, plays, outcome, after_call, replied_answer, played_call, played_raw, unless_faulted_raw, scripted, counting, faulted}
 use Rattle.gc_scenes.specs.SceneReplying.{IsPlayed, executed_reply_line, names_call, unreadable, AnswersRequest, resent_line, again_or_played, handed_call, handed_raw, played_or_refused, holding, kept_if_repeating, played_line}
 use Rattle.gc_scenes.specs.SceneServing.{PlaysFrame}
@@ -69,7 +69,7 @@ module _ (s after : SceneState) (rpc : ℕ) (id : Option ℕ) (old new : List �
 
   -- where no fault answers the request, and the scene has a reply for the request's procedure, what `again_or_played` says of
   -- that reply is what `handed_raw` says of the request
-  pub gave_scripted : (a : Scripted) → None ≡ fault_of rpc s.faults → Some a ≡ answer_of rpc s.answers
+  pub gave_scripted : (a : Scripted) → None ≡ fault_of rpc s.faults → Some a ≡ scripted_reply rpc s.answers
       → AppendsHanded (again_or_played s id (record { state = counting rpc s; rc = a.rc; params = scripted_params a.with }) (resent_line s id)) after old new
       → AppendsHanded (handed_raw s rpc id) after old new
   gave_scripted a none is h =
@@ -78,7 +78,7 @@ module _ (s after : SceneState) (rpc : ℕ) (id : Option ℕ) (old new : List �
 
   -- where no fault answers the request, and the scene has no reply for the request's procedure, counting the request and
   -- appending its refusal is what `handed_raw` says of it
-  pub gave_refusal : None ≡ fault_of rpc s.faults → None ≡ answer_of rpc s.answers → after ≡ counting rpc s
+  pub gave_refusal : None ≡ fault_of rpc s.faults → None ≡ scripted_reply rpc s.answers → after ≡ counting rpc s
       → new ≡ old ++ refusal_line (unwrap_or id 0) Unknown
       → AppendsHanded (handed_raw s rpc id) after old new
   gave_refusal none unknown state appended =

@@ -1,6 +1,6 @@
 -- What each rule of a scene does to targets, to requests and to answers: this project's own. A look is a measurement or a search.
 -- `rpc` is a procedure's number.
-use Rattle.std.specs.Prelude.{ℕ, ◌+◌, ◌-◌, ◌==◌, ◌&&◌, not, Bool, true, false, List, [], ◌∷◌, Option, Some, None, nat_le, if◌then◌else◌, min}
+use Rattle.std.specs.Prelude.{ℕ, ◌+◌, ◌-◌, ◌==◌, ◌&&◌, not, Bool, true, false, List, [], ◌∷◌, Option, Some, None, nat_le, if◌then◌else◌, min, find, option_map}
 use Rattle.gc_values.specs.Decimals.{units}
 use Rattle.gc_values.specs.declared.decimal.Decimal.{Decimal}
 use Rattle.gc_catalogue.specs.declared.answer.Answer.{Answer}
@@ -61,8 +61,7 @@ is_due rpc f = (f.rpc == rpc) && (nat_le f.after f.met && nat_le (f.met - f.afte
 
 -- the return code with which the first fault that is due answers the next request of this procedure; none if none is due
 abbrev pub fault_of : (rpc : ℕ) → List Fault → Option ℕ
-fault_of rpc [] = None
-fault_of rpc (f ∷ fs) = if is_due rpc f then Some f.rc else fault_of rpc fs
+fault_of rpc faults = option_map (λ f. f.rc) (find (is_due rpc) faults)
 
 -- the fault after one more request of this procedure, which it counts if the procedure is its own
 abbrev pub met_once : (rpc : ℕ) → Fault → Fault
@@ -74,9 +73,8 @@ counted rpc [] = []
 counted rpc (f ∷ fs) = met_once rpc f ∷ counted rpc fs
 
 -- the first reply that the scene has for this procedure, if it has one
-abbrev pub answer_of : (rpc : ℕ) → List Scripted → Option Scripted
-answer_of rpc [] = None
-answer_of rpc (a ∷ rest) = if a.rpc == rpc then Some a else answer_of rpc rest
+abbrev pub scripted_reply : (rpc : ℕ) → List Scripted → Option Scripted
+scripted_reply rpc replies = find (λ a. a.rpc == rpc) replies
 
 -- Answers.
 

@@ -19,7 +19,7 @@ use Rattle.gc_scenes.specs.Acting.{acted}
 use Rattle.gc_scenes.specs.Clocks.{shown_at}
 use Rattle.gc_scenes.specs.Params.{scripted_params}
 use Rattle.gc_scenes.specs.Machine.{seeing}
-use Rattle.gc_scenes.specs.Rules.{seen, drifted, one_more, fault_of, counted, answer_of, noisy, noise_after}
+use Rattle.gc_scenes.specs.Rules.{seen, drifted, one_more, fault_of, counted, scripted_reply, noisy, noise_after}
 use Rattle.gc_scenes.specs.SceneState.{SceneState}
 use Rattle.gc_scenes.specs.Ways.{is_over, is_warning, has_distance, valued}
 use Rattle.gc_scenes.specs.declared.clock.Clock.{Clock}
@@ -96,11 +96,15 @@ after_call s asked x = record s {
   clock = clock_after s.ways.clock s.moment asked x.rc s.clock;
 }
 
--- the answer that the reply to an executed call has: its own; or, if the code is a warning and the instrument has values with
--- warnings (true), the angles, without noise, and a distance of 0 if the call answers one, or `Nothing` for a call that answers
--- no angles
+-- the answer that a reply with this code has: the given one; or, if the code is a warning and the instrument has values with
+-- warnings (true), the angles, without noise, and this distance if the call answers one, or `Nothing` for a call that answers no
+-- angles
+abbrev pub answer_or_values : (values : Bool) → Pointing → Call → (rc : ℕ) → (distance : Decimal) → (given : Answer) → Answer
+answer_or_values values there asked rc distance given = if values && is_warning rc then valued there asked distance else given
+
+-- the answer that the reply to an executed call has: its own, or with a warning values with a distance of 0 (`answer_or_values`)
 abbrev pub replied_answer : (values : Bool) → Pointing → Call → (rc : ℕ) → Answer → Answer
-replied_answer values there asked rc answered = if values && is_warning rc then valued there asked zero else answered
+replied_answer values there asked rc answered = answer_or_values values there asked rc zero answered
 
 -- what the instrument does with a call that has this outcome: the reply has its answer with the noise, or that of a warning
 -- (`replied_answer`), each double rounded to the precision after the call
@@ -134,14 +138,14 @@ distance_in_warning s asked code = if has_distance code then unwrap_or (known_di
 abbrev pub faulted : SceneState → (code : ℕ) → Played
 faulted s code = record { state = s; rc = code; params = [] }
 
--- a call that a fault answers with this code: nothing is executed, and the reply has values only if the code is a warning and the
--- instrument has values with warnings
+-- a call that a fault answers with this code: nothing is executed, and the reply has values only with a warning
+-- (`answer_or_values`)
 abbrev pub warned : SceneState → Call → (code : ℕ) → Played
 warned s asked code = record {
   state = s;
   rc = code;
   params = answer_params s.base.precision
-      (if s.ways.values && is_warning code then valued s.base.pointing asked (distance_in_warning s asked code) else answer.Nothing);
+      (answer_or_values s.ways.values s.base.pointing asked code (distance_in_warning s asked code) answer.Nothing);
 }
 
 -- what the instrument does with a call that a fault answers with this code, or that no fault answers (`None`)
@@ -163,7 +167,7 @@ scripted s None = None
 -- (`None`), and then the scene's reply answers it, if there is one
 abbrev pub unless_faulted_raw : SceneState → (rpc : ℕ) → (code : Option ℕ) → Option Played
 unless_faulted_raw s rpc (Some code) = Some (faulted s code)
-unless_faulted_raw s rpc None = scripted s (answer_of rpc s.answers)
+unless_faulted_raw s rpc None = scripted s (scripted_reply rpc s.answers)
 
 -- what the instrument does with a request that isn't a repeat, of a procedure that isn't in the table: the faults count the
 -- request, and the first that was due at it answers it, if one was, and else the scene's reply, if there is one. `None`: nothing

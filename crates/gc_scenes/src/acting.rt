@@ -1,10 +1,12 @@
 //! How the instrument carries out calls whose outcome its ways of real instruments change; all others have that of the execution table.
 
-ghost use Rattle.std.specs.Prelude.{◌≡◌, List, true};
+ghost use Rattle.std.specs.Prelude.{◌≡◌, List, Option, true};
+ghost use Rattle.gc_catalogue.specs.declared.call.DateTime.{DateTime};
 ghost use Rattle.gc_instrument.specs.Execution.{Gives, done, adjusted, pointed, unmeasured};
 ghost use Rattle.gc_scenes.specs.Acting.{acted, acted_faceless, faced, is_unchanged_by_ways};
 ghost use Rattle.gc_scenes.specs.Machine.{GivesOver, seeing, simply_measured};
 ghost use Rattle.gc_scenes.specs.Ways.{nearest, other_hz, other_v};
+ghost use Rattle.gc_scenes.specs.declared.ways.Ways.{Ways};
 
 use crate::machine::Machine;
 use crate::ways::{Ways, is_in_face_two, nearest, other_hz, other_v};
@@ -82,22 +84,16 @@ impl Machine {
                 }
                 None => self.carry_out(call, targets, answer),
             },
-            _ => self.carry_out_unchanged(ways, now, call, targets, answer),
+            _ => self.carry_out_unchanged(call, targets, answer),
         }
     }
 
-    // Carries out a call whose outcome no way changes, but for the face. `ways` and `now` are for the contract alone.
-    fn carry_out_unchanged(
-        &mut self,
-        ways: &Ways,
-        now: Option<DateTime>,
-        call: &Call,
-        targets: &[Target],
-        answer: &mut Answer,
-    ) -> u16
+    // Carries out a call whose outcome no way and no running clock changes, but for the face.
+    fn carry_out_unchanged(&mut self, call: &Call, targets: &[Target], answer: &mut Answer) -> u16
         requires plain { is_unchanged_by_ways call.now ≡ true }
         requires none { answer.old ≡ Nothing }
-        ensures { GivesOver targets.now (λ s. acted_faceless ways.now now s call.now) self.old self.new result answer.new }
+        ensures { (ways : Ways) (now : Option DateTime)
+            → GivesOver targets.now (λ s. acted_faceless ways now s call.now) self.old self.new result answer.new }
     {
         self.carry_out(call, targets, answer)
     }

@@ -2,9 +2,8 @@
 
 ghost use Rattle.std.specs.Prelude.{◌≡◌, ◌<◌, ◌≤◌, ◌++◌, ℕ, List, Bool, [], length, true, false, Option, None};
 ghost use Rattle.std.specs.Option.{option_map};
-ghost use Rattle.gc_instrument.specs.Targets.{first_at};
 ghost use Rattle.gc_instrument.specs.State.{opening};
-ghost use Rattle.gc_scenes.specs.Rules.{seen, drifted, counted, fault_of, answer_of, noisy, noise_after};
+ghost use Rattle.gc_scenes.specs.Rules.{seen, drifted, counted, fault_of, scripted_reply, noisy, noise_after};
 ghost use Rattle.gc_scenes.specs.SceneExecution.{Reports, is_measurement, is_search, look_of, heading, is_over_for, outcome, after_call, counting, shown, seen_by, clock_after, distance_in_warning, known_distance};
 ghost use Rattle.gc_scenes.specs.SceneState.{scene_restarted, at_moment};
 ghost use Rattle.gc_catalogue.specs.declared.answer.Answer.TheVariants.{Nothing};
@@ -15,7 +14,7 @@ use crate::rules::{Fault, Noise, Prism, SceneRules, Scripted};
 use crate::ways::{Ways, has_distance, target_in_face};
 use arrayvec::ArrayVec;
 use gc_catalogue::{Answer, Call, DateTime};
-use gc_instrument::{Pointing, Target, first_at};
+use gc_instrument::{Pointing, Target};
 use gc_values::{Decimal, Text};
 use std::marker::Model;
 
@@ -129,16 +128,24 @@ impl SceneInstrument {
 
     /// The return code of the first fault that answers the next request of this procedure. `None`: no fault answers it.
     pub(crate) fn fault_of(&self, rpc: u16) -> Option<u16>
-        ensures code { result ≡ fault_of rpc self.now.faults }
+        ensures { result ≡ fault_of rpc self.now.faults }
     {
-        fault_of(rpc, self.faults.as_slice())
+        self.faults
+            .as_slice()
+            .iter()
+            .find(|fault| fault.is_due(rpc))
+            .map(|fault| fault.rc)
     }
 
     /// The first reply that the scene has for this procedure. `None`: it has none.
-    pub(crate) fn answer_of(&self, rpc: u16) -> Option<Scripted>
-        ensures { result ≡ answer_of rpc self.now.answers }
+    pub(crate) fn scripted_reply(&self, rpc: u16) -> Option<Scripted>
+        ensures { result ≡ scripted_reply rpc self.now.answers }
     {
-        answer_of(rpc, self.answers.as_slice())
+        self.answers
+            .as_slice()
+            .iter()
+            .find(|reply| reply.rpc == rpc)
+            .copied()
     }
 
     /// Counts one more request of this procedure, in each fault of that procedure.
@@ -213,24 +220,14 @@ impl SceneInstrument {
     }
 
     // The distance that is known for a reply to the call, in metres: for TMC_GetSimpleMea the one that was measured last, for any other
-    // call that of the target at which the telescope points (`distance_to_target`). `None`: there is none.
+    // call that of the first of the targets of `seen_by` that lies exactly where the telescope points. `None`: there is none.
     fn known_distance(&self, call: &Call) -> Option<Decimal>
         ensures { result ≡ known_distance self.now call.now }
     {
         match call {
             Call::SimpleMea { .. } => self.machine.distance(),
-            _ => self.distance_to_target(call),
+            _ => self.machine.distance_at(self.seen_by(call).as_slice()),
         }
-    }
-
-    // The distance, in metres, of the first of the targets of `seen_by` that lies exactly where the telescope points. `None`:
-    // none of them does.
-    fn distance_to_target(&self, call: &Call) -> Option<Decimal>
-        ensures { result ≡ option_map (λ t. t.distance) (first_at self.now.base.pointing (seen_by self.now call.now)) }
-    {
-        first_at(&self.machine.pointing(), self.seen_by(call).as_slice()).map(
-            |target| target.distance,
-        )
     }
 
     /// Adds the scene's noise, if it has one, to an answer with angles and a distance, also if that was measured earlier
@@ -356,30 +353,4 @@ fn counted(rpc: u16, faults: &[Fault]) -> ArrayVec<Fault, 32>
         let _ = all.try_push(fault.met_once(rpc));
     }
     all
-}
-
-// The return code of the first of these faults that answers the next request of this procedure. `None`: none answers it.
-fn fault_of(rpc: u16, faults: &[Fault]) -> Option<u16>
-    ensures { result ≡ fault_of rpc faults.now }
-{
-    for fault in faults {
-        if !fault.is_due(rpc) {
-            continue;
-        }
-        return Some(fault.rc);
-    }
-    None
-}
-
-// The first of these replies for this procedure. `None`: there is none.
-fn answer_of(rpc: u16, answers: &[Scripted]) -> Option<Scripted>
-    ensures { result ≡ answer_of rpc answers.now }
-{
-    for answer in answers {
-        if answer.rpc != rpc {
-            continue;
-        }
-        return Some(*answer);
-    }
-    None
 }

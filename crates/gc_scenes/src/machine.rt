@@ -8,6 +8,7 @@ ghost use Rattle.gc_instrument.specs.Execution.{exec, Gives, done, commanded, me
 ghost use Rattle.gc_instrument.specs.declared.face.Face.TheVariants.{Normal, Turned};
 ghost use Rattle.gc_instrument.specs.Replying.{kept_line, kept_after, with_kept, without_kept};
 ghost use Rattle.gc_instrument.specs.State.{restarted, opening};
+ghost use Rattle.gc_instrument.specs.Targets.{first_at};
 ghost use Rattle.gc_instrument.specs.declared.target.Target.{Target};
 ghost use Rattle.gc_scenes.specs.Machine.{CarriesOut, is_passed_on, measured_in_mode, seeing, simply_measured};
 
@@ -108,6 +109,7 @@ impl Machine {
     pub(crate) fn set_face(&mut self, turned: bool)
         ensures { self.new ≡ record self.old { face = if turned then Turned else Normal } }
     {
+        // The face is a part of `base`, which gives it and changes it by calls alone; of the turned one the answer is 1.
         let (_, answer) = self.base.execute(&Call::GetFace);
         let is_turned = answer == Answer::Long(1);
         if is_turned != turned {
@@ -204,14 +206,19 @@ impl Machine {
         rc
     }
 
-    // Measures the distance of the first of these targets that lies exactly where the telescope points. Without one the distance
-    // is cleared.
+    /// The distance, in metres, of the first of these targets that lies exactly where the telescope points. `None`: none does.
+    pub(crate) fn distance_at(&self, targets: &[Target]) -> Option<Decimal>
+        ensures { result ≡ option_map (λ t. t.distance) (first_at self.now.pointing targets.now) }
+    {
+        first_at(&self.base.pointing(), targets).map(|target| target.distance)
+    }
+
+    // Measures the distance (`distance_at`). Where there is none, the stored one is cleared.
     fn measure(&mut self, targets: &[Target])
         ensures seen { seeing targets.now self.new ≡ measured (seeing targets.now self.old) }
         ensures same { self.new.scene ≡ self.old.scene }
     {
-        let there = self.base.pointing();
-        self.distance = first_at(&there, targets).map(|target| target.distance);
+        self.distance = self.distance_at(targets);
     }
 
     // Carries out a command of TMC_DoMeasure: 0 does nothing, 1 measures, 3 clears the distance, each with code 0. Another command is

@@ -7,7 +7,7 @@ ghost use Rattle.gc_lines.specs.Answering.{AppendsAnswer, AppendsText};
 ghost use Rattle.gc_lines.specs.Requests.{request_seen};
 ghost use Rattle.gc_instrument.specs.Replying.{Handed};
 ghost use Rattle.gc_catalogue.specs.Texts.{reply_line};
-ghost use Rattle.gc_scenes.specs.SceneExecution.{Played, plays, unless_faulted, warned};
+ghost use Rattle.gc_scenes.specs.SceneExecution.{Played, answer_or_values, plays, unless_faulted, warned};
 ghost use Rattle.gc_scenes.specs.SceneReplying.{IsPlayed, AnswersRequest, IsHanded, resent_line, executed_reply_line, handed_call, handed_raw, handed_unexecuted, played_line, line_with, kept_if_repeating, holding};
 ghost use Rattle.gc_scenes.specs.Appending.{AppendsHanded, AppendsPlayed};
 
@@ -152,8 +152,8 @@ impl SceneInstrument {
         }
     }
 
-    // Appends the reply to a call that a fault answers with this code. It has values if the code is a warning, the instrument has values
-    // with warnings, and the call answers angles.
+    // Appends the reply to a call that a fault answers with this code. It has no answer, or the values of `reply_with_onto`, with
+    // the distance of `distance_in_warning`.
     fn reply_faulted_onto<const N: usize>(
         &self,
         id: u8,
@@ -166,21 +166,8 @@ impl SceneInstrument {
         ensures line { out.new.items ≡ out.old.items ++ played_line id (warned self.now call.now rc) }
         ensures bound { length out.new.items ≤ length out.old.items + 512 }
     {
-        if self.ways.values && is_warning(rc) {
-            let distance = self.distance_in_warning(call, rc);
-            let there = self.machine.pointing();
-            push_reply_with_values(
-                out,
-                id,
-                rc,
-                &there,
-                call,
-                &distance,
-                self.machine.precision(),
-            );
-        } else {
-            push_reply(out, 0, id, rc);
-        }
+        let distance = self.distance_in_warning(call, rc);
+        self.reply_with_onto(id, rc, call, &Answer::Nothing, &distance, out);
     }
 
     // Executes a call, and appends its reply.
@@ -196,8 +183,8 @@ impl SceneInstrument {
         self.reply_executed_onto(id, rc, call, &answer, out);
     }
 
-    // Appends the reply to an executed call with this code. It has this answer or, if the code is a warning and the instrument has values
-    // with warnings, the values of `push_reply_with_values`, with a distance of 0.
+    // Appends the reply to an executed call with this code. It has this answer, or the values of `reply_with_onto`, with a distance
+    // of 0.
     fn reply_executed_onto<const N: usize>(
         &self,
         id: u8,
@@ -212,16 +199,38 @@ impl SceneInstrument {
         ensures line { out.new.items ≡ out.old.items ++ executed_reply_line self.now id rc call.now answer.now }
         ensures bound { length out.new.items ≤ length out.old.items + 512 }
     {
+        self.reply_with_onto(id, rc, call, answer, &Decimal::zero(), out);
+    }
+
+    // Appends the reply to a call with this code. It has this answer or, if the code is a warning and the instrument has values
+    // with warnings, the values of `push_reply_with_values`, with this distance.
+    fn reply_with_onto<const N: usize>(
+        &self,
+        id: u8,
+        rc: u16,
+        call: &Call,
+        answer: &Answer,
+        distance: &Decimal,
+        out: &mut ArrayVec<u8, N>,
+    )
+        requires id { id < 8 }
+        requires refused { rc ≢ 0 → answer.now ≡ Nothing }
+        requires room { array_vec_len out.old + 512 ≤ N }
+        ensures line { out.new.items ≡ out.old.items ++ reply_line id rc
+            (answer_or_values self.now.ways.values self.now.base.pointing call.now rc distance.now answer.now)
+            self.now.base.precision }
+        ensures bound { length out.new.items ≤ length out.old.items + 512 }
+    {
         if self.ways.values && is_warning(rc) {
             let there = self.machine.pointing();
             let places = self.machine.precision();
-            push_reply_with_values(out, id, rc, &there, call, &Decimal::zero(), places);
+            push_reply_with_values(out, id, rc, &there, call, distance, places);
         } else {
             self.answer_onto(id, rc, answer, out);
         }
     }
 
-    // Appends the reply to an executed call with its answer. The line is put together in a buffer of its own, of another size than the
+    // Appends the reply to a call with this answer. The line is put together in a buffer of its own, of another size than the
     // `Outgoing` of a served run. So the simulator alone uses the instance of `encode_answer_onto` for an `Outgoing`, and LLVM inlines it
     // there, also in a program that serves scenes.
     fn answer_onto<const N: usize>(
@@ -253,7 +262,7 @@ impl SceneInstrument {
     {
         match self.fault_of(rpc) {
             Some(rc) => self.answer_with(rpc, id, rc, b"", out),
-            None => match self.answer_of(rpc) {
+            None => match self.scripted_reply(rpc) {
                 Some(scripted) => self.answer_with(rpc, id, scripted.rc, scripted.params(), out),
                 None => {
                     self.count(rpc);

@@ -6,8 +6,8 @@ ghost use Rattle.gc_scenes.specs.SceneServing.{IsSceneServing};
 use crate::instrument::SceneInstrument;
 use gc_lines::{Answers, Lent, Outgoing, ServeFault, Served, Sink, Source, answer_frames, append};
 
-// The instrument answers a line that is a request by its reply and CR LF, and every other frame by nothing, as the simulator does.
-// `answer` returns whether there is a reply.
+// The instrument answers frames as the simulator does (`Answers` for `Instrument` in gc_instrument), and returns whether there is
+// a reply. The two bodies aren't shared: that one is in the loop of `geocom exec`, where a second caller can end inlining.
 impl Answers for SceneInstrument {
     ghost use Rattle.gc_scenes.specs.SceneServing.{PlaysFrame};
 

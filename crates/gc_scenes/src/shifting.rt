@@ -33,6 +33,7 @@ pub(crate) fn deviation(most: &Decimal, x: u32) -> i128
     ensures value { result ≡ deviation most.now x }
     ensures bound { unsigned_abs result ≤ 10 ^ 37 }
 {
+    // Bit 16 gives the sign, and the bits above it the thousandths; the lowest bits of such a generator vary least.
     let thousandths = u128::from((x / 131_072) % 1001);
     let size = (most.units().unsigned_abs() / 1000 * thousandths) as i128;
     if (x / 65_536) % 2 == 1 { -size } else { size }

@@ -6,7 +6,7 @@ ghost use Rattle.gc_values.specs.Directions.{half_turn};
 ghost use Rattle.gc_scenes.specs.Ways.{no_ways, with_way, is_in_face_two, other_hz, other_v, target_in_face, is_over, on_circle, apart, nearer, nearest, is_warning, has_distance};
 
 use crate::shifting::shifted;
-use gc_instrument::{Pointing, Target};
+use gc_instrument::{NO_DISTANCE, Pointing, Target};
 use gc_values::Decimal;
 
 // Half a turn, pi to 24 places, in units of 10^-24 radians: the same number as in `gc_values`, whose code compares directions.
@@ -15,8 +15,25 @@ const HALF_TURN: i128 = 3_141_592_653_589_793_238_462_643;
 // A whole turn, in the same units.
 const TURN: i128 = 6_283_185_307_179_586_476_925_286;
 
+// A whole turn, as the size of a difference, in the same units.
+const TURN_SIZE: u128 = 6_283_185_307_179_586_476_925_286;
+
 // The window of target recognition, each way, in the same units: 0.0131 radians, about three quarters of a degree.
 const WINDOW: u128 = 13_100_000_000_000_000_000_000;
+
+// Return codes that are warnings, besides `NO_DISTANCE`.
+
+// Measured, without all corrections.
+const UNCORRECTED: u16 = 1283;
+
+// Measured, without a guarantee of the accuracy.
+const UNGUARANTEED: u16 = 1284;
+
+// The angles alone, without all corrections.
+const ANGLES_UNCORRECTED: u16 = 1288;
+
+// The angles alone, without a guarantee of the accuracy.
+const ANGLES_UNGUARANTEED: u16 = 1289;
 
 /// Which ways of real instruments a scene's instrument has.
 #[derive(Clone, Copy, Debug, PartialEq, Eq)]
@@ -134,13 +151,12 @@ pub(crate) fn target_in_face(over: bool, target: &Target) -> Target
     }
 }
 
-// The angle between two directions with this difference, the shorter way round the circle, in units. The number below is `TURN`, as a
-// `u128`.
+// The angle between two directions with this difference, the shorter way round the circle, in units.
 fn on_circle(difference: i128) -> u128
     ensures { result ≡ on_circle difference }
 {
-    let rest = difference.unsigned_abs() % 6_283_185_307_179_586_476_925_286;
-    rest.min(6_283_185_307_179_586_476_925_286 - rest)
+    let rest = difference.unsigned_abs() % TURN_SIZE;
+    rest.min(TURN_SIZE - rest)
 }
 
 // `one` minus `other`, in units.
@@ -195,16 +211,20 @@ pub(crate) fn nearest(there: &Pointing, targets: &[Target]) -> Option<Target>
     found
 }
 
-/// Whether this return code is a warning, with which a reply may have values. What the codes mean is in `specs/Ways.antt`.
+/// Whether this return code is a warning, with which a reply may have values.
 pub(crate) fn is_warning(rc: u16) -> bool
     ensures { result ≡ is_warning rc }
 {
-    rc == 1283 || rc == 1284 || rc == 1285 || rc == 1288 || rc == 1289
+    rc == UNCORRECTED
+        || rc == UNGUARANTEED
+        || rc == NO_DISTANCE
+        || rc == ANGLES_UNCORRECTED
+        || rc == ANGLES_UNGUARANTEED
 }
 
-/// Whether a distance is among the values of a reply with this return code.
+/// Whether a distance is among the values of a reply with this return code, which is a warning.
 pub(crate) fn has_distance(rc: u16) -> bool
     ensures { result ≡ has_distance rc }
 {
-    rc == 1283 || rc == 1284
+    rc == UNCORRECTED || rc == UNGUARANTEED
 }

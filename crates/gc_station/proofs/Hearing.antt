@@ -21,12 +21,14 @@ use Rattle.gc_lines.proofs.Passing.{Takes}
 use Rattle.gc_catalogue.specs.declared.asked.Asked.{Asked}
 use Rattle.gc_client.specs.declared.pending.Pending.{Pending}
 use Rattle.gc_client.specs.Rule.{ById, Settled, Settlement, hears, id_settled, settle, lost, restarts, place_in, expires, expired}
-use Rattle.gc_links.specs.Acts.{Act, Tells}
+use Rattle.gc_links.specs.Acts.{Act, Untold, Tells}
 use Rattle.gc_links.specs.declared.link.Moment.{Moment}
+use Rattle.gc_texts.specs.declared.tasks.Task.{Task}
 use Rattle.gc_station.specs.declared.mark.Mark.{Mark}
 use Rattle.gc_station.specs.declared.plan.Plan.{Plan}
 use Rattle.gc_station.specs.declared.cause.Cause.{Cause}
 use Rattle.gc_station.specs.declared.cause.Cause.TheVariants as cause
+use Rattle.gc_station.specs.declared.progress.Action.{Action}
 use Rattle.gc_station.specs.declared.progress.Progress.{Progress}
 use Rattle.gc_station.specs.declared.progress.Until.{Until}
 use Rattle.gc_station.specs.declared.progress.Waiting.{Waiting}
@@ -34,10 +36,10 @@ use Rattle.gc_station.specs.declared.station.Station.{Station}
 use Rattle.gc_station.specs.Attempts.{listed_by}
 use Rattle.gc_station.specs.Marks.{commands_in, records_of, last_well, fresh_after}
 use Rattle.gc_station.specs.Deciding.{is_none_left}
-use Rattle.gc_station.specs.Progressing.{caught_up, line_noted, bytes_noted, early_noted, after_failure, closed, lines_synchronizing, line_synchronizing}
+use Rattle.gc_station.specs.Progressing.{behind_noted, line_noted, bytes_noted, early_noted, after_failure, closed, failing, lines_synchronizing, line_synchronizing}
 use Rattle.gc_station.specs.Records.{Record, Grew, texts_of, WritesPart, WritesAll}
-use Rattle.gc_station.specs.Model.{Model, line_came, lines_came, lines_completed, with_rest, with_progress, with_moment, waiting_of, settles, piece_came, piece_synchronizing, after_piece}
-use Rattle.gc_station.specs.Stations.{waiting_in, Refines, Took, TookPart, ComesTo, station_expiring}
+use Rattle.gc_station.specs.Model.{Model, Performs, line_came, lines_came, lines_completed, with_rest, with_progress, with_moment, waiting_of, settles, piece_came, piece_synchronizing, after_piece}
+use Rattle.gc_station.specs.Stations.{waiting_in, Refines, Took, TookPart, ComesTo, Makes, ReadsMoment, seen, station_expiring}
 use Rattle.gc_station.specs.Scopes.{AreReadings, ForEachReadings}
 use Rattle.gc_station.specs.Tallies.{nothing_yet, tallied}
 use Rattle.gc_station.proofs.Growing.{lines_records}
@@ -296,10 +298,10 @@ pub with_noted : (mid : Station) (p : Progress) (b b' : Bool) (s : Model) → Re
 with_noted mid p b b' s stands e is = refines_with mid p (line_noted b') s stands (is ∙ ap (λ t. line_noted t mid.progress) e)
 
 -- a station that noted what a line settled is as the model that noted it
-pub with_caught : (mid : Station) (p : Progress) (t t' : Bool) (n n' : ℕ) (s : Model) → Refines mid s → t ≡ t' → n ≡ n' → p ≡ caught_up t n mid.progress
-    → Refines (record mid { progress = p }) (with_progress (caught_up t' n') s)
-with_caught mid p t t' n n' s stands e f is =
-    refines_with mid p (caught_up t' n') s stands (is ∙ ap (λ b. caught_up b n mid.progress) e ∙ ap (λ m. caught_up t' m mid.progress) f)
+pub with_behind_noted : (mid : Station) (p : Progress) (t t' : Bool) (n n' : ℕ) (s : Model) → Refines mid s → t ≡ t' → n ≡ n' → p ≡ behind_noted t n mid.progress
+    → Refines (record mid { progress = p }) (with_progress (behind_noted t' n') s)
+with_behind_noted mid p t t' n n' s stands e f is =
+    refines_with mid p (behind_noted t' n') s stands (is ∙ ap (λ b. behind_noted b n mid.progress) e ∙ ap (λ m. behind_noted t' m mid.progress) f)
 
 -- a station whose progress changed, and whose requests timed out at a moment, is as the model at that moment
 pub refines_expired : (station new : Station) (p q : Progress) (m : Moment) (s : Model) → Refines station s → p ≡ q
@@ -317,6 +319,28 @@ refines_expired station new p q m s stands e is = subst (λ (x : Station). Refin
   listed = stands.listed;
   fresh = λ are. ap (λ f. min f m.elapsed) (stands.fresh are);
 })
+
+-- a station whose requests timed out at a moment is as the model at that moment
+pub refines_timed_out : (old new : Station) (m : Moment) (s : Model) → Refines old s → new ≡ station_expiring m.elapsed old → Refines new (with_moment m s)
+refines_timed_out old new m s stands is = refines_expired old new old.progress s.progress m s stands stands.progress is
+
+-- a station that couldn't read the clock, and noted that, made an act that performs `action`, if that action may have such an act
+-- (`performs`), and the model notes no more of it than the cause (`same`)
+pub untold_does : (commands : List Task) (action : Action) (next : Model → Act → Model) (told told' : Option (List Act)) (old new : Station)
+    → (performs : (s : Model) → Performs commands s action Untold) → (same : (s : Model) → with_progress (failing cause.Clock) s ≡ next s Untold)
+    → ReadsMoment told told' old new None
+    → (text : Record → List ℕ) (known : Option (List ℕ)) → Makes commands action next (seen told text known old) (seen told' text known new)
+untold_does commands action next told told' old new performs same read text known = record {
+  act = Untold;
+  tells = read.0;
+  goes = λ s start stands so.
+      let failed : Refines (record old { progress = failing cause.Clock old.progress }) (with_progress (failing cause.Clock) s) =
+      refines_with old (failing cause.Clock old.progress) (failing cause.Clock) s stands refl in (
+        performs s,
+        subst (λ (x : Model). Refines new x) (same s) (subst (λ (x : Station). Refines x (with_progress (failing cause.Clock) s)) (sym read.1) failed),
+        subst (λ (x : Model). Took text start known x) (same s) so,
+      );
+}
 
 -- as many requests are outstanding at a station as in its model
 pub outstanding_same : (station : Station) (s : Model) → Refines station s → (waiting_in station).all ≡ (waiting_of s).all

@@ -2,7 +2,7 @@
 -- on the link, with its result. `told` and `told'` are what the link had recorded before the call and has recorded after it,
 -- `start`, `taken` and `taken'` what the book had taken at first, before the call and after it; `text` is how a record is
 -- written.
-use Rattle.std.proofs.Common.{◌≡◌, ℕ, zero, suc, ◌+◌, ◌<◌, Bool, true, false, List, [], ◌∷◌, ◌++◌, length, drop, get_or, if◌then◌else◌, nat_eq, Option, Some, None, Result, Ok, Err, refl, sym, ap, ◌∙◌, subst, append-nil, arith}
+use Rattle.std.proofs.Common.{◌≡◌, ℕ, ◌+◌, ◌<◌, Bool, true, false, List, [], ◌∷◌, ◌++◌, length, if◌then◌else◌, nat_eq, Option, Some, None, Result, Ok, Err, refl, sym, ap, ◌∙◌, subst, append-nil, arith}
 use Rattle.std.proofs.lemmas.Bool.{ne_eqb}
 use Rattle.std.proofs.lemmas.List.{length-append}
 use Rattle.gc_lines.specs.Assembler.{StandsFor}
@@ -110,18 +110,6 @@ asks_refines old new s wait command other mark stands room e is =
       fresh = λ are. ap (λ (n : Station). n.recorded.fresh) is ∙ stands.fresh are;
     }
 
--- what is left of a list without its first i elements begins with x, if the list has more than i, and x at place i
-pub drop_here : {A : Type 0} (xs : List A) (i : ℕ) (x : A) → i < length xs → x ≡ get_or xs i x → (others : List A) × (drop i xs ≡ x ∷ others)
-drop_here [] i x below e = absurd (omega (arith, below))
-drop_here (y ∷ ys) zero x below e = (ys, ap (λ z. z ∷ ys) (sym e))
-drop_here (y ∷ ys) (suc i) x below e = drop_here ys i x (omega (arith, below)) e
-
--- something is left of a list without its first i elements, if the list has more than i
-pub drop_some : {A : Type 0} (xs : List A) (i : ℕ) → i < length xs → (x : A) × (others : List A) × (drop i xs ≡ x ∷ others)
-drop_some [] i below = absurd (omega (arith, below))
-drop_some (y ∷ ys) zero below = (y, ys, refl)
-drop_some (y ∷ ys) (suc i) below = drop_some ys i (omega (arith, below))
-
 -- a station that is as the model `s` after it sent `task` with `mark` is as `s` after it sent the first of the commands in `list`
 -- with `mark'`, if `list` begins with `task` and the two marks are equal
 pub first_refines : (new : Station) (s : Model) (mark mark' : Mark) (list : List Task) (task : Task) (others : List Task) → list ≡ task ∷ others → mark ≡ mark'
@@ -179,9 +167,10 @@ unwell_end false = refl
 
 -- after the record of the first of the commands in `list`, of which there is one, as not sent, the last command wasn't answered
 -- well
-pub skips_unwell : (well : Bool) (p : Progress) (m : Moment) (mark : Mark) (list : List Task) (task : Task)
-    (others : List Task) → list ≡ task ∷ others → last_well well (first_unsent_record p m mark list) ≡ false
-skips_unwell b p m mark list task others is = ap (λ ts. last_well b (first_unsent_record p m mark ts)) is ∙ unwell_end p.missed
+pub skips_unwell : (well : Bool) (p : Progress) (m : Moment) (mark : Mark) (list : List Task) → 0 < length list
+    → last_well well (first_unsent_record p m mark list) ≡ false
+skips_unwell b p m mark [] some = absurd (omega (arith, some))
+skips_unwell b p m mark (task ∷ others) some = unwell_end p.missed
 
 -- if the station `old` is as the model `s`, and after the records `rs` the last command wasn't answered well, whatever it was
 -- before them, then `old` with these records counted, and `b` as `listed`, is as `s` with these records, and b' as `listed`. b

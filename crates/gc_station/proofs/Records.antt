@@ -187,12 +187,6 @@ listed_more reads a b c marks ss i s mark below is so more here =
     ∙ sym (listed-append reads marks front (settlement_seen s ∷ []) a)
     ∙ sym (ap (listed_by reads a marks) (map_more settlement_seen ss i s below ∙ ap (λ x. front ++ settlement_seen x ∷ []) (sym is)))
 
--- Texts.
-
--- where `next` is `front` and `more` after it, the texts are the same, whether `front` is joined to `more` first or to `before`
-pub texts_more : (text : Record → List ℕ) (before front next more : List Record) → next ≡ front ++ more → texts_of text (before ++ next) ≡ texts_of text ((before ++ front) ++ more)
-texts_more text before front next more is = ap (λ rs. texts_of text (before ++ rs)) is ∙ ap (texts_of text) (sym (append_assoc before front more))
-
 -- Records are added, and none goes.
 
 -- records are a front of themselves

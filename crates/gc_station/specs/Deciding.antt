@@ -131,15 +131,16 @@ has_room plan w = nat_lt w.current (width_of plan) && nat_lt w.all WINDOW
 abbrev pub action_room : Plan → Progress → Waiting → Action → Action
 action_room plan p w action = if has_room plan w then action else action_waiting plan p w
 
--- the next action when the next command may be sent, of a cycle (`action` is `Send`) or of the setup (`Prepare`): `action`, if
--- one of the seven requests before it is a call of the table that a reply ended (`behind`). Else a null procedure is sent first
--- (`Flush`), once no request is in flight that hasn't timed out. Until then, and without room for either, it is the action of a
--- station that waits
+-- the next action if nothing but a null procedure may be sent: to send one, if all outstanding requests have timed out or none is
+-- outstanding, and there is room; its reply settles them. Otherwise it is the action of a station that waits
+abbrev pub action_flush : Plan → Progress → Waiting → Action
+action_flush plan p w = if nat_eq w.current 0 then action_room plan p w Flush else action_waiting plan p w
+
+-- the next action when the next command may be sent, of a cycle (`action` is `Send`) or of the setup (`Prepare`): that of
+-- `action_room`, if one of the seven requests before it is a call of the table that a reply ended (`behind`). Else that of
+-- `action_flush`, since a null procedure has to be sent first
 abbrev pub action_next : Plan → Progress → Waiting → Action → Action
-action_next plan p w action =
-    if nat_lt p.behind WINDOW then action_room plan p w action
-    else if nat_eq w.current 0 then action_room plan p w Flush
-    else action_waiting plan p w
+action_next plan p w action = if nat_lt p.behind WINDOW then action_room plan p w action else action_flush plan p w
 
 -- whether the next command of a chain may be sent: the one before it was answered well, and since that was sent no connection
 -- was closed, and the station didn't resynchronize
@@ -167,14 +168,10 @@ action_settled plan p w =
     else Skip
 
 -- the next action if no command may be sent before those that are outstanding are settled: none of the cycle is left, or the next
--- one is chained or begins a further attempt. If no command is outstanding, it is that of `action_settled`. If some are, and all
--- outstanding requests have timed out, a null procedure is sent, if there is room; its reply settles them. Otherwise the station
--- waits
+-- one is chained or begins a further attempt. If no command is outstanding, it is that of `action_settled`; otherwise that of
+-- `action_flush`
 abbrev pub action_sent : Plan → Progress → Waiting → Action
-action_sent plan p w =
-    if nat_eq w.commands 0 then action_settled plan p w
-    else if nat_eq w.current 0 then action_room plan p w Flush
-    else action_waiting plan p w
+action_sent plan p w = if nat_eq w.commands 0 then action_settled plan p w else action_flush plan p w
 
 -- the next action when the next command of the setup may be sent: that of `action_next`. There always is such a command, since
 -- the setup is done once its last one was answered well; without one the action would be to read
@@ -184,17 +181,15 @@ action_next_of_setup plan p w = if nat_lt p.prepared plan.setup then action_next
 -- the next action while the setup isn't done: nothing is sent if no command of a cycle is left to be sent and no command is
 -- outstanding (the connection is closed: the run is done), nor between cycles (it reads until the next is due). The setup's first
 -- command may be sent at once (`action_next`), and each other one once the one before it was answered well. If that wasn't, the
--- connection is closed, and the setup begins with its first command on the next one. If commands are outstanding, and all
--- outstanding requests have timed out, a null procedure is sent, if there is room; its reply settles them. Otherwise the station
--- waits
+-- connection is closed, and the setup begins with its first command on the next one. If commands are outstanding, it is that of
+-- `action_flush`
 abbrev pub action_preparing : Plan → Progress → Waiting → Action
 action_preparing plan p w =
     if is_finished w.commands p then Close Done
     else if is_idle plan p then Read Due
     else if nat_eq p.prepared 0 then action_next_of_setup plan p w
     else if nat_eq w.commands 0 then (if w.well then action_next_of_setup plan p w else Close SetUp)
-    else if nat_eq w.current 0 then action_room plan p w Flush
-    else action_waiting plan p w
+    else action_flush plan p w
 
 -- the next action once the station has synchronized and its setup is done: that of `action_next`, if there is a command that
 -- needn't wait for those before it (`waits_for_all`); otherwise that of `action_sent`

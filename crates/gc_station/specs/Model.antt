@@ -35,7 +35,7 @@ pub use Rattle.gc_station.specs.Lines.{is_reply}
 use Rattle.gc_station.specs.Attempts.{listed_after, listed_by}
 use Rattle.gc_station.specs.Marks.{commands_in, records_of, last_well, fresh_after}
 use Rattle.gc_station.specs.NextCommand.{place_next, cycles_begun, mark_next, mark_setup, commands_before, is_chained_after, others_after, is_chained_after_next, others_after_next}
-use Rattle.gc_station.specs.Progressing.{at_start, turned, moment_noted, cycle_begun, skipped, attempts_left_out, skipped_at, failing, opened, after_failure, cleared, request_noted, null_sent, renewed, sent, caught_up, line_noted, lines_synchronizing, bytes_noted, silent, early_noted, closed, loses_all, setup_sent}
+use Rattle.gc_station.specs.Progressing.{at_start, turned, moment_noted, cycle_begun, skipped, attempts_left_out, skipped_at, failing, opened, after_failure, cleared, request_noted, null_sent, renewed, sent, behind_noted, line_noted, lines_synchronizing, bytes_noted, silent, early_noted, closed, loses_all, setup_sent}
 use Rattle.gc_station.specs.Records.{Record}
 use Rattle.gc_station.specs.Requests.{Request, requests, of_task}
 use Rattle.gc_station.specs.Scopes.{Scope}
@@ -292,7 +292,7 @@ ends_with_table settlements = is_some_of_table (slice_get settlements (length se
 -- the model `s` once a line settled requests, as `x` says: with the records of these settlements, and the number of requests
 -- sent after the last call of the table that a reply ended
 abbrev pub line_settles : Settled Asked (ById Asked) → Model → Model
-line_settles x s = with_progress (caught_up (ends_with_table x.settlements) (length x.client.waiting)) (settles x s)
+line_settles x s = with_progress (behind_noted (ends_with_table x.settlements) (length x.client.waiting)) (settles x s)
 
 -- the model `s` after the client heard `line`
 abbrev pub line_came : Model → List ℕ → Model

@@ -8,6 +8,7 @@ use Rattle.gc_texts.specs.declared.tasks.Task.{Task}
 use Rattle.gc_texts.specs.declared.turn.Turn.{Turn}
 use Rattle.gc_station.specs.declared.plan.Plan.{Plan}
 use Rattle.gc_station.specs.declared.progress.Progress.{Progress}
+use Rattle.gc_station.specs.declared.progress.Upcoming.{Upcoming}
 use Rattle.gc_station.specs.declared.mark.Mark.{Mark}
 
 -- the place of the cycle's next command in the list `commands`, counted from 0, at the progress `p`. The setup is at the front
@@ -84,6 +85,13 @@ is_chained_after count commands p = p.missed || is_chained (drop (place_next com
 -- this and the chain's later attempts (`others_in`); otherwise 0, also if there is no such command
 abbrev pub others_after : (count : ℕ) → List Task → Progress → ℕ
 others_after count commands p = others_in (drop (place_next commands p + count) commands)
+
+-- what is noted of the command `count` places after the cycle's next one, once that is the next one
+abbrev pub upcoming_after : (count : ℕ) → List Task → Progress → Upcoming
+upcoming_after count commands p = record {
+  is_chained = is_chained_after count commands p;
+  others = others_after count commands p;
+}
 
 -- `is_chained_after` of the command after the cycle's next one
 abbrev pub is_chained_after_next : List Task → Progress → Bool

@@ -108,25 +108,25 @@ skipped_at m p = if p.missed then p.due else m.utc
 -- the progress once the next `count` commands of the cycle had their turn: they were sent, recorded without being sent, or left
 -- out. `next_is_chained`: whether the command after them is sent only once the one before it was answered well. `others`: if the
 -- command after them begins a further attempt of its chain, how many commands this and the chain's later attempts have together;
--- otherwise 0. `was_sent`: whether they were sent, so that their chain is unbroken (`chain_unbroken`)
-abbrev pub had_turn : (count : ℕ) (next_is_chained : Bool) (others : ℕ) (was_sent : Bool) → Progress → Progress
-had_turn count next_is_chained others was_sent p = record p {
+-- otherwise 0. `were_sent`: whether they were sent, so that their chain is unbroken (`chain_unbroken`)
+abbrev pub advanced : (count : ℕ) (next_is_chained : Bool) (others : ℕ) (were_sent : Bool) → Progress → Progress
+advanced count next_is_chained others were_sent p = record p {
   unsent = p.unsent - count;
   next_is_chained = next_is_chained;
   next_others = others;
-  chain_unbroken = was_sent;
+  chain_unbroken = were_sent;
   preparing = false;
 }
 
 -- the progress once the next command was recorded at the moment `m` without being sent. `next_is_chained` and `others` are of the
--- command after it, as in `had_turn`
+-- command after it, as in `advanced`
 abbrev pub skipped : (next_is_chained : Bool) (others : ℕ) → Moment → Progress → Progress
-skipped next_is_chained others m p = had_turn 1 next_is_chained others false (moment_noted m p)
+skipped next_is_chained others m p = advanced 1 next_is_chained others false (moment_noted m p)
 
 -- the progress after the further attempt that the next command begins, and those of its chain after it, were left out at the
--- moment `m`. `next_is_chained` and `others` are of the command after all these attempts, as in `had_turn`
+-- moment `m`. `next_is_chained` and `others` are of the command after all these attempts, as in `advanced`
 abbrev pub attempts_left_out : (next_is_chained : Bool) (others : ℕ) → Moment → Progress → Progress
-attempts_left_out next_is_chained others m p = had_turn p.next_others next_is_chained others false (moment_noted m p)
+attempts_left_out next_is_chained others m p = advanced p.next_others next_is_chained others false (moment_noted m p)
 
 -- the progress after a call that failed for `cause`: the connection is to be closed, and without a connection the run is over
 abbrev pub failing : Cause → Progress → Progress
@@ -211,9 +211,9 @@ renewed plan m p =
     let q = moment_noted m p in
     setup_restarted plan (record q { word = the_word; again = 0; asked = p.asked && goes_on plan q; chain_unbroken = false; behind = 0 })
 
--- the progress after the cycle's next command was sent. `next_is_chained` and `others` are of the one after it, as in `had_turn`
+-- the progress after the cycle's next command was sent. `next_is_chained` and `others` are of the one after it, as in `advanced`
 abbrev pub sent : (next_is_chained : Bool) (others : ℕ) → Progress → Progress
-sent next_is_chained others p = had_turn 1 next_is_chained others true (request_noted p)
+sent next_is_chained others p = advanced 1 next_is_chained others true (request_noted p)
 
 -- the progress after the setup's next command was sent
 abbrev pub setup_sent : Plan → Progress → Progress
@@ -226,8 +226,8 @@ line_noted is_reply p = record p { alive = if is_reply then p.moment.elapsed els
 
 -- the progress once a line was heard after which `waiting` requests are outstanding. `of_table`: it settled requests, and the
 -- last of them, to which it is the reply, is a call of the table. Then the outstanding requests are those sent after that call
-abbrev pub caught_up : (of_table : Bool) (waiting : ℕ) → Progress → Progress
-caught_up of_table waiting p = record p { behind = if of_table then waiting else p.behind }
+abbrev pub behind_noted : (of_table : Bool) (waiting : ℕ) → Progress → Progress
+behind_noted of_table waiting p = record p { behind = if of_table then waiting else p.behind }
 
 -- the progress once a line with this id, or with none, was heard while the station synchronizes: if the line answers the first
 -- null procedure that is left, the next null procedure, if there is one, is sent at once

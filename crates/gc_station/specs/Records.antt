@@ -41,9 +41,9 @@ record_seen stamp command ending = record {
   end = ending_seen ending;
 }
 
--- from `old` to `new` records were added at the end, if any, and none was changed or removed
-abbrev pub Grew : (old new : List Record) → Type 0
-Grew old new = (more : List Record) × (new ≡ old ++ more)
+-- from `old` to `new` items, such as records, were added at the end of a list, if any, and none was changed or removed
+abbrev pub Grew : {A : Type 0} → (old new : List A) → Type 0
+Grew {A = A} old new = (more : List A) × (new ≡ old ++ more)
 
 -- a write of `text` with this result, after which a book that had taken `old` has taken `new`: the whole text, or if the write
 -- failed (`Err`) a first part that isn't all of it

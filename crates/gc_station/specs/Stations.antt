@@ -23,12 +23,13 @@ use Rattle.gc_station.specs.declared.station.sending.Outgoing.{Outgoing}
 use Rattle.gc_station.specs.declared.mark.Mark.{Mark}
 use Rattle.gc_catalogue.specs.declared.asked.Asked.TheVariants.{Table}
 use Rattle.gc_catalogue.specs.declared.call.Call.TheVariants.{NullProc}
-use Rattle.gc_links.specs.Acts.{Act, Told, Tells}
+use Rattle.gc_links.specs.Acts.{Act, Told, Untold, Tells}
 use Rattle.gc_links.specs.declared.link.Moment.{Moment}
 use Rattle.gc_station.specs.Deciding.{has_begun}
-use Rattle.gc_station.specs.Marks.{last_well}
+use Rattle.gc_station.specs.Marks.{commands_in, last_well}
+use Rattle.gc_station.specs.NextCommand.{is_chained_after, others_after}
 use Rattle.gc_station.specs.Scopes.{AreReadings}
-use Rattle.gc_station.specs.Progressing.{failing}
+use Rattle.gc_station.specs.Progressing.{failing, moment_noted, advanced, early_noted}
 use Rattle.gc_station.specs.Records.{Record, texts_of, WritesPart}
 use Rattle.gc_station.specs.Requests.{command_at}
 use Rattle.gc_station.specs.Model.{Model, Performs, moved, stepped, waiting_by, lines_came, sent_to, unsent_record, listed_unsent}
@@ -187,6 +188,22 @@ station_expiring now station = record station {
   client = record station.client { ids = expires station.client.ids now };
   recorded = record station.recorded { fresh = min station.recorded.fresh now };
 }
+
+-- from `old` to `new` a station read the clock, the one act of the link between `told` and `told'`. With a moment, its requests
+-- have timed out as `station_expiring` says. If the clock couldn't be read (`None`), that is the cause to close the connection;
+-- without one the run is over (`failing`)
+abbrev pub ReadsMoment : (told told' : Option (List Act)) → (old new : Station) → Option Moment → Type 0
+ReadsMoment told told' old new (Some m) = Tells told told' (Told m ∷ []) × (new ≡ station_expiring m.elapsed old)
+ReadsMoment told told' old new None = Tells told told' (Untold ∷ []) × (new ≡ record old { progress = failing cause.Clock old.progress })
+
+-- the station once the next `count` commands of the cycle had their turn at the moment `moment` without being sent
+abbrev pub station_advancing : Plan → List Task → (count : ℕ) → Moment → Station → Station
+station_advancing plan commands count moment station =
+    let p = station.progress in
+    let next_is_chained = is_chained_after count commands p in
+    let others = others_after count commands p in
+    let past = advanced count next_is_chained others false (moment_noted moment p) in
+    record station { progress = early_noted plan (commands_in station.marks.items) past }
 
 -- the station once the record of its next command, which isn't sent, is written at the moment `moment`, counted and noted
 abbrev pub station_skipping : Plan → List Task → Moment → Station → Station

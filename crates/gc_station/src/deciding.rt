@@ -56,7 +56,7 @@
 //! follows, and without a connection `Over`.
 
 ghost use Rattle.std.specs.Prelude.{◌≡◌};
-ghost use Rattle.gc_station.specs.Deciding.{is_dead, is_due, goes_on, is_finished, has_room, may_go, waits_for_all, action_again, action_of, action_on, action_ready, action_begun, action_beginning, action_next, action_room, action_sent, action_settled, action_done, action_waiting, is_stale, is_between, is_resting, is_stopping, is_held_back, action_cycle, action_next_of_setup, action_preparing, is_preparing};
+ghost use Rattle.gc_station.specs.Deciding.{is_dead, is_due, goes_on, is_finished, has_room, may_go, waits_for_all, action_again, action_of, action_on, action_ready, action_begun, action_beginning, action_next, action_room, action_flush, action_sent, action_settled, action_done, action_waiting, is_stale, is_between, is_resting, is_stopping, is_held_back, action_cycle, action_next_of_setup, action_preparing, is_preparing};
 
 use crate::cause::Cause;
 use crate::plan::Plan;
@@ -214,20 +214,17 @@ impl Progress {
         }
     }
 
-    // The next action when the next command may be sent, of a cycle (`action` is `Send`) or of the setup (`Prepare`): `action`,
-    // if one of the seven requests before it is a call of the table that a reply ended (`behind`). Else a null procedure is sent
-    // first (`Flush`), once no request is in flight that hasn't timed out: an instrument that retains the reply to its last call
-    // of the table may still send that reply for the next id. Until then, and without room for either, it is the action of a
-    // station that waits.
+    // The next action when the next command may be sent, of a cycle (`action` is `Send`) or of the setup (`Prepare`): that of
+    // `action_room`, if one of the seven requests before it is a call of the table that a reply ended (`behind`). Else that of
+    // `action_flush`, since a null procedure has to be sent first: an instrument that retains the reply to its last call of the
+    // table may still send that reply for the next id.
     fn action_next(&self, plan: &Plan, waiting: Waiting, action: Action) -> Action
         ensures { result ≡ action_next plan.now self.now waiting action }
     {
         if self.behind < WINDOW {
             self.action_room(plan, waiting, action)
-        } else if waiting.current == 0 {
-            self.action_room(plan, waiting, Action::Flush)
         } else {
-            self.action_waiting(plan, waiting)
+            self.action_flush(plan, waiting)
         }
     }
 
@@ -269,8 +266,7 @@ impl Progress {
     // The next action while the setup isn't done. Nothing is sent if no command is left to be sent after it and none is
     // outstanding, nor between cycles. Its first command may be sent at once (`action_next`), and each other one once the one
     // before it was answered well. If it wasn't, the connection is closed: the setup begins with its first command on the next
-    // one. Where commands are outstanding, and all outstanding requests have timed out, a null procedure is sent, if there is
-    // room; its reply settles them. While some haven't timed out, it is the action of a station that waits.
+    // one. Where commands are outstanding, it is that of `action_flush`.
     fn action_preparing(&self, plan: &Plan, waiting: Waiting) -> Action
         ensures { result ≡ action_preparing plan.now self.now waiting }
     {
@@ -287,10 +283,8 @@ impl Progress {
             } else {
                 Action::Close(Cause::SetUp)
             }
-        } else if waiting.current == 0 {
-            self.action_room(plan, waiting, Action::Flush)
         } else {
-            self.action_waiting(plan, waiting)
+            self.action_flush(plan, waiting)
         }
     }
 
@@ -307,18 +301,15 @@ impl Progress {
     }
 
     // The next action if no command may be sent before those that are outstanding are settled: all of the cycle had their turn,
-    // or the next one is chained or begins a further attempt. Where no command is outstanding, it is that of `action_settled`.
-    // Where some are, and all outstanding requests have timed out, a null procedure is sent, if there is room; its reply settles
-    // them. While some haven't timed out, it is the action of a station that waits.
+    // or the next one is chained or begins a further attempt. Where no command is outstanding, it is that of `action_settled`;
+    // otherwise that of `action_flush`.
     fn action_sent(&self, plan: &Plan, waiting: Waiting) -> Action
         ensures { result ≡ action_sent plan.now self.now waiting }
     {
         if waiting.commands == 0 {
             self.action_settled(plan, waiting)
-        } else if waiting.current == 0 {
-            self.action_room(plan, waiting, Action::Flush)
         } else {
-            self.action_waiting(plan, waiting)
+            self.action_flush(plan, waiting)
         }
     }
 
@@ -364,6 +355,18 @@ impl Progress {
         ensures { result ≡ may_go self.now waiting }
     {
         waiting.well && self.chain_unbroken
+    }
+
+    // The next action if nothing but a null procedure may be sent: to send one, if all outstanding requests have timed out or
+    // none is outstanding, and there is room; its reply settles them. Otherwise it is the action of a station that waits.
+    fn action_flush(&self, plan: &Plan, waiting: Waiting) -> Action
+        ensures { result ≡ action_flush plan.now self.now waiting }
+    {
+        if waiting.current == 0 {
+            self.action_room(plan, waiting, Action::Flush)
+        } else {
+            self.action_waiting(plan, waiting)
+        }
     }
 
     // `action`, which sends a request, if there is room for one; otherwise the action of a station that waits.

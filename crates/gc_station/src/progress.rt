@@ -94,6 +94,17 @@ pub(crate) struct Waiting {
     pub fresh: u64,
 }
 
+/// What a station notes of the next command of its cycle: whether it waits for those before it.
+#[derive(Clone, Copy)]
+pub(crate) struct Upcoming {
+    /// Whether it is sent only once the command before it was answered well. In a missed cycle, in which none is sent, always
+    /// `true`.
+    pub is_chained: bool,
+    /// If it begins a further attempt of its chain: how many commands this attempt and those after it have. Else 0, also if there
+    /// is no such command.
+    pub others: usize,
+}
+
 /// How far a station is: its phase, the last moment read, and where it is in its synchronization, its setup, its cycles and its
 /// tries. Moments are by the clock for deadlines, and times in milliseconds, unless a field says otherwise. A moment is 0 as
 /// long as there is none yet. `again` and `asked` are of the last connection until a new one is cleared.

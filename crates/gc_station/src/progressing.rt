@@ -1,18 +1,18 @@
 //! What each act does to how far a station is. Moments are by the clock for deadlines, and times in milliseconds, unless a comment
 //! says otherwise.
 
-ghost use Rattle.std.specs.Prelude.{◌≡◌, ◌≤◌, ℕ, List, length};
+ghost use Rattle.std.specs.Prelude.{◌≡◌, ◌-◌, ◌≤◌, ℕ, List, length};
 ghost use Rattle.gc_catalogue.specs.declared.asked.Asked.{Asked};
 ghost use Rattle.gc_client.specs.Hearing.{HearsInto};
 ghost use Rattle.gc_client.specs.Rule.{ById};
 ghost use Rattle.gc_client.specs.declared.settlement.Settlement.{Settlement};
 ghost use Rattle.gc_station.specs.Deciding.{later};
-ghost use Rattle.gc_station.specs.Progressing.{turned, moment_noted, cycle_start, is_missed_at, due_of, cycle_begun, had_turn, skipped, attempts_left_out, skipped_at, failing, opened, is_finished, is_idle, is_spared, phase_again, pause_again, after_failure, cleared, request_noted, null_sent, renewed, line_synchronizing, sent, caught_up, line_noted, early_after, bytes_noted, pause_ended, drained, quieted, time_passed, silent, early_noted, ended_for, closed, is_over, loses_all, next_attempt, setup_restarted, setup_sent, gives_back};
+ghost use Rattle.gc_station.specs.Progressing.{turned, moment_noted, cycle_start, is_missed_at, due_of, cycle_begun, advanced, skipped_at, failing, opened, is_finished, is_idle, is_spared, phase_again, pause_again, after_failure, cleared, request_noted, null_sent, renewed, line_synchronizing, sent, behind_noted, line_noted, early_after, bytes_noted, pause_ended, drained, quieted, time_passed, silent, early_noted, ended_for, closed, is_over, loses_all, next_attempt, setup_restarted, setup_sent, gives_back};
 ghost use Rattle.gc_station.specs.Lines.{is_reply};
 
 use crate::cause::Cause;
 use crate::plan::Plan;
-use crate::progress::{Phase, Progress, Until, Waiting};
+use crate::progress::{Phase, Progress, Until, Upcoming, Waiting};
 use gc_client::{Beginning, Hearing, WINDOW};
 use gc_lines::read_reply;
 use gc_links::Moment;
@@ -57,7 +57,7 @@ pub(crate) fn is_reply(hearing: Hearing) -> bool
 }
 
 impl Progress {
-    // Takes one of the turns that are left. If none is, as at the close for that, none is left afterwards.
+    // Takes one of the turns that are left. The close for used-up turns, which is made when none is left, takes none.
     pub(crate) fn take_turn(&mut self)
         ensures { self.new ≡ turned self.old }
     {
@@ -91,14 +91,21 @@ impl Progress {
         }
     }
 
+    // How late a cycle begins that is begun at `moment`: how long before that it counts as begun (`cycle_start`).
+    fn lateness(&self, plan: &Plan, moment: Moment) -> u64
+        ensures { result ≡ moment.elapsed - cycle_start plan.now moment self.now }
+    {
+        moment
+            .elapsed
+            .saturating_sub(self.cycle_start(plan, moment))
+    }
+
     // Whether a cycle that would begin at this moment is missed: the cycle after it is due by then. If cycles have no due moments
     // (`every` is 0), none is missed.
     fn is_missed_at(&self, plan: &Plan, moment: Moment) -> bool
         ensures { result ≡ is_missed_at plan.now moment self.now }
     {
-        let late = moment
-            .elapsed
-            .saturating_sub(self.cycle_start(plan, moment));
+        let late = self.lateness(plan, moment);
         plan.every > 0 && plan.every <= late
     }
 
@@ -107,10 +114,7 @@ impl Progress {
     fn due_of(&self, plan: &Plan, moment: Moment) -> u64
         ensures { result ≡ due_of plan.now moment self.now }
     {
-        let late = moment
-            .elapsed
-            .saturating_sub(self.cycle_start(plan, moment));
-        moment.utc.saturating_sub(late)
+        moment.utc.saturating_sub(self.lateness(plan, moment))
     }
 
     // Begins a cycle of `count` commands at this moment. If the cycle is missed, none of them is sent.
@@ -141,37 +145,16 @@ impl Progress {
         if self.missed { self.due } else { moment.utc }
     }
 
-    // Notes that the next `count` commands of the cycle had their turn. `was_sent`: whether they were sent; otherwise they were
-    // recorded without being sent, or left out. `next_is_chained`: whether the command after them is sent only once the one
-    // before it was answered well; in a missed cycle `true`. `others`: if the command after them begins a further attempt of its
-    // chain, how many commands this attempt and those after it have together; otherwise 0, also if there is no such command.
-    fn have_turn(&mut self, count: usize, next_is_chained: bool, others: usize, was_sent: bool)
-        ensures { self.new ≡ had_turn count next_is_chained others was_sent self.old }
+    // Notes that the next `count` commands of the cycle had their turn; `next` is of the command after them. `were_sent`: whether
+    // they were sent; otherwise they were recorded without being sent, or left out.
+    pub(crate) fn advance(&mut self, count: usize, next: Upcoming, were_sent: bool)
+        ensures { self.new ≡ advanced count next.is_chained next.others were_sent self.old }
     {
         self.unsent = self.unsent.saturating_sub(count);
-        self.next_is_chained = next_is_chained;
-        self.next_others = others;
-        self.chain_unbroken = was_sent;
+        self.next_is_chained = next.is_chained;
+        self.next_others = next.others;
+        self.chain_unbroken = were_sent;
         self.preparing = false;
-    }
-
-    // Notes that the next command was recorded at `moment` without being sent. `next_is_chained` and `others` are of the command
-    // after it, as of `have_turn`.
-    pub(crate) fn skip(&mut self, next_is_chained: bool, others: usize, moment: Moment)
-        ensures { self.new ≡ skipped next_is_chained others moment self.old }
-    {
-        self.note_moment(moment);
-        self.have_turn(1, next_is_chained, others, false);
-    }
-
-    // Leaves out the further attempt that the next command begins, and those of its chain after it, at `moment`.
-    // `next_is_chained` and `others` are of the command after all these attempts, as of `have_turn`.
-    pub(crate) fn leave_out(&mut self, next_is_chained: bool, others: usize, moment: Moment)
-        ensures { self.new ≡ attempts_left_out next_is_chained others moment self.old }
-    {
-        let count = self.next_others;
-        self.note_moment(moment);
-        self.have_turn(count, next_is_chained, others, false);
     }
 
     // Notes the cause of a failure: a connection is to be closed for it next, and without a connection the run is over for it.
@@ -339,13 +322,12 @@ impl Progress {
         self.note_line(reads_as_reply(line));
     }
 
-    // Notes that the cycle's next command was sent. `next_is_chained` and `others` are of the command after it, as of
-    // `have_turn`.
-    pub(crate) fn note_sent(&mut self, next_is_chained: bool, others: usize)
-        ensures { self.new ≡ sent next_is_chained others self.old }
+    // Notes that the cycle's next command was sent; `next` is of the command after it.
+    pub(crate) fn note_sent(&mut self, next: Upcoming)
+        ensures { self.new ≡ sent next.is_chained next.others self.old }
     {
         self.note_request();
-        self.have_turn(1, next_is_chained, others, true);
+        self.advance(1, next, true);
     }
 
     // Notes that the next command of the setup was sent.
@@ -359,8 +341,8 @@ impl Progress {
 
     // Notes that a line was heard after which `waiting` requests are outstanding. `of_table`: it settled requests, and the last of
     // them, to which it is the reply, is a call of the table. Then the outstanding requests are those sent after that call.
-    pub(crate) fn catch_up(&mut self, of_table: bool, waiting: usize)
-        ensures { self.new ≡ caught_up of_table waiting self.old }
+    pub(crate) fn note_behind(&mut self, of_table: bool, waiting: usize)
+        ensures { self.new ≡ behind_noted of_table waiting self.old }
     {
         if of_table {
             self.behind = waiting;

@@ -11,8 +11,8 @@ ghost use Rattle.gc_station.specs.Marks.{commands_in};
 ghost use Rattle.gc_station.specs.Scopes.{AreReadings, scoped};
 ghost use Rattle.gc_station.specs.Records.{WritesNews};
 ghost use Rattle.gc_station.specs.Model.{Model, opening, action_at, ended};
-ghost use Rattle.gc_station.specs.NextCommand.{place_next, expected_first, mark_next, commands_before, is_chained, others_in, is_chained_after, others_after, mark_setup};
-ghost use Rattle.gc_station.specs.Stations.{waiting_in, IsPaired, Refines, DoesAlone, Moves, Steps, seen, OnCall, Becomes, DropsSettledMarks, IsFitting, station_expiring};
+ghost use Rattle.gc_station.specs.NextCommand.{place_next, expected_first, mark_next, commands_before, is_chained, others_in, is_chained_after, others_after, upcoming_after, mark_setup};
+ghost use Rattle.gc_station.specs.Stations.{waiting_in, IsPaired, Refines, DoesAlone, Moves, Steps, seen, OnCall, Becomes, DropsSettledMarks, IsFitting, ReadsMoment, station_expiring};
 ghost use Rattle.gc_station.specs.Writing.{news_settled, CountsSettled, NotesSettledWell, NotesSettledListed, NotesSettledFresh};
 ghost use Rattle.gc_station.specs.declared.progress.Action.TheVariants.{ReadClock, Renew, Begin, Open, Close};
 ghost use Rattle.gc_texts.specs.declared.tasks.Task.{Task};
@@ -25,14 +25,14 @@ use crate::book::Book;
 use crate::cause::Cause;
 use crate::mark::{Mark, commands_in};
 use crate::plan::Plan;
-use crate::progress::{Action, Progress, Waiting};
+use crate::progress::{Action, Progress, Upcoming, Waiting};
 use crate::recorded::Recorded;
 use crate::writing::write_settlements;
 use arrayvec::ArrayVec;
 use gc_catalogue::Asked;
 use gc_client::{Client, Settlement, SlotsOf, WINDOW};
 use gc_lines::{Assembler, PortFailed};
-use gc_links::Link;
+use gc_links::{Link, Moment};
 use gc_texts::{Again, Codes, Expected, Task, Turn};
 
 // Whether a command at this place is sent only once the one before it was answered well; `false` if there is no such command.
@@ -195,6 +195,16 @@ impl Station {
         others_at(commands, self.place(commands).saturating_add(count))
     }
 
+    // What is noted of the command `count` places after the next one, once that is the next one.
+    fn upcoming_after(&self, count: usize, commands: &[Task]) -> Upcoming
+        ensures { result ≡ upcoming_after count commands.now self.now.progress }
+    {
+        Upcoming {
+            is_chained: self.is_chained_after(count, commands),
+            others: self.others_after(count, commands),
+        }
+    }
+
     // How many commands are before the cycle's next one in the list, those of the setup included; 0 before the first cycle. The
     // fault of a cut write has this number.
     fn commands_before(&self, plan: &Plan, commands: &[Task]) -> usize
@@ -215,49 +225,54 @@ impl Station {
         self.recorded.fresh = self.recorded.fresh.min(now);
     }
 
-    // Reads the clock, and times out the requests whose deadline has come. If the clock can't be read, that is noted (`fail`):
-    // the connection is to be closed for it, and without a connection the run is over for it.
+    // Reads the clock, and times out the requests whose deadline has come (`expire`). `None`: the clock couldn't be read, which is
+    // noted (`fail`): the connection is to be closed for it, and without a connection the run is over for it.
+    fn read_moment<L: Link>(&mut self, link: &mut L) -> Option<Moment>
+        ensures { ReadsMoment (L.acts link.old) (L.acts link.new) self.old self.new result }
+    {
+        match link.now() {
+            Ok(moment) => {
+                self.expire(moment.elapsed);
+                Some(moment)
+            }
+            Err(_) => {
+                self.progress.fail(Cause::Clock);
+                None
+            }
+        }
+    }
+
+    // Reads the clock (`read_moment`), and notes the moment, and whether the cycle was done early.
     fn read_clock<L: Link>(&mut self, link: &mut L, plan: &Plan)
         ensures { (commands : List Task) → DoesAlone plan.now commands ReadClock (L.acts link.old) (L.acts link.new) self.old self.new }
     {
-        match link.now() {
-            Ok(moment) => {
-                let commands = self.commands_waiting();
-                self.progress.note_moment(moment);
-                self.progress.note_early(plan, commands);
-                self.expire(moment.elapsed);
-            }
-            Err(_) => self.progress.fail(Cause::Clock),
+        if let Some(moment) = self.read_moment(link) {
+            let commands = self.commands_waiting();
+            self.progress.note_moment(moment);
+            self.progress.note_early(plan, commands);
         }
     }
 
-    // Reads the clock, and resynchronizes: `record_lost` then records what is outstanding as lost. A clock that can't be read is noted,
-    // as by `read_clock`, and the station doesn't resynchronize.
+    // Reads the clock (`read_moment`), and resynchronizes: `record_lost` then records what is outstanding as lost. So no command
+    // counts as outstanding where it notes whether the cycle was done early. If the clock can't be read, the station doesn't
+    // resynchronize.
     fn renew<L: Link>(&mut self, link: &mut L, plan: &Plan)
         ensures { (commands : List Task) → DoesAlone plan.now commands Renew (L.acts link.old) (L.acts link.new) self.old self.new }
     {
-        match link.now() {
-            Ok(moment) => {
-                self.progress.resynchronize(plan, moment);
-                self.progress.note_early(plan, 0);
-                self.expire(moment.elapsed);
-            }
-            Err(_) => self.progress.fail(Cause::Clock),
+        if let Some(moment) = self.read_moment(link) {
+            self.progress.resynchronize(plan, moment);
+            self.progress.note_early(plan, 0);
         }
     }
 
-    // Reads the clock, and begins a cycle of the commands after the setup. A clock that can't be read is noted, as by `read_clock`, and
-    // no cycle begins.
+    // Reads the clock (`read_moment`), and begins a cycle of the commands after the setup. If the clock can't be read, no cycle
+    // begins.
     fn begin<L: Link>(&mut self, link: &mut L, plan: &Plan, commands: &[Task])
         ensures { DoesAlone plan.now commands.now Begin (L.acts link.old) (L.acts link.new) self.old self.new }
     {
-        match link.now() {
-            Ok(moment) => {
-                let count = commands.len().saturating_sub(plan.setup);
-                self.progress.begin_cycle(plan, count, moment);
-                self.expire(moment.elapsed);
-            }
-            Err(_) => self.progress.fail(Cause::Clock),
+        if let Some(moment) = self.read_moment(link) {
+            let count = commands.len().saturating_sub(plan.setup);
+            self.progress.begin_cycle(plan, count, moment);
         }
     }
 

@@ -66,9 +66,10 @@ impl Outcome {
         tell_end(fault, script.gone, &mut self.end);
     }
 
-    /// Takes the counts of a run that ended without a fault: of answered, late, skipped and missed commands, and how many times a
-    /// chain was sent again.
-    pub fn take_counts(&mut self, tally: &Tally) {
+    // Takes the counts of a run, unless the run ended with a fault: of answered, late, skipped and missed commands, and how many
+    // times a chain was sent again.
+    fn take_counts(&mut self, end: &Result<Tally, RunFault>) {
+        let Ok(tally) = end else { return };
         self.counts.titled("answered ", &tally.answered);
         self.counts.titled(" late ", &tally.late);
         self.counts.titled(" skipped ", &tally.skipped);
@@ -198,16 +199,9 @@ fn play_unlogged(tasks: &[Task], steps: &[Step<'_>], setting: &Setting, outcome:
     let mut book = WordBook::new(setting);
     let result = run_telling(&mut link, &mut book, tasks, &setting.plan, setting.turns);
     if setting.counted {
-        take_counts_of(&result, outcome);
+        outcome.take_counts(&result);
     }
     outcome.take(&link.link, &book, result.err());
-}
-
-// Takes the counts of a run into `outcome`, unless the run ended with a fault.
-fn take_counts_of(end: &Result<Tally, RunFault>, outcome: &mut Outcome) {
-    if let Ok(tally) = end {
-        outcome.take_counts(tally);
-    }
 }
 
 // Appends `words` to `told`, without the blank after the last one.

@@ -51,33 +51,22 @@ pub struct Script<'a> {
     steps: &'a [Step<'a>],
     // The place of the next step.
     at: usize,
-    // How many of the next attempts to connect fail.
-    shut: u64,
-    // The call of `put` that is cut, counted from 1 (0: none); how many bytes of a cut one are sent; and how many calls of `put` there
-    // were.
-    cut: u64,
-    kept: usize,
+    // What fails or is cut, and how the clock goes. Its `shut` goes down with each attempt to connect: it is how many of the next
+    // ones fail.
+    setting: Setting,
+    // How many calls of `put` there were.
     puts: u64,
     // How many requests were sent, modulo 256; the digit of the last one's id; and the value of `requests` when one was answered
     // last, or when the connection was closed since.
     requests: u8,
     id: u8,
     answered: u8,
-    // The call that fails, counted from 0, and how many calls there were; `close` isn't counted.
-    failing: u64,
+    // How many calls there were; `close` isn't counted.
     calls: u64,
     // The moment now, in milliseconds.
     clock: u64,
     // Whether there is a connection.
     up: bool,
-    // From when on the end of the run is asked for, in milliseconds since the start.
-    until: u64,
-    // How many milliseconds the clock of time stamps is ahead of `clock`.
-    ahead: u64,
-    // Whether each call of `now` fails.
-    blind: bool,
-    // Whether each call is stored with its time since the start, and of a request its id alone.
-    timed: bool,
     // How many null procedures of a synchronization were put in a row so far; where the text of the first begins, and when it
     // was put.
     nulls: usize,
@@ -96,21 +85,14 @@ impl<'a> Script<'a> {
         Script {
             steps,
             at: 0,
-            shut: setting.shut,
-            cut: setting.cut,
-            kept: usize::try_from(setting.kept).unwrap_or(usize::MAX),
+            setting: *setting,
             puts: 0,
             requests: 0,
             id: b'0',
             answered: 0,
-            failing: setting.failing,
             calls: 0,
             clock: START,
             up: false,
-            until: setting.until,
-            ahead: setting.ahead,
-            blind: setting.blind,
-            timed: setting.timed,
             nulls: 0,
             first: 0,
             first_at: 0,
@@ -119,11 +101,11 @@ impl<'a> Script<'a> {
         }
     }
 
-    // Appends a word and a blank. If the link is timed, the word has `@` and the moment `clock` after it, in milliseconds since the
-    // start.
+    // Appends a word and a blank. If the setting is timed, the word has `@` and the moment `clock` after it, in milliseconds
+    // since the start.
     fn note_at(&mut self, word: &[u8], clock: u64) {
         note(&mut self.text, word);
-        if self.timed {
+        if self.setting.timed {
             note(&mut self.text, b"@");
             note_number(&mut self.text, clock.saturating_sub(START));
         }
@@ -151,11 +133,11 @@ impl<'a> Script<'a> {
         }
     }
 
-    // Appends a request, which has no line end here; if the link is timed, only `#` and the digit of its id, or `#?` if it has
+    // Appends a request, which has no line end here; if the setting is timed, only `#` and the digit of its id, or `#?` if it has
     // none.
     fn note_request(&mut self, request: &[u8]) {
         let word = [b'#', id_of(request).unwrap_or(b'?')];
-        if self.timed {
+        if self.setting.timed {
             self.note_at(&word, self.clock);
         } else {
             self.note_at(request, self.clock);
@@ -195,13 +177,13 @@ impl<'a> Script<'a> {
     fn next_call_fails(&mut self) -> bool {
         let call = self.calls;
         self.calls = self.calls.saturating_add(1);
-        call == self.failing
+        call == self.setting.failing
     }
 
     // Counts an attempt to connect, and returns whether it is one of those that fail.
     fn next_attempt_fails(&mut self) -> bool {
-        let fails = self.shut > 0;
-        self.shut = self.shut.saturating_sub(1);
+        let fails = self.setting.shut > 0;
+        self.setting.shut = self.setting.shut.saturating_sub(1);
         fails
     }
 
@@ -210,8 +192,8 @@ impl<'a> Script<'a> {
         self.clock = self.clock.saturating_add(later);
         Moment {
             elapsed: self.clock,
-            utc: self.clock.saturating_add(self.ahead),
-            stops: self.until <= self.clock.saturating_sub(START),
+            utc: self.clock.saturating_add(self.setting.ahead),
+            stops: self.setting.until <= self.clock.saturating_sub(START),
         }
     }
 
@@ -221,14 +203,11 @@ impl<'a> Script<'a> {
         ensures { IsWithin result buf.new }
     {
         let moment = self.moment_after(later);
-        let mut n: usize = 0;
-        for (place, byte) in buf.iter_mut().zip(line) {
-            *place = *byte;
-            n = n.saturating_add(1);
-        }
-        if n == 0 || n > buf.len() {
+        let n = line.len().min(buf.len());
+        if n == 0 {
             return Came::Silence(moment);
         }
+        buf[..n].copy_from_slice(&line[..n]);
         Came::Bytes(n, moment)
     }
 
@@ -289,7 +268,7 @@ impl<'a> Link for Script<'a> {
 
     // The moment now. `Err`: this is the failing call, or the clock can't be read.
     fn now(&mut self) -> Result<Moment, PortFailed> {
-        if self.next_call_fails() || self.blind {
+        if self.next_call_fails() || self.setting.blind {
             return Err(PortFailed);
         }
         Ok(self.moment_after(0))
@@ -321,17 +300,18 @@ impl<'a> Link for Script<'a> {
         }
     }
 
-    // Stores the word of what is put. The put whose number is `cut`, or that is the failing call, is cut: its first `kept`
-    // bytes are sent, at most all but one, and `Err` has how many. Any other is sent whole, and a request counts as the last
-    // one that was sent.
+    // Stores the word of what is put. The put whose number is the setting's `cut`, or that is the failing call, is cut: its
+    // first `kept` bytes are sent, at most all but one, and `Err` has how many. Any other is sent whole, and a request counts as
+    // the last one that was sent.
     fn put(&mut self, bytes: &[u8]) -> Result<(), usize> {
         self.puts = self.puts.saturating_add(1);
-        if self.next_call_fails() || self.puts == self.cut {
+        if self.next_call_fails() || self.puts == self.setting.cut {
             self.nulls = 0;
             note(&mut self.text, b"cut:");
             self.note_put(bytes);
             self.nulls = 0;
-            let n = self.kept.min(bytes.len().saturating_sub(1));
+            let kept = usize::try_from(self.setting.kept).unwrap_or(usize::MAX);
+            let n = kept.min(bytes.len().saturating_sub(1));
             self.gone = n;
             return Err(n);
         }

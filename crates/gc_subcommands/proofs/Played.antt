@@ -1,22 +1,37 @@
 -- Status 0 comes only of a schedule that was played.
-use Rattle.std.proofs.Common.{◌≡◌, ℕ, Bool, true, List, Option, Result, Ok, Err, refl, arith}
+use Rattle.std.proofs.Common.{◌≡◌, ℕ, Bool, true, List, Option, Result, Ok, Err, inl, inr, refl, arith}
 use Rattle.std.specs.Io.KnownBytes.{Appends}
 use Rattle.gc_engines.specs.Drill.{DrillsAs, is_read_whole}
 use Rattle.gc_engines.specs.Schedule.{IsSchedule}
+use Rattle.gc_lines.specs.Answering.{Ports}
+use Rattle.gc_subcommands.specs.Drills.{PlaysWhole, ReadsWholeSource, TellsWithin}
 use Rattle.gc_texts.specs.Faults.{run_fault_text, Tells}
 use Rattle.gc_texts.specs.declared.fault.RunFault.{RunFault}
 use Rattle.gc_world.specs.declared.event.Event.{Event}
 
 -- if the status is 0, the text was a schedule, and the sink took its output
-pub played_at_0 : (text_of : List Event → Bool → List ℕ) (given : List ℕ) (totals : Bool) (old new : Option (List ℕ))
+played_at_0 : (text_of : List Event → Bool → List ℕ) (given : List ℕ) (totals : Bool) (old new : Option (List ℕ))
     (end : Result (Unit {0}) RunFault) (status : ℕ) (told told' : Option (List ℕ))
     → DrillsAs text_of given totals old new end → Tells run_fault_text end status told told' → status ≡ 0
     → (events : List Event) × IsSchedule given events × Appends old new (text_of events totals)
 played_at_0 text_of given totals old new (Ok x) status told told' drills tells zero = drills.1
 played_at_0 text_of given totals old new (Err fault) status told told' drills tells zero = absurd (omega (arith, tells.0, zero))
 
--- if the status is 0, the source was read to its end (`is_read_whole`)
-pub read_at_0 : (end : Result (Unit {0}) RunFault) (status : ℕ) (told told' : Option (List ℕ))
+-- if the status is 0, the result shows that the source was read to its end (`is_read_whole`)
+read_at_0 : (end : Result (Unit {0}) RunFault) (status : ℕ) (told told' : Option (List ℕ))
     → Tells run_fault_text end status told told' → status ≡ 0 → is_read_whole end ≡ true
 read_at_0 (Ok x) status told told' tells zero = refl
 read_at_0 (Err fault) status told told' tells zero = absurd (omega (arith, tells.0, zero))
+
+-- if the status is 0, the source gave a schedule, and the sink took the output of its events
+pub plays_at_0 : (text_of : List Event → Bool → List ℕ) (totals : Bool) (old new : Ports) (status : ℕ) (told told' : Option (List ℕ))
+    → TellsWithin text_of totals old new status told told' → status ≡ 0 → PlaysWhole text_of totals old new
+plays_at_0 text_of totals old new status told told' (inl refused) zero = absurd (omega (arith, refused.is, zero))
+plays_at_0 text_of totals old new status told told' (inr s) zero =
+    (s.given, s.gave, played_at_0 text_of s.given totals old.taken new.taken s.end status told told' s.drills s.tells zero)
+
+-- if the status is 0, the source was read to its end (`ReadsWholeSource`)
+pub reads_at_0 : (text_of : List Event → Bool → List ℕ) (totals : Bool) (old new : Ports) (status : ℕ) (told told' : Option (List ℕ))
+    → TellsWithin text_of totals old new status told told' → status ≡ 0 → ReadsWholeSource old new
+reads_at_0 text_of totals old new status told told' (inl refused) zero = absurd (omega (arith, refused.is, zero))
+reads_at_0 text_of totals old new status told told' (inr s) zero = s.whole (read_at_0 s.end status told told' s.tells zero)

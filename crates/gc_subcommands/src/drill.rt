@@ -2,7 +2,7 @@
 
 ghost use Rattle.std.specs.Prelude.{◌≡◌, ◌≤◌, IfOk};
 ghost use Rattle.std.specs.Process.{exit_status};
-ghost use Rattle.gc_subcommands.specs.Drills.{TellsSchedule, TellsWithin, TellsDrill, PlaysWhole, PlaysScene, ReadsWholeSource};
+ghost use Rattle.gc_subcommands.specs.Drills.{TellsSchedule, TellsWithin, TellsDrill, PlaysScene, ReadsWholeSource};
 ghost use Rattle.gc_lines.specs.Answering.{ports_of};
 
 use crate::drilled::Drilled;
@@ -124,12 +124,6 @@ fn drill_within<I: Drilled, S: Source, K: Sink, E: Write>(
         (ports_of S.Source source.new K.Sink sink.new)
         (exit_status status) (E.contents messages.old) (E.contents messages.new)) }
     ensures width { 1 ≤ drilling.entry.width → drilling.entry.width ≤ WINDOW → IfOk result (λ status. exit_status status ≤ 1) }
-    ensures done { IfOk result (λ status. exit_status status ≡ 0 → PlaysWhole (I.text instrument drilling.entry.width) drilling.entry.totals
-        (ports_of S.Source source.old K.Sink sink.old)
-        (ports_of S.Source source.new K.Sink sink.new)) }
-    ensures whole { IfOk result (λ status. exit_status status ≡ 0 → ReadsWholeSource
-        (ports_of S.Source source.old K.Sink sink.old)
-        (ports_of S.Source source.new K.Sink sink.new)) }
     ensures bound { IfOk result (λ status. exit_status status ≤ 2) }
 {
     if drilling.width == 0 {
@@ -156,12 +150,6 @@ fn play_and_report<I: Drilled, S: Source, K: Sink, E: Write>(
         (ports_of S.Source source.old K.Sink sink.old)
         (ports_of S.Source source.new K.Sink sink.new)
         (exit_status status) (E.contents messages.old) (E.contents messages.new)) }
-    ensures done { IfOk result (λ status. exit_status status ≡ 0 → PlaysWhole (I.text instrument drilling.entry.width) drilling.entry.totals
-        (ports_of S.Source source.old K.Sink sink.old)
-        (ports_of S.Source source.new K.Sink sink.new)) }
-    ensures whole { IfOk result (λ status. exit_status status ≡ 0 → ReadsWholeSource
-        (ports_of S.Source source.old K.Sink sink.old)
-        (ports_of S.Source source.new K.Sink sink.new)) }
     ensures bound { IfOk result (λ status. exit_status status ≤ 1) }
 {
     report_end(

@@ -6,7 +6,7 @@ ghost use Rattle.std.specs.Process.{exit_status};
 use crate::scene::{Staged, staged_of};
 use clap::Command;
 use gc_ask::loop_tcp_on;
-use gc_lines::{Answers, Sink, Source};
+use gc_lines::{Sink, Source};
 use gc_messages::report_end;
 use gc_texts::RunFault;
 use gc_words::help::COMMANDS;
@@ -52,38 +52,28 @@ pub fn loop_scene<
 ) -> io::Result<ExitCode>
     ensures { IfOk result (λ status. exit_status status ≤ 1) }
 {
-    match staged_of(rt, alloc, scene) {
+    let end = match staged_of(rt, alloc, scene) {
         Ok(Staged::Plain(instrument)) => {
-            loop_on(rt, alloc, scene, instrument, source, sink, messages)
+            loop_tcp_on(rt, alloc, instrument, source, sink, u32::MAX)
         }
         Ok(Staged::Ruled(instrument)) => {
-            loop_on(rt, alloc, scene, instrument, source, sink, messages)
+            loop_tcp_on(rt, alloc, instrument, source, sink, u32::MAX)
         }
-        Err(refusal) => refusal.tell_with_file(scene, messages),
-    }
+        Err(refusal) => return refusal.tell_with_file(scene, messages),
+    };
+    report_loop(scene, end, messages)
 }
 
-// Asks the commands of a source over a connection to this instrument, that of the scene if one is named, and reports how that
-// ended, with status 0 or 1. If a scene is named, and the fault is one of the commands' text (`Schedule`, `InputTooLong`), a
-// further line says that the fault is of standard input. `Err`: the line of the fault couldn't be written.
-fn loop_on<
-    R: Net<Listener = TcpListener, Stream = TcpStream>,
-    T: Answers + Drop,
-    S: Source,
-    K: Sink,
-    E: Write,
->(
-    rt: &R,
-    alloc: Global,
+// Reports how commands were asked of an instrument, that of the scene if one is named, with status 0 or 1. If a scene is named, and
+// the fault is one of the commands' text (`Schedule`, `InputTooLong`), a further line says that the fault is of standard input.
+// `Err`: the line of the fault couldn't be written.
+fn report_loop<E: Write>(
     scene: Option<&str>,
-    instrument: T,
-    source: &mut S,
-    sink: &mut K,
+    end: Result<(), RunFault>,
     messages: &mut E,
 ) -> io::Result<ExitCode>
     ensures { IfOk result (λ status. exit_status status ≤ 1) }
 {
-    let end = loop_tcp_on(rt, alloc, instrument, source, sink, u32::MAX);
     let ended = report_end(end, messages);
     if let Err(RunFault::Schedule { .. } | RunFault::InputTooLong) = end {
         let _ = tell_commands(scene, messages);

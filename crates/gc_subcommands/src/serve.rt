@@ -200,7 +200,14 @@ fn serve_or_keep<
             clock,
             messages,
         ),
-        Some(idle) => keep_place(rt, place, connections, idle, instrument, clock, messages),
+        Some(idle) => {
+            let keeping = Keeping {
+                connections,
+                idle,
+                max_reads: u32::MAX,
+            };
+            keep_place(rt, place, keeping, instrument, clock, messages)
+        }
     }
 }
 
@@ -275,10 +282,9 @@ fn serve_address<
     )
 }
 
-// Serves a port, an address or a device, goes on after a connection that fails (`--keep`), and reports how that ended. A
-// connection that isn't a device's is closed after `idle` seconds without a byte. Numbers out of their range are refused with
-// status 2. So is a device with 0 connections, or with an `idle` out of its range, though it doesn't use `idle`. The status is 0
-// also where the line of a connection's fault couldn't be written.
+// Keeps a port, an address or a device: goes on after a connection that fails (`--keep`), and reports how that ended. Numbers out
+// of their range are refused with status 2. So is a device with 0 connections, or with a `keeping.idle` out of its range, though
+// it doesn't use that. The status is 0 also where the line of a connection's fault couldn't be written.
 fn keep_place<
     R: Net<Listener = TcpListener, Stream = TcpStream> + Clock + Files<File = File>,
     I: Simulates,
@@ -286,22 +292,17 @@ fn keep_place<
 >(
     rt: &R,
     place: Place<'_>,
-    connections: Option<u32>,
-    idle: u32,
+    keeping: Keeping,
     instrument: &mut I,
     clock: Option<&BusyClock>,
     messages: &mut E,
 ) -> io::Result<ExitCode>
     ensures { IfOk result (λ status. exit_status status ≤ 2) }
 {
-    if idle == 0 || idle > LONGEST_IDLE || !is_in_range(connections) {
+    let idle = keeping.idle;
+    if idle == 0 || idle > LONGEST_IDLE || !is_in_range(keeping.connections) {
         return refuse_numbers(messages);
     }
-    let keeping = Keeping {
-        connections,
-        idle,
-        max_reads: u32::MAX,
-    };
     let kept = match endpoint_of(place) {
         None => return refuse_numbers(messages),
         Some(Endpoint::Address(address)) => {

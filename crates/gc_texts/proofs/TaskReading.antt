@@ -10,14 +10,13 @@ use Rattle.std.specs.Prelude.{not, filter}
 use Rattle.gc_texts.specs.Cuts.{Cuts}
 use Rattle.gc_texts.specs.LineForms.{text_lines, is_skipped, is_kept, without_cr}
 use Rattle.gc_texts.specs.TaskLines.{IsTaskLine}
-use Rattle.gc_texts.specs.Tasks.{opening, mode_after, is_chained, place_in_chain, task_at, given_by, setup_at, setup_of, planned_at, planned_of, name_at, names_of, near_at, nears_of, may_follow, MayFollow, IsFirstFaultyTask, ReachesASoundTaskLine}
+use Rattle.gc_texts.specs.Tasks.{Gave, Grows, opening, mode_after, is_chained, place_in_chain, task_at, given_by, setup_at, setup_of, planned_at, planned_of, name_at, names_of, near_at, nears_of, may_follow, MayFollow, IsFirstFaultyTask, ReachesASoundTaskLine}
 use Rattle.gc_texts.specs.declared.name.Name.{Name}
 use Rattle.gc_texts.specs.declared.near.Near.{Near}
 use Rattle.gc_texts.specs.declared.task_line.TaskLine.{TaskLine}
 use Rattle.gc_texts.specs.declared.mode.Mode.{Mode}
-use Rattle.gc_texts.specs.declared.attempts.Planned.{Planned}
 use Rattle.gc_texts.specs.declared.task_line.TaskLine.TheVariants as says
-use Rattle.gc_texts.specs.declared.tasks.Task.{Task}
+use Rattle.gc_texts.specs.declared.tasks.Given.{Given}
 use Rattle.gc_texts.proofs.TaskForms.{one_said}
 use Rattle.gc_texts.proofs.TextLines.{Reads, reads_few, lines_left, lines-cut, turn_skips, turn_reads}
 
@@ -113,33 +112,34 @@ follow_more names nears (line ∷ lines) next follow allowed = (
       ∙ ap (λ ps. may_follow (names ++ (name_at line ++ names_of lines)) ps next) (append_assoc nears (near_at line) (nears_of lines)) ∙ allowed),
 )
 
--- what lines gave that were read: the tasks of the setup, the commands of the cycle, the names and the places; and the mode after
--- these lines
-pub record Gathered : Type 0 where
-  pub setup : List Task
-  pub cycle : List Planned
-  pub names : List Name
-  pub nears : List Near
-  pub mode : Mode
+-- where lines gave `old`, and this grew to `new` by what `next` gives by the mode after them, the lines and then `next` gave
+-- `new`
+gave_more : (first mode : Mode) (lines : List TaskLine) (next : TaskLine) (old new : Given)
+    → Gave first lines old → mode ≡ mode_after_lines first lines → Grows mode next old new → Gave first (lines ++ next ∷ []) new
+gave_more first mode lines next old new gave is grows =
+    record {
+      setup_are = grows.setup_more ∙ ap (λ ts. ts ++ setup_at mode next) gave.setup_are ∙ ap (λ m. setup_of first lines ++ setup_at m next) is ∙ sym (given_more setup_at first lines next);
+      cycle_are = grows.cycle_more ∙ ap (λ ts. ts ++ planned_at mode next) gave.cycle_are ∙ ap (λ m. planned_of first lines ++ planned_at m next) is
+          ∙ sym (given_more planned_at first lines next);
+      names_are = grows.names_more ∙ ap (λ ns. ns ++ name_at next) gave.names_are ∙ sym (each_more name_at lines next);
+      nears_are = grows.nears_more ∙ ap (λ ns. ns ++ near_at next) gave.nears_are ∙ sym (each_more near_at lines next);
+    }
 
--- how far the reading has come, which began in the mode `first`: `left` of the text is unread, `number` lines were read, and
--- `so_far` is what they gave, with the mode after them. Where a line that isn't skipped was read, a line that isn't faulty was
+-- how far the reading has come, which began in the mode `first`: `left` of the text is unread, `number` lines were read, `given`
+-- is what they gave, and `mode` is the mode after them. Where a line that isn't skipped was read, a line that isn't faulty was
 -- reached
-pub record ReadsTasks (text : List ℕ) (first : Mode) (left : Option (List ℕ)) (number : ℕ) (so_far : Gathered) : Type 0 where
+pub record ReadsTasks (text : List ℕ) (first : Mode) (left : Option (List ℕ)) (number : ℕ) (given : Given) (mode : Mode) : Type 0 where
   pub said : List TaskLine
   pub reads : Reads IsTaskLine text left number said
   pub follow : MayFollow [] [] said
-  pub setup_are : so_far.setup ≡ setup_of first said
-  pub cycle_are : so_far.cycle ≡ planned_of first said
-  pub names_are : so_far.names ≡ names_of said
-  pub nears_are : so_far.nears ≡ nears_of said
-  pub mode_is : so_far.mode ≡ mode_after_lines first said
+  pub gave : Gave first said given
+  pub mode_is : mode ≡ mode_after_lines first said
   pub reached : (said ≡ []) ⊎ ReachesASoundTaskLine text
 
 -- what holds of the lines that were read of a text of at most 65,536 bytes
 module _
-    (text : List ℕ) (deadline : ℕ) (chained : Bool) (left : Option (List ℕ)) (number : ℕ) (so_far : Gathered)
-    (within : length text ≤ 65536) (r : ReadsTasks text (opening deadline chained) left number so_far) where
+    (text : List ℕ) (deadline : ℕ) (chained : Bool) (left : Option (List ℕ)) (number : ℕ) (given : Given) (mode : Mode)
+    (within : length text ≤ 65536) (r : ReadsTasks text (opening deadline chained) left number given mode) where
   -- at most 65,537 lines were read, so that a u32 counts them
   pub tasks_few : number ≤ 65537
   tasks_few = reads_few IsTaskLine text left number r.said within r.reads
@@ -152,37 +152,34 @@ module _
       omega (arith, many, few, tasks_few, r.reads.count)
 
   -- each count of the mode is at most 65,537
-  pub counted : Counted so_far.mode 65537
+  pub counted : Counted mode 65537
   counted =
       let all = counted_lines (opening deadline chained) r.said 0 (record { begun = omega arith; place = omega arith; link = omega arith }) in
       let few = said_few in
       subst (λ m. Counted m 65537) (sym r.mode_is) (record { begun = omega (arith, few, all.begun); place = omega (arith, few, all.place); link = omega (arith, few, all.link) })
 
   -- the cycle's commands are at most 65,537
-  pub cycle_few : length so_far.cycle ≤ 65537
-  cycle_few = let few = said_few in let all = planned_few (opening deadline chained) r.said in let is = ap length r.cycle_are in omega (arith, few, all, is)
+  pub cycle_few : length given.cycle.items ≤ 65537
+  cycle_few = let few = said_few in let all = planned_few (opening deadline chained) r.said in let is = ap length r.gave.cycle_are in omega (arith, few, all, is)
 
 -- one turn of the reading loop: `line` is cut off what is left, `plain` is that line without its CR, and `skipped` whether it
 -- is skipped
 module _
     (text : List ℕ) (first : Mode) (left : Option (List ℕ)) (now line plain : List ℕ) (rest : Option (List ℕ)) (number : ℕ)
-    (so_far : Gathered) (skipped : Bool) (r : ReadsTasks text first left number so_far) (some : left ≡ Some now) (cut : Cuts 10 now line rest)
+    (given : Given) (mode : Mode) (skipped : Bool) (r : ReadsTasks text first left number given mode) (some : left ≡ Some now) (cut : Cuts 10 now line rest)
     (is_plain : plain ≡ without_cr line) (tested : skipped ≡ is_skipped plain) where
   -- a line may follow the lines that were read exactly where it may follow the names and places so far
-  said_so : (said : TaskLine) → may_follow (names_of r.said) (nears_of r.said) said ≡ may_follow so_far.names so_far.nears said
-  said_so said = ap (λ ns. may_follow ns (nears_of r.said) said) (sym r.names_are) ∙ ap (λ ps. may_follow so_far.names ps said) (sym r.nears_are)
+  said_so : (said : TaskLine) → may_follow (names_of r.said) (nears_of r.said) said ≡ may_follow given.names.items given.nears.items said
+  said_so said = ap (λ ns. may_follow ns (nears_of r.said) said) (sym r.gave.names_are) ∙ ap (λ ps. may_follow given.names.items ps said) (sym r.gave.nears_are)
 
   -- a skipped line is read, and changes nothing but the number of lines
-  pub task_skips : skipped ≡ true → ReadsTasks text first rest (number + 1) so_far
+  pub task_skips : skipped ≡ true → ReadsTasks text first rest (number + 1) given mode
   task_skips is =
       record {
         said = r.said;
         reads = turn_skips IsTaskLine text left now line plain rest number r.said skipped r.reads some cut is_plain tested is;
         follow = r.follow;
-        setup_are = r.setup_are;
-        cycle_are = r.cycle_are;
-        names_are = r.names_are;
-        nears_are = r.nears_are;
+        gave = r.gave;
         mode_is = r.mode_is;
         reached = r.reached;
       }
@@ -200,7 +197,7 @@ module _
   is_line isnt = ap not (ap is_skipped (sym is_plain) ∙ sym tested ∙ isnt)
 
   -- a line that isn't skipped, and says nothing that may follow the lines before it, is the first faulty one
-  faulty : skipped ≡ false → ((said : TaskLine) → IsTaskLine plain said → may_follow so_far.names so_far.nears said ≡ false)
+  faulty : skipped ≡ false → ((said : TaskLine) → IsTaskLine plain said → may_follow given.names.items given.nears.items said ≡ false)
       → IsFirstFaultyTask text (number + 1)
   faulty isnt none =
       record {
@@ -221,13 +218,13 @@ module _
 
   -- a line that isn't skipped, has a form, and may not follow the names and places so far (`may_follow`), is the first faulty one
   pub task_refused : (said : TaskLine) (allowed : Bool) → skipped ≡ false → IsTaskLine plain said
-      → allowed ≡ may_follow so_far.names so_far.nears said → allowed ≡ false → IsFirstFaultyTask text (number + 1)
-  task_refused said allowed isnt is asked no_more = faulty isnt (λ other form. ap (may_follow so_far.names so_far.nears) (one_said plain other said form is) ∙ sym asked ∙ no_more)
+      → allowed ≡ may_follow given.names.items given.nears.items said → allowed ≡ false → IsFirstFaultyTask text (number + 1)
+  task_refused said allowed isnt is asked no_more = faulty isnt (λ other form. ap (may_follow given.names.items given.nears.items) (one_said plain other said form is) ∙ sym asked ∙ no_more)
 
   -- where the line isn't skipped, has a form and may follow the names and places so far (`may_follow`), the text has a line that
   -- isn't faulty, with no faulty line before it (`ReachesASoundTaskLine`): this is needed where memory is refused at the line
   pub task_wants : (said : TaskLine) (allowed : Bool) → skipped ≡ false → IsTaskLine plain said
-      → allowed ≡ may_follow so_far.names so_far.nears said → allowed ≡ true → ReachesASoundTaskLine text
+      → allowed ≡ may_follow given.names.items given.nears.items said → allowed ≡ true → ReachesASoundTaskLine text
   task_wants said allowed isnt is asked did =
       record {
         front = reads_before.read;
@@ -242,25 +239,19 @@ module _
         allowed = said_so said ∙ sym asked ∙ did;
       }
 
-  -- a line that isn't skipped, has a form and may follow the names and places so far (`may_follow`) is read: the lists grow by
-  -- what the line gives, and the mode is the one after it
+  -- a line that isn't skipped, has a form and may follow the names and places so far (`may_follow`) is read: what the lines
+  -- gave grows by what the line gives, and the mode is the one after it
   pub task_reads :
-      (said : TaskLine) (new : Gathered) (allowed : Bool)
-      (isnt : skipped ≡ false) (is : IsTaskLine plain said) (asked : allowed ≡ may_follow so_far.names so_far.nears said) (did : allowed ≡ true)
-      (more_setup : new.setup ≡ so_far.setup ++ setup_at so_far.mode said) (more_cycle : new.cycle ≡ so_far.cycle ++ planned_at so_far.mode said)
-      (more_names : new.names ≡ so_far.names ++ name_at said) (more_nears : new.nears ≡ so_far.nears ++ near_at said)
-      (more : new.mode ≡ mode_after so_far.mode said)
-      → ReadsTasks text first rest (number + 1) new
-  task_reads said new allowed isnt is asked did more_setup more_cycle more_names more_nears more =
+      (said : TaskLine) (new : Given) (next : Mode) (allowed : Bool)
+      (isnt : skipped ≡ false) (is : IsTaskLine plain said) (asked : allowed ≡ may_follow given.names.items given.nears.items said) (did : allowed ≡ true)
+      (grows : Grows mode said given new) (more : next ≡ mode_after mode said)
+      → ReadsTasks text first rest (number + 1) new next
+  task_reads said new next allowed isnt is asked did grows more =
       record {
         said = r.said ++ said ∷ [];
         reads = turn_reads IsTaskLine text left now line plain rest number r.said skipped r.reads some cut is_plain tested said (r.said ++ said ∷ []) isnt is refl;
         follow = follow_more [] [] r.said said r.follow (said_so said ∙ sym asked ∙ did);
-        setup_are = more_setup ∙ ap (λ ts. ts ++ setup_at so_far.mode said) r.setup_are ∙ ap (λ m. setup_of first r.said ++ setup_at m said) r.mode_is ∙ sym (given_more setup_at first r.said said);
-        cycle_are = more_cycle ∙ ap (λ ts. ts ++ planned_at so_far.mode said) r.cycle_are ∙ ap (λ m. planned_of first r.said ++ planned_at m said) r.mode_is
-            ∙ sym (given_more planned_at first r.said said);
-        names_are = more_names ∙ ap (λ ns. ns ++ name_at said) r.names_are ∙ sym (each_more name_at r.said said);
-        nears_are = more_nears ∙ ap (λ ns. ns ++ near_at said) r.nears_are ∙ sym (each_more near_at r.said said);
+        gave = gave_more first mode r.said said given new r.gave r.mode_is grows;
         mode_is = more ∙ ap (λ m. mode_after m said) r.mode_is ∙ sym (mode_after_both first r.said (said ∷ []));
         reached = inr (task_wants said allowed isnt is asked did);
       }

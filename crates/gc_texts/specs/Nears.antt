@@ -1,6 +1,6 @@
 -- Where a target is, and whether an answer was measured there: this project's own. When a direction is near another is the
 -- rule of gc_values' `Directions`.
-use Rattle.std.specs.Prelude.{◌≡◌, ℕ, ◌==◌, Bool, true, false, not, if◌then◌else◌, List, [], ◌∷◌, Option, None, Some, is_some}
+use Rattle.std.specs.Prelude.{◌≡◌, ℕ, ◌==◌, Bool, true, false, not, List, [], ◌∷◌, Option, None, Some, is_some, find}
 use Rattle.std.specs.List.{list_any}
 use Rattle.gc_catalogue.specs.Answers.{IsAnswerOf}
 use Rattle.gc_catalogue.specs.Calls.{call_fields}
@@ -42,8 +42,7 @@ has_near target nears = list_any (λ near. near.target == target) nears
 
 -- the first of these places that is of this target, if there is one
 abbrev pub near_of : ℕ → List Near → Option Near
-near_of target [] = None
-near_of target (near ∷ nears) = if near.target == target then Some near else near_of target nears
+near_of target nears = find (λ near. near.target == target) nears
 
 -- the direction that an answer has, if it has one
 abbrev pub direction_of : Answer → Option Direction

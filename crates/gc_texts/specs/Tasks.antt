@@ -3,7 +3,7 @@
 -- continue, the codes that are accepted, how often its chain is repeated, whether it is setup, how many commands of each
 -- section are in front, and how many of those in front are in the last chain. A group is a run of commands for one target,
 -- with no line `chained`, `unchained`, `retry`, `at start` or `each cycle` between them.
-use Rattle.std.specs.Prelude.{◌≡◌, ℕ, ◌+◌, ◌≤◌, ◌==◌, ◌&&◌, Bool, true, false, not, nat_lt, List, [], ◌∷◌, ◌++◌, length, map, filter, Option, None, Some, Vec, vec_capacity, vec_len, Result, if◌then◌else◌}
+use Rattle.std.specs.Prelude.{◌≡◌, ℕ, ◌+◌, ◌≤◌, ◌⊎◌, ◌==◌, ◌&&◌, Bool, true, false, not, nat_lt, List, [], ◌∷◌, ◌++◌, length, map, filter, Option, None, Some, Vec, vec_capacity, vec_len, Result, if◌then◌else◌}
 use Rattle.std.specs.List.{flat_map}
 use Rattle.gc_catalogue.specs.declared.asked.Asked.{Asked}
 use Rattle.gc_catalogue.specs.declared.asked.Asked.TheVariants.{Table}
@@ -24,6 +24,7 @@ use Rattle.gc_texts.specs.declared.task_line.TaskLine.{TaskLine}
 use Rattle.gc_texts.specs.declared.task_line.TaskLine.TheVariants as says
 use Rattle.gc_texts.specs.declared.mode.Mode.{Mode}
 use Rattle.gc_texts.specs.declared.attempts.Planned.{Planned}
+use Rattle.gc_texts.specs.declared.tasks.Given.{Given}
 use Rattle.gc_texts.specs.declared.tasks.Task.{Task}
 use Rattle.gc_texts.specs.declared.tasks.Tasks.{Tasks}
 use Rattle.gc_texts.specs.declared.turn.Turn.{Turn}
@@ -105,10 +106,6 @@ task_at mode command now =
       now = now;
     }
 
--- a list has no room for one more item, unless it grows
-abbrev pub IsFull : {X Z : Type 0} → Vec X Z → Type 0
-IsFull items = vec_capacity items ≤ vec_len items
-
 -- what these lines give, in order, where `mode` holds before them; `given_at` says what a line gives by the mode before it
 abbrev pub given_by : {Item : Type 0} → (given_at : Mode → TaskLine → List Item) → Mode → List TaskLine → List Item
 given_by given_at mode [] = []
@@ -155,6 +152,29 @@ near_at _ = []
 -- the places that these lines give
 abbrev pub nears_of : List TaskLine → List Near
 nears_of lines = flat_map near_at lines
+
+-- these are the commands of the setup and of each cycle, the names and the places that these lines give, where `first` holds
+-- before them
+pub record Gave (first : Mode) (lines : List TaskLine) (given : Given) : Type 0 where
+  pub setup_are : given.setup.items ≡ setup_of first lines
+  pub cycle_are : given.cycle.items ≡ planned_of first lines
+  pub names_are : given.names.items ≡ names_of lines
+  pub nears_are : given.nears.items ≡ nears_of lines
+
+-- what lines gave grew from `old` to `new` by what one more line gives, where `mode` holds before it
+pub record Grows (mode : Mode) (line : TaskLine) (old new : Given) : Type 0 where
+  pub setup_more : new.setup.items ≡ old.setup.items ++ setup_at mode line
+  pub cycle_more : new.cycle.items ≡ old.cycle.items ++ planned_at mode line
+  pub names_more : new.names.items ≡ old.names.items ++ name_at line
+  pub nears_more : new.nears.items ≡ old.nears.items ++ near_at line
+
+-- a list has no room for one more item, unless it grows
+abbrev pub IsFull : {X Z : Type 0} → Vec X Z → Type 0
+IsFull items = vec_capacity items ≤ vec_len items
+
+-- one of the four lists of what lines gave has no room for one more item, unless it grows
+abbrev pub HasFull : Given → Type 0
+HasFull given = (IsFull given.setup ⊎ IsFull given.cycle) ⊎ (IsFull given.names ⊎ IsFull given.nears)
 
 -- a task with the place of its target: the first of `nears` that is of that target, and none where there is none
 abbrev pub placed : List Near → Task → Task

@@ -37,7 +37,7 @@ pub use cuts::{after_word, before, behind, cut_at, is_word};
 pub use ending::Ending;
 pub use fault::RunFault;
 pub use line_forms::{LineForm, line_at, read_items};
-pub use log_line::{LogBytes, LogMark, append_escaped, escaped, write_log_line};
+pub use log_line::{ESCAPED_ROOM, LogBytes, LogMark, append_escaped, escaped, write_log_line};
 pub use log_reading::{LogLine, read_log_line};
 pub use name::Name;
 pub use near::{Expected, Near, is_elsewhere, read_double};

@@ -5,15 +5,18 @@ ghost use Rattle.arrayvec.specs.ArrayVec.{array_vec_len};
 ghost use Rattle.gc_lines.specs.Ports.{FailsWith};
 ghost use Rattle.gc_texts.specs.Logs.{mark_text, is_unescaped, hex_digit, escape, escaped, log_line, TakesLogLine, TakesLogFront};
 
-use crate::stamp::stamp_text;
+use crate::stamp::{STAMP_ROOM, stamp_text};
 use arrayvec::ArrayVec;
 use gc_lines::{Sink, append, write_whole};
 
 /// The bytes that one line of a log records: at most as many as the longest line has with its CR LF.
 pub type LogBytes = ArrayVec<u8, 514>;
 
-// The bytes of the longest log line: a moment, a mark of two bytes, each byte as four, two spaces and a line feed.
-const LOG_ROOM: usize = 40 + 1 + 2 + 1 + 4 * 514 + 1;
+/// The most bytes of the bytes that one line of a log records, as the line writes them: each as four at most.
+pub const ESCAPED_ROOM: usize = 4 * 514;
+
+// The bytes of the longest log line: a moment, a mark of two bytes, its bytes, two spaces and a line feed.
+const LOG_ROOM: usize = STAMP_ROOM + 1 + 2 + 1 + ESCAPED_ROOM + 1;
 
 /// What the bytes of a log line are: bytes that went or came, as a line without its CR LF or as they are, or words about the connection or
 /// the log.
@@ -92,7 +95,7 @@ pub fn append_escaped<const N: usize>(to: &mut ArrayVec<u8, N>, bytes: &[u8])
 }
 
 /// At most 514 bytes in the form of a log line (each becomes at most four), in a text of their own: for other texts that quote bytes.
-pub fn escaped(bytes: &[u8]) -> ArrayVec<u8, 2056>
+pub fn escaped(bytes: &[u8]) -> ArrayVec<u8, ESCAPED_ROOM>
     requires { length bytes.now ≤ 514 }
     ensures is { result.items ≡ escaped bytes.now }
     ensures short { array_vec_len result ≤ 4 * length bytes.now }

@@ -104,12 +104,7 @@ pub(crate) fn has_near(target: u32, nears: &[Near]) -> bool
 pub(crate) fn near_of(target: u32, nears: &[Near]) -> Option<Near>
     ensures { result ≡ near_of target nears.now }
 {
-    for near in nears {
-        if near.target == target {
-            return Some(*near);
-        }
-    }
-    None
+    nears.iter().copied().find(|near| near.target == target)
 }
 
 // The direction that an answer has, if it has one.

@@ -25,6 +25,16 @@ pub struct Stamp {
     pub turn: Turn,
 }
 
+// A day, in milliseconds.
+const DAY: u64 = 86_400_000;
+
+// The most bytes of a date as text: a year of at most 20 digits, and a `-` and two digits for each of the month and the day.
+const DATE_ROOM: usize = 20 + 3 + 3;
+
+// How many bytes a time of day has as text: two digits for each of the hour, the minute and the second, three for the milliseconds,
+// and three marks.
+const TIME_ROOM: usize = 2 + 2 + 2 + 3 + 3;
+
 // A day of the Gregorian calendar.
 #[derive(Clone, Copy)]
 struct Date {
@@ -96,7 +106,7 @@ fn three_digits(n: u64) -> [u8; 3]
 }
 
 // A date as text, as 2026-11-22.
-fn date_text(date: Date) -> ArrayVec<u8, 26>
+fn date_text(date: Date) -> ArrayVec<u8, DATE_ROOM>
     requires month { date.month < 100 }
     requires day { date.day < 100 }
     ensures { result.items ≡ date_text date }
@@ -112,7 +122,7 @@ fn date_text(date: Date) -> ArrayVec<u8, 26>
 }
 
 // The time of day that is `millis` milliseconds after midnight, as 23:08:27.123.
-fn time_text(millis: u64) -> ArrayVec<u8, 12>
+fn time_text(millis: u64) -> ArrayVec<u8, TIME_ROOM>
     requires { millis < 86400000 }
     ensures { result.items ≡ time_text millis }
 {
@@ -145,8 +155,8 @@ const YEAR_MAX: u64 = 32767;
 pub fn date_time(utc: u64) -> DateTime
     ensures { result ≡ date_time utc }
 {
-    let date = date_of(utc / 86_400_000);
-    let millis = utc % 86_400_000;
+    let date = date_of(utc / DAY);
+    let millis = utc % DAY;
     DateTime {
         year: date.year.min(YEAR_MAX) as i16,
         month: date.month as u8,
@@ -158,16 +168,16 @@ pub fn date_time(utc: u64) -> DateTime
 }
 
 /// Room for the bytes of a moment as text (`stamp_text`): a date, `T`, a time and `Z`.
-pub const STAMP_ROOM: usize = 26 + 1 + 12 + 1;
+pub const STAMP_ROOM: usize = DATE_ROOM + 1 + TIME_ROOM + 1;
 
 /// The moment `utc` milliseconds after the beginning of 1970, as 2026-11-22T23:08:27.123Z.
 pub fn stamp_text(utc: u64) -> ArrayVec<u8, STAMP_ROOM>
     ensures { result.items ≡ stamp_text utc }
 {
     let mut text = ArrayVec::new();
-    append(&mut text, &date_text(date_of(utc / 86_400_000)));
+    append(&mut text, &date_text(date_of(utc / DAY)));
     append(&mut text, b"T");
-    append(&mut text, &time_text(utc % 86_400_000));
+    append(&mut text, &time_text(utc % DAY));
     append(&mut text, b"Z");
     text
 }

@@ -122,7 +122,7 @@ fn read_retrying(line: &[u8]) -> Option<Retry>
 
 // Reads `T 5007 now`: a command that sets the clock of target T to the moment at which it is sent. In place of that moment the
 // call of the wish has the first moment of 1970. `None`: the line has no such form, or the target's number is above 4294967295.
-fn read_clock(line: &[u8]) -> Option<Wish>
+fn read_clock_setting(line: &[u8]) -> Option<Wish>
     ensures { MatchOption result ((wish : Wish) → SetsClock line.now wish → ⊥) (λ wish. SetsClock line.now wish) }
 {
     if !is_word(b"5007 now", behind(b' ', line)) {
@@ -168,7 +168,7 @@ pub(crate) fn read_task_line(line: &[u8]) -> Option<TaskLine>
     if is_word(b"each cycle", line) {
         return Some(TaskLine::EachCycle);
     }
-    if let Some(wish) = read_clock(line) {
+    if let Some(wish) = read_clock_setting(line) {
         return Some(TaskLine::Command(wish, true));
     }
     match read_wish(line) {

@@ -1,12 +1,13 @@
 //! Tasks: the commands of a station's text, with how each is sent and where its target is. `mode.rt` says what the lines
 //! before a command make hold for it, and `attempts.rt` which tasks the chains give.
 
-ghost use Rattle.std.specs.Prelude.{◌≡◌, ◌≤◌, ◌⊎◌, ◌++◌, ◌==◌, ◌&&◌, length, map, IfOk, IfErr, OnOk, OnErr};
+ghost use Rattle.std.specs.Prelude.{◌≡◌, ◌≤◌, ◌==◌, ◌&&◌, [], length, map, IfOk, IfErr, OnOk, OnErr};
 ghost use Rattle.std.specs.List.{list_any};
 ghost use Rattle.gc_texts.specs.LineForms.{RefusesLong};
 ghost use Rattle.gc_texts.specs.Names.{name_text};
 ghost use Rattle.gc_texts.specs.Nears.{asked_gives_direction};
-ghost use Rattle.gc_texts.specs.Tasks.{IsFull, setup_at, planned_at, call_at, name_at, near_at, placed, may_follow, GivesTasks, NamesFaultyTask, MemoryAtTask, TaskFault};
+ghost use Rattle.gc_texts.specs.Tasks.{Gave, Grows, HasFull, call_at, placed, may_follow, GivesTasks, NamesFaultyTask, MemoryAtTask, TaskFault};
+ghost use Rattle.gc_texts.specs.declared.mode.Mode.{Mode};
 ghost use Rattle.gc_texts.specs.declared.text.TheConstants.{TEXT_LIMIT};
 
 use crate::again::Again;
@@ -101,62 +102,68 @@ const NAMES_MAX: usize = 64;
 // The most targets whose place may be given.
 const NEARS_MAX: usize = 64;
 
-// Whether a line may follow lines that gave these names and places. A line `name` may if there are fewer than 64 names and its target
-// has none yet; a line `near` if there are fewer than 64 places and its target has none yet; any other line always.
-fn may_follow(names: &Vec<Name>, nears: &Vec<Near>, said: &TaskLine) -> bool
-    ensures { result ≡ may_follow names.now.items nears.now.items said.now }
-{
-    match said {
-        TaskLine::Naming(name) => names.len() < NAMES_MAX
-            && !is_named(name.target, names.as_slice()),
-        TaskLine::Locating(near) => nears.len() < NEARS_MAX
-            && !has_near(near.target, nears.as_slice()),
-        _ => true,
-    }
+// What the lines of a station's text gave so far.
+#[derive(Drop)]
+struct Given {
+    // The commands of the setup.
+    setup: Vec<Task>,
+    // The commands of each cycle.
+    cycle: Vec<Planned>,
+    // The names of targets.
+    names: Vec<Name>,
+    // Where targets are.
+    nears: Vec<Near>,
 }
 
-// Appends what a line gives: a command to `setup` or `cycle`, a name to `names`, a place to `nears`, and nothing for any other line.
-// `mode` is the mode before the line. Fails if memory was refused: then nothing was appended. (The contract doesn't say so.)
-fn append_given(
-    setup: &mut Vec<Task>,
-    cycle: &mut Vec<Planned>,
-    names: &mut Vec<Name>,
-    nears: &mut Vec<Near>,
-    mode: Mode,
-    said: TaskLine,
-) -> Result<(), AllocError>
-    ensures setup { OnOk result (setup.new.items ≡ setup.old.items ++ setup_at mode said) }
-    ensures cycle { OnOk result (cycle.new.items ≡ cycle.old.items ++ planned_at mode said) }
-    ensures names { OnOk result (names.new.items ≡ names.old.items ++ name_at said) }
-    ensures nears { OnOk result (nears.new.items ≡ nears.old.items ++ near_at said) }
-    ensures wants { OnErr result ((IsFull setup.old ⊎ IsFull cycle.old) ⊎ (IsFull names.old ⊎ IsFull nears.old)) }
-{
-    match said {
-        TaskLine::Command(command, now) => {
-            let task = task_at(mode, command, now);
-            if mode.setup {
-                setup.reserve(1)?;
-                setup.push_reserved(task);
-            } else {
-                cycle.reserve(1)?;
-                cycle.push_reserved(Planned {
-                    task,
-                    retry: mode.retry,
-                });
+impl Given {
+    // What no line gave.
+    fn new(alloc: Global) -> Given
+        ensures { (first : Mode) → Gave first [] result }
+    {
+        Given {
+            setup: Vec::new(alloc),
+            cycle: Vec::new(alloc),
+            names: Vec::new(alloc),
+            nears: Vec::new(alloc),
+        }
+    }
+
+    // Whether a line may follow the lines that gave this. A line `name` may if there are fewer than 64 names and its target has
+    // none yet; a line `near` if there are fewer than 64 places and its target has none yet; any other line always.
+    fn allows(&self, said: &TaskLine) -> bool
+        ensures { result ≡ may_follow self.now.names.items self.now.nears.items said.now }
+    {
+        match said {
+            TaskLine::Naming(name) => self.names.len() < NAMES_MAX
+                && !is_named(name.target, self.names.as_slice()),
+            TaskLine::Locating(near) => self.nears.len() < NEARS_MAX
+                && !has_near(near.target, self.nears.as_slice()),
+            _ => true,
+        }
+    }
+
+    // Appends what a line gives, if it gives anything. `mode` is the mode before the line. Fails if memory was refused.
+    fn append(&mut self, mode: Mode, said: TaskLine) -> Result<(), AllocError>
+        ensures grows { OnOk result (Grows mode said self.old self.new) }
+        ensures wants { OnErr result (HasFull self.old) }
+    {
+        match said {
+            TaskLine::Command(command, now) => {
+                let task = task_at(mode, command, now);
+                if mode.setup {
+                    self.setup.push(task)?;
+                } else {
+                    self.cycle.push(Planned {
+                        task,
+                        retry: mode.retry,
+                    })?;
+                }
             }
-            Ok(())
+            TaskLine::Naming(name) => self.names.push(name)?,
+            TaskLine::Locating(near) => self.nears.push(near)?,
+            _ => {}
         }
-        TaskLine::Naming(name) => {
-            names.reserve(1)?;
-            names.push_reserved(name);
-            Ok(())
-        }
-        TaskLine::Locating(near) => {
-            nears.reserve(1)?;
-            nears.push_reserved(near);
-            Ok(())
-        }
-        _ => Ok(()),
+        Ok(())
     }
 }
 
@@ -218,10 +225,7 @@ fn read_task_lines(
     ensures found { IfOk result (λ all. GivesTasks text.now deadline chained all) }
     ensures fault { IfErr result (λ e. TaskFault text.now e) }
 {
-    let mut tasks = Vec::new(alloc);
-    let mut cycle = Vec::new(alloc);
-    let mut names = Vec::new(alloc);
-    let mut nears = Vec::new(alloc);
+    let mut given = Given::new(alloc);
     let mut mode = first_mode(deadline, chained);
     let mut left = Some(text);
     let mut number = 0u32;
@@ -236,15 +240,21 @@ fn read_task_lines(
         let Some(said) = read_task_line(line) else {
             return Err(RunFault::Schedule { line: number });
         };
-        if !may_follow(&names, &nears, &said) {
+        if !given.allows(&said) {
             return Err(RunFault::Schedule { line: number });
         }
         let next = mode_after(mode, &said);
-        if append_given(&mut tasks, &mut cycle, &mut names, &mut nears, mode, said).is_err() {
+        if given.append(mode, said).is_err() {
             return Err(RunFault::Memory);
         }
         mode = next;
     }
+    let Given {
+        setup: mut tasks,
+        cycle,
+        names,
+        nears,
+    } = given;
     let setup = tasks.len();
     if lay_out(&mut tasks, cycle.as_slice()).is_err() {
         return Err(RunFault::Memory);

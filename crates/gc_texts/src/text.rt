@@ -13,7 +13,8 @@ use std::alloc::Global;
 /// The greatest length of a text that is read whole, in bytes.
 pub const TEXT_LIMIT: usize = 65536;
 
-/// A text has at most 65,536 bytes. The function has no effect: it states the value of `TEXT_LIMIT` for proofs.
+/// A text has at most 65,536 bytes. The function has no effect: its contract states the value of `TEXT_LIMIT`, which other
+/// contracts cite by its name.
 pub fn limits_texts()
     ensures { TEXT_LIMIT ≡ 65536 }
 {}

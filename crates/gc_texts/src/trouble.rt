@@ -82,7 +82,7 @@ impl Trouble {
             Trouble::AtStart => writeln!(messages, "at start"),
             Trouble::EachCycle => writeln!(messages, "each cycle"),
             Trouble::Now => writeln!(messages, "5007 now"),
-            Trouble::RawInTable(rpc) => tell_name(rpc, name_of(rpc), messages),
+            Trouble::RawInTable(rpc) => tell_in_table(rpc, name_of(rpc), messages),
             Trouble::RawParameters => {
                 writeln!(
                     messages,
@@ -96,7 +96,7 @@ impl Trouble {
 }
 
 // Writes that the procedure with this number and this name is in the table, and a line feed.
-fn tell_name<E: Write>(rpc: u16, name: &str, messages: &mut E) -> io::Result<()>
+fn tell_in_table<E: Write>(rpc: u16, name: &str, messages: &mut E) -> io::Result<()>
     ensures { OnOk result (Appends (E.contents messages.old) (E.contents messages.new) (in_table_text rpc name.now ++ codes "\n")) }
 {
     writeln!(messages, "{rpc} is {name}: leave out raw")

@@ -40,8 +40,8 @@ pub struct Decimal {
     pub ghost is_canonical: { IsCanonical digits scale },
 }
 
-/// As [`without_zeros`], in 64 bits.
-fn without_short_zeros(mut digits: u64, mut scale: u8) -> (u64, u8)
+/// As [`without_zeros`], which calls it where the magnitude fits in 64 bits: a division of 128 bits is slow.
+fn without_zeros_in_64_bits(mut digits: u64, mut scale: u8) -> (u64, u8)
     ensures { WithoutZeros digits scale result.0 result.1 }
 {
     while scale > 0 && digits % 10 == 0 {
@@ -51,13 +51,12 @@ fn without_short_zeros(mut digits: u64, mut scale: u8) -> (u64, u8)
     (digits, scale)
 }
 
-/// `magnitude / 10^scale` without the zeros at the end of its places, as its magnitude and its scale. It is computed in 64 bits where
-/// the magnitude fits, because a division of 128 bits is slow.
+/// `magnitude / 10^scale` without the zeros at the end of its places, as its magnitude and its scale.
 fn without_zeros(mut magnitude: u128, mut scale: u8) -> (u128, u8)
     ensures { WithoutZeros magnitude scale result.0 result.1 }
 {
     if let Ok(short) = u64::try_from(magnitude) {
-        let (short, scale) = without_short_zeros(short, scale);
+        let (short, scale) = without_zeros_in_64_bits(short, scale);
         return (u128::from(short), scale);
     }
     while scale > 0 && magnitude % 10 == 0 {

@@ -6,13 +6,13 @@ ghost use Rattle.std.specs.Option.{option_copied};
 ghost use Rattle.gc_values.specs.Plainly.{CountsDigits, CutsDecimal, CutsNumber, IsItemAndRest};
 
 use crate::decimal::Decimal;
-use crate::limits::SHORT;
+use crate::limits::DIGITS_IN_64_BITS;
 
 /// Any number with this many digits before the point is in a decimal's range.
-const WHOLE: usize = 13;
+const WHOLE_DIGITS: usize = 13;
 
-/// Reads the digits at the front of `text`, at most `most` of them, and returns two numbers: `front * 10^count` plus the number
-/// that these digits write, and `count`, how many they are.
+/// Reads the digits at the front of `text`, at most `most` of them, which follow digits that write `front`. It returns the number
+/// that all of these digits write, `front * 10^count` plus that of those in `text`, and `count`, how many are in `text`.
 #[inline]
 fn front_digits(front: u64, text: &[u8], most: usize) -> (u64, usize)
     requires { (front + 1) * 10 ^ most ≤ 10 ^ 18 }
@@ -46,12 +46,12 @@ fn behind_item(text: &[u8]) -> Option<Option<&[u8]>>
 pub fn front_decimal(text: &[u8]) -> Option<(Decimal, Option<&[u8]>)>
     ensures { IfSome result (λ r. CutsDecimal text.now r.0 (option_copied r.1)) }
 {
-    let (whole, at) = front_digits(0, text, WHOLE);
+    let (whole, at) = front_digits(0, text, WHOLE_DIGITS);
     if at == 0 || at >= text.len() || text[at] != b'.' {
         return None;
     }
     let behind = &text[at + 1..];
-    let (value, places) = front_digits(whole, behind, SHORT - at);
+    let (value, places) = front_digits(whole, behind, DIGITS_IN_64_BITS - at);
     let rest = behind_item(&behind[places..])?;
     let decimal = Decimal::from_parts(false, u128::from(value), places as u8);
     Some((decimal, rest))
@@ -63,7 +63,7 @@ pub fn front_decimal(text: &[u8]) -> Option<(Decimal, Option<&[u8]>)>
 pub fn front_number(text: &[u8]) -> Option<(u64, Option<&[u8]>)>
     ensures { IfSome result (λ r. CutsNumber text.now r.0 (option_copied r.1)) }
 {
-    let (number, count) = front_digits(0, text, SHORT);
+    let (number, count) = front_digits(0, text, DIGITS_IN_64_BITS);
     if count == 0 {
         return None;
     }

@@ -7,4 +7,4 @@ pub const BOUND: u128 = 10_000_000_000_000;
 pub const PLACES: u8 = 24;
 
 /// Any number of this many digits fits in 64 bits.
-pub const SHORT: usize = 18;
+pub const DIGITS_IN_64_BITS: usize = 18;

@@ -2,11 +2,11 @@
 //! takes, and learns at the end whether the list had just these kinds. That a list is refused for its quotes, its
 //! length, its count and its first faulty item, in this order, is this project's own.
 
-ghost use Rattle.std.specs.Prelude.{◌≡◌, ◌∷◌, [], ℕ, List, Some, IfErr, OnOk};
+ghost use Rattle.std.specs.Prelude.{◌≡◌, ◌∷◌, [], ℕ, List, Some, IfErr, MatchOption, OnOk};
 ghost use Rattle.gc_values.specs.Asked.{FailsFrom, ReadsFrom};
 ghost use Rattle.gc_values.specs.declared.decimal.Decimal.{Decimal};
+ghost use Rattle.gc_values.specs.Item.{kind_of};
 ghost use Rattle.gc_values.specs.Lists.{AreParams, IsListFault};
-ghost use Rattle.gc_values.specs.Taken.{TakesKind, TakesValue};
 ghost use Rattle.gc_values.specs.declared.fault.ValueFault.{ValueFault};
 ghost use Rattle.gc_values.specs.declared.value.Kind.{Kind};
 ghost use Rattle.gc_values.specs.declared.value.Value.{Value};
@@ -112,8 +112,10 @@ impl<'a> Listed<'a> {
     /// An item that can't be read is taken all the same, and its fault is kept if it is the list's first. Where there is no next
     /// item, `place` keeps that more were asked for than there are.
     fn take(&mut self, kind: Kind) -> Option<Value>
-        ensures reads { TakesValue kind self.old self.new result }
-        ensures fails { TakesKind kind self.old self.new }
+        ensures reads { (vs : List Value) → ⟦<Listed<'a> as Parameters>⟧.reads self.new vs
+            → MatchOption result ⊥ (λ v. (kind_of v ≡ kind) × ⟦<Listed<'a> as Parameters>⟧.reads self.old (v ∷ vs)) }
+        ensures fails { (ks : List Kind) (e : ValueFault) → ⟦<Listed<'a> as Parameters>⟧.fails self.new ks e
+            → ⟦<Listed<'a> as Parameters>⟧.fails self.old (kind ∷ ks) e }
     {
         let Ok(items) = &self.items else {
             return None;

@@ -86,8 +86,8 @@ impl<'a> Quick<'a> {
     // end of the list was reached; then nothing was taken.
     #[inline]
     fn number(&mut self) -> Option<u64>
-        ensures reads { IfSome result (λ n. (v : Value) (vs : List Value) → ((item : List ℕ) → NamesWhole item (pos n) → IsItem item v)
-            → ReadsPlainly self.new.good (option_copied self.new.rest) vs → ReadsPlainly self.old.good (option_copied self.old.rest) (v ∷ vs)) }
+        ensures reads { IfSome result (λ n. (v : Value) → ((item : List ℕ) → NamesWhole item (pos n) → IsItem item v)
+            → TakesPlainly v self.old self.new) }
         ensures none { IfNone result (self.new ≡ self.old) }
     {
         if let Some(text) = self.rest {
@@ -111,8 +111,7 @@ impl<'a> Quick<'a> {
         }
     }
 
-    // Takes the next item as a whole number of 32 bits, also one with a minus or many digits. Where no item in the common
-    // spelling follows, or it can't be read as a whole number of 32 bits: 0, and the list isn't good any more.
+    // As `take_as_double`, for a whole number of 32 bits.
     #[inline(never)]
     fn take_as_long(&mut self) -> i32
         ensures { TakesPlainly (Value.Long result) self.old self.new }
@@ -123,8 +122,7 @@ impl<'a> Quick<'a> {
         }
     }
 
-    // Takes the next item as a whole number of 16 bits, also one with a minus or many digits. Where no item in the common
-    // spelling follows, or it can't be read as a whole number of 16 bits: 0, and the list isn't good any more.
+    // As `take_as_double`, for a whole number of 16 bits.
     #[inline(never)]
     fn take_as_short(&mut self) -> i16
         ensures { TakesPlainly (Value.Short result) self.old self.new }
@@ -135,8 +133,7 @@ impl<'a> Quick<'a> {
         }
     }
 
-    // Takes the next item as a Boolean, also one with a minus or many digits. Where no item in the common spelling follows, or it
-    // can't be read as a Boolean: false, and the list isn't good any more.
+    // As `take_as_double`, for a Boolean: false in place of zero.
     #[inline(never)]
     fn take_as_boolean(&mut self) -> bool
         ensures { TakesPlainly (Value.Bool result) self.old self.new }

@@ -7,7 +7,7 @@ ghost use Rattle.gc_values.specs.Digits.{AreDigits, number};
 ghost use Rattle.gc_values.specs.KeptDigits.{digit_or_zero, kept, kept_and_rounded};
 ghost use Rattle.gc_values.specs.Nearest.{IsRoundedWithCap};
 
-use crate::limits::{PLACES, SHORT};
+use crate::limits::{DIGITS_IN_64_BITS, PLACES};
 
 /// One more than a decimal's greatest number of units of the last place. Every greater number is taken for this one.
 const CAP: u128 = 10_000_000_000_000_000_000_000_000_000_000_000_001;
@@ -103,7 +103,7 @@ pub fn rounded_units(whole: &[u8], fraction: &[u8], up: u16, down: u16) -> (u128
 {
     let length = whole.len() + fraction.len();
     // Few digits, and no exponent, or one of 0: their number is read as it is, in 64 bits.
-    if up == 0 && down == 0 && length <= SHORT {
+    if up == 0 && down == 0 && length <= DIGITS_IN_64_BITS {
         return (
             u128::from(short_number(whole, fraction)),
             fraction.len() as u8,

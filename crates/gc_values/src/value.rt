@@ -71,8 +71,7 @@ impl Value {
         }
     }
 
-    /// As [`Decimal::read`]. Its contract names the fault as that of an item (`IsItemFault`), as the readers of the other kinds
-    /// name theirs.
+    /// As [`Decimal::read`], but one clause says which fault comes, in the words of the table of kinds (`IsItemFault`).
     fn read_double(item: &[u8]) -> Result<Decimal, ValueFault>
         ensures value { IfOk result (λ d. Spells item.now d.digits d.scale) }
         ensures only { GivesSpelled item.now result }

@@ -91,16 +91,25 @@ fn put_signed(tail: &mut Tail, v: i32)
     }
 }
 
+/// Appends a whole number: a minus where it is below zero, and digits without leading zeros.
+#[inline(always)]
+fn push_signed<const N: usize>(out: &mut ArrayVec<u8, N>, v: i32)
+    requires room { array_vec_len out.old + length (signed_text v) ≤ N }
+    ensures { out.new.items ≡ out.old.items ++ signed_text v }
+{
+    let mut tail = Tail::new();
+    put_signed(&mut tail, v);
+    // The caller has shown that there is room, so this never fails.
+    let _ = out.try_extend_from_slice(tail.as_bytes());
+}
+
 /// Appends a Long, as [`write_long`] writes it: at most 11 bytes.
 pub fn push_long<const N: usize>(out: &mut ArrayVec<u8, N>, v: i32)
     requires room { array_vec_len out.old + 11 ≤ N }
     ensures items { out.new.items ≡ out.old.items ++ signed_text v }
     ensures len { array_vec_len out.new ≤ array_vec_len out.old + 11 }
 {
-    let mut tail = Tail::new();
-    put_signed(&mut tail, v);
-    // The caller has shown that there is room, so this never fails.
-    let _ = out.try_extend_from_slice(tail.as_bytes());
+    push_signed(out, v);
 }
 
 /// Appends a Short, as [`write_short`] writes it: at most 6 bytes.
@@ -109,10 +118,7 @@ pub fn push_short<const N: usize>(out: &mut ArrayVec<u8, N>, v: i16)
     ensures items { out.new.items ≡ out.old.items ++ signed_text v }
     ensures len { array_vec_len out.new ≤ array_vec_len out.old + 6 }
 {
-    let mut tail = Tail::new();
-    put_signed(&mut tail, i32::from(v));
-    // The caller has shown that there is room, so this never fails.
-    let _ = out.try_extend_from_slice(tail.as_bytes());
+    push_signed(out, i32::from(v));
 }
 
 /// Appends a Boolean: `0` or `1`.

@@ -13,8 +13,8 @@ form_of_rows Json = Json
 
 -- the settings of a station whose records are rows of a file: in `form_of_rows`, and without a header; where the form has one,
 -- the file has it already
-abbrev pub appended : Settings → Settings
-appended station = record station { layout = record station.layout { form = form_of_rows station.layout.form; headed = true } }
+abbrev pub for_file : Settings → Settings
+for_file station = record station { layout = record station.layout { form = form_of_rows station.layout.form; headed = true } }
 
 -- the settings of a station whose run began at `run`, in milliseconds since 1970-01-01, UTC
 abbrev pub begun_at : ℕ → Settings → Settings

@@ -127,7 +127,7 @@ impl<'a> Rehearsal<'a> {
     }
 }
 
-/// What the words of `rehearse` say. `None`: a number is missing that has a default, or is none of its type, as for `station_of`.
+/// What the words of `rehearse` say. `None`, as of `station_of`: a number is missing, or doesn't fit its type.
 pub fn rehearsal_of<'a>(words: &ArgMatches<'a>) -> Option<Rehearsal<'a>> {
     Some(Rehearsal {
         scene: words.get_str("scene"),

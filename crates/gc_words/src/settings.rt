@@ -1,7 +1,7 @@
 //! The settings of a station.
 
 ghost use Rattle.std.specs.Prelude.{◌≡◌};
-ghost use Rattle.gc_words.specs.Stations.{form_of_rows, appended, begun_at};
+ghost use Rattle.gc_words.specs.Stations.{form_of_rows, for_file, begun_at};
 
 use crate::choice::{Choice, Watch};
 use crate::layout::Layout;
@@ -19,11 +19,11 @@ impl Settings {
     /// These settings, with a status line below the signs of life if somebody reads the messages at a terminal (`at_terminal`),
     /// unless the choice has no signs of life.
     pub fn with_status_line(self, at_terminal: bool) -> Settings {
-        let mut station = self;
+        let mut settings = self;
         if at_terminal && self.choice.watch == Watch::Lines {
-            station.choice.watch = Watch::Terminal;
+            settings.choice.watch = Watch::Terminal;
         }
-        station
+        settings
     }
 
     /// The form of the rows that go into a file: the one that was asked for, but comma-separated values in place of lines.
@@ -39,21 +39,21 @@ impl Settings {
 
     /// These settings with the records as rows of a file, in `form_of_rows`, and without a header: where the form has one, the
     /// file has it already.
-    pub fn appended(self) -> Settings
-        ensures { result ≡ appended self }
+    pub fn for_file(self) -> Settings
+        ensures { result ≡ for_file self }
     {
-        let mut station = self;
-        station.layout.form = self.form_of_rows();
-        station.layout.headed = true;
-        station
+        let mut settings = self;
+        settings.layout.form = self.form_of_rows();
+        settings.layout.headed = true;
+        settings
     }
 
     /// These settings for a run that begins at this moment.
     pub fn begun(self, moment: Moment) -> Settings
         ensures { result ≡ begun_at moment.utc self }
     {
-        let mut station = self;
-        station.layout.run = moment.utc;
-        station
+        let mut settings = self;
+        settings.layout.run = moment.utc;
+        settings
     }
 }

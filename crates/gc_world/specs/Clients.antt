@@ -104,18 +104,33 @@ module _ {State : Type 0} where
   abbrev pub streams_by_numbers : ℕ → Ends State → List Event → State → Streams (ByNumber Call) State
   streams_by_numbers width ends events state = flow ends (by_numbers width) events (untouched (numbers_open state))
 
+  -- the streams that the run by ids of these events leaves between two ends, from the restarted opening state, with a window of
+  -- this width
+  abbrev pub streamed_between : Ends State → ℕ → State → List Event → Streams (ById Call) State
+  streamed_between ends width opening events = streams_by_ids width ends events (ends.restarted opening)
+
+  -- the world that the run by ids of these events leaves between two ends, from the restarted opening state, with a window of
+  -- this width
+  abbrev pub played_between : Ends State → ℕ → State → List Event → World (ById Call) State
+  played_between ends width opening events = (streamed_between ends width opening events).world
+
+  -- the world that the run by numbers of these events leaves between two ends, from the restarted opening state, with a window of
+  -- this width
+  abbrev pub played_by_numbers_between : Ends State → ℕ → State → List Event → World (ByNumber Call) State
+  played_by_numbers_between ends width opening events = (streams_by_numbers width ends events (ends.restarted opening)).world
+
 -- the two ends: the simulated instrument, and a client that reads replies by their grammar
 abbrev pub ends : Ends State
 ends = record { handed = handed; restarted = restarted; heard = heard; joint = true }
 
--- the streams that the run by ids of these events leaves, from the restarted opening state, with a window of this width
+-- the streams that the run by ids of these events leaves on the simulated instrument (`streamed_between`)
 abbrev pub streamed : ℕ → State → List Event → Streams (ById Call) State
-streamed width opening events = streams_by_ids width ends events (restarted opening)
+streamed width opening events = streamed_between ends width opening events
 
--- the world that the run by ids of these events leaves, from the restarted opening state, with a window of this width
+-- the world that the run by ids of these events leaves on the simulated instrument
 abbrev pub played : ℕ → State → List Event → World (ById Call) State
-played width opening events = (streamed width opening events).world
+played width opening events = played_between ends width opening events
 
--- the world that the run by numbers of these events leaves, from the restarted opening state, with a window of this width
+-- the world that the run by numbers of these events leaves on the simulated instrument
 abbrev pub played_by_numbers : ℕ → State → List Event → World (ByNumber Call) State
-played_by_numbers width opening events = (streams_by_numbers width ends events (restarted opening)).world
+played_by_numbers width opening events = played_by_numbers_between ends width opening events

@@ -8,11 +8,11 @@ use Rattle.gc_client.specs.Rule.{Settlement}
 use Rattle.gc_client.specs.Settlements.{ReadsAs}
 use Rattle.gc_instrument.specs.State.{State, IsFittingState, restarted}
 use Rattle.gc_world.specs.declared.event.Event.{Event}
-use Rattle.gc_world.specs.Clients.{ends, played, played_by_numbers}
+use Rattle.gc_world.specs.Clients.{ends, played, played_between, played_by_numbers, played_by_numbers_between}
 use Rattle.gc_world.specs.Faithful.{IsValueOrRefusal}
 use Rattle.gc_world.specs.Order.{IsOrderly, IsRecent, numbers}
 use Rattle.gc_world.specs.Record.{IsOneForOne, IsReplyTo, IsBooked, IsExecution}
-use Rattle.gc_world.specs.World.{Wire}
+use Rattle.gc_world.specs.World.{Ends, Wire}
 
 -- the wire that the run by ids of these events leaves, from the restarted opening state, with a window of this width: the world
 -- but its client
@@ -23,9 +23,26 @@ left_by_ids width opening events = (played width opening events).wire
 abbrev pub left_by_numbers : ℕ → State → List Event → Wire State
 left_by_numbers width opening events = (played_by_numbers width opening events).wire
 
--- with a window of at most seven, the wire that a list of events leaves by ids keeps the order of the line, as `IsOrderly` has it
-abbrev pub KeepsOrder : Type 0
-KeepsOrder = (width : ℕ) → width ≤ WINDOW → (opening : State) (events : List Event) → IsOrderly width (left_by_ids width opening events)
+-- Laws of runs between any two ends: `ends` is those of the simulated instrument.
+
+module _ {S : Type 0} where
+  -- with a window of at most seven, the wire that a list of events leaves by ids keeps the order of the line (`IsOrderly`)
+  abbrev pub KeepsOrder : Ends S → Type 0
+  KeepsOrder sides = (width : ℕ) → width ≤ WINDOW → (opening : S) (events : List Event) → IsOrderly width (played_between sides width opening events).wire
+
+  -- with a window of at most seven, the run by ids and the run by numbers leave the same wire
+  abbrev pub RunsAgree : Ends S → Type 0
+  RunsAgree sides =
+      (width : ℕ) → width ≤ WINDOW → (opening : S) (events : List Event) →
+      (played_between sides width opening events).wire ≡ (played_by_numbers_between sides width opening events).wire
+
+  -- settlement m has the target and the call of request m, and there are no more settlements than requests
+  abbrev pub SettlesInOrder : Ends S → Type 0
+  SettlesInOrder sides =
+      (width : ℕ) (opening : S) (events : List Event) →
+      IsOneForOne (played_between sides width opening events).wire.sent (played_between sides width opening events).wire.settled
+
+-- Laws of runs on the simulated instrument.
 
 -- with a window of at most seven: while a reply is kept, each request in flight has the number that was executed last, or one of
 -- the next `width` numbers, so a request with the kept id is the one executed last, repeated
@@ -33,17 +50,6 @@ abbrev pub KeepsRecent : Type 0
 KeepsRecent =
     (width : ℕ) → width ≤ WINDOW → (opening : State) (events : List Event) →
     (let w = left_by_ids width opening events in IsRecent width w.state.kept w.executed (numbers w.up))
-
--- with a window of at most seven, the run by ids and the run by numbers leave the same wire
-abbrev pub RunsAgree : Type 0
-RunsAgree =
-    (width : ℕ) → width ≤ WINDOW → (opening : State) (events : List Event) → left_by_ids width opening events ≡ left_by_numbers width opening events
-
--- settlement m has the target and the call of request m, and there are no more settlements than requests
-abbrev pub SettlesInOrder : Type 0
-SettlesInOrder =
-    (width : ℕ) (opening : State) (events : List Event) →
-    IsOneForOne (left_by_ids width opening events).sent (left_by_ids width opening events).settled
 
 -- with a window of at most seven, if the restarted opening state is fitting: where settlement m is answered, its line is among
 -- those made for request m, and is what the instrument replies when it executes the settlement's call in a fitting state

@@ -9,7 +9,7 @@ use Rattle.gc_world.specs.declared.event.Event.{Event}
 use Rattle.gc_world.specs.declared.report.Made.{Made}
 use Rattle.gc_world.specs.declared.report.Report.{Report}
 use Rattle.gc_world.specs.Clients.{played, streamed}
-use Rattle.gc_world.specs.Faithful.{sent_seen}
+use Rattle.gc_world.specs.Faithful.{ActsOnce, Faithful, sent_seen}
 use Rattle.gc_world.specs.Streams.{up_lines, down_lines, gone_of}
 use Rattle.gc_world.specs.World.{Numbered, Wire}
 
@@ -53,3 +53,15 @@ StandsForUp width opening events kept = StandsFor kept (gone_of (streamed width 
 -- the assembler stands for the bytes of the front reply that have gone over
 abbrev pub StandsForDown : (width : ℕ) → (opening : State) → List Event → Kept → Type 0
 StandsForDown width opening events kept = StandsFor kept (gone_of (streamed width opening events).down_gone (down_lines (played width opening events).wire))
+
+-- the report and the client are what playing these events gives. Both are those of the run by ids, and each of the two assemblers
+-- in the report stands for what has gone over of the front line of its direction. The report is faithful, by it each request acts
+-- at most once, and none of its lists is longer than the list of events
+pub record IsPlayed (width : ℕ) (opening : State) (events : List Event) (r : Report) (c : Windowed Call) : Type 0 where
+  pub report : IsReportOf width opening events r
+  pub client : IsClientOf width opening events c
+  pub up : StandsForUp width opening events r.up
+  pub down : StandsForDown width opening events r.down
+  pub faithful : Faithful width opening events r
+  pub once : ActsOnce opening r
+  pub few : IsNoLongerThan (length events) r

@@ -5,6 +5,7 @@
 //! Where a law needs that the client's window is at most seven wide, its contract says so, and its comment leaves it out. The
 //! last law shows what happens at eight.
 
+ghost use Rattle.gc_world.specs.Clients.{ends};
 ghost use Rattle.gc_world.specs.FirstReply.{BooksFirstReply, FirstReplyIsLate, IsNeverInTimeAndTooLate, IsInTimeOrTooLate, NoSecondReply};
 ghost use Rattle.gc_world.specs.Laws.{KeepsOrder, KeepsRecent, RunsAgree, SettlesInOrder, BooksItsOwn, RepliesAreFine, RecordsExecutions};
 ghost use Rattle.gc_world.specs.declared.direction.Direction.{Direction};
@@ -15,7 +16,7 @@ ghost use Rattle.gc_world.specs.Width.{EightDiffers, EightSettlesNine, NumbersSe
 /// flight. Every number in flight is below the count of requests sent, and at least the count of settlements less one. At most
 /// as many requests are unsettled as the window is wide.
 pub fn line_keeps_order()
-    ensures { KeepsOrder }
+    ensures { KeepsOrder ends }
 {}
 
 /// While the instrument keeps a reply, every request in flight is the one executed last, or one of the w requests sent next after that
@@ -26,12 +27,12 @@ pub fn kept_reply_is_recent()
 
 /// The client that knows ids alone does what an oracle client would do that knew each reply's request.
 pub fn runs_agree()
-    ensures { RunsAgree }
+    ensures { RunsAgree ends }
 {}
 
 /// Settlement m has the target and the call of request m, and there are no more settlements than requests sent.
 pub fn settlements_are_one_for_one()
-    ensures { SettlesInOrder }
+    ensures { SettlesInOrder ends }
 {}
 
 /// If the restarted opening state is fitting (`IsFittingState`), each answer that is booked was made for the very request that it

@@ -1,9 +1,8 @@
 //! Playing a list of events on a real client and a real instrument.
 
-ghost use Rattle.std.specs.Prelude.{◌≤◌, length, IfOk, IsOk};
-ghost use Rattle.gc_world.specs.Faithful.{ActsOnce, Faithful};
+ghost use Rattle.std.specs.Prelude.{◌≤◌, IfOk, IsOk};
 ghost use Rattle.gc_world.specs.Memory.{TakeNoMemory};
-ghost use Rattle.gc_world.specs.Reports.{IsReportOf, IsClientOf, IsNoLongerThan, StandsForDown, StandsForUp};
+ghost use Rattle.gc_world.specs.Reports.{IsPlayed};
 
 use crate::event::Event;
 use crate::report::Report;
@@ -47,14 +46,8 @@ pub fn play_width<W: Window<Asked = Call>>(
 ) -> Result<(Report, Client<W>), AllocError>
     requires least { 1 ≤ width }
     requires most { width ≤ WINDOW }
-    ensures report { IfOk result (λ done. IsReportOf width instrument events.now done.0) }
-    ensures client { IfOk result (λ done. IsClientOf width instrument events.now done.1) }
-    ensures up { IfOk result (λ done. StandsForUp width instrument events.now done.0.up) }
-    ensures down { IfOk result (λ done. StandsForDown width instrument events.now done.0.down) }
-    ensures faithful { IfOk result (λ done. Faithful width instrument events.now done.0) }
-    ensures once { IfOk result (λ done. ActsOnce instrument done.0) }
+    ensures played { IfOk result (λ done. IsPlayed width instrument events.now done.0 done.1) }
     ensures spare { TakeNoMemory width instrument events.now → IsOk result }
-    ensures few { IfOk result (λ done. IsNoLongerThan (length events.now) done.0) }
 {
     let mut stage = Stage::new(alloc, instrument, window, width, count_sends(events));
     for event in events {
@@ -78,14 +71,8 @@ pub fn play<W: Window<Asked = Call>>(
     window: W,
     events: &[Event],
 ) -> Result<(Report, Client<W>), AllocError>
-    ensures report { IfOk result (λ done. IsReportOf WINDOW instrument events.now done.0) }
-    ensures client { IfOk result (λ done. IsClientOf WINDOW instrument events.now done.1) }
-    ensures up { IfOk result (λ done. StandsForUp WINDOW instrument events.now done.0.up) }
-    ensures down { IfOk result (λ done. StandsForDown WINDOW instrument events.now done.0.down) }
-    ensures faithful { IfOk result (λ done. Faithful WINDOW instrument events.now done.0) }
-    ensures once { IfOk result (λ done. ActsOnce instrument done.0) }
+    ensures played { IfOk result (λ done. IsPlayed WINDOW instrument events.now done.0 done.1) }
     ensures spare { TakeNoMemory WINDOW instrument events.now → IsOk result }
-    ensures few { IfOk result (λ done. IsNoLongerThan (length events.now) done.0) }
 {
     play_width(alloc, instrument, window, WINDOW as u8, events)
 }

@@ -12,6 +12,7 @@ use Rattle.gc_catalogue.specs.declared.asked.Asked.{Asked}
 use Rattle.gc_client.specs.Rule.{Settlement, Windowed, heard, hears, fits, restarts}
 use Rattle.gc_client.specs.declared.window.TheConstants.{WINDOW}
 use Rattle.geocom_c.specs.FirstAre.{FirstAre}
+use Rattle.geocom_c.specs.Rooms.{KeepsLength, WritesFirst}
 use Rattle.geocom_c.specs.Settled.{IsRecord}
 use Rattle.geocom_c.specs.State.{StandsFor}
 use Rattle.geocom_c.specs.declared.answers.GeocomCount.{GeocomCount}
@@ -118,10 +119,12 @@ abbrev pub FeedFaultLeavesState : (told : GeocomHeard) → (old new : GeocomClie
 FeedFaultLeavesState told old new =
     told.fault ≢ 0 → (told.used ≡ 0) × (told.count ≡ 0) × (told.kind ≡ 0) × (told.line_fault ≡ 0) × (new ≡ old)
 
--- where nothing was settled (a count of 0), nothing was written: the records and the text are after the feed (`records`, `text`)
--- as they were before (`old_records`, `old_text`)
-abbrev pub IsSilent : (count : ℕ) → (old_records records : List GeocomSettlement) → (old_text text : List ℕ) → Type 0
-IsSilent count old_records records old_text text = count ≡ 0 → (records ≡ old_records) × (text ≡ old_text)
+-- a feed that settled `count` requests wrote that many records, at most seven, and nothing after them. The records and the text
+-- kept their lengths. If no request was settled, nothing was written
+pub record WritesSettled (count : ℕ) (before after : List GeocomSettlement) (text_before text_after : List ℕ) : Type 0 where
+  pub records : WritesFirst count before after
+  pub text : KeepsLength text_before text_after
+  pub silent : count ≡ 0 → (after ≡ before) × (text_after ≡ text_before)
 
 -- a client in the state `old` was restarted: what was returned, the state `new` and the records are as `HasRestarted` says
 abbrev pub Restarts : (old new : GeocomClient) → (told : GeocomCount) → (records : List GeocomSettlement) → Type 0

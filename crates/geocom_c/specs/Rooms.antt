@@ -19,13 +19,12 @@ IsWritten at text before after = take (at + length text) after ≡ take at befor
 abbrev pub KeepsAfter : {A : Type 0} → (count : ℕ) → (before after : List A) → Type 0
 KeepsAfter count before after = drop count after ≡ drop count before
 
--- the list `after` is the list `before` with more items at its end, or with none
-abbrev pub IsExtended : {A : Type 0} → (before after : List A) → Type 0
-IsExtended {A = A} before after = (more : List A) × (after ≡ before ++ more)
-
--- this count is at most that of the requests that can be outstanding
-abbrev pub FitsTheWindow : (count : ℕ) → Type 0
-FitsTheWindow count = count ≤ WINDOW
+-- a call wrote over the first `count` items of a list, at most as many as requests can be outstanding: what follows them is the
+-- same `after` as `before`, and so is the list's length
+pub record WritesFirst {A : Type 0} (count : ℕ) (before after : List A) : Type 0 where
+  pub few : count ≤ WINDOW
+  pub untouched : KeepsAfter count before after
+  pub length : KeepsLength before after
 
 -- the fault is that of too little room if and only if the list `room` has fewer than `least` items
 abbrev pub ReportsNoRoom : {A : Type 0} → (room : List A) → (least fault : ℕ) → Type 0

@@ -1,5 +1,5 @@
 -- The records of settlements, this project's own: what a record says of a settlement.
-use Rattle.std.specs.Prelude.{◌≡◌, ◌≤◌, ◌+◌, ℕ, List, [], length, take, drop, map, None}
+use Rattle.std.specs.Prelude.{◌≡◌, ◌≤◌, ◌+◌, ℕ, List, length, take, drop, map, None}
 use Rattle.std.specs.List.{AllByRecursion}
 use Rattle.gc_values.specs.ValueFault.{fault_number}
 use Rattle.gc_values.specs.Params.{IsParams}

@@ -5,7 +5,7 @@ ghost use Rattle.gc_client.specs.Rule.{IsWidth};
 ghost use Rattle.gc_client.specs.Rule;
 ghost use Rattle.gc_client.specs.Beginning.{the_word};
 ghost use Rattle.geocom_c.specs.State.{StandsFor, IsAstray, IsClients, KeepsAnswered, left_of};
-ghost use Rattle.geocom_c.specs.Rooms.{FaultLeavesAll, FitsTheWindow, KeepsLength, KeepsAfter, ReportsNoClient, ReportsNoRoom};
+ghost use Rattle.geocom_c.specs.Rooms.{FaultLeavesAll, KeepsLength, KeepsAfter, ReportsNoClient, ReportsNoRoom, WritesFirst};
 ghost use Rattle.geocom_c.specs.Deadlines.{Expires, IsBlankIfUnset, ReportsEarliest, ReportsWaiting};
 ghost use Rattle.geocom_c.specs.declared.header.TheConstants.{VERSION, NO_WIDTH, NO_CLIENT};
 ghost use Rattle.gc_client.specs.declared.window.TheConstants.{WINDOW};
@@ -72,10 +72,8 @@ pub extern "C" fn geocom_client_expire(
     ensures astray { ReportsNoClient targets.old WINDOW state.old result.fault }
     ensures done { result.fault ≡ 0 → IsClients state.old }
     ensures refused { FaultLeavesAll result state.old state.new targets.old targets.new }
-    ensures few { FitsTheWindow result.count }
     ensures answered { KeepsAnswered state.old state.new }
-    ensures untouched { KeepsAfter result.count targets.old targets.new }
-    ensures length { KeepsLength targets.old targets.new }
+    ensures written { WritesFirst result.count targets.old targets.new }
 {
     if targets.len() < WINDOW {
         return refused(NO_ROOM);

@@ -9,8 +9,8 @@ ghost use Rattle.gc_client.specs.declared.window.TheConstants.{WINDOW};
 ghost use Rattle.geocom_c.specs.Beginning.{left_by_restart};
 ghost use Rattle.geocom_c.specs.Rest.{IsValid};
 ghost use Rattle.geocom_c.specs.State.{Becomes, IsAstray, IsClients, KeepsAnswered, StandsFor, left_of};
-ghost use Rattle.geocom_c.specs.Rooms.{FaultLeavesAll, FitsTheWindow, KeepsLength, KeepsAfter, ReportsNoClient, ReportsNoRoom};
-ghost use Rattle.geocom_c.specs.Feeding.{FeedFaultLeavesState, FeedsFirst, FeedsUnended, HasRoom, IsFed, IsSilent, Restarts, client_past};
+ghost use Rattle.geocom_c.specs.Rooms.{FaultLeavesAll, ReportsNoClient, ReportsNoRoom, WritesFirst};
+ghost use Rattle.geocom_c.specs.Feeding.{FeedFaultLeavesState, FeedsFirst, FeedsUnended, HasRoom, IsFed, Restarts, WritesSettled, client_past};
 ghost use Rattle.geocom_c.specs.declared.header.TheConstants.{NO_ROOM, NO_CLIENT};
 
 use crate::answers::{GeocomCount, GeocomHeard, counted, heard, refused, unheard, using};
@@ -46,11 +46,7 @@ fn hear(
     ensures fed { IsFed client (Frame.Line line.now) result settlements.new text.new }
     ensures state { Becomes state.old state.new (client_past client (Frame.Line line.now)) }
     ensures answered { KeepsAnswered state.old state.new }
-    ensures untouched { KeepsAfter result.count settlements.old settlements.new }
-    ensures records { KeepsLength settlements.old settlements.new }
-    ensures text { KeepsLength text.old text.new }
-    ensures few { FitsTheWindow result.count }
-    ensures silent { IsSilent result.count settlements.old settlements.new text.old text.new }
+    ensures written { WritesSettled result.count settlements.old settlements.new text.old text.new }
 {
     let told = client.on_line(line);
     store(state, client);
@@ -79,11 +75,7 @@ fn feed_frame(
     ensures fed { IsFed client frame.now result settlements.new text.new }
     ensures state { (rest : List ℕ) → StandsFor state.old client rest → StandsFor state.new (client_past client frame.now) rest }
     ensures answered { KeepsAnswered state.old state.new }
-    ensures untouched { KeepsAfter result.count settlements.old settlements.new }
-    ensures records { KeepsLength settlements.old settlements.new }
-    ensures text { KeepsLength text.old text.new }
-    ensures few { FitsTheWindow result.count }
-    ensures silent { IsSilent result.count settlements.old settlements.new text.old text.new }
+    ensures written { WritesSettled result.count settlements.old settlements.new text.old text.new }
 {
     match frame {
         Frame::Line(line) => hear(state, client, line, settlements, text),
@@ -109,11 +101,7 @@ fn feed(
     ensures fault { result.fault ≡ 0 }
     ensures answered { KeepsAnswered state.old state.new }
     ensures used { IsUsedOf bytes.now result.used }
-    ensures untouched { KeepsAfter result.count settlements.old settlements.new }
-    ensures records { KeepsLength settlements.old settlements.new }
-    ensures text { KeepsLength text.old text.new }
-    ensures few { FitsTheWindow result.count }
-    ensures silent { IsSilent result.count settlements.old settlements.new text.old text.new }
+    ensures written { WritesSettled result.count settlements.old settlements.new text.old text.new }
 {
     let (used, frame) = state.rest.frame(bytes);
     match frame {
@@ -155,12 +143,8 @@ pub extern "C" fn geocom_client_feed(
     ensures astray { (result.fault ≡ NO_CLIENT) ↔ (HasRoom settlements.old text.old × IsAstray state.old) }
     ensures done { result.fault ≡ 0 → IsClients state.old }
     ensures refused { FeedFaultLeavesState result state.old state.new }
-    ensures few { FitsTheWindow result.count }
-    ensures silent { IsSilent result.count settlements.old settlements.new text.old text.new }
     ensures answered { KeepsAnswered state.old state.new }
-    ensures untouched { KeepsAfter result.count settlements.old settlements.new }
-    ensures records { KeepsLength settlements.old settlements.new }
-    ensures text { KeepsLength text.old text.new }
+    ensures written { WritesSettled result.count settlements.old settlements.new text.old text.new }
 {
     if !has_room(settlements, text) {
         return unheard(NO_ROOM);
@@ -200,9 +184,7 @@ pub extern "C" fn geocom_client_restart(
     ensures astray { ReportsNoClient settlements.old WINDOW state.old result.fault }
     ensures done { result.fault ≡ 0 → IsClients state.old }
     ensures refused { FaultLeavesAll result state.old state.new settlements.old settlements.new }
-    ensures few { FitsTheWindow result.count }
-    ensures untouched { KeepsAfter result.count settlements.old settlements.new }
-    ensures length { KeepsLength settlements.old settlements.new }
+    ensures written { WritesFirst result.count settlements.old settlements.new }
 {
     if settlements.len() < WINDOW {
         return refused(NO_ROOM);

@@ -2,8 +2,9 @@
 
 ghost use Rattle.std.specs.Prelude.{◌≤◌, ◌+◌, length};
 ghost use Rattle.arrayvec.specs.ArrayVec.{array_vec_len};
-ghost use Rattle.geocom_c.specs.Rooms.{IsExtended, KeepsLength};
+ghost use Rattle.geocom_c.specs.Rooms.{KeepsLength};
 ghost use Rattle.geocom_c.specs.Settled.{IsListingOf, ListsItems, StandIn};
+ghost use Rattle.gc_station.specs.Records.{Grew};
 ghost use Rattle.gc_values.specs.Params.{bytes_in};
 ghost use Rattle.geocom_c.specs.declared.header.TheConstants.{TEXT_ROOM};
 
@@ -39,7 +40,7 @@ pub(crate) struct ListedLine {
 fn put_items(text: &mut ArrayVec<u8, TEXT_ROOM>, places: &mut [GeocomItem], items: &Items<'_>)
     requires few { length items.now ≤ length places.old }
     requires room { array_vec_len text.old + bytes_in items.now ≤ TEXT_ROOM }
-    ensures front { IsExtended text.old.items text.new.items }
+    ensures front { Grew text.old.items text.new.items }
     ensures places { StandIn text.new.items places.new items.now }
     ensures length { KeepsLength places.old places.new }
 {
@@ -57,7 +58,7 @@ fn put_items(text: &mut ArrayVec<u8, TEXT_ROOM>, places: &mut [GeocomItem], item
 // other parameters nothing is appended.
 fn list(told: &mut ListedLine, params: &[u8])
     requires { array_vec_len told.old.text + length params.now ≤ TEXT_ROOM }
-    ensures front { IsExtended told.old.text.items told.new.text.items }
+    ensures front { Grew told.old.text.items told.new.text.items }
     ensures listed { ListsItems told.new.text.items told.new.items told.new.places params.now }
 {
     match split(params) {

@@ -2,7 +2,7 @@
 //! run ends, what it writes, what is sent over a link, and the sizes of its writes if the case has them. If it names no sizes of the
 //! input's pieces, the input comes whole and in single bytes; and if it says `cuts each`, also cut in two at every place.
 
-use crate::cases::outcome::Came;
+use crate::cases::outcome::{Came, Recut};
 use crate::cases::setup::Setup;
 use gc_cases::{Case, Player, Told};
 use std::alloc::{AllocError, Global};
@@ -26,28 +26,33 @@ impl Player for Engines {
 
 // Runs a set-up, and compares what came of it with what the case expects. If the set-up gives no sizes of pieces, the run is
 // repeated with the input in single bytes, and, if the case says `cuts each`, cut in two at each place, until a run comes to
-// something else. If one does, the words of `differing` are appended to how the run ended.
+// something else. If one does, the words of that way are appended to how the run ended.
 fn play_setup(alloc: Global, case: &Case<'_>, setup: &Setup, wrong: &mut Told) {
     let whole = setup.run(alloc, setup.sizes.as_slice());
-    let otherwise = if setup.sizes.is_empty() {
-        differing(alloc, setup, &whole, case.is("cuts", "each"))
+    let differs = if setup.sizes.is_empty() {
+        first_differing_recut(alloc, setup, &whole, case.is("cuts", "each"))
     } else {
-        ""
+        None
     };
-    whole.compare(alloc, case, otherwise, wrong);
+    whole.compare(alloc, case, differs, wrong);
 }
 
-/// In which pieces the input comes to something else than `whole`, to which it came in as few pieces as the reads allow: in
-/// single bytes; or else, if `is_each`, cut in two at some place. The result names these pieces in words that begin with a comma,
-/// and is empty if there are none. Memory that runs out for the sizes of single bytes counts as something else.
-pub fn differing(alloc: Global, setup: &Setup, whole: &Came, is_each: bool) -> &'static str {
+/// The first way of cutting the input in which the run comes to something else than `whole`, to which it came in as few pieces as
+/// the reads allow: single bytes or, if `cuts_in_two` is true, two pieces. `None`: no way does. Memory that runs out for the sizes
+/// of single bytes counts as something else.
+pub fn first_differing_recut(
+    alloc: Global,
+    setup: &Setup,
+    whole: &Came,
+    cuts_in_two: bool,
+) -> Option<Recut> {
     if !setup.is_same_in_single_bytes(alloc, whole) {
-        return ", and otherwise in single bytes";
+        return Some(Recut::SingleBytes);
     }
-    if is_each && !setup.is_same_cut_in_two(alloc, whole) {
-        return ", and otherwise cut in two";
+    if cuts_in_two && !setup.is_same_cut_in_two(alloc, whole) {
+        return Some(Recut::CutInTwo);
     }
-    ""
+    None
 }
 
 /// Appends the size 1 for each byte of an input, so that it comes in single bytes. `Err`: memory ran out, and some of them may be appended.

@@ -42,43 +42,14 @@ fn take_single(alloc: Global, case: &Case<'_>, setup: &mut Setup) -> Result<(), 
 // groups of runs with those that the case expects.
 fn play_calls(alloc: Global, case: &Case<'_>, setup: &mut Setup, wrong: &mut Told) {
     let whole = setup.run(alloc, &[]);
-    let mut groups = Groups::new(alloc);
+    let mut groups = Groups::new(alloc, *case, whole);
     for k in 0..MOST_CALLS {
         setup.fail_at(case.value("port"), k);
-        if play_call(alloc, case, setup, &whole, k, &mut groups, wrong) {
+        if groups.play_call(alloc, setup, k, wrong) {
             break;
         }
     }
-    groups.finish(alloc, case, wrong);
-}
-
-// Plays the run that is set up, whose port fails at call k, adds it to the groups, and returns whether it went well. `whole` is what the
-// run without a fault came to. Where a group ends that isn't what the case expects, a line is appended to `wrong`.
-fn play_call(
-    alloc: Global,
-    case: &Case<'_>,
-    setup: &Setup,
-    whole: &Came,
-    k: u64,
-    groups: &mut Groups,
-    wrong: &mut Told,
-) -> bool {
-    let came = setup.run(alloc, setup.sizes.as_slice());
-    let mut output = Told::new(alloc);
-    append_output(&came, whole, case.value("port"), k, &mut output);
-    groups.add(alloc, case, &came.end, &output, wrong);
-    came.end.is_done()
-}
-
-// Appends what was written by the run whose port failed at call k. If the port is the output, and the run wrote the first k bytes
-// of what the run without a fault wrote, it appends `a part` instead.
-fn append_output(came: &Came, whole: &Came, port: &str, k: u64, output: &mut Told) {
-    let written = came.output.bytes.as_slice();
-    if port == "output" && whole.begins_with(written, k) {
-        output.text("a part");
-    } else {
-        output.escaped(written);
-    }
+    groups.finish(alloc, wrong);
 }
 
 // Appends how a run with a failing call ended, and what it wrote (`output`). `place` is the run's place in its group, counted from 0: a
@@ -94,76 +65,97 @@ fn append_call(end: &End, output: &Told, place: u64, text: &mut Told) {
     text.append(output);
 }
 
-// The groups of runs in a row that came to the same. Only the last one is kept: each earlier one was compared as it ended.
+// The groups of runs of a case that, in a row, came to the same. Only the last one is kept: each earlier one was compared as it
+// ended.
 #[derive(Drop)]
-struct Groups {
+struct Groups<'a> {
+    case: Case<'a>,
+    // What the run without a fault came to.
+    whole: Came,
     // How many groups have ended.
-    before: usize,
+    ended: usize,
     // What each run of the last group came to.
     text: Told,
     // How many runs the last group has. 0: there is no group yet.
     count: u64,
 }
 
-impl Groups {
+impl<'a> Groups<'a> {
     // No group yet.
-    fn new(alloc: Global) -> Groups {
+    fn new(alloc: Global, case: Case<'a>, whole: Came) -> Groups<'a> {
         Groups {
-            before: 0,
+            case,
+            whole,
+            ended: 0,
             text: Told::new(alloc),
             count: 0,
         }
     }
 
+    // Plays the run that is set up, whose port fails at call k, adds it to the groups, and returns whether it went well. Where a
+    // group ends that isn't what the case expects, a line is appended to `wrong`.
+    fn play_call(&mut self, alloc: Global, setup: &Setup, k: u64, wrong: &mut Told) -> bool {
+        let came = setup.run(alloc, setup.sizes.as_slice());
+        let mut output = Told::new(alloc);
+        self.append_output(&came, k, &mut output);
+        self.add(alloc, &came.end, &output, wrong);
+        came.end.is_done
+    }
+
+    // Appends what was written by the run whose port failed at call k. If the port is the output, and the run wrote the first k
+    // bytes of what the run without a fault wrote, it appends `a part` instead.
+    fn append_output(&self, came: &Came, k: u64, output: &mut Told) {
+        let written = came.output.bytes.as_slice();
+        if self.case.is("port", "output") && self.whole.begins_with(written, k) {
+            output.text("a part");
+        } else {
+            output.escaped(written);
+        }
+    }
+
     // Adds a run to the last group, if it came to the same, or begins another one with it.
-    fn add(&mut self, alloc: Global, case: &Case<'_>, end: &End, output: &Told, wrong: &mut Told) {
+    fn add(&mut self, alloc: Global, end: &End, output: &Told, wrong: &mut Told) {
         let mut text = Told::new(alloc);
         append_call(end, output, self.count, &mut text);
         if self.count > 0 && text.as_bytes() == self.text.as_bytes() {
             self.count = self.count.saturating_add(1);
         } else {
-            self.begin(alloc, case, end, output, wrong);
+            self.begin(alloc, end, output, wrong);
         }
     }
 
     // Ends the last group, if there is one, and begins another one with this run.
-    fn begin(
-        &mut self,
-        alloc: Global,
-        case: &Case<'_>,
-        end: &End,
-        output: &Told,
-        wrong: &mut Told,
-    ) {
-        self.close(alloc, case, wrong);
+    fn begin(&mut self, alloc: Global, end: &End, output: &Told, wrong: &mut Told) {
+        self.close(alloc, wrong);
         self.text.clear();
         append_call(end, output, 0, &mut self.text);
         self.count = 1;
     }
 
     // Ends the last group, if it has a run: compares it with what the case expects, and counts it.
-    fn close(&mut self, alloc: Global, case: &Case<'_>, wrong: &mut Told) {
+    fn close(&mut self, alloc: Global, wrong: &mut Told) {
         if self.count > 0 {
-            self.compare(alloc, case, wrong);
-            self.before = self.before.saturating_add(1);
+            self.compare(alloc, wrong);
+            self.ended = self.ended.saturating_add(1);
         }
     }
 
     // Compares the last group, how many runs it has and what they came to, with what the case has under the group's key. A
     // sixth or later group has none, and is compared with the value under `?`.
-    fn compare(&self, alloc: Global, case: &Case<'_>, wrong: &mut Told) {
+    fn compare(&self, alloc: Global, wrong: &mut Told) {
         let mut told = Told::new(alloc);
         told.counted(&self.count, " calls: ");
         told.append(&self.text);
-        case.tell_told(KEYS.get(self.before).copied().unwrap_or("?"), &told, wrong);
+        let key = KEYS.get(self.ended).copied().unwrap_or("?");
+        self.case.tell_told(key, &told, wrong);
     }
 
     // Ends the last group, if it has a run, and compares an empty text with the value under each later key, so that no group
     // which the case expects is missed.
-    fn finish(&mut self, alloc: Global, case: &Case<'_>, wrong: &mut Told) {
-        self.close(alloc, case, wrong);
-        for key in KEYS.iter().skip(self.before) {
-            case.tell(key, b"", wrong);
+    fn finish(&mut self, alloc: Global, wrong: &mut Told) {
+        self.close(alloc, wrong);
+        for key in KEYS.iter().skip(self.ended) {
+            self.case.tell(key, b"", wrong);
         }
     }
 }

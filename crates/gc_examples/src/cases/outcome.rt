@@ -15,6 +15,15 @@ pub struct End {
     /// With the fault `Write`: how many bytes of the next line went out, which the text leaves out. `None` for any other end,
     /// also for `Output`.
     pub bytes: Option<usize>,
+    /// Whether the run went well; `false` before its end is stored.
+    pub is_done: bool,
+}
+
+/// A way of giving a run its input in other pieces.
+#[derive(Clone, Copy)]
+pub enum Recut {
+    SingleBytes,
+    CutInTwo,
 }
 
 /// What came of a run.
@@ -24,6 +33,16 @@ pub struct Came {
     pub output: Taking,
     /// What went out over the link of `ask`; nothing for any other engine.
     pub link: Taking,
+}
+
+impl Recut {
+    /// What is appended to how a run ended that comes to something else in this way.
+    pub fn words(self) -> &'static str {
+        match self {
+            Recut::SingleBytes => ", and otherwise in single bytes",
+            Recut::CutInTwo => ", and otherwise cut in two",
+        }
+    }
 }
 
 impl Came {
@@ -46,7 +65,7 @@ impl Came {
 
     /// Whether the run ended well and wrote exactly `output`.
     pub fn wrote(&self, output: &[u8]) -> bool {
-        self.end.is_done() && self.output.bytes.as_slice() == output
+        self.end.is_done && self.output.bytes.as_slice() == output
     }
 
     /// Whether `front` is the first `count` bytes of what was written.
@@ -55,10 +74,16 @@ impl Came {
     }
 
     /// Compares how the run ended, what it wrote and what it sent with what the case has under `end`, `output` and `sent`, and,
-    /// if the case has a value under `writes`, the sizes of its writes with this one. `otherwise`, which says in which pieces of the
-    /// input it came to something else (`differing`), is appended to how it ended.
-    pub fn compare(&self, alloc: Global, case: &Case<'_>, otherwise: &str, wrong: &mut Told) {
-        self.end.compare(alloc, case, otherwise, wrong);
+    /// if the case has a value under `writes`, the sizes of its writes with this one. `differs` is the way of cutting the input in which
+    /// it came to something else; its words are appended to how it ended.
+    pub fn compare(
+        &self,
+        alloc: Global,
+        case: &Case<'_>,
+        differs: Option<Recut>,
+        wrong: &mut Told,
+    ) {
+        self.end.compare(alloc, case, differs, wrong);
         case.tell("output", self.output.bytes.as_slice(), wrong);
         case.tell("sent", self.link.bytes.as_slice(), wrong);
         if !case.is("writes", "") {
@@ -84,12 +109,8 @@ impl End {
         End {
             text: Told::new(alloc),
             bytes: None,
+            is_done: false,
         }
-    }
-
-    /// Whether the run went well; `false` before its end is stored, and where memory ran out for the word `done`.
-    pub fn is_done(&self) -> bool {
-        self.text.as_bytes().starts_with(b"done")
     }
 
     // Whether both runs ended in the same way; `false` if memory ran out for the text of `self`.
@@ -99,15 +120,17 @@ impl End {
             && self.bytes == other.bytes
     }
 
-    // Compares the text, with ` byte ` and `bytes` after it unless they are `None`, and `otherwise` at the end, with the case's
-    // `end`.
-    fn compare(&self, alloc: Global, case: &Case<'_>, otherwise: &str, wrong: &mut Told) {
+    // Compares the text, with ` byte ` and `bytes` after it unless they are `None`, and the words of `differs` at the end, with the
+    // case's `end`.
+    fn compare(&self, alloc: Global, case: &Case<'_>, differs: Option<Recut>, wrong: &mut Told) {
         let mut told = Told::new(alloc);
         told.append(&self.text);
         if let Some(bytes) = self.bytes {
             told.titled(" byte ", &bytes);
         }
-        told.text(otherwise);
+        if let Some(way) = differs {
+            told.text(way.words());
+        }
         case.tell_told("end", &told, wrong);
     }
 
@@ -121,7 +144,10 @@ impl End {
     pub fn set_served(&mut self, end: Result<Served, ServeFault>) {
         match end {
             Err(ServeFault::Write { replies, bytes }) => self.set_write_failed(replies, bytes),
-            Ok(Served { replies }) => self.text.titled("done ", &replies),
+            Ok(Served { replies }) => {
+                self.is_done = true;
+                self.text.titled("done ", &replies)
+            }
             Err(ServeFault::Read { replies }) => self.text.titled("fault 42 behind ", &replies),
             Err(ServeFault::TooManyReads { replies }) => {
                 self.text.titled("fault 44 behind ", &replies)
@@ -133,7 +159,10 @@ impl End {
     /// called once.
     pub fn set_run(&mut self, end: Result<(), RunFault>) {
         match end {
-            Ok(()) => self.text.text("done"),
+            Ok(()) => {
+                self.is_done = true;
+                self.text.text("done")
+            }
             Err(RunFault::Write { replies, bytes }) => self.set_write_failed(replies, bytes),
             Err(fault) => self.text.display(&fault),
         }

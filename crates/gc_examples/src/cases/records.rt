@@ -2,8 +2,6 @@
 //! ended. They are of the second cycle, of place 3 and of the first attempt, where the case doesn't say `cycle`, `place` or
 //! `attempt`.
 
-ghost use Rattle.std.specs.Prelude.{◌≤◌, length};
-
 use crate::cases::setup::size;
 use gc_cases::{Case, Player, Told, bytes_of};
 use gc_catalogue::{Answer, Asked, Asking, Call, Reading};
@@ -48,11 +46,10 @@ fn form_of(word: &str) -> Option<Form> {
 }
 
 // Appends the record of a case to `written`; for a case without a command, the head that is written before all records. If memory
-// runs out for the name or the reply, `written` notes that it lacks a part. If it runs out for what is appended, `written` lacks
-// the end of the record or head, and doesn't note it.
+// runs out for the name or the reply, `written` notes that it lacks a part.
 fn write_case(alloc: Global, case: &Case<'_>, form: Form, written: &mut Told) {
     if case.is("command", "") {
-        let _ = write_head(&mut ToWriter::new(written.writer()), form);
+        let _ = write_head(&mut ToWriter::new(written), form);
         return;
     }
     match bytes_of(alloc, case.value("name")) {
@@ -62,63 +59,54 @@ fn write_case(alloc: Global, case: &Case<'_>, form: Form, written: &mut Told) {
 }
 
 // Appends the record of a case for a target of this name to `written`. If memory runs out for the reply, `written` notes that it
-// lacks a part. Where it runs out for the command or the record, `command_of` and `put_record` say what comes instead.
+// lacks a part. Where it runs out for the command, `command_of` says what comes instead.
 fn write_with_name(alloc: Global, case: &Case<'_>, form: Form, name: &[u8], written: &mut Told) {
     let command = command_of(alloc, case.value("command").as_bytes());
     match bytes_of(alloc, case.value("reply")) {
-        Ok(reply) => write_with_reply(
-            case,
-            form,
-            name,
-            &command,
-            reply.as_slice(),
-            written.writer(),
-        ),
+        Ok(reply) => {
+            let spelled = Spelled {
+                name,
+                reply: reply.as_slice(),
+            };
+            write_with_reply(case, form, &command, spelled, written)
+        }
         Err(_) => written.lack(),
     }
 }
 
-// Writes the record of a command with this reply, or with the ending that the case has under `ending`, for a target of this name, of which
-// the first 64 bytes are used.
+// The bytes that a case spells for a record: the target's name, and the reply.
+#[derive(Clone, Copy)]
+struct Spelled<'a> {
+    name: &'a [u8],
+    reply: &'a [u8],
+}
+
+// Appends the record of a command that ended with this reply, or as the case has it under `ending`, for a target of this name, of
+// which the first 64 bytes are used.
 fn write_with_reply(
     case: &Case<'_>,
     form: Form,
-    name: &[u8],
     command: &Wish,
-    reply: &[u8],
-    written: &mut Vec<u8>,
+    spelled: Spelled<'_>,
+    written: &mut Told,
 ) {
+    let Spelled { name, reply } = spelled;
     let name = name.get(..64).unwrap_or(name);
     let line = line_of(reply);
     let reading = reading_of(&command.call, &line);
     let zeroed = reading_as_zero(&command.call, &line);
     let ending = ending_of(case.value("ending"), &reading, &zeroed, &line);
-    // Always so: the contract of `put_record` asks for it.
+    // Always so: the contract of `write_record` asks for it.
     if name.len() <= 64 {
-        put_record(form, &when_of(case), name, command, ending, written);
+        let _ = write_record(
+            &mut ToWriter::new(written),
+            form,
+            &when_of(case),
+            name,
+            command,
+            ending,
+        );
     }
-}
-
-// Writes a record. A write that fails is ignored: then the end of the record, or all of it, is missing, and no case expects so
-// few bytes.
-fn put_record(
-    form: Form,
-    when: &When,
-    name: &[u8],
-    command: &Wish,
-    ending: Ending<'_>,
-    written: &mut Vec<u8>,
-)
-    requires { length name.now ≤ 64 }
-{
-    let _ = write_record(
-        &mut ToWriter::new(written),
-        form,
-        when,
-        name,
-        command,
-        ending,
-    );
 }
 
 // The moments of a record, in milliseconds since 1970: when its run began, when its request was sent (none if the case's `sent` is no

@@ -92,8 +92,8 @@ pub struct Setup {
     pub link_most: usize,
     /// Whether a drill prints its totals.
     pub totals: bool,
-    /// The width of a drill's window, as the case says it.
-    pub width: u64,
+    /// The width of a drill's window, as the case says it; `width_of` says which ones count.
+    pub width: u8,
 }
 
 // The engine that a word names; `Engine::None` if it names none. `totals` is a drill that prints its totals, which `take_numbers` sees.
@@ -125,6 +125,17 @@ pub(crate) fn small_number(case: &Case<'_>, key: &str, or: u32) -> u32 {
 // The value under a key as a size; `or` if it isn't one.
 pub(crate) fn size(case: &Case<'_>, key: &str, or: usize) -> usize {
     case.value(key).parse::<usize>().unwrap_or(or)
+}
+
+/// How many requests may be outstanding, by the width that a case says: 1 to 6 as they are, and 7 for any other.
+pub(crate) fn width_of(width: u8) -> u8
+    ensures least { 1 ≤ result }
+    ensures most { result ≤ WINDOW }
+{
+    match width {
+        1..=6 => width,
+        _ => 7,
+    }
 }
 
 // Appends the sizes, or moments, of a text: words with a space between two, of which those that are no number are skipped; or
@@ -203,19 +214,19 @@ impl Setup {
         push_bytes_of(&mut self.scene, case.value("scene"))
     }
 
-    // Takes from a case how many reads are allowed, how many calls of the input, the output and the client's link are answered, how many
-    // bytes a write takes, whether a drill prints its totals (the engine `totals`), and its width. Where the case has no number, it is that
-    // of `new`. How many calls of the instrument's ports are answered, only `fail_at` says.
+    // Takes from a case how many reads are allowed, how many calls of the input, the output and the client's link are answered,
+    // how many bytes a write takes, whether a drill prints its totals (the engine `totals`), and its width. A number that the
+    // case doesn't have stays. How many calls of the instrument's ports are answered, only `fail_at` says.
     fn take_numbers(&mut self, case: &Case<'_>) {
-        self.allowed = small_number(case, "allowed", u32::MAX);
-        self.answers.input = case.number("reads", u64::MAX);
-        self.answers.output = case.number("taken", u64::MAX);
-        self.answers.link_in = case.number("link-reads", u64::MAX);
-        self.answers.link_out = case.number("link-taken", u64::MAX);
-        self.most = size(case, "most", 5);
-        self.link_most = size(case, "link-most", 1000);
+        self.allowed = small_number(case, "allowed", self.allowed);
+        self.answers.input = case.number("reads", self.answers.input);
+        self.answers.output = case.number("taken", self.answers.output);
+        self.answers.link_in = case.number("link-reads", self.answers.link_in);
+        self.answers.link_out = case.number("link-taken", self.answers.link_out);
+        self.most = size(case, "most", self.most);
+        self.link_most = size(case, "link-most", self.link_most);
         self.totals = case.is("engine", "totals");
-        self.width = case.number("width", 7);
+        self.width = case.value("width").parse::<u8>().unwrap_or(self.width);
     }
 
     /// Has a port fail at its call k, counted from 0. The port `allowed` stands for the number of reads that are allowed. If the port
@@ -233,14 +244,6 @@ impl Setup {
         }
     }
 
-    // How many requests of a drill may be outstanding: 1 if the case says so, and 7 for any other width.
-    fn width(&self) -> u8
-        ensures least { 1 ≤ result }
-        ensures most { result ≤ WINDOW }
-    {
-        if self.width == 1 { 1 } else { 7 }
-    }
-
     /// Whether the input in single bytes comes to `whole`, which it came to in as few pieces as the reads allow; `false`, too, if
     /// memory runs out for the sizes.
     pub fn is_same_in_single_bytes(&self, alloc: Global, whole: &Came) -> bool {
@@ -249,9 +252,9 @@ impl Setup {
             && self.comes_to(alloc, ones.as_slice(), whole)
     }
 
-    /// Whether the input, cut in two, comes to `whole` at each place of the cut; `true` for an empty input.
+    /// Whether the input, cut in two, comes to `whole` at each place of the cut; `true` for an input of at most one byte.
     pub fn is_same_cut_in_two(&self, alloc: Global, whole: &Came) -> bool {
-        for place in 0..self.input.len() {
+        for place in 1..self.input.len() {
             if !self.comes_to(alloc, &[place], whole) {
                 return false;
             }
@@ -340,7 +343,14 @@ impl Setup {
         output: &mut Taking,
     ) -> Result<(), RunFault> {
         let instrument = read_scene(alloc, self.scene.as_slice())?;
-        run_drill_on(alloc, instrument, source, output, self.totals, self.width())
+        run_drill_on(
+            alloc,
+            instrument,
+            source,
+            output,
+            self.totals,
+            width_of(self.width),
+        )
     }
 
     // Drills the input on the instrument of the scene, which has rules. `Err`: the fault of the scene, or of the drill.
@@ -351,7 +361,14 @@ impl Setup {
         output: &mut Taking,
     ) -> Result<(), RunFault> {
         let instrument = read_still_scene(alloc, self.scene.as_slice())?;
-        run_drill_scene(alloc, instrument, source, output, self.totals, self.width())
+        run_drill_scene(
+            alloc,
+            instrument,
+            source,
+            output,
+            self.totals,
+            width_of(self.width),
+        )
     }
 
     // Asks the commands of the input over a link that gives what the case says, whatever is sent to it. `Err`: as `run_ask` says.

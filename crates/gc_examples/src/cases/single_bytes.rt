@@ -2,7 +2,7 @@
 
 use crate::cases::world::WorldRows;
 use gc_client::Slots;
-use gc_world::Event;
+use gc_world::{Direction, Event};
 use std::alloc::{AllocError, Global};
 
 /// The most bytes of a line in flight, with CR LF.
@@ -41,38 +41,46 @@ fn push_event(
     pieces: &mut Vec<Event>,
 ) -> Result<(), AllocError> {
     match event {
-        Event::UpDeliver => push_deliveries(alloc, world, Event::UpBytes(1), pieces),
-        Event::DownDeliver => push_deliveries(alloc, world, Event::DownBytes(1), pieces),
+        Event::UpDeliver => push_deliveries(alloc, world, Direction::Up, pieces),
+        Event::DownDeliver => push_deliveries(alloc, world, Direction::Down, pieces),
         _ => Ok(pieces.push(event)?),
     }
 }
 
-// Appends `byte`, the delivery of one byte in a direction: once, and again until no line is half delivered in this direction, at most
+// Appends the delivery of one byte in a direction: once, and again until no line is half delivered in this direction, at most
 // `MOST_BYTES` times in all. `Err`: as `push_all`.
 fn push_deliveries(
     alloc: Global,
     world: &WorldRows,
-    byte: Event,
+    direction: Direction,
     pieces: &mut Vec<Event>,
 ) -> Result<(), AllocError> {
     for _ in 0..MOST_BYTES {
-        pieces.push(byte)?;
-        if is_at_start(alloc, world, pieces.as_slice(), byte)? {
+        pieces.push(byte_in(direction))?;
+        if is_at_start(alloc, world, pieces.as_slice(), direction)? {
             break;
         }
     }
     Ok(())
 }
 
-// Whether after these events the direction of `byte`, the delivery of one byte, is at the start of a line. `Err`: memory ran out.
+// The delivery of one byte in a direction.
+fn byte_in(direction: Direction) -> Event {
+    match direction {
+        Direction::Up => Event::UpBytes(1),
+        Direction::Down => Event::DownBytes(1),
+    }
+}
+
+// Whether after these events a direction is at the start of a line. `Err`: memory ran out.
 fn is_at_start(
     alloc: Global,
     world: &WorldRows,
     events: &[Event],
-    byte: Event,
+    direction: Direction,
 ) -> Result<bool, AllocError> {
     let (report, _) = world.play_events(alloc, Slots::new(), events)?;
-    Ok(if byte == Event::UpBytes(1) {
+    Ok(if direction == Direction::Up {
         report.up.at_start()
     } else {
         report.down.at_start()

@@ -1,4 +1,5 @@
-//! A sink that takes as much as a case says, and keeps what it took, and how many bytes came with each write.
+//! A sink that takes as much as a case says, and keeps what it took, and how many bytes came with each write, which `PieceSink`
+//! of gc_probes doesn't.
 
 ghost use Rattle.std.specs.Prelude.{None};
 

@@ -6,7 +6,7 @@ use crate::cases::setup::{size, small_number};
 use gc_cases::{Case, Player, Told, bytes_of};
 use gc_catalogue::Asked;
 use gc_engines::read_schedule;
-use gc_lines::{Sink, ToWriter};
+use gc_lines::ToWriter;
 use gc_links::place_of;
 use gc_texts::{
     Codes, Command, LogBytes, LogLine, LogMark, RunFault, Task, Tasks, line_at, read_commands,
@@ -231,9 +231,7 @@ fn append_name(alloc: Global, case: &Case<'_>, text: &[u8], name: &mut Told) {
 
 // Appends what the program prints of a faulty line of a station's text, as if it were the text's third line.
 fn append_trouble(line: &[u8], came: &mut Told) {
-    if trouble_of(line).tell(3, came.writer()).is_err() {
-        came.lack();
-    }
+    let _ = trouble_of(line).tell(3, came);
 }
 
 // Appends the place of a link that a word names, as `Debug` prints it, or `none` if it names none or isn't UTF-8.
@@ -261,23 +259,13 @@ fn append_log_line(line: &LogLine<'_>, came: &mut Told) {
     came.escaped(line.bytes.as_slice());
 }
 
-// Appends the line that a log has of this text, as `put_log` writes it; and `not written` if memory runs out for it.
+// Appends the line that a log has of the first 514 bytes of this text, as sent one second after the beginning of 1970.
 fn write_as_log_line(text: &[u8], came: &mut Told) {
-    if !put_log(text, came.writer()) {
-        came.text("not written");
-    }
-}
-
-// Writes the line that a log has of the first 514 bytes of this text, as sent one second after the beginning of 1970. Returns whether
-// all of it could be written.
-fn put_log(text: &[u8], written: &mut Vec<u8>) -> bool {
     let mut bytes = LogBytes::new();
     for byte in text {
         let _ = bytes.try_push(*byte);
     }
-    let mut sink = ToWriter::new(written);
-    let _ = write_log_line(&mut sink, 1000, LogMark::Went, &bytes);
-    !sink.has_failed()
+    let _ = write_log_line(&mut ToWriter::new(came), 1000, LogMark::Went, &bytes);
 }
 
 // Appends the fault that the case names under `text`, as `append_fault` does, or `no such fault`.
@@ -292,9 +280,7 @@ fn append_named_fault(case: &Case<'_>, came: &mut Told) {
 fn append_fault(fault: RunFault, came: &mut Told) {
     came.counted(&fault.number(), "\n");
     came.counted(&fault, "\n");
-    if fault.tell(came.writer()).is_err() {
-        came.lack();
-    }
+    let _ = fault.tell(came);
 }
 
 // The fault that a case names under `text`, with the numbers under `replies` and `bytes`, or under `line`; each is 0 if the case has none.

@@ -1,9 +1,7 @@
 //! Rows of the world: events as a schedule has them, and what they lead to on the simulator. What a row with an arrow comes to is
 //! appended to `came`.
 
-ghost use Rattle.std.specs.Prelude.{◌≤◌};
-ghost use Rattle.gc_client.specs.declared.window.TheConstants.{WINDOW};
-
+use crate::cases::setup::width_of;
 use crate::cases::single_bytes::in_single_bytes;
 use gc_cases::{Case, Player, Rows, Told, number_or, play_rows};
 use gc_catalogue::Call;
@@ -19,7 +17,7 @@ use std::{fs, io};
 pub struct WorldRows {
     // The events, as the text of a schedule.
     text: Told,
-    // How many requests may be outstanding, as the case says it. The method `width` takes 7 for what isn't 1 to 6.
+    // The width of the window, as the case says it. `width_of` says which ones count.
     width: u8,
     // The precision of the simulator, in digits after the decimal point, as the case says it. `instrument` says which ones count.
     precision: i16,
@@ -50,17 +48,6 @@ impl WorldRows {
         instrument
     }
 
-    // How many requests may be outstanding: 1 to 6 if the case says so, otherwise 7.
-    fn width(&self) -> u8
-        ensures least { 1 ≤ result }
-        ensures most { result ≤ WINDOW }
-    {
-        match self.width {
-            1..=6 => self.width,
-            _ => 7,
-        }
-    }
-
     /// The report and the client to which these events lead over this window, with the case's width and precision. `Err`: memory ran out.
     pub fn play_events<W: Window<Asked = Call>>(
         &self,
@@ -68,7 +55,13 @@ impl WorldRows {
         window: W,
         events: &[Event],
     ) -> Result<(Report, Client<W>), AllocError> {
-        play_width(alloc, self.instrument(), window, self.width(), events)
+        play_width(
+            alloc,
+            self.instrument(),
+            window,
+            width_of(self.width),
+            events,
+        )
     }
 
     // Appends what events lead to over this window. If memory runs out, `came` notes that it lacks a part.
@@ -85,76 +78,35 @@ impl WorldRows {
         }
     }
 
-    // Appends what events lead to over places, as `append_report` has it; and what they lead to over a ring, and with each delivery in
-    // single bytes, where that differs.
-    fn append_end(&self, alloc: Global, events: &[Event], came: &mut Told) {
-        let mut told = Told::new(alloc);
-        self.append_over(alloc, Slots::new(), events, &mut told);
-        came.append(&told);
-        self.append_ring_difference(alloc, events, &told, came);
-        self.append_pieces_difference(alloc, events, &told, came);
-    }
-
-    // Appends what events lead to over a ring, if that isn't `told`, what they lead to over places. If memory runs out, `came` notes that
-    // it lacks a part.
-    fn append_ring_difference(
-        &self,
-        alloc: Global,
-        events: &[Event],
-        told: &Told,
-        came: &mut Told,
-    ) {
+    // Appends what events lead to over a ring. If memory runs out, `came` notes that it lacks a part.
+    fn append_over_ring(&self, alloc: Global, events: &[Event], came: &mut Told) {
         match Ring::new(alloc) {
-            Ok(ring) => self.append_difference(
-                alloc,
-                ring,
-                events,
-                told,
-                ", and over a ring ",
-                came,
-            ),
+            Ok(ring) => self.append_over(alloc, ring, events, came),
             Err(_) => came.lack(),
         }
     }
 
-    // Appends what events lead to with each delivery in single bytes, if that isn't `told`, what they lead to with deliveries of lines.
-    // If memory runs out, `came` notes that it lacks a part.
-    fn append_pieces_difference(
-        &self,
-        alloc: Global,
-        events: &[Event],
-        told: &Told,
-        came: &mut Told,
-    ) {
+    // Appends what events lead to over places, with each delivery in single bytes. If memory runs out, `came` notes that it lacks
+    // a part.
+    fn append_in_single_bytes(&self, alloc: Global, events: &[Event], came: &mut Told) {
         match in_single_bytes(alloc, self, events) {
-            Ok(pieces) => self.append_difference(
-                alloc,
-                Slots::new(),
-                pieces.as_slice(),
-                told,
-                ", and in single bytes ",
-                came,
-            ),
+            Ok(pieces) => self.append_over(alloc, Slots::new(), pieces.as_slice(), came),
             Err(_) => came.lack(),
         }
     }
 
-    // Appends the words `way` and what these events lead to over this window, if that isn't `told`, or memory ran out for it.
-    fn append_difference<W: Window<Asked = Call>>(
-        &self,
-        alloc: Global,
-        window: W,
-        events: &[Event],
-        told: &Told,
-        way: &str,
-        came: &mut Told,
-    ) {
-        let mut other = Told::new(alloc);
-        self.append_over(alloc, window, events, &mut other);
-        if other.is_lacking() || other.as_bytes() != told.as_bytes() {
-            came.text(way);
-            came.append(&other);
-        }
+    // Appends what events lead to over places, as `append_report` has it; and what they lead to over a ring, and with each
+    // delivery in single bytes, where that differs.
+    fn append_end(&self, alloc: Global, events: &[Event], came: &mut Told) {
+        let mut places = Told::new(alloc);
+        self.append_over(alloc, Slots::new(), events, &mut places);
+        came.append(&places);
+        let mut ring = Told::new(alloc);
+        self.append_over_ring(alloc, events, &mut ring);
+        append_difference(&places, ", and over a ring ", &ring, came);
+        let mut pieces = Told::new(alloc);
+        self.append_in_single_bytes(alloc, events, &mut pieces);
+        append_difference(&places, ", and in single bytes ", &pieces, came);
     }
 
     // Plays events over places, and appends the part of their report that `word` asks for. If memory runs out, `came` notes that it lacks
@@ -178,6 +130,14 @@ impl WorldRows {
             Ok(events) => self.append_played_part(alloc, word, events.as_slice(), came),
             Err(_) => came.text("no schedule"),
         }
+    }
+}
+
+// Appends the words `way` and the text `other`, if it isn't `told`, or memory ran out for it.
+fn append_difference(told: &Told, way: &str, other: &Told, came: &mut Told) {
+    if other.is_lacking() || other.as_bytes() != told.as_bytes() {
+        came.text(way);
+        came.append(other);
     }
 }
 

@@ -29,7 +29,7 @@ impl Instrument {
     }
 
     // As `execute`, but the answer is written into `answer`, which has to be `Answer::Nothing` before. It returns the return code, as the
-    // methods below do.
+    // methods below do, one for each call that sets values, has several outcomes or has a large answer.
     #[inline(always)]
     #[tactic(auto, unfolding(crate::specs::Execution::exec))]
     pub(super) fn carry_out(&mut self, call: &Call, answer: &mut Answer) -> u16

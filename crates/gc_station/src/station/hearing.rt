@@ -34,7 +34,7 @@ impl Station {
             return Err(failed);
         }
         let of_table = ends_with_table(self.settled.as_slice());
-        self.progress.catch_up(of_table, self.client.waiting());
+        self.progress.note_behind(of_table, self.client.waiting());
         self.progress.note_line(is_reply(hearing));
         Ok(())
     }

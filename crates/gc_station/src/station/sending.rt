@@ -151,11 +151,10 @@ impl Station {
         let requests = self.commands_before(plan, commands);
         let mark = self.mark(plan, commands);
         let task = &commands[self.place(commands)];
-        let next_is_chained = self.is_chained_after(1, commands);
-        let others = self.others_after(1, commands);
+        let next = self.upcoming_after(1, commands);
         let command = command_at(task, mark.sent);
         let put = self.ask(link, &command, task.deadline, Some(mark));
-        self.progress.note_sent(next_is_chained, others);
+        self.progress.note_sent(next);
         self.note_cut(put, requests);
     }
 

@@ -5,12 +5,11 @@ ghost use Rattle.gc_lines.specs.Ports.{FailsWith};
 ghost use Rattle.gc_links.specs.Acts.{Told};
 ghost use Rattle.gc_station.specs.Records.{WritesMore};
 ghost use Rattle.gc_station.specs.Model.{unsent_record};
-ghost use Rattle.gc_station.specs.Stations.{DoesAlone, Moves, seen, station_skipping};
+ghost use Rattle.gc_station.specs.Stations.{DoesAlone, Moves, seen, station_advancing, station_skipping};
 ghost use Rattle.gc_station.specs.declared.progress.Action.TheVariants.{Skip, Pass};
 
 use super::Station;
 use crate::book::Book;
-use crate::cause::Cause;
 use crate::plan::Plan;
 use crate::writing::is_listed_after;
 use gc_lines::PortFailed;
@@ -18,8 +17,8 @@ use gc_links::{Link, Moment};
 use gc_texts::{Ending, Stamp, Task};
 
 impl Station {
-    // Reads the clock, and records the next command without sending it. A clock that can't be read is noted, as by
-    // `read_clock`, and nothing is written. `Err`: the book failed at the record.
+    // Reads the clock (`read_moment`), records the next command without sending it, and notes that it had its turn. If the clock
+    // can't be read, nothing is written. `Err`: the book failed at the record.
     pub(super) fn skip<L: Link, B: Book>(
         &mut self,
         link: &mut L,
@@ -35,43 +34,39 @@ impl Station {
         ensures fails { FailsWith result (B.failed book.old) (B.failed book.new) }
         ensures form { B.text book.new ≡ B.text book.old }
     {
-        match link.now() {
-            Ok(moment) => {
+        match self.read_moment(link) {
+            Some(moment) => {
                 if let Err(failed) = self.write_unsent(book, plan, commands, moment) {
                     return Err(failed);
                 }
-                let waiting = self.commands_waiting();
-                let next_is_chained = self.is_chained_after(1, commands);
-                let others = self.others_after(1, commands);
-                self.progress.skip(next_is_chained, others, moment);
-                self.progress.note_early(plan, waiting);
-                self.expire(moment.elapsed);
+                self.advance_unsent(plan, commands, 1, moment);
                 Ok(())
             }
-            Err(_) => {
-                self.progress.fail(Cause::Clock);
-                Ok(())
-            }
+            None => Ok(()),
         }
     }
 
-    // Reads the clock, and leaves out the further attempt that the next command begins, and those of its chain after it. A clock
-    // that can't be read is noted, as by `read_clock`, and nothing is left out.
+    // Reads the clock (`read_moment`), and leaves out the further attempt that the next command begins, and those of its chain
+    // after it. If the clock can't be read, nothing is left out.
     pub(super) fn leave_out<L: Link>(&mut self, link: &mut L, plan: &Plan, commands: &[Task])
         ensures { DoesAlone plan.now commands.now Pass (L.acts link.old) (L.acts link.new) self.old self.new }
     {
-        match link.now() {
-            Ok(moment) => {
-                let waiting = self.commands_waiting();
-                let count = self.progress.next_others;
-                let next_is_chained = self.is_chained_after(count, commands);
-                let others = self.others_after(count, commands);
-                self.progress.leave_out(next_is_chained, others, moment);
-                self.progress.note_early(plan, waiting);
-                self.expire(moment.elapsed);
-            }
-            Err(_) => self.progress.fail(Cause::Clock),
+        if let Some(moment) = self.read_moment(link) {
+            let count = self.progress.next_others;
+            self.advance_unsent(plan, commands, count, moment);
         }
+    }
+
+    // Notes `moment`, that the next `count` commands of the cycle had their turn by then without being sent, and whether the
+    // cycle was done early.
+    fn advance_unsent(&mut self, plan: &Plan, commands: &[Task], count: usize, moment: Moment)
+        ensures { self.new ≡ station_advancing plan.now commands.now count moment self.old }
+    {
+        let waiting = self.commands_waiting();
+        let next = self.upcoming_after(count, commands);
+        self.progress.note_moment(moment);
+        self.progress.advance(count, next, false);
+        self.progress.note_early(plan, waiting);
     }
 
     // Writes the record of the next command, which isn't sent: as missed if its cycle is missed, otherwise as skipped. Notes in

@@ -54,14 +54,21 @@ loop-place-preserved g c =
       course = (
         so.0 ++ one.0,
         Consumes-trans _ _ _ so.0 one.0 so.1 one.1,
-        omega (arith, so.2, one.2, length-append so.0 one.0, c.loop-place.invariant.client.grows, c.in_default.ensures.grows),
+        omega (
+          arith,
+          so.2,
+          one.2,
+          length-append so.0 one.0,
+          c.loop-place.invariant.client.grows,
+          c.in_default.ensures.spends.grows,
+        ),
         rw (at_place commands place command c.loop-place-test.true c.index-commands-place.is).0 next,
       );
-      reads = omega (arith, c.loop-place.invariant.reads, c.in_default.ensures.reads);
+      reads = omega (arith, c.loop-place.invariant.reads, c.in_default.ensures.spends.reads);
       client = sound.0;
       instrument = sound.1;
       sink = c.in_default.ensures.ends.1 ∙ c.loop-place.invariant.sink;
-      held = c.in_default.ensures.held ∙ c.loop-place.invariant.held;
+      held = c.in_default.ensures.spends.held ∙ c.loop-place.invariant.held;
     }
 
 pub returns-in-Err-clause-asks : goal.returns-in-Err-clause-asks
@@ -80,7 +87,14 @@ returns-in-Err-clause-asks g c =
     record {
       given = so.0 ++ one.0;
       gave = Consumes-trans _ _ _ so.0 one.0 so.1 one.1;
-      few = omega (arith, so.2, one.2, length-append so.0 one.0, c.loop-place.invariant.client.grows, c.in-Err.ensures.grows);
+      few = omega (
+        arith,
+        so.2,
+        one.2,
+        length-append so.0 one.0,
+        c.loop-place.invariant.client.grows,
+        c.in-Err.ensures.spends.grows,
+      );
       asks = run_fault g.L.Link.is_remote commands place _ (record {
         done = take place commands;
         command = command;
@@ -93,9 +107,12 @@ returns-in-Err-clause-asks g c =
       ends = ends_as (SeenStep before new) (BothEnd first.client new.client first.instrument new.instrument)
           (λ r. both_end first before new r c.loop-place.invariant.client c.loop-place.invariant.instrument)
           first.sink.failed before.sink.failed new.sink.failed c.loop-place.invariant.sink (Err c.in-Err.fault) c.in-Err.ensures.ends;
-      bound = omega (arith, c.loop-place.invariant.reads, c.in-Err.ensures.reads);
-      too_many = λ is. omega (arith, c.loop-place.invariant.reads, c.in-Err.ensures.reads, c.in-Err.ensures.too_many is);
+      bound = omega (arith, c.loop-place.invariant.reads, c.in-Err.ensures.spends.reads);
+      too_many = λ is. omega (arith, c.loop-place.invariant.reads, c.in-Err.ensures.spends.reads, c.in-Err.ensures.too_many is);
     }
+
+pub returns-in-Err-clause-held : goal.returns-in-Err-clause-held
+returns-in-Err-clause-held g c = c.in-Err.ensures.spends.held ∙ c.loop-place.invariant.held
 
 -- a good end is no fault
 went_well : (e : RunFault) → ◌≡◌ {A = LinkEnd} (Ok tt) (Err e) → ⊥

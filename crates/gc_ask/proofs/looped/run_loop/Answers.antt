@@ -1,42 +1,21 @@
-use Rattle.std.proofs.Common.{◌≡◌, ap, rules}
-use Rattle.gc_lines.specs.Answering.{Ports, ports_of}
-use Rattle.gc_ask.specs.Asking.{taken_by}
-use Rattle.gc_ask.specs.Looping.{LoopRuns}
+use Rattle.std.proofs.Common.{rules}
+use Rattle.gc_ask.specs.Looping.{LoopsWithin, SeenAtBoth, seen_of}
 use Rattle.gc_ask.proofs.Runs.{loop_runs}
 use Rattle.gc_ask.proofs.looped.run_loop.Goals as goal
 use Rattle.gc_texts.specs.WholeTexts.{input_of}
 
-pub returns-clause-loops : goal.returns-clause-loops
-returns-clause-loops g c =
+pub returns : goal.returns
+returns g c =
     let link = c.run_over.new.link in
-    let loops : LoopRuns (input_of g.S.Source c.args.commands.now) (input_of g.S.Source c.run_over.new.commands)
-    (record {
-      client = ports_of g.A.Source c.args.client_in.now g.B.Sink c.args.client_out.now;
-      instrument = ports_of g.C.Source c.args.instrument_in.now g.D.Sink c.args.instrument_out.now;
-      sink = taken_by g.K.Sink c.args.sink.now;
-    })
-    (record {
-      client = ports_of g.A.Source link.client_in.now g.B.Sink link.client_out.now;
-      instrument = ports_of g.C.Source link.instrument_in.now g.D.Sink link.instrument_out.now;
-      sink = taken_by g.K.Sink c.run_over.new.sink;
-    })
-    c.run_over.result = loop_runs _ _ _ _ _ _ _ c.run_over.ensures.asks in
-    search rules
-
-pub returns-clause-memory : goal.returns-clause-memory
-returns-clause-memory g c is =
-    let link = c.run_over.new.link in
-    let same = c.run_over.ensures.memory is in
-    let all : (g.A.Source.remaining link.client_in.now ≡ g.A.Source.remaining c.args.client_in.now) × (g.A.Source.reads link.client_in.now ≡ g.A.Source.reads c.args.client_in.now)
-    × (g.C.Source.remaining link.instrument_in.now ≡ g.C.Source.remaining c.args.instrument_in.now) × (g.C.Source.reads link.instrument_in.now ≡ g.C.Source.reads c.args.instrument_in.now)
-    × (g.B.Sink.taken link.client_out.now ≡ g.B.Sink.taken c.args.client_out.now) × (g.D.Sink.taken link.instrument_out.now ≡ g.D.Sink.taken c.args.instrument_out.now)
-    × (g.K.Sink.taken c.run_over.new.sink ≡ g.K.Sink.taken c.args.sink.now) = (
-      ap (λ (p : Ports). p.remaining) same.0,
-      ap (λ (p : Ports). p.reads) same.0,
-      ap (λ (p : Ports). p.remaining) same.1,
-      ap (λ (p : Ports). p.reads) same.1,
-      ap (λ (p : Ports). p.taken) same.0,
-      ap (λ (p : Ports). p.taken) same.1,
-      same.2,
-    ) in
+    let old : SeenAtBoth = seen_of g.A.Source c.args.client_in.now g.B.Sink c.args.client_out.now
+    g.C.Source c.args.instrument_in.now g.D.Sink c.args.instrument_out.now g.K.Sink c.args.sink.now in
+    let new : SeenAtBoth = seen_of g.A.Source link.client_in.now g.B.Sink link.client_out.now
+    g.C.Source link.instrument_in.now g.D.Sink link.instrument_out.now g.K.Sink c.run_over.new.sink in
+    let within : LoopsWithin (input_of g.S.Source c.args.commands.now) (input_of g.S.Source c.run_over.new.commands)
+    c.args.max_reads old new c.run_over.result = record {
+      loops = loop_runs _ _ _ _ _ _ _ c.run_over.ensures.asks;
+      bound = c.run_over.ensures.bound;
+      too_many = c.run_over.ensures.too_many;
+      memory = c.run_over.ensures.memory;
+    } in
     search rules

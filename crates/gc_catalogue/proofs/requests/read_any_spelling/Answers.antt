@@ -1,7 +1,9 @@
-use Rattle.std.proofs.Common.{◌≡◌, true, rules}
+use Rattle.std.proofs.Common.{◌≡◌, true, [], append-nil, subst, rules}
+use Rattle.gc_values.specs.Lists.{IsListFault}
 use Rattle.gc_catalogue.proofs.requests.read_any_spelling.Goals as goal
 
 pub returns-in-Err-clause-fault : goal.returns-in-Err-clause-fault
 returns-in-Err-clause-fault c =
     let known : c.read_row.result ≡ true = search rules in
-    (c.read_row.new.call, c.read_row.ensures.found known, c.new-listed.ensures.fails _ _ (c.read_row.ensures.fails known _ c.in-Err.ensures.fails))
+    let fails = c.new-listed.ensures.fails _ _ ((c.read_row.ensures.row known).1 [] _ c.in-Err.ensures.fails) in
+    (c.read_row.new.call, c.read_row.ensures.found known, subst (λ ks. IsListFault ks c.args.params.now c.in-Err.fault) (append-nil _) fails)

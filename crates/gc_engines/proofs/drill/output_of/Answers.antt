@@ -5,4 +5,4 @@ use Rattle.gc_engines.proofs.drill.output_of.Goals as goal
 pub returns : goal.returns
 returns c =
     subst (λ (t : List ℕ). IfOk c.text_of.result (λ text. text.items ≡ t))
-    (drill_shown c.args.instrument c.args.width c.args.events.now c.args.totals c.in_ok-report.report c.in_ok-report.ensures.report) c.text_of.ensures
+    (drill_shown c.args.instrument c.args.width c.args.events.now c.args.totals c.in_ok-report.report c.in_ok-report.ensures.played.report) c.text_of.ensures

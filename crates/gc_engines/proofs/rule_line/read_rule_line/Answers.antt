@@ -3,9 +3,7 @@ use Rattle.gc_engines.specs.declared.rule_line.RuleLine.TheVariants as says
 use Rattle.gc_engines.proofs.rule_line.read_rule_line.Goals as goal
 
 pub returns : goal.returns
-returns c (says.Serial n) is = c.in_default.ensures n is
-returns c (says.Name bytes) is = c.in_default-read_name.ensures bytes is
-returns c (says.Target target) is = c.in_default-read_target.ensures target is
+returns c (says.Plain plain) is = c.in_default.ensures plain is
 returns c (says.Fault fault) is = c.in_default-read_fault.ensures fault is
 returns c (says.Answer answer) is = c.in_default-read_answer.ensures answer is
 returns c (says.Blocked blocked) is = c.in_default-read_blocked.ensures blocked is

@@ -1,17 +1,20 @@
 use Rattle.std.proofs.Common.{rules, ◌≤◌, ◌+◌, length, take, drop, arith, ◌∙◌, ap, sym, refl, length-drop}
+use Rattle.std.proofs.lemmas.Bool.{true≢false}
+use Rattle.std.proofs.lemmas.Bool.Decides.{Decides-eqb}
+use Rattle.std.proofs.lemmas.Slice.Eq.{slice_eq-Decides}
 use Rattle.gc_files.proofs.Looking.{looked_on, looked_not, looked_all, size_of}
 use Rattle.gc_files.specs.Files.{content}
 use Rattle.gc_files.proofs.opening.has_sign.Goals as goal
 
-pub returns-then-not-is_front : goal.returns-then-not-is_front
-returns-then-not-is_front g c known is =
+pub returns-then-not-starts_with : goal.returns-then-not-starts_with
+returns-then-not-starts_with g c known is =
     let size = size_of c.min-size.result c.loop-at.buf c.read_all.new.buf (search rules) c.read_all.auto.buf in
     let few : c.min-size.result ≤ length c.behind-rest.result.now = search rules in
     let room : c.loop-at.at + c.min-size.result ≤ c.args.len = search rules in
     sym (c.loop-at.invariant.same known is
     ∙ looked_not c.loop-at.at (length c.read_all.new.buf) c.args.sign.now (content known) c.behind-rest.result.now c.behind-rest.ensures
     (omega (arith, size, few)) (omega (arith, size, room, c.requires known is))
-    (λ same. c.if-not-is_front.ensures.differ refl (same ∙ sym (c.in-Ok.ensures known is))))
+    (λ same. true≢false (sym ((slice_eq-Decides Decides-eqb _ _ _ c.if-not-starts_with.ensures.value).1 (c.in-Ok.ensures known is ∙ sym same)))))
 
 pub loop-at-preserved : goal.loop-at-preserved
 loop-at-preserved g c =
@@ -23,7 +26,7 @@ loop-at-preserved g c =
       len = room;
       same = λ known is. c.loop-at.invariant.same known is
           ∙ looked_on c.loop-at.at c.min-size.result c.args.sign.now (content known) c.behind-rest.result.now c.behind-rest.ensures
-          (ap (λ n. take n c.behind-rest.result.now) (sym size) ∙ c.if-not-is_front.ensures.same refl ∙ c.in-Ok.ensures known is ∙ ap (λ n. take n (drop c.loop-at.at (content known))) size);
+          (ap (λ n. take n c.behind-rest.result.now) (sym size) ∙ sym ((slice_eq-Decides Decides-eqb _ _ _ c.if-not-starts_with.ensures.value).0 refl) ∙ c.in-Ok.ensures known is ∙ ap (λ n. take n (drop c.loop-at.at (content known))) size);
     }
 
 pub returns-else-at-len : goal.returns-else-at-len

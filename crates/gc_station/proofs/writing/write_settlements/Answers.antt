@@ -1,11 +1,11 @@
-use Rattle.std.proofs.Common.{[], ◌∷◌, ◌+◌, ◌++◌, take, drop, map, refl, ap, sym, ◌∙◌, append-nil, drop-drop}
+use Rattle.std.proofs.Common.{[], ◌∷◌, ◌+◌, ◌++◌, take, drop, map, refl, ap, sym, ◌∙◌, append_assoc, append-nil, drop-drop}
 use Rattle.gc_lines.proofs.Known.{Appends-is}
 use Rattle.gc_client.specs.Settlements.{settlement_seen}
 use Rattle.gc_station.specs.Attempts.{listed_by}
 use Rattle.gc_station.specs.Marks.{records_of, last_well, fresh_after}
 use Rattle.gc_station.specs.Records.{texts_of}
 use Rattle.gc_station.specs.Tallies.{tallied}
-use Rattle.gc_station.proofs.Records.{listed-none, listed_more, records-none, records_seen_more, records_seen_left, texts_more, part_behind, tallied_more, last_more, fresh_more}
+use Rattle.gc_station.proofs.Records.{listed-none, listed_more, records-none, records_seen_more, records_seen_left, part_behind, tallied_more, last_more, fresh_more}
 use Rattle.gc_station.proofs.writing.write_settlements.Goals as goal
 
 pub loop-settlement-init : goal.loop-settlement-init
@@ -51,7 +51,10 @@ loop-settlement-preserved g c =
           let here = ap (λ ms. records_of reads utc ms (settlement_seen s ∷ [])) (sym b.marks) ∙ c.take_mark-mark.ensures.records reads utc (settlement_seen s) in
           let more = records_seen_more reads utc marks ss i s c.take_mark-mark.result c.loop-settlement-test.true c.settlement-item.is here in
           let front = records_of reads utc marks (map settlement_seen (take i ss)) in
-          Appends-is start (g.B.Book.taken c.write_settlement.new.book) _ _ (sym (texts_more (g.B.Book.text c.args.book.now) before front _ _ more))
+          let one = records_of reads utc (c.take_mark-mark.result ∷ []) (settlement_seen s ∷ []) in
+          let text = g.B.Book.text c.args.book.now in
+          Appends-is start (g.B.Book.taken c.write_settlement.new.book) _ _
+          (ap (texts_of text) (append_assoc before front one) ∙ ap (λ rs. texts_of text (before ++ rs)) (sym more))
           ((rw b.form at c.in_default.ensures.wrote) reads are start (before ++ front) (b.wrote reads are start before so));
       tally = λ reads are.
           let here = ap (λ ms. records_of reads utc ms (settlement_seen s ∷ [])) (sym b.marks) ∙ c.take_mark-mark.ensures.records reads utc (settlement_seen s) in

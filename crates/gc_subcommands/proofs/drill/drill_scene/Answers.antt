@@ -1,17 +1,18 @@
 use Rattle.std.proofs.Common.{inl, inr}
 use Rattle.std.proofs.lemmas.Result.{IfOk-weaker}
+use Rattle.gc_subcommands.proofs.Played.{plays_at_0, reads_at_0}
 use Rattle.gc_subcommands.proofs.Started.{same_plain, never_ruled}
 use Rattle.gc_subcommands.proofs.drill.drill_scene.Goals as goal
 
 pub returns-in-Ok-Plain-clause-done : goal.returns-in-Ok-Plain-clause-done
 returns-in-Ok-Plain-clause-done g c =
     IfOk-weaker c.drill_within.result _ _
-    (λ status done zero. inl (
+    (λ status told zero. inl (
       c.in-Ok-Plain.instrument,
       (λ none. same_plain c.staged_of.result c.in-Ok-Plain.field-0 c.in-Ok-Plain.instrument _ c.in-Ok-Plain.is c.in-Ok-Plain.field-0-is
           (c.staged_of.ensures.simulator none)),
-      done zero,
-    )) c.drill_within.ensures.done
+      plays_at_0 _ _ _ _ _ _ _ told zero,
+    )) c.drill_within.ensures.told
 
 pub returns-in-Ok-Plain-clause-told : goal.returns-in-Ok-Plain-clause-told
 returns-in-Ok-Plain-clause-told g c =
@@ -24,14 +25,18 @@ returns-in-Ok-Plain-clause-told g c =
     )))
     c.drill_within.ensures.told
 
+pub returns-in-Ok-Plain-clause-whole : goal.returns-in-Ok-Plain-clause-whole
+returns-in-Ok-Plain-clause-whole g c =
+    IfOk-weaker c.drill_within.result _ _ (λ status told zero. reads_at_0 _ _ _ _ _ _ _ told zero) c.drill_within.ensures.told
+
 pub returns-in-Ok-Ruled-clause-done : goal.returns-in-Ok-Ruled-clause-done
 returns-in-Ok-Ruled-clause-done g c =
     IfOk-weaker c.drill_within-in-Ok-Ruled.result _ _
-    (λ status done zero. inr (
+    (λ status told zero. inr (
       (λ none. never_ruled c.staged_of.result c.in-Ok-Ruled.field-0 c.in-Ok-Ruled.instrument _ c.in-Ok-Ruled.is c.in-Ok-Ruled.field-0-is
           (c.staged_of.ensures.simulator none)),
-      (c.in-Ok-Ruled.instrument, done zero),
-    )) c.drill_within-in-Ok-Ruled.ensures.done
+      (c.in-Ok-Ruled.instrument, plays_at_0 _ _ _ _ _ _ _ told zero),
+    )) c.drill_within-in-Ok-Ruled.ensures.told
 
 pub returns-in-Ok-Ruled-clause-told : goal.returns-in-Ok-Ruled-clause-told
 returns-in-Ok-Ruled-clause-told g c =
@@ -42,3 +47,7 @@ returns-in-Ok-Ruled-clause-told g c =
       (c.in-Ok-Ruled.instrument, told),
     )))
     c.drill_within-in-Ok-Ruled.ensures.told
+
+pub returns-in-Ok-Ruled-clause-whole : goal.returns-in-Ok-Ruled-clause-whole
+returns-in-Ok-Ruled-clause-whole g c =
+    IfOk-weaker c.drill_within-in-Ok-Ruled.result _ _ (λ status told zero. reads_at_0 _ _ _ _ _ _ _ told zero) c.drill_within-in-Ok-Ruled.ensures.told

@@ -4,11 +4,10 @@ use Rattle.gc_texts.proofs.TextLines.{much_left}
 use Rattle.gc_texts.proofs.TaskReading.{ReadsTasks}
 use Rattle.gc_texts.proofs.tasks.read_task_lines.Given as goal
 
--- the lines so far gave these tasks, commands, names, places and mode
+-- the lines so far gave this, and the mode is the one after them
 abbrev pub invariant-loop-left : goal.invariant-loop-left
 invariant-loop-left l =
-    ReadsTasks l.text (opening l.fn.deadline l.fn.chained) (option_copied l.left) l.number
-    (record { setup = l.tasks.items; cycle = l.cycle.items; names = l.names.items; nears = l.nears.items; mode = l.mode })
+    ReadsTasks l.text (opening l.fn.deadline l.fn.chained) (option_copied l.left) l.number l.given l.mode
 
 -- each line that is read leaves less of the text
 abbrev pub decreases-loop-left : goal.decreases-loop-left

@@ -42,11 +42,11 @@ returns-else-zeros-from c =
     (c.in-Some.count - (length w + length f) - c.from-else-zeros-from.result) c.kept_digits-kept.result c.with_zeros.result
     (omega arith) c.kept_digits-kept.ensures c.with_zeros.ensures
 
-pub returns-then-length-le-SHORT : goal.returns-then-length-le-SHORT
-returns-then-length-le-SHORT c =
+pub returns-then-length-le-DIGITS_IN_64_BITS : goal.returns-then-length-le-DIGITS_IN_64_BITS
+returns-then-length-le-DIGITS_IN_64_BITS c =
     let w = c.args.whole.now in
     let f = c.args.fraction.now in
     let digits : AreDigits (w ++ f) = every_append IsDigit w f c.requires.whole c.requires.fraction in
     let size = length-append w f in
-    capped_short (w ++ f) (length f) c.args.up c.args.down CAP c.from.result digits (omega (arith, size)) (omega (arith, size, c.if-length-le-SHORT.true))
+    capped_short (w ++ f) (length f) c.args.up c.args.down CAP c.from.result digits (omega (arith, size)) (omega (arith, size, c.if-length-le-DIGITS_IN_64_BITS.true))
     (omega arith) (omega arith) (lit≤ tt) (omega (arith, c.from.ensures, c.short_number.ensures))

@@ -1,4 +1,4 @@
-use Rattle.std.proofs.Common.{◌+◌, length, take, refl, sym, subst, arith}
+use Rattle.std.proofs.Common.{◌+◌, length, take, refl, sym, ◌∙◌, subst, arith}
 use Rattle.std.proofs.lemmas.Bool.{false≢true}
 use Rattle.std.proofs.lemmas.Option.{slice_get_read}
 use Rattle.gc_catalogue.specs.declared.call.Call.{Call}
@@ -9,7 +9,7 @@ use Rattle.gc_world.specs.Stages.{seen, streams_at_start, AreStreamsOf}
 use Rattle.gc_world.specs.Streams.{Streams}
 use Rattle.gc_world.proofs.Faithfulness.{faithful, once, no_longer_than}
 use Rattle.gc_world.proofs.Flow.{flow_more}
-use Rattle.gc_world.proofs.Turns.{at_end, counts_at}
+use Rattle.gc_world.proofs.Turns.{at_end, stand_at_end, counts_at}
 use Rattle.gc_world.proofs.playing.play_width.Goals as goal
 
 pub loop-event-preserved : goal.loop-event-preserved
@@ -36,26 +36,23 @@ returns-in_err-happen-clause-spare g c =
     let is = slice_get_read c.args.events.now (length c.args.events.now) i event refl c.loop-event-test.true c.event-item.is in
     absurd (false≢true (c.in_err-happen.ensures.spare c.args.width v c.loop-event.invariant.shows (none i event is)))
 
-pub returns-clause-faithful : goal.returns-clause-faithful
-returns-clause-faithful g c =
+pub returns-clause-played : goal.returns-clause-played
+returns-clause-played g c =
     let s = seen c.loop-event.stage in
+    let width = c.args.width in
+    let opening = c.args.instrument in
     let events = c.args.events.now in
+    let i = c.loop-event.event-index in
     let r = c.ended.result.0 in
-    faithful c.args.width c.requires.most c.args.instrument events r s.up.queue s.down.queue s.client c.new-stage.ensures.fits
-    (at_end c.args.width c.args.instrument events s c.loop-event.event-index r c.loop-event-test.false c.loop-event.invariant.shows c.ended.ensures.report)
-
-pub returns-clause-once : goal.returns-clause-once
-returns-clause-once g c =
-    let s = seen c.loop-event.stage in
-    let events = c.args.events.now in
-    let r = c.ended.result.0 in
-    once c.args.width c.requires.most c.args.instrument events r s.up.queue s.down.queue s.client c.new-stage.ensures.fits
-    (at_end c.args.width c.args.instrument events s c.loop-event.event-index r c.loop-event-test.false c.loop-event.invariant.shows c.ended.ensures.report)
-
-pub returns-clause-few : goal.returns-clause-few
-returns-clause-few g c =
-    let s = seen c.loop-event.stage in
-    let events = c.args.events.now in
-    let r = c.ended.result.0 in
-    no_longer_than c.args.width c.requires.most c.args.instrument events r s.up.queue s.down.queue s.client
-    (at_end c.args.width c.args.instrument events s c.loop-event.event-index r c.loop-event-test.false c.loop-event.invariant.shows c.ended.ensures.report)
+    let shown = c.loop-event.invariant.shows in
+    let ends_so = at_end width opening events s i r c.loop-event-test.false shown c.ended.ensures.report in
+    let stand = stand_at_end width opening events s i r c.loop-event-test.false shown c.ended.ensures.report in
+    record {
+      report = ends_so.reports;
+      client = c.ended.ensures.client ∙ ends_so.client_is;
+      up = stand.0;
+      down = stand.1;
+      faithful = faithful width c.requires.most opening events r s.up.queue s.down.queue s.client c.new-stage.ensures.fits ends_so;
+      once = once width c.requires.most opening events r s.up.queue s.down.queue s.client c.new-stage.ensures.fits ends_so;
+      few = no_longer_than width c.requires.most opening events r s.up.queue s.down.queue s.client ends_so;
+    }

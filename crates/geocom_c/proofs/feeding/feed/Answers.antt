@@ -1,8 +1,8 @@
-use Rattle.std.proofs.Common.{◌≡◌, ◌∙◌, ◌++◌, ℕ, [], take, drop, length, arith, sym, ap, subst}
+use Rattle.std.proofs.Common.{◌≡◌, ◌∙◌, ◌++◌, ℕ, [], take, length, arith, sym, ap, subst}
 use Rattle.gc_lines.specs.Frames.{frame_of}
 use Rattle.gc_lines.specs.declared.frame.Frame.{Frame}
 use Rattle.geocom_c.specs.State.{StandsFor}
-use Rattle.geocom_c.specs.Feeding.{client_past}
+use Rattle.geocom_c.specs.Feeding.{WritesSettled, client_past}
 use Rattle.geocom_c.specs.declared.answers.GeocomHeard.{GeocomHeard}
 use Rattle.geocom_c.specs.declared.header.TheConstants.{MORE}
 use Rattle.geocom_c.proofs.Frames.{never_more, with_rest, fed_used}
@@ -41,10 +41,6 @@ returns-in_default c =
             (arith, ap (λ (x : GeocomHeard). x.used) c.using-in_default.ensures, c.frame-used.ensures.used.1 some),
       );
       answered = c.feed_frame.ensures.answered;
-      records = c.feed_frame.ensures.records;
-      text = c.feed_frame.ensures.text;
-      few = omega (arith, ap (λ (x : GeocomHeard). x.count) c.using-in_default.ensures, c.feed_frame.ensures.few);
-      untouched = subst (λ (n : ℕ). drop n c.feed_frame.new.settlements ≡ drop n c.args.settlements.now)
-          (sym (ap (λ (x : GeocomHeard). x.count) c.using-in_default.ensures)) c.feed_frame.ensures.untouched;
-      silent = λ none. c.feed_frame.ensures.silent (sym (ap (λ (x : GeocomHeard). x.count) c.using-in_default.ensures) ∙ none);
+      written = subst (λ (n : ℕ). WritesSettled n c.args.settlements.now c.feed_frame.new.settlements c.args.text.now c.feed_frame.new.text)
+          (sym (ap (λ (x : GeocomHeard). x.count) c.using-in_default.ensures)) c.feed_frame.ensures.written;
     }

@@ -90,3 +90,12 @@ returns-in-Err-write_settlements-clause-ends g c =
     ends_sink_failed (seen_through g.L.Link c.args.link.now g.K.Sink c.args.sink.now)
     (seen_through g.L.Link c.exchange.new.link g.K.Sink c.write_settlements-in-Err.new.sink)
     c.args.place _ c.in-Err.fault c.in-Err-write_settlements.output c.in-Err.ensures.ends c.in-Err-write_settlements.ensures
+
+pub returns-in-Ok-clause-spends : goal.returns-in-Ok-clause-spends
+returns-in-Ok-clause-spends g c = c.in-Ok.ensures.spends
+
+pub returns-in-Ok-write_settlements-clause-spends : goal.returns-in-Ok-write_settlements-clause-spends
+returns-in-Ok-write_settlements-clause-spends g c = c.in-Err.ensures.spends
+
+pub returns-in-Err-write_settlements-clause-spends : goal.returns-in-Err-write_settlements-clause-spends
+returns-in-Err-write_settlements-clause-spends g c = c.in-Err.ensures.spends

@@ -1,4 +1,4 @@
-use Rattle.std.proofs.Common.{ℕ, List, [], ◌++◌, Option, Err, sym, ap, subst, arith}
+use Rattle.std.proofs.Common.{ℕ, List, [], ◌++◌, Option, Err, sym, ap, ◌∙◌, subst, arith}
 use Rattle.std.specs.Io.KnownBytes.{Appends}
 use Rattle.gc_lines.specs.Answering.{Ports}
 use Rattle.gc_lines.specs.Assembler.{Kept, StandsFor}
@@ -28,11 +28,17 @@ returns-in-Err-clause-exchanges g c =
           c.request-line.ensures.client,
     )
 
-pub returns-in-Err-clause-grows : goal.returns-in-Err-clause-grows
-returns-in-Err-clause-grows g c = omega (arith, ap (λ (s : Input). s.reads) c.in-Err.ensures.unread)
-
-pub returns-in-Err-clause-reads : goal.returns-in-Err-clause-reads
-returns-in-Err-clause-reads g c = omega (arith, ap (λ (s : Input). s.reads) c.in-Err.ensures.unread, c.in-Err.ensures.reads, c.request-line.ensures.same.2)
+pub returns-in-Err-clause-spends : goal.returns-in-Err-clause-spends
+returns-in-Err-clause-spends g c = record {
+  grows = omega (arith, ap (λ (s : Input). s.reads) c.in-Err.ensures.unread);
+  reads = omega (
+    arith,
+    ap (λ (s : Input). s.reads) c.in-Err.ensures.unread,
+    c.in-Err.ensures.reads,
+    c.request-line.ensures.same.2,
+  );
+  held = c.in-Err.ensures.held;
+}
 
 pub returns-clause-exchanges : goal.returns-clause-exchanges
 returns-clause-exchanges g c =
@@ -64,16 +70,16 @@ returns-clause-ends g c =
     c.hear_reply.new.reads c.hear_reply.result c.in_default.ensures.ends c.in_default.ensures.unread
     c.hear_reply.ensures.only.1 c.hear_reply.ensures.only.2 c.hear_reply.ensures.grows c.hear_reply.ensures.ends
 
-pub returns-clause-grows : goal.returns-clause-grows
-returns-clause-grows g c = omega (arith, ap (λ (s : Input). s.reads) c.in_default.ensures.unread, c.hear_reply.ensures.grows)
-
-pub returns-clause-reads : goal.returns-clause-reads
-returns-clause-reads g c =
-    omega (
-      arith,
-      ap (λ (s : Input). s.reads) c.in_default.ensures.unread,
-      ap (λ (p : Ports). p.reads) c.hear_reply.ensures.only.2,
-      c.in_default.ensures.reads,
-      c.hear_reply.ensures.reads,
-      c.request-line.ensures.same.2,
-    )
+pub returns-clause-spends : goal.returns-clause-spends
+returns-clause-spends g c = record {
+  grows = omega (arith, ap (λ (s : Input). s.reads) c.in_default.ensures.unread, c.hear_reply.ensures.grows);
+  reads = omega (
+    arith,
+    ap (λ (s : Input). s.reads) c.in_default.ensures.unread,
+    ap (λ (p : Ports). p.reads) c.hear_reply.ensures.only.2,
+    c.in_default.ensures.reads,
+    c.hear_reply.ensures.reads,
+    c.request-line.ensures.same.2,
+  );
+  held = c.hear_reply.ensures.only.3 ∙ c.in_default.ensures.held;
+}

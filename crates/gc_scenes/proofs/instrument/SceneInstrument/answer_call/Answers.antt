@@ -27,7 +27,7 @@ returns-clause-gave g c =
     let played : SceneState = c.play_onto.new.self in
     let h : AppendsPlayed n p played old new =
     subst (λ (t : SceneState). AppendsPlayed n (unless_faulted t call (fault_of c.args.rpc s.faults)) played old new) c.count.ensures
-    (subst (λ (f : Option ℕ). AppendsPlayed n (unless_faulted c.count.new.self call f) played old new) c.fault_of-fault.ensures.code
+    (subst (λ (f : Option ℕ). AppendsPlayed n (unless_faulted c.count.new.self call f) played old new) c.fault_of-fault.ensures
     (subst (λ (m : ℕ). AppendsPlayed m (unless_faulted c.count.new.self call c.fault_of-fault.result) played old new) c.unwrap_or.ensures c.play_onto.ensures.played)) in
     let none : resent_line s c.args.id ≡ None = sym c.resent_line.ensures.line ∙ ap (option_map (λ r. r.now)) c.in_default.is in
     let own = appended_bytes old c.deref.result.now (played_line n p) c.len-start.result (c.deref.ensures.0 ∙ h.appended) c.len-start.ensures.value in

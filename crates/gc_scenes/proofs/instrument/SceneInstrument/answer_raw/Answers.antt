@@ -5,14 +5,14 @@ use Rattle.gc_scenes.proofs.Playing.{gave_fault, gave_scripted, gave_refusal}
 use Rattle.gc_scenes.proofs.instrument.SceneInstrument.answer_raw.Goals as goal
 
 pub returns-in-Some-clause-gave : goal.returns-in-Some-clause-gave
-returns-in-Some-clause-gave g c = gave_fault c.args.self.now _ c.args.rpc c.args.id _ _ c.in-Some.rc (sym c.in-Some.is ∙ c.fault_of.ensures.code) c.answer_with.ensures.gave
+returns-in-Some-clause-gave g c = gave_fault c.args.self.now _ c.args.rpc c.args.id _ _ c.in-Some.rc (sym c.in-Some.is ∙ c.fault_of.ensures) c.answer_with.ensures.gave
 
-pub returns-in-Some-answer_of-clause-gave : goal.returns-in-Some-answer_of-clause-gave
-returns-in-Some-answer_of-clause-gave g c =
-    let h = rw c.params.ensures.value at c.answer_with-in-Some-answer_of.ensures.gave in
-    gave_scripted c.args.self.now _ c.args.rpc c.args.id _ _ c.in-Some-answer_of.scripted (sym c.in-None.is ∙ c.fault_of.ensures.code) (sym c.in-Some-answer_of.is ∙ c.answer_of.ensures) h
+pub returns-in-Some-scripted_reply-clause-gave : goal.returns-in-Some-scripted_reply-clause-gave
+returns-in-Some-scripted_reply-clause-gave g c =
+    let h = rw c.params.ensures.value at c.answer_with-in-Some-scripted_reply.ensures.gave in
+    gave_scripted c.args.self.now _ c.args.rpc c.args.id _ _ c.in-Some-scripted_reply.scripted (sym c.in-None.is ∙ c.fault_of.ensures) (sym c.in-Some-scripted_reply.is ∙ c.scripted_reply.ensures) h
 
-pub returns-in-None-answer_of-clause-gave : goal.returns-in-None-answer_of-clause-gave
-returns-in-None-answer_of-clause-gave g c =
-    gave_refusal c.args.self.now _ c.args.rpc c.args.id _ _ (sym c.in-None.is ∙ c.fault_of.ensures.code) (sym c.in-None-answer_of.is ∙ c.answer_of.ensures) c.count.ensures
+pub returns-in-None-scripted_reply-clause-gave : goal.returns-in-None-scripted_reply-clause-gave
+returns-in-None-scripted_reply-clause-gave g c =
+    gave_refusal c.args.self.now _ c.args.rpc c.args.id _ _ (sym c.in-None.is ∙ c.fault_of.ensures) (sym c.in-None-scripted_reply.is ∙ c.scripted_reply.ensures) c.count.ensures
     (c.push_reply.ensures.items ∙ ap (λ n. c.args.out.now.items ++ refusal_line n Unknown) c.unwrap_or.ensures)

@@ -30,3 +30,6 @@ returns-in-None c =
     let x : Executed = record { state = seeing c.args.targets.now c.carry_out-in-None.new.self; rc = c.carry_out-in-None.result; answer = c.carry_out-in-None.new.answer } in
     let does = subst (λ (k : Call). exec s k ≡ x) c.in-GetDate.is c.carry_out-in-None.ensures.gives in
     rw c.in-GetDate.is (record { gives = date_row c.args.ways.now c.args.now s x c.in-None.is does; same = c.carry_out-in-None.ensures.same })
+
+pub returns-in_default : goal.returns-in_default
+returns-in_default c = c.carry_out_unchanged.ensures c.args.ways.now c.args.now

@@ -1,24 +1,27 @@
-use Rattle.std.proofs.Common.{ap, ◌∙◌}
+use Rattle.std.proofs.Common.{refl, ap, ◌∙◌}
 use Rattle.gc_links.specs.Acts.{Told}
-use Rattle.gc_station.specs.Model.{cycle_length}
+use Rattle.gc_station.specs.Model.{cycle_length, with_moment}
 use Rattle.gc_station.specs.Progressing.{cycle_begun}
-use Rattle.gc_station.proofs.Hearing.{refines_expired}
+use Rattle.gc_station.proofs.Hearing.{refines_timed_out, untold_does}
+use Rattle.gc_station.proofs.Making.{refines_with}
 use Rattle.gc_station.proofs.station.Station.begin.Goals as goal
 
-pub returns-in-Ok : goal.returns-in-Ok
-returns-in-Ok g c text known =
-    let m = c.in-Ok.moment in
+pub returns-in-Some : goal.returns-in-Some
+returns-in-Some g c text known =
+    let m = c.in-Some.moment in
     let plan = c.args.plan.now in
-    let old = c.args.self.now in
-    let count = cycle_length plan c.args.commands.now in
+    let mid = c.read_moment.new.self in
     record {
       act = Told m;
-      tells = c.in-Ok.ensures;
+      tells = c.in-Some.ensures.0;
       goes = λ s start stands so. (
         tt,
-        refines_expired old c.expire.new.self c.begin_cycle.new.self (cycle_begun plan count m s.progress) m s stands
-            (c.begin_cycle.ensures ∙ ap (λ n. cycle_begun plan n m old.progress) c.saturating_sub-count.ensures ∙ ap
-            (cycle_begun plan count m) stands.progress) c.expire.ensures,
+        refines_with mid c.begin_cycle.new.self (cycle_begun plan (cycle_length plan c.args.commands.now) m) (with_moment m s)
+            (refines_timed_out c.args.self.now mid m s stands c.in-Some.ensures.1)
+            (c.begin_cycle.ensures ∙ ap (λ n. cycle_begun plan n m mid.progress) c.saturating_sub-count.ensures),
         so,
       );
     }
+
+pub returns-in_default : goal.returns-in_default
+returns-in_default g c text known = untold_does _ _ _ _ _ _ _ (λ s. tt) (λ s. refl) c.in_default.ensures text known

@@ -6,7 +6,7 @@ use Rattle.gc_station.specs.Model.{is_reply, ends_with_table, settles, line_sett
 use Rattle.gc_station.specs.Stations.{Refines, Took}
 use Rattle.gc_station.specs.declared.station.Station.{Station}
 use Rattle.std.specs.Option.{option_to_list}
-use Rattle.gc_station.proofs.Hearing.{hears_paired, settles_ok, settles_part, with_caught, with_noted, no_line}
+use Rattle.gc_station.proofs.Hearing.{hears_paired, settles_ok, settles_part, with_behind_noted, with_noted, no_line}
 use Rattle.gc_station.proofs.station.Station.hear.Goals as goal
 
 pub returns-clause-hears : goal.returns-clause-hears
@@ -42,10 +42,10 @@ returns-clause-hears g c s start stands so =
     let table = c.ends_with_table-of_table.ensures ∙ ap (λ l. ends_with_table (map settlement_seen l)) c.as_slice.ensures.value ∙ ap
     (λ (st : Station). ends_with_table (map settlement_seen st.settled.items)) after ∙ ap ends_with_table same in
     let waits = c.waiting.ensures.waiting ∙ ap (λ (st : Station). length st.client.ids.waiting) after ∙ ap (λ w. length w.ids.waiting) client ∙ ap (λ y. length y.client.waiting) seen in
-    let caught = with_caught c.write.new.self c.catch_up.new.self c.ends_with_table-of_table.result (ends_with_table x.settlements) c.waiting.result (length x.client.waiting) (settles x s) t.0
-    table waits c.catch_up.ensures in
+    let caught = with_behind_noted c.write.new.self c.note_behind.new.self c.ends_with_table-of_table.result (ends_with_table x.settlements) c.waiting.result (length x.client.waiting) (settles x s) t.0
+    table waits c.note_behind.ensures in
     rw c.in-Line.is (
-      with_noted (record c.write.new.self { progress = c.catch_up.new.self }) c.note_line.new.self c.is_reply.result
+      with_noted (record c.write.new.self { progress = c.note_behind.new.self }) c.note_line.new.self c.is_reply.result
           (is_reply line) (line_settles x s) caught reply c.note_line.ensures,
       t.1,
     )

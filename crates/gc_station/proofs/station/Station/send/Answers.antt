@@ -1,15 +1,17 @@
-use Rattle.std.proofs.Common.{◌≡◌, ◌-◌, ◌<◌, List, ◌∷◌, Some, length, drop, ap, sym, ◌∙◌, arith}
+use Rattle.std.proofs.Common.{◌≡◌, ◌+◌, ◌-◌, ◌<◌, List, ◌∷◌, Some, length, drop, ap, sym, ◌∙◌, arith}
+use Rattle.std.proofs.lemmas.List.{drop_more}
 use Rattle.gc_catalogue.specs.declared.asked.Asked.{Asked}
 use Rattle.gc_client.specs.Rule.{ById}
 use Rattle.gc_texts.specs.declared.tasks.Task.{Task}
 use Rattle.gc_texts.specs.declared.wish.Wish.{Wish}
 use Rattle.gc_links.specs.Acts.{put_act}
 use Rattle.gc_station.specs.declared.mark.Mark.{Mark}
+use Rattle.gc_station.specs.declared.progress.Upcoming.{Upcoming}
 use Rattle.gc_station.specs.Progressing.{sent}
 use Rattle.gc_station.specs.Requests.{command_at}
 use Rattle.gc_station.specs.Model.{Model, request_text, first_text, asks_next, with_progress}
-use Rattle.gc_station.specs.NextCommand.{place_next, mark_next, is_chained_after_next, others_after_next, commands_before}
-use Rattle.gc_station.proofs.Making.{refines_with, asks_refines, put_puts, put_refines, put_took, drop_here, first_refines, first_took}
+use Rattle.gc_station.specs.NextCommand.{place_next, mark_next, is_chained_after_next, others_after_next, upcoming_after, commands_before}
+use Rattle.gc_station.proofs.Making.{refines_with, asks_refines, put_puts, put_refines, put_took, first_refines, first_took}
 use Rattle.gc_station.proofs.station.Station.send.Goals as goal
 
 pub returns : goal.returns
@@ -22,19 +24,18 @@ returns g c text known =
     let place = c.place.result in
     let at : place ≡ length commands - old.progress.unsent = c.place.ensures in
     let below : place < length commands = omega (arith, at, c.requires.unsent, c.requires.within) in
-    let here = drop_here commands place task below c.index-commands-place.is in
+    let others : List Task = drop (place + 1) commands in
+    let here : drop place commands ≡ task ∷ others =
+    drop_more commands place task below ∙ ap (λ x. x ∷ others) (sym c.index-commands-place.is) in
     let mark = c.mark-mark.result in
     let command = c.command_at-command.result in
     let line = request_text old.client.ids command.call in
-    let next_is_chained = c.is_chained_after-next_is_chained in
-    let behind = c.others_after-others in
     record {
       act = put_act put line;
       tells = c.ask-put.ensures.tells;
       goes = λ s start stands so.
           let list = drop (place_next commands s.progress) commands in
-          let others : List Task = here.0 in
-          let is : list ≡ task ∷ others = sym (ap (λ n. drop n commands) (at ∙ ap (place_next commands) stands.progress)) ∙ here.1 in
+          let is : list ≡ task ∷ others = sym (ap (λ n. drop n commands) (at ∙ ap (place_next commands) stands.progress)) ∙ here in
           let f : Model → Model = λ (x : Model). with_progress (sent (is_chained_after_next commands x.progress) (others_after_next commands x.progress)) (asks_next plan commands x) in
           let asked = asks_refines old c.ask-put.new.self s task.deadline command (command_at mark.sent task) (Some mark) stands c.requires.room c.command_at-command.ensures c.ask-put.ensures.asks in
           let utc = s.progress.moment.utc in
@@ -45,9 +46,8 @@ returns g c text known =
                 (ap (first_text utc s.client) is)) c.ask-put.ensures.part,
             put_refines put line c.commands_before-requests.result (commands_before plan commands s.progress) f s (record c.ask-put.new.self { progress = c.note_sent.new.self }) c.note_cut.new.self
                 (refines_with c.ask-put.new.self c.note_sent.new.self (sent (is_chained_after_next commands s.progress) (others_after_next commands s.progress)) (asks_next plan commands s) first
-                (c.note_sent.ensures ∙ ap (λ b. sent b behind.result c.ask-put.new.self.progress)
-                (next_is_chained.ensures ∙ ap (is_chained_after_next commands) stands.progress)
-                ∙ ap (λ n. sent (is_chained_after_next commands s.progress) n c.ask-put.new.self.progress) (behind.ensures ∙ ap (others_after_next commands) stands.progress))) c.note_cut.ensures
+                (c.note_sent.ensures ∙ ap (λ (u : Upcoming). sent u.is_chained u.others c.ask-put.new.self.progress)
+                (c.upcoming_after-next.ensures ∙ ap (upcoming_after 1 commands) stands.progress))) c.note_cut.ensures
                 (c.commands_before-requests.ensures ∙ ap (commands_before plan commands) stands.progress),
             put_took text start known put line (commands_before plan commands s.progress) f s (first_took text start known s (mark_next plan commands s.progress) list so),
           );

@@ -1,9 +1,10 @@
-use Rattle.std.proofs.Common.{◌≡◌, ◌-◌, ◌<◌, List, ◌++◌, length, drop, None, if◌then◌else◌, ap, sym, ◌∙◌, arith, subst}
+use Rattle.std.proofs.Common.{◌≡◌, ◌+◌, ◌-◌, ◌<◌, List, ◌∷◌, ◌++◌, length, drop, None, if◌then◌else◌, ap, sym, ◌∙◌, arith, subst}
+use Rattle.std.proofs.lemmas.List.{drop_more}
 use Rattle.gc_texts.specs.declared.tasks.Task.{Task}
 use Rattle.gc_texts.specs.Endings.{ending_seen, Skipped, Missed}
 use Rattle.gc_station.specs.Records.{Record, WritesPart}
 use Rattle.gc_station.specs.NextCommand.{mark_next}
-use Rattle.gc_station.proofs.Making.{drop_here, skips_as}
+use Rattle.gc_station.proofs.Making.{skips_as}
 use Rattle.gc_station.proofs.Records.{part_one}
 use Rattle.gc_station.proofs.station.Station.write_unsent.Goals as goal
 use Rattle.gc_station.proofs.station.Station.write_unsent.Goals.{then-self, else-self}
@@ -18,8 +19,10 @@ returns-in-Err-clause-wrote g c start before so =
     let place = c.place.result in
     let at : place ≡ length commands - p.unsent = c.place.ensures in
     let below : place < length commands = omega (arith, at, c.requires.unsent, c.requires.within) in
-    let here = drop_here commands place task below c.index-commands-place.is in
-    let is = sym (ap (λ n. drop n commands) at) ∙ here.1 in
+    let others : List Task = drop (place + 1) commands in
+    let here : drop place commands ≡ task ∷ others =
+    drop_more commands place task below ∙ ap (λ x. x ∷ others) (sym c.index-commands-place.is) in
+    let is = sym (ap (λ n. drop n commands) at) ∙ here in
     let ends : ending_seen c.if-self.ending ≡ (if p.missed then Missed else Skipped) =
     elim c.if-self.branch [
       | then-self w ↦ ap ending_seen w.ending-is ∙ sym (ap (λ b. if b then Missed else Skipped) w.if-self.true)
@@ -36,6 +39,6 @@ returns-in-Err-clause-wrote g c start before so =
       end = ending_seen c.if-self.ending;
     } in
     let same = skips_as p c.args.moment c.mark-mark.result (mark_next c.args.plan.now commands p) c.skipped_at.result (ending_seen c.if-self.ending)
-    (drop (length commands - p.unsent) commands) task here.0 is c.mark-mark.ensures c.skipped_at.ensures ends in
+    (drop (length commands - p.unsent) commands) task others is c.mark-mark.ensures c.skipped_at.ensures ends in
     subst (λ (rs : List Record). WritesPart (g.B.Book.text c.args.book.now) before (before ++ rs) start (g.B.Book.taken c.write.new.self)) same
     (part_one (g.B.Book.text c.args.book.now) before r start (g.B.Book.taken c.args.book.now) (g.B.Book.taken c.write.new.self) w.0 so w.1 w.2)

@@ -5,7 +5,7 @@ use Rattle.gc_values.proofs.PlainLists.{plain_next}
 use Rattle.gc_values.proofs.quick.Quick.number.Goals as goal
 
 pub returns-in-Some-front_number-clause-reads : goal.returns-in-Some-front_number-clause-reads
-returns-in-Some-front_number-clause-reads c = λ v vs reads left.
+returns-in-Some-front_number-clause-reads c = λ v reads vs left.
     let made = c.in-Some-front_number.ensures in
     record {
       well = left.well;

@@ -7,5 +7,5 @@ pub returns-in-Ok-clause-reads : goal.returns-in-Ok-clause-reads
 returns-in-Ok-clause-reads c = λ vs left.
     let is : c.in-Ok.n ≡ pos c.in-Some.number = search rules in
     let fits : FitsShort c.in-Ok.n = search rules in
-    let read = c.in-Some.ensures.reads (value.Short c.in-Ok.n) vs (λ item names. (subst (λ z. NamesWhole item z) (sym is) names, fits)) left in
+    let read = c.in-Some.ensures.reads (value.Short c.in-Ok.n) (λ item names. (subst (λ z. NamesWhole item z) (sym is) names, fits)) vs left in
     search rules
