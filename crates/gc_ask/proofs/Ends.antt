@@ -7,12 +7,11 @@ use Rattle.std.proofs.lemmas.Bool.{cases_lt}
 use Rattle.std.proofs.KnownBytes.{Consumes-nil}
 use Rattle.gc_lines.specs.Answering.{Ports}
 use Rattle.gc_ask.specs.Asking.{EndsWith, LinkEnd, LinkEnds, Taken}
-use Rattle.gc_ask.specs.Links.{BothStep, SeenStep, Sends, StepEnds, no_ports, source_of}
-use Rattle.gc_ask.specs.Listening.{ReadEnds}
+use Rattle.gc_ask.specs.Links.{BothStep, CountsReplies, ReadEnds, SeenStep, Sends, StepEnds, no_ports}
 use Rattle.gc_ask.specs.Looping.{BothEnd, SeenAtBoth}
 use Rattle.gc_texts.specs.declared.fault.RunFault.{RunFault}
 use Rattle.gc_texts.specs.declared.fault.RunFault.TheVariants.{Read, Write, TooManyReads, LinkClosed, Output}
-use Rattle.gc_texts.specs.WholeTexts.{Input}
+use Rattle.gc_texts.specs.WholeTexts.{Input, source_of}
 
 -- Ports, a step later.
 
@@ -93,6 +92,42 @@ none_in_both old mid new mid_end new_end more going on same below = elim (cases_
   | inl further ↦ on further
   | inr still ↦ let stays : new ≡ mid = omega (arith, still, more) in same stays ∙ going (omega (arith, stays, below))
 ]
+
+-- where reading went on well from `old` to `mid`, and then ended so by `new`, that is how it ended from `old` on
+pub ends_then : (old mid new : Input) (between after : ℕ) (r : LinkEnd) → (more : old.reads ≤ mid.reads) → (on : mid.reads ≤ new.reads)
+    → ReadEnds old mid between (Ok tt) → ReadEnds mid new after r → ReadEnds old new after r
+ends_then old mid new between after (Ok u) more on e f = (
+  none_in_both old.reads mid.reads new.reads mid.ended new.ended on e.0 f.0 f.1,
+  λ same. f.1 (omega (arith, same, more, on)) ∙ e.1 (omega (arith, same, more, on)),
+  f.2 ∙ e.2,
+)
+ends_then old mid new between after (Err Read) more on e f = (
+  none_in_both old.reads mid.reads new.reads mid.ended new.ended on e.0 f.0 f.1,
+  λ same. f.1 (omega (arith, same, more, on)) ∙ e.1 (omega (arith, same, more, on)),
+  f.2,
+  f.3,
+)
+ends_then old mid new between after (Err TooManyReads) more on e f = (
+  none_in_both old.reads mid.reads new.reads mid.ended new.ended on e.0 f.0 f.1,
+  λ same. f.1 (omega (arith, same, more, on)) ∙ e.1 (omega (arith, same, more, on)),
+  f.2,
+  f.3 ∙ e.2,
+)
+ends_then old mid new between after (Err LinkClosed) more on e f = (omega (arith, f.0, more), f.1, f.2 ∙ e.2)
+ends_then old mid new between after (Err (Write count part)) more on e f = absurd f
+ends_then old mid new between after (Err other) more on e f = absurd f
+
+-- where reading ended with `TooManyReads`, no read is left
+pub ends_too_many : (old new : Input) (after : ℕ) (r : LinkEnd) → ReadEnds old new after r → r ≡ Err TooManyReads → after ≡ 0
+ends_too_many old new after r e is = (subst (λ (x : LinkEnd). ReadEnds old new after x) is e).2
+
+-- reading never ends with `Write`
+pub ends_uncut : (place : ℕ) (old new : Input) (after : ℕ) (fault : RunFault) → ReadEnds old new after (Err fault) → CountsReplies place (Err fault)
+ends_uncut place old new after Read e = tt
+ends_uncut place old new after TooManyReads e = tt
+ends_uncut place old new after LinkClosed e = tt
+ends_uncut place old new after (Write count part) e = absurd e
+ends_uncut place old new after other e = absurd e
 
 -- an end that is sound so far: since `old` no read was the end of its input, and neither of its ports failed
 pub record Sound (old new : Ports) : Type 0 where

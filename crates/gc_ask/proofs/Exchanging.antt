@@ -12,8 +12,8 @@ use Rattle.gc_client.specs.Rule.{ById, settled_by_line, restarts}
 use Rattle.gc_client.specs.Rule
 use Rattle.gc_client.specs.Settlements.{AreSettlements, settlement_seen}
 use Rattle.gc_ask.specs.Asking.{awaited, waiting_for, request_text, lost_of, EndsWith, LinkEnd, LinkEnds, Taken}
-use Rattle.gc_ask.specs.Links.{CountsReplies, SeenStep, Sends, TakesRequest}
-use Rattle.gc_ask.specs.Listening.{AsksOn, AsksOne, Exchanges, Heard, HearsReply, ReadEnds, Settles}
+use Rattle.gc_ask.specs.Links.{CountsReplies, ReadEnds, SeenStep, Sends, TakesRequest}
+use Rattle.gc_ask.specs.Listening.{AsksOn, AsksOne, Exchanges, Heard, HearsReply, Settles}
 use Rattle.gc_ask.specs.Looping.{BothEnd, SeenAtBoth, written_there}
 use Rattle.gc_ask.proofs.Asked.{AtNext, Course, RunState, heard_after, later_on, course_more, course_stops, course_cut, course_sink_failed, settled_is, asked_with}
 use Rattle.gc_ask.proofs.Ends.{Sound, both_end, no_output}

@@ -5,13 +5,11 @@ use Rattle.std.proofs.lemmas.List.{append-nil}
 use Rattle.std.specs.Fmt.{decimal}
 use Rattle.std.specs.Io.KnownBytes.{Appends}
 use Rattle.std.proofs.KnownBytes.{Appends-trans, Appends-nil}
-use Rattle.gc_lines.specs.Answering.{how_far}
-use Rattle.gc_lines.specs.declared.served.TheConstants.{WRITE_FAILED}
 use Rattle.gc_texts.specs.Faults.{run_fault_number}
 use Rattle.gc_texts.specs.declared.fault.RunFault.TheVariants as fault
 use Rattle.gc_lines.proofs.Known.{Appends-is}
 use Rattle.gc_ask.specs.Keeping.{ConnectionEnd, Grows, ServesCallers, caller_line, end_line, end_lines}
-use Rattle.gc_ask.specs.declared.callers.CallerFault.TheVariants.{Write, Socket}
+use Rattle.gc_ask.specs.declared.callers.CallerFault.TheVariants.{Socket}
 
 -- where the ends that are known grew by some, and then by others, they grew by both in this order
 pub grows_more : (a b c : Option (List ConnectionEnd)) (xs ys : List ConnectionEnd) → Grows a b xs → Grows b c ys → Grows a c (xs ++ ys)
@@ -62,16 +60,6 @@ kept_more n all_written all_written' s0 s1 s2 m0 m1 m2 end kept grew tells =
           let t = tells all in
           Appends-is m0 m2 _ _ text (Appends-trans m0 m1 m2 (end_lines 1 kept.ends) (end_line (n + 1) end) (kept.lines t.0) t.1);
     }
-
--- the pieces that are written one after the other of the line of a cut write make up that line
-pub cut_line : (number count bytes : ℕ)
-    → codes "geocom: connection " ++ (decimal number ++ (codes ": fault " ++ (decimal WRITE_FAILED ++ (codes " reply " ++ (decimal count ++ (codes " byte " ++ (decimal bytes ++ codes "\n")))))))
-    ≡ caller_line number (Write count bytes)
-cut_line number count bytes =
-    let text : (decimal WRITE_FAILED ++ how_far count bytes) ++ codes "\n" ≡ decimal WRITE_FAILED ++ (codes " reply " ++ (decimal count ++ (codes " byte " ++ (decimal bytes ++ codes "\n")))) =
-    append_assoc (decimal WRITE_FAILED) (how_far count bytes) (codes "\n")
-    ∙ ap (λ xs. decimal WRITE_FAILED ++ (codes " reply " ++ xs)) (append_assoc (decimal count) (codes " byte " ++ decimal bytes) (codes "\n")) in
-    ap (λ xs. codes "geocom: connection " ++ (decimal number ++ (codes ": fault " ++ xs))) (sym text)
 
 -- the pieces that are written one after the other of the line of the fault `Socket`, whose number is n, make up that line
 pub socket_line : (number n : ℕ) → n ≡ run_fault_number fault.Socket

@@ -2,14 +2,13 @@
 use Rattle.std.specs.Prelude.{◌≡◌, ℕ, ◌+◌, ◌-◌, ◌^◌, Bool, true, List, [], ◌∷◌, ◌++◌, length, Option, Some, None, Result, Ok, Err, codes}
 use Rattle.std.specs.Fmt.{decimal}
 use Rattle.std.specs.Io.KnownBytes.{Appends}
-use Rattle.gc_lines.specs.Answering.{numbered, how_far}
+use Rattle.gc_lines.specs.Answering.{fault_text}
 use Rattle.gc_lines.specs.declared.served.Served.{Served}
 use Rattle.gc_lines.specs.declared.served.ServeFault.{ServeFault}
-use Rattle.gc_lines.specs.declared.served.ServeFault.TheVariants as serving
 use Rattle.gc_texts.specs.Faults.{run_fault_text}
 use Rattle.gc_texts.specs.declared.fault.RunFault.TheVariants as fault
 use Rattle.gc_ask.specs.declared.callers.CallerFault.{CallerFault}
-use Rattle.gc_ask.specs.declared.callers.CallerFault.TheVariants.{Read, Write, TooManyReads, Socket, Idle}
+use Rattle.gc_ask.specs.declared.callers.CallerFault.TheVariants.{Serving, Socket, Idle}
 
 -- how a connection ended: it was served to its end, or left for a fault
 abbrev pub ConnectionEnd : Type 0
@@ -17,9 +16,7 @@ ConnectionEnd = Result (Unit {0}) CallerFault
 
 -- a fault as it is printed: an idle connection has no number, because nothing failed
 abbrev pub caller_fault_text : CallerFault → List ℕ
-caller_fault_text Read = numbered 42
-caller_fault_text (Write count bytes) = numbered 43 ++ how_far count bytes
-caller_fault_text TooManyReads = numbered 44
+caller_fault_text (Serving fault) = fault_text fault
 caller_fault_text Socket = run_fault_text fault.Socket
 caller_fault_text Idle = codes "idle"
 
@@ -56,9 +53,7 @@ pub record ServesCallers (most : ℕ) (all_written : Bool) (old new : Option (Li
 -- the end of a connection by the result of serving it
 abbrev pub end_of_caller : Result Served ServeFault → ConnectionEnd
 end_of_caller (Ok _) = Ok tt
-end_of_caller (Err (serving.Read _)) = Err Read
-end_of_caller (Err (serving.Write count bytes)) = Err (Write count bytes)
-end_of_caller (Err (serving.TooManyReads _)) = Err TooManyReads
+end_of_caller (Err fault) = Err (Serving fault)
 
 -- how many callers a kept port or device serves: the number that was asked for, or else the greatest u64
 abbrev pub most_callers : Option ℕ → ℕ

@@ -6,4 +6,3 @@ pub mod Laws
 pub mod Links
 pub mod Looping
 pub mod Places
-pub mod Simulating

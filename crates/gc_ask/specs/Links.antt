@@ -1,14 +1,15 @@
 -- No part of a promise: what is seen of a link that commands are asked over, and what its calls do. A step is one call that
 -- uses the link, or several in a row. A place is the number of a request, counted from 0. A link is remote where the
 -- instrument's end isn't in this program.
-use Rattle.std.specs.Prelude.{◌≡◌, ℕ, ◌+◌, ◌<◌, Bool, true, false, not, List, [], Option, Some, Result, Ok, Err, ◌≤◌, length, take}
+use Rattle.std.specs.Prelude.{◌≡◌, ℕ, ◌+◌, ◌*◌, ◌-◌, ◌<◌, Bool, true, false, not, List, [], Option, Some, Result, Ok, Err, OnOk, ◌≤◌, length, take}
 use Rattle.std.specs.Borrow.{GName}
 use Rattle.std.specs.Io.KnownBytes.{Appends, Consumes, Keeps}
 use Rattle.gc_lines.specs.Answering.{Ports}
 use Rattle.gc_ask.specs.Asking.{Taken, LinkEnd, LinkEnds}
 use Rattle.gc_ask.specs.Looping.{IsOfOneEnd, SeenAtBoth}
+use Rattle.gc_ask.specs.declared.unused.TheConstants.{ROOM}
 use Rattle.gc_texts.specs.WholeTexts.{Input}
-use Rattle.gc_texts.specs.declared.fault.RunFault.TheVariants.{Write}
+use Rattle.gc_texts.specs.declared.fault.RunFault.TheVariants.{Read, Write, TooManyReads, LinkClosed}
 
 -- the ghost names of the references that a link holds: of its client's end, and of its instrument's
 pub record Held : Type 0 where
@@ -21,15 +22,36 @@ pub record Held : Type 0 where
 abbrev pub no_ports : Ports
 no_ports = record { remaining = Some []; reads = 0; ended = false; source_failed = false; taken = Some []; sink_failed = false }
 
--- what is seen of the source of an end
-abbrev pub source_of : Ports → Input
-source_of ports = record { remaining = ports.remaining; reads = ports.reads; ended = ports.ended; failed = ports.source_failed }
-
 -- a source was read once: it gave these bytes (`Ok`, with false where that was its end), or it failed (`Err`)
 abbrev pub ReadsOnce : {E : Type 0} → (old new : Input) → (given : List ℕ) → Result Bool E → Type 0
 ReadsOnce old new given (Ok more) =
     Consumes old.remaining new.remaining given × (new.reads ≡ old.reads + 1) × (new.ended ≡ not more) × (old.failed ≡ false) × (new.failed ≡ false)
 ReadsOnce old new given (Err _) = Keeps old.remaining new.remaining × (new.reads ≡ old.reads) × (new.ended ≡ old.ended) × (new.failed ≡ true)
+
+-- why reading a source ended, with `after` reads left. Only with `LinkClosed` was the last read the end of the input; with
+-- `Read` the source failed, and a read was left; with `TooManyReads` none was. Without a read `ended` is as before
+abbrev pub ReadEnds : (old new : Input) → (after : ℕ) → LinkEnd → Type 0
+ReadEnds old new after (Ok _) = (old.reads < new.reads → new.ended ≡ false) × (new.reads ≡ old.reads → new.ended ≡ old.ended) × (new.failed ≡ old.failed)
+ReadEnds old new after (Err Read) =
+    (old.reads < new.reads → new.ended ≡ false) × (new.reads ≡ old.reads → new.ended ≡ old.ended) × (0 < after) × (new.failed ≡ true)
+ReadEnds old new after (Err TooManyReads) =
+    (old.reads < new.reads → new.ended ≡ false) × (new.reads ≡ old.reads → new.ended ≡ old.ended) × (after ≡ 0) × (new.failed ≡ old.failed)
+ReadEnds old new after (Err LinkClosed) = (old.reads < new.reads) × (new.ended ≡ true) × (new.failed ≡ old.failed)
+ReadEnds old new after (Err _) = ⊥
+
+-- the bytes that a read gave, by its result: none after a fault
+abbrev pub given_by : LinkEnd → (given : List ℕ) → List ℕ
+given_by (Ok _) given = given
+given_by (Err _) given = []
+
+-- a source was read once more, if one of `before` reads was left, where `after` are left then. `Ok`: it gave these bytes
+pub record ReadsMore (old new : Input) (given : List ℕ) (before after : ℕ) (result : LinkEnd) : Type 0 where
+  pub gave : Consumes old.remaining new.remaining (given_by result given)
+  pub few : length (given_by result given) ≤ ROOM * (new.reads - old.reads)
+  pub ends : ReadEnds old new after result
+  pub reads : new.reads + after ≡ old.reads + before
+  pub grows : old.reads ≤ new.reads
+  pub spends : OnOk result (after < before)
 
 -- the ports of an end after one step with this result: the reads don't get fewer, and without a read `ended` is as before
 pub record StepEnds (old new : Ports) (result : LinkEnd) : Type 0 where

@@ -138,17 +138,6 @@ HearsMore from to ahead ahead' client_old client_new claim =
 abbrev pub HearsOn : (old new : AskState) → (client_old client_new : Ports) → (claim : Heard → Type 0) → Type 0
 HearsOn old new client_old client_new claim = HearsMore old.end new.end old.ahead new.ahead client_old client_new claim
 
--- why reading a source ended, with `after` reads left. Only with `LinkClosed` was the last read the end of the input; with
--- `Read` the source failed, and a read was left; with `TooManyReads` none was. Without a read `ended` is as before
-abbrev pub ReadEnds : (old new : Input) → (after : ℕ) → LinkEnd → Type 0
-ReadEnds old new after (Ok _) = (old.reads < new.reads → new.ended ≡ false) × (new.reads ≡ old.reads → new.ended ≡ old.ended) × (new.failed ≡ old.failed)
-ReadEnds old new after (Err Read) =
-    (old.reads < new.reads → new.ended ≡ false) × (new.reads ≡ old.reads → new.ended ≡ old.ended) × (0 < after) × (new.failed ≡ true)
-ReadEnds old new after (Err TooManyReads) =
-    (old.reads < new.reads → new.ended ≡ false) × (new.reads ≡ old.reads → new.ended ≡ old.ended) × (after ≡ 0) × (new.failed ≡ old.failed)
-ReadEnds old new after (Err LinkClosed) = (old.reads < new.reads) × (new.ended ≡ true) × (new.failed ≡ old.failed)
-ReadEnds old new after (Err _) = ⊥
-
 -- a request was sent, and its reply waited for, by how that ended. `Ok`: the request was sent whole, and a line settles it.
 -- `Write`: the request was cut, or the reply at the other end was. Another fault: the request was sent whole, and where the
 -- link is remote, no line that came settles it. After each fault the client still waits

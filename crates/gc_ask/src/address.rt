@@ -5,7 +5,7 @@ use std::io;
 use std::net::{Net, TcpListener, TcpStream};
 
 /// An address of this machine, and a port there.
-#[derive(Clone, Copy, Debug, PartialEq, Eq)]
+#[derive(Clone, Copy)]
 pub enum Address<'a> {
     /// A port of 127.0.0.1. Port 0 stands for any free one.
     Here(u16),

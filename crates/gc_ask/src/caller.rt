@@ -3,7 +3,7 @@
 ghost use Rattle.std.specs.Prelude.{◌≤◌, length, IfOk, IfSome};
 
 use crate::busy_clock::BusyClock;
-use crate::simulated::Simulates;
+use crate::simulated::{Simulates, serve_anew};
 use gc_instrument::{ServeFault, Served};
 use gc_lines::{PortFailed, Source, ToWriter};
 use gc_links::{Wire, read_stream_within, write_stream};
@@ -159,7 +159,7 @@ impl<'a, R: Clock> RequestReader<'a, R> {
             end: self.end,
             clock: self.clock,
         });
-        instrument.serve_anew(self, &mut writer, max_reads)
+        serve_anew(instrument, self, &mut writer, max_reads)
     }
 
     /// Whether a read failed because it had timed out (`is_time_out`); `false` while none has failed.

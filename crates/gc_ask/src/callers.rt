@@ -6,7 +6,6 @@ ghost use Rattle.std.specs.Io.KnownBytes.{Appends};
 ghost use Rattle.gc_ask.specs.Keeping.{Grows, ServesCallers, caller_line, end_line, end_of_caller};
 
 use gc_instrument::{ServeFault, Served};
-use gc_lines::{READ_FAILED, READS_SPENT, WRITE_FAILED};
 use gc_texts::RunFault;
 use std::io::{self, Write};
 
@@ -16,14 +15,10 @@ use std::io::{self, Write};
 pub(crate) const PAUSE: u64 = 1;
 
 /// Why a caller's connection was left before its end, or wasn't served at all.
-#[derive(Clone, Copy, Debug, PartialEq, Eq)]
+#[derive(Clone, Copy)]
 pub enum CallerFault {
-    /// A read failed.
-    Read,
-    /// A write failed, or nothing was taken for as long as it may wait: how many replies went out whole, and how many bytes of the next.
-    Write { replies: u64, bytes: usize },
-    /// As many reads were made as are allowed, and none was the end.
-    TooManyReads,
+    /// Serving it stopped with this fault. A write also fails if nothing was taken for as long as it may wait.
+    Serving(ServeFault),
     /// No connection could be accepted, or its time-outs couldn't be set; or the device is there and can't be used.
     Socket,
     /// Nothing came for as long as a connection may be idle, or the system gave the connection up because the other end
@@ -38,18 +33,9 @@ impl CallerFault {
         ensures { OnOk result (Appends (E.contents messages.old) (E.contents messages.new) (caller_line number self)) }
     {
         match self {
-            CallerFault::Read => writeln!(
-                messages,
-                "geocom: connection {number}: fault {READ_FAILED}"
-            ),
-            CallerFault::Write { replies, bytes } => writeln!(
-                messages,
-                "geocom: connection {number}: fault {WRITE_FAILED} reply {replies} byte {bytes}"
-            ),
-            CallerFault::TooManyReads => writeln!(
-                messages,
-                "geocom: connection {number}: fault {READS_SPENT}"
-            ),
+            CallerFault::Serving(fault) => {
+                writeln!(messages, "geocom: connection {number}: {fault}")
+            }
             CallerFault::Socket => writeln!(
                 messages,
                 "geocom: connection {number}: fault {}",
@@ -60,16 +46,14 @@ impl CallerFault {
     }
 }
 
-/// How the connection of a caller who was served ended: well, or with the fault of serving it, which is `Read`, `Write` or
-/// `TooManyReads`. A read that timed out is `Read` here, too.
+/// How the connection of a caller who was served ended: well, or with the fault of serving it. A read that timed out is a failed
+/// read here, too.
 pub(crate) fn end_of_caller(end: Result<Served, ServeFault>) -> Result<(), CallerFault>
     ensures { result ≡ end_of_caller end }
 {
     match end {
         Ok(_) => Ok(()),
-        Err(ServeFault::Read { .. }) => Err(CallerFault::Read),
-        Err(ServeFault::Write { replies, bytes }) => Err(CallerFault::Write { replies, bytes }),
-        Err(ServeFault::TooManyReads { .. }) => Err(CallerFault::TooManyReads),
+        Err(fault) => Err(CallerFault::Serving(fault)),
     }
 }
 

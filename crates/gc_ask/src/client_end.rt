@@ -5,8 +5,9 @@ ghost use Rattle.gc_lines.specs.Assembler.{StandsFor};
 ghost use Rattle.gc_lines.specs.Frames.{line_in};
 ghost use Rattle.gc_lines.specs.Lent.{lent_seen, IsLineWithin};
 ghost use Rattle.gc_ask.specs.Asking.{idle};
-ghost use Rattle.gc_ask.specs.Listening.{TakesFrame, Listens, left_by, HearsMore, HearsReply, LinkOnlyReads, ReadEnds, heard_by};
-ghost use Rattle.gc_ask.specs.Links.{source_of};
+ghost use Rattle.gc_ask.specs.Links.{ReadEnds};
+ghost use Rattle.gc_ask.specs.Listening.{TakesFrame, Listens, left_by, HearsMore, HearsReply, LinkOnlyReads, heard_by};
+ghost use Rattle.gc_texts.specs.WholeTexts.{source_of};
 
 use crate::link::Link;
 use crate::unused::Unused;
@@ -92,15 +93,8 @@ impl ClientEnd {
                 ahead.advance(used);
                 return Ok(());
             }
-            if *reads == 0 {
-                return Err(RunFault::TooManyReads);
-            }
-            let Ok(more) = link.read(ahead) else {
-                return Err(RunFault::Read);
-            };
-            *reads -= 1;
-            if !more {
-                return Err(RunFault::LinkClosed);
+            if let Err(fault) = link.read(ahead, reads) {
+                return Err(fault);
             }
         }
     }

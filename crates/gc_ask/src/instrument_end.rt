@@ -50,15 +50,8 @@ impl<T: Answers> InstrumentEnd<T> {
         let mut text = Outgoing::new();
         let mut cut = Line::new();
         while !self.answer_ahead(&mut text, &mut cut) {
-            if *reads == 0 {
-                return Err(RunFault::TooManyReads);
-            }
-            let Ok(more) = self.ahead.read(link_in) else {
-                return Err(RunFault::Read);
-            };
-            *reads -= 1;
-            if !more {
-                return Err(RunFault::LinkClosed);
+            if let Err(fault) = self.ahead.read_more(link_in, reads) {
+                return Err(fault);
             }
         }
         write_whole(link_out, text.as_slice()).map_err(|bytes| RunFault::Write {

@@ -9,6 +9,7 @@ use crate::busy_clock::BusyClock;
 use crate::caller::{End, RequestReader};
 use crate::callers::{CallerFault, Callers, PAUSE, end_of_caller, keep};
 use crate::simulated::Simulates;
+use gc_instrument::ServeFault;
 use gc_links::accept;
 use gc_texts::RunFault;
 use std::io::{self, Write};
@@ -17,7 +18,7 @@ use std::thread;
 use std::time::{Clock, Duration};
 
 /// How a port or a device is kept.
-#[derive(Clone, Copy, Debug, PartialEq, Eq)]
+#[derive(Clone, Copy)]
 pub struct Keeping {
     /// How many connections are served. `None`: as many as come.
     pub connections: Option<u32>,
@@ -101,8 +102,8 @@ impl<'a, R: Clock, I: Simulates> Callers for PortCallers<'a, R, I> {
     ghost served = { λ _. None };
 
     // Waits for the next connection and serves it. `Socket`: no connection could be accepted, and then this sleeps for `PAUSE`
-    // seconds; or the connection's time-outs couldn't be set. A read that timed out is the fault `Idle`, any other failed read
-    // is `Read`.
+    // seconds; or the connection's time-outs couldn't be set. A read that timed out is the fault `Idle`, and any other failed
+    // read one of serving.
     fn serve_next(&mut self) -> Result<(), CallerFault> {
         let Ok(stream) = accept(self.listener) else {
             thread::sleep(self.rt, Duration::from_secs(PAUSE));
@@ -116,7 +117,9 @@ impl<'a, R: Clock, I: Simulates> Callers for PortCallers<'a, R, I> {
         let served = reader.serve(self.instrument, self.max_reads);
         let end = end_of_caller(served);
         match end {
-            Err(CallerFault::Read) if reader.is_idle() => Err(CallerFault::Idle),
+            Err(CallerFault::Serving(ServeFault::Read { .. })) if reader.is_idle() => {
+                Err(CallerFault::Idle)
+            }
             _ => end,
         }
     }

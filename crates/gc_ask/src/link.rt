@@ -1,14 +1,15 @@
 //! A link that commands are asked over: requests are sent over it, and what comes is read. It may have an instrument of its own
 //! at the other end.
 
-ghost use Rattle.std.specs.Prelude.{◌≡◌, ◌+◌, ◌≤◌, [], length, true, false, Err, Ok};
+ghost use Rattle.std.specs.Prelude.{◌≡◌, ◌+◌, true, Err};
 ghost use Rattle.gc_lines.specs.Lines.{with_end};
 ghost use Rattle.gc_ask.specs.Asking.{taken_by};
-ghost use Rattle.gc_ask.specs.Links.{BothStep, OnlyReads, ReadsOnce, Sends, TakesRequest, source_of};
+ghost use Rattle.gc_ask.specs.Links.{BothStep, OnlyReads, ReadsMore, Sends, TakesRequest};
+ghost use Rattle.gc_texts.specs.WholeTexts.{source_of};
 ghost use Rattle.gc_texts.specs.declared.fault.RunFault.{RunFault};
 
 use crate::unused::Unused;
-use gc_lines::{Line, PortFailed, Sink, Source, write_line};
+use gc_lines::{Line, Sink, Source, write_line};
 use gc_texts::RunFault;
 
 /// A link that commands are asked over, one after the other.
@@ -16,7 +17,6 @@ pub(crate) trait Link {
     ghost use Rattle.std.specs.Prelude.{Bool};
     ghost use Rattle.gc_lines.specs.Answering.{Ports};
     ghost use Rattle.gc_ask.specs.Links.{Held};
-    ghost use Rattle.gc_ask.specs.declared.unused.TheConstants.{ROOM};
 
     /// Whether somebody other than this program answers at the other end.
     ghost is_remote: { Bool };
@@ -41,12 +41,10 @@ pub(crate) trait Link {
         ensures too_many { result ≡ Err RunFault.TooManyReads → reads.new ≡ 0 }
         ensures held { held self.new ≡ held self.old };
 
-    /// Reads the client's end once into `ahead`, in place of what was left there. Returns false at the end of the stream,
-    /// where nothing is left in `ahead`. `Err`: the source failed.
-    fn read(&mut self, ahead: &mut Unused) -> Result<bool, PortFailed>
-        ensures few { length ahead.new ≤ ROOM }
-        ensures end { result ≡ Ok false → ahead.new ≡ [] }
-        ensures bytes { ReadsOnce (source_of (client self.old)) (source_of (client self.new)) ahead.new result }
+    /// Reads the client's end once more into `ahead`, as `Unused::read_more` does.
+    fn read(&mut self, ahead: &mut Unused, reads: &mut u32) -> Result<(), RunFault>
+        ensures more { ReadsMore (source_of (client self.old)) (source_of (client self.new)) ahead.new reads.old reads.new
+            result }
         ensures only { OnlyReads (client self.old) (client self.new) (instrument self.old) (instrument self.new) (held self.old) (held self.new) };
 }
 
@@ -80,9 +78,9 @@ impl<'a, 'b, I: Source, O: Sink> Link for Remote<'a, 'b, I, O> {
         send_line(place, request, self.sink)
     }
 
-    // Reads once of the source, in place of what was left of the last read.
-    fn read(&mut self, ahead: &mut Unused) -> Result<bool, PortFailed> {
-        ahead.read(self.source)
+    // Reads the source.
+    fn read(&mut self, ahead: &mut Unused, reads: &mut u32) -> Result<(), RunFault> {
+        ahead.read_more(self.source, reads)
     }
 }
 

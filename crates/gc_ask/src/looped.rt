@@ -9,7 +9,7 @@ use crate::instrument_end::InstrumentEnd;
 use crate::link::{Link, send_line};
 use crate::unused::Unused;
 use gc_instrument::Instrument;
-use gc_lines::{Answers, Line, PortFailed, Sink, Source};
+use gc_lines::{Answers, Line, Sink, Source};
 use gc_texts::RunFault;
 use std::alloc::Global;
 
@@ -121,8 +121,8 @@ impl<'a, 'b, 'c, 'd, 'e, A: Source, B: Sink, C: Source, D: Sink, T: Answers> Lin
             .answer_line(place, self.instrument_in, self.instrument_out, reads)
     }
 
-    // Reads once at the client's end, in place of what was left of the last read.
-    fn read(&mut self, ahead: &mut Unused) -> Result<bool, PortFailed> {
-        ahead.read(self.client_in)
+    // Reads the client's end.
+    fn read(&mut self, ahead: &mut Unused, reads: &mut u32) -> Result<(), RunFault> {
+        ahead.read_more(self.client_in, reads)
     }
 }

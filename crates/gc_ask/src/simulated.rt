@@ -1,63 +1,60 @@
 //! An instrument that is served to callers, each of whom finds it restarted: the simulator, the instrument of a scene with rules, or one
 //! whose replies take time (`slow.rt`).
 
-ghost use Rattle.std.specs.Prelude.{ℕ, Result};
-ghost use Rattle.gc_lines.specs.Answering.{Ports, ports_of};
-ghost use Rattle.gc_lines.specs.declared.served.Served.{Served};
-ghost use Rattle.gc_lines.specs.declared.served.ServeFault.{ServeFault};
+ghost use Rattle.std.specs.Prelude.{◌≡◌, false};
+ghost use Rattle.gc_lines.specs.Answering.{AnswersRun, HasEnded, ports_of};
 
-use gc_instrument::{Instrument, ServeFault, Served, serve};
-use gc_lines::{Sink, Source};
-use gc_scenes::{SceneInstrument, serve_scene};
+use gc_instrument::{Instrument, ServeFault, Served};
+use gc_lines::{Answers, Sink, Source, answer_frames};
+use gc_scenes::SceneInstrument;
 
 /// What answers callers, one connection after the other.
-pub trait Simulates {
-    /// What serving a connection may do: the instrument before and after it, the ports before and after it, the most reads, and
-    /// how it ended.
-    ghost serving: { Self → Self → Ports → Ports → ℕ → Result Served ServeFault → Type 0 };
+pub trait Simulates: Answers {
+    /// The instrument after a restart, by what it was before.
+    ghost restarted: { Self → Self };
 
-    /// Restarts the instrument, and serves a connection with it, of which `source` and `sink` are the two directions, in at most
-    /// `max_reads` reads. The faults are those of `serve`.
-    fn serve_anew<S: Source, K: Sink>(
-        &mut self,
-        source: &mut S,
-        sink: &mut K,
-        max_reads: u32,
-    ) -> Result<Served, ServeFault>
-        ensures { serving self.old self.new
-            (ports_of S.Source source.old K.Sink sink.old)
-            (ports_of S.Source source.new K.Sink sink.new)
-            max_reads result };
+    /// Restarts the instrument, for the next caller.
+    fn start_anew(&mut self)
+        ensures { self.new ≡ restarted self.old };
 }
 
 impl Simulates for Instrument {
-    ghost use Rattle.gc_ask.specs.Simulating.{ServesAnew};
+    ghost use Rattle.gc_instrument.specs.State.{restarted};
 
-    ghost serving = { ServesAnew };
+    ghost restarted = { restarted };
 
-    fn serve_anew<S: Source, K: Sink>(
-        &mut self,
-        source: &mut S,
-        sink: &mut K,
-        max_reads: u32,
-    ) -> Result<Served, ServeFault> {
+    fn start_anew(&mut self) {
         self.restart();
-        serve(self, source, sink, max_reads)
     }
 }
 
 impl Simulates for SceneInstrument {
-    ghost use Rattle.gc_ask.specs.Simulating.{ServesSceneAnew};
+    ghost use Rattle.gc_scenes.specs.SceneState.{scene_restarted};
 
-    ghost serving = { ServesSceneAnew };
+    ghost restarted = { scene_restarted };
 
-    fn serve_anew<S: Source, K: Sink>(
-        &mut self,
-        source: &mut S,
-        sink: &mut K,
-        max_reads: u32,
-    ) -> Result<Served, ServeFault> {
+    fn start_anew(&mut self) {
         self.restart();
-        serve_scene(self, source, sink, max_reads)
     }
+}
+
+/// Restarts an instrument, and serves a connection with it, of which `source` and `sink` are the two directions, in at most
+/// `max_reads` reads. The faults are those of `serve`.
+pub(crate) fn serve_anew<I: Simulates, S: Source, K: Sink>(
+    instrument: &mut I,
+    source: &mut S,
+    sink: &mut K,
+    max_reads: u32,
+) -> Result<Served, ServeFault>
+    ensures answers { AnswersRun I.answers (I.restarted instrument.old) instrument.new
+        (ports_of S.Source source.old K.Sink sink.old)
+        (ports_of S.Source source.new K.Sink sink.new)
+        false result }
+    ensures ended { HasEnded
+        (ports_of S.Source source.old K.Sink sink.old)
+        (ports_of S.Source source.new K.Sink sink.new)
+        max_reads result }
+{
+    instrument.start_anew();
+    answer_frames(instrument, source, sink, max_reads, false)
 }

@@ -3,15 +3,13 @@
 
 ghost use Rattle.std.specs.Prelude.{◌≡◌, ◌+◌, ◌≤◌, length};
 ghost use Rattle.arrayvec.specs.ArrayVec.{array_vec_len};
-ghost use Rattle.gc_ask.specs.Simulating.{ServesSlowAnew};
 ghost use Rattle.gc_lines.specs.Answering.{AppendsAnswer};
 ghost use Rattle.gc_lines.specs.declared.frame.Frame.{Frame};
 ghost use Rattle.gc_scenes.specs.Slow.{HearsSometime};
 
 use crate::busy_clock::BusyClock;
 use crate::simulated::Simulates;
-use gc_instrument::{ServeFault, Served};
-use gc_lines::{Answers, Lent, Outgoing, Sink, Source, answer_frames, append};
+use gc_lines::{Answers, Lent, Outgoing, append};
 use gc_scenes::SlowInstrument;
 use std::marker::Model;
 
@@ -75,17 +73,11 @@ impl<'a> Answers for Slow<'a> {
 }
 
 impl<'a> Simulates for Slow<'a> {
-    ghost use Rattle.gc_ask.specs.Simulating.{ServesSlowAnew};
+    ghost use Rattle.gc_scenes.specs.Slow.{slow_restarted};
 
-    ghost serving = { ServesSlowAnew };
+    ghost restarted = { slow_restarted };
 
-    fn serve_anew<S: Source, K: Sink>(
-        &mut self,
-        source: &mut S,
-        sink: &mut K,
-        max_reads: u32,
-    ) -> Result<Served, ServeFault> {
+    fn start_anew(&mut self) {
         self.slow.restart();
-        answer_frames(self, source, sink, max_reads, false)
     }
 }

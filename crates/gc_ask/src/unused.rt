@@ -1,11 +1,12 @@
 //! What was read of a link and isn't used yet.
 
 ghost use Rattle.std.specs.Prelude.{◌≡◌, ◌+◌, ◌≤◌, [], drop, length, true, false, not, Ok, MatchResult};
-ghost use Rattle.gc_ask.specs.Links.{ReadsOnce};
+ghost use Rattle.gc_ask.specs.Links.{ReadsMore, ReadsOnce};
 ghost use Rattle.gc_ask.specs.declared.unused.TheConstants.{ROOM};
 ghost use Rattle.gc_texts.specs.WholeTexts.{input_of};
 
 use gc_lines::{PortFailed, Source};
+use gc_texts::RunFault;
 use std::marker::Model;
 
 /// The most bytes of one read.
@@ -59,7 +60,7 @@ impl Unused {
 
     // Reads once, in place of what was left. Returns false at the end of the stream, where nothing is left. `Err`: the source
     // failed, and nothing is left either.
-    pub(crate) fn read<S: Source>(&mut self, source: &mut S) -> Result<bool, PortFailed>
+    fn read<S: Source>(&mut self, source: &mut S) -> Result<bool, PortFailed>
         ensures few { length self.new ≤ ROOM }
         ensures end { result ≡ Ok false → self.new ≡ [] }
         ensures bytes { ReadsOnce (input_of S.Source source.old) (input_of S.Source source.new) self.new result }
@@ -69,5 +70,27 @@ impl Unused {
         let n = source.read(&mut self.bytes)?;
         self.end = n;
         Ok(n > 0)
+    }
+
+    // Reads once more, in place of what was left, and subtracts from `reads` a read that was answered. `Err`: `TooManyReads` if
+    // no read is left, `Read` if it failed, and `LinkClosed` at the end of what comes.
+    pub(crate) fn read_more<S: Source>(
+        &mut self,
+        source: &mut S,
+        reads: &mut u32,
+    ) -> Result<(), RunFault>
+        ensures { ReadsMore (input_of S.Source source.old) (input_of S.Source source.new) self.new reads.old reads.new result }
+    {
+        if *reads == 0 {
+            return Err(RunFault::TooManyReads);
+        }
+        let Ok(more) = self.read(source) else {
+            return Err(RunFault::Read);
+        };
+        *reads -= 1;
+        if !more {
+            return Err(RunFault::LinkClosed);
+        }
+        Ok(())
     }
 }

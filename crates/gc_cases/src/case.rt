@@ -1,6 +1,6 @@
 //! A case of a test, and how the cases of a text are cut from it.
 
-use crate::told::number_or;
+use std::str::FromStr;
 
 /// A case: a name, and lines of a key and a value each.
 #[derive(Clone, Copy)]
@@ -19,22 +19,19 @@ impl<'a> Case<'a> {
 
     /// The value of the line at a place, counted from 0, among the lines with this key. `None`: there are fewer such lines.
     pub fn value_at(&self, key: &str, place: usize) -> Option<&'a str> {
-        let mut left = place;
-        for line in self.lines.lines() {
-            if let Some(value) = value_of(line, key) {
-                if left == 0 {
-                    return Some(value);
-                }
-                left = left.saturating_sub(1);
-            }
-        }
-        None
+        self.lines
+            .lines()
+            .filter_map(|line| value_of(line, key))
+            .nth(place)
     }
 
-    /// The number that the first line with this key has as its value; `or` if there is no such line, or its value is no number of 64
-    /// bits (`number_or`).
-    pub fn number(&self, key: &str, or: u64) -> u64 {
-        number_or(self.value(key), or)
+    /// The number that the first line with this key has as its value; `or` if there is no such line, or its value is no number
+    /// of this type.
+    pub fn number<T: FromStr + Drop>(&self, key: &str, or: T) -> T
+    where
+        T::Err: Drop,
+    {
+        self.value(key).parse::<T>().unwrap_or(or)
     }
 }
 

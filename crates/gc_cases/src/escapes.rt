@@ -45,29 +45,29 @@ fn next_byte(value: &[u8]) -> Option<(u8, &[u8])> {
 }
 
 // The byte that a backslash and the text `rest` after it stand for, and the text after that: `n`, `r` and `t` stand for LF, CR and
-// a tab, `x` and the two bytes after it for the byte that these write in hexadecimal (`digit_of`), any other byte, and an `x` with fewer
-// than two bytes after it, for itself, and a backslash at the end of the text for itself.
+// a tab, `x` and two hexadecimal digits for the byte that these write, any other byte, also an `x` without two such digits after
+// it, for itself, and a backslash at the end of the text for itself.
 fn escape_of(rest: &[u8]) -> (u8, &[u8]) {
+    if let Some(written) = hex_escape_of(rest) {
+        return written;
+    }
     match rest {
         [b'n', behind @ ..] => (b'\n', behind),
         [b'r', behind @ ..] => (b'\r', behind),
         [b't', behind @ ..] => (b'\t', behind),
-        [b'x', high, low, behind @ ..] => (
-            digit_of(*high)
-                .wrapping_mul(16)
-                .wrapping_add(digit_of(*low)),
-            behind,
-        ),
         [other, behind @ ..] => (*other, behind),
         [] => (b'\\', rest),
     }
 }
 
-// The value of a hexadecimal digit, 0 to 9 or a to f, and 0 for any other byte.
-fn digit_of(digit: u8) -> u8 {
-    match digit {
-        b'0'..=b'9' => digit - b'0',
-        b'a'..=b'f' => digit - b'a' + 10,
-        _ => 0,
-    }
+// The byte that an `x` and the two hexadecimal digits after it write, and the text after these. `None`: the text doesn't begin
+// so.
+fn hex_escape_of(rest: &[u8]) -> Option<(u8, &[u8])> {
+    let [b'x', high, low, behind @ ..] = rest else {
+        return None;
+    };
+    let high = char::from(*high).to_digit(16)?;
+    let low = char::from(*low).to_digit(16)?;
+    let byte = u8::try_from(high.wrapping_mul(16).wrapping_add(low)).ok()?;
+    Some((byte, behind))
 }

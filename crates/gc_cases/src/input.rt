@@ -15,7 +15,7 @@ pub fn input_of(alloc: Global, case: &Case<'_>) -> Result<Vec<u8>, AllocError> {
 // Appends a case's input, as `input_of` says.
 fn push_input(case: &Case<'_>, input: &mut Vec<u8>) -> Result<(), AllocError> {
     push_bytes_of(input, case.value("front"))?;
-    for _ in 0..case.number("times", 1) {
+    for _ in 0..case.number("times", 1u64) {
         push_bytes_of(input, case.value("input"))?;
     }
     push_bytes_of(input, case.value("behind"))

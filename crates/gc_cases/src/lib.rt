@@ -1,8 +1,8 @@
 //! Cases of tests that are data: a text of cases, what one has under a key, and whether what came is what it expects.
 //!
 //! A line `== NAME` begins a case, up to the next one. Each other line is a key and, after a space, its value. A line that
-//! is empty or begins with `#` says nothing. In a value `\n`, `\r`, `\t`, `\\` and `\xHH` (two digits, 0 to 9 and a to f)
-//! stand for bytes.
+//! is empty or begins with `#` says nothing. In a value `\n`, `\r`, `\t`, `\\` and `\xHH` (two hexadecimal digits) stand
+//! for bytes.
 //!
 //! What came is appended to a `Told`: a text whose calls return no error where memory runs out, so that a player has none to pass
 //! on.
@@ -25,4 +25,4 @@ pub use playing::{Player, names_of, play_folder};
 pub use rows::{Rows, bytes_behind, cut_word, play_rows};
 pub use runtime::{CaseRuntime, StandIn};
 pub use stand_ins::{in_use, not_found, port_of};
-pub use told::{Told, number_or};
+pub use told::Told;

@@ -4,6 +4,7 @@ use crate::escapes::spells;
 use std::alloc::Global;
 use std::fmt;
 use std::io::{self, Write};
+use std::str::FromStr;
 
 /// A text to which what came is appended. Its calls return no error, so that a player has none to pass on: where memory runs
 /// out, the text notes that it lacks a part, and from then on it is what no case expects.
@@ -95,6 +96,20 @@ impl Told {
         self.text(what);
     }
 
+    /// The number that a word writes. If it writes none of this type, `no number, ` is appended, and the number is 0.
+    pub fn number<T: FromStr + Default + Drop>(&mut self, word: &str) -> T
+    where
+        T::Err: Drop,
+    {
+        match word.parse::<T>() {
+            Ok(number) => number,
+            Err(_) => {
+                self.text("no number, ");
+                T::default()
+            }
+        }
+    }
+
     /// Appends bytes as a value of a case spells them.
     pub fn escaped(&mut self, bytes: &[u8]) {
         for byte in bytes {
@@ -110,8 +125,14 @@ impl Told {
             b'\t' => self.text("\\t"),
             b'\\' => self.text("\\\\"),
             b' '..=b'~' => self.bytes(&[byte]),
-            _ => self.bytes(&[b'\\', b'x', hex_of(byte / 16), hex_of(byte % 16)]),
+            _ => self.escape_in_hex(byte),
         }
+    }
+
+    // Appends a byte as `\x` and two hexadecimal digits.
+    fn escape_in_hex(&mut self, byte: u8) {
+        let is_lacking = write!(self.bytes, "\\x{byte:02x}").is_err();
+        self.lacks |= is_lacking;
     }
 }
 
@@ -125,14 +146,4 @@ impl Write for Told {
     fn flush(&mut self) -> io::Result<()> {
         Ok(())
     }
-}
-
-// The hexadecimal digit of a number below 16, and `?` for any other number.
-fn hex_of(digit: u8) -> u8 {
-    *b"0123456789abcdef".get(usize::from(digit)).unwrap_or(&b'?')
-}
-
-/// The number that a word writes in decimal digits, with or without a `+` before them; `or` if it is no number of 64 bits.
-pub fn number_or(word: &str, or: u64) -> u64 {
-    word.parse::<u64>().unwrap_or(or)
 }

@@ -12,5 +12,6 @@ pub mod RawProps
 pub mod RawTexts
 pub mod Raws
 pub mod Readings
+pub mod Rows
 pub mod Structs
 pub mod Texts

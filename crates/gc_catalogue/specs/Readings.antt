@@ -8,11 +8,19 @@ use Rattle.gc_catalogue.specs.declared.answer.Reading.TheVariants.{Value, Refuse
 use Rattle.gc_catalogue.specs.declared.call.Call.{Call}
 use Rattle.gc_catalogue.specs.Answers.{IsAnswer, IsUnreadable}
 
+-- a code of the reply isn't 0, and for that the reply has this reading, whatever its parameters are: a communication fault if the
+-- communication code isn't 0, else a refusal
+abbrev pub IsCodeReading : ReplyFields → Reading → Type 0
+IsCodeReading r (ComFault code) = (r.rc_com ≢ 0) × (code ≡ r.rc_com)
+IsCodeReading r (Refused code) = (r.rc_com ≡ 0) × (r.rc ≢ 0) × (code ≡ r.rc)
+IsCodeReading r (Value answer) = ⊥
+IsCodeReading r (Unreadable e) = ⊥
+
 -- the reply has this reading, where `IsRead` says which answer its parameters read as, and `IsFaulty` for which fault they don't:
--- a communication fault if the communication code isn't 0, else a refusal if the return code isn't 0, else the answer or the fault
+-- that of its codes if one of them isn't 0 (`IsCodeReading`), else the answer or the fault
 abbrev pub IsReadingBy : (IsRead : Answer → Type 0) → (IsFaulty : ValueFault → Type 0) → ReplyFields → Reading → Type 0
-IsReadingBy IsRead IsFaulty r (ComFault code) = (r.rc_com ≢ 0) × (code ≡ r.rc_com)
-IsReadingBy IsRead IsFaulty r (Refused code) = (r.rc_com ≡ 0) × (r.rc ≢ 0) × (code ≡ r.rc)
+IsReadingBy IsRead IsFaulty r (ComFault code) = IsCodeReading r (ComFault code)
+IsReadingBy IsRead IsFaulty r (Refused code) = IsCodeReading r (Refused code)
 IsReadingBy IsRead IsFaulty r (Value answer) = (r.rc_com ≡ 0) × (r.rc ≡ 0) × IsRead answer
 IsReadingBy IsRead IsFaulty r (Unreadable e) = (r.rc_com ≡ 0) × (r.rc ≡ 0) × IsFaulty e
 

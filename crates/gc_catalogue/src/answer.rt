@@ -38,7 +38,7 @@ pub enum Answer {
 }
 
 /// The shape of an answer: the variant of `Answer`, without its values. All answers of a procedure have one shape.
-#[derive(Clone, Copy, Debug, PartialEq, Eq)]
+#[derive(Clone, Copy)]
 pub enum Shape {
     Nothing,
     Short,

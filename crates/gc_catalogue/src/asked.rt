@@ -16,7 +16,7 @@ use crate::answer::{Answer, Reading};
 use crate::asking::Asking;
 use crate::call::Call;
 use crate::raw::{RawCall, items_fault, raw_call};
-use crate::replies::decode_answer_into;
+use crate::replies::{decode_answer_into, read_codes};
 use crate::requests::{decode_call, encode_call_onto};
 use arrayvec::ArrayVec;
 use gc_lines::{Line, Reply, Request, append, push_request};
@@ -121,22 +121,19 @@ pub fn decode_asked(request: &Request<'_>) -> Option<Asked>
     }
 }
 
-// Reads what a reply says in answer to a request for a procedure that isn't in the table, into `reading`. Codes other than 0 are
-// read as by `decode_answer`. With both codes 0 the reading is `Unreadable` with the fault that `items_fault` finds in the
-// reply's parameters, or the value `Answer::Nothing` if it finds none.
+// Reads what a reply says in answer to a request for a procedure that isn't in the table, into `reading`. With both codes 0 the
+// reading is `Unreadable` with the fault that `items_fault` finds in the reply's parameters, or the value `Answer::Nothing` if
+// it finds none.
 fn decode_raw_into(reply: &Reply<'_>, reading: &mut Reading)
     ensures { IsRawReading (reply_seen reply.now) reading.new }
 {
-    if reply.rc_com != 0 {
-        *reading = Reading::ComFault(reply.rc_com);
-    } else if reply.rc != 0 {
-        *reading = Reading::Refused(reply.rc);
-    } else {
-        *reading = match items_fault(reply.params) {
-            Some(fault) => Reading::Unreadable(fault),
-            None => Reading::Value(Answer::Nothing),
-        };
+    if read_codes(reply, reading) {
+        return;
     }
+    *reading = match items_fault(reply.params) {
+        Some(fault) => Reading::Unreadable(fault),
+        None => Reading::Value(Answer::Nothing),
+    };
 }
 
 /// Reads what a reply says in answer to what was asked, into `reading`. Where a call of the table was asked for, or a code isn't

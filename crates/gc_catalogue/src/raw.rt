@@ -21,7 +21,7 @@ pub struct RawCall {
 }
 
 /// Why a number and parameters may not be asked for as they are.
-#[derive(Clone, Copy, Debug, PartialEq, Eq)]
+#[derive(Clone, Copy, PartialEq, Eq)]
 pub enum RawFault {
     /// The number is that of a procedure of the table.
     InTable,

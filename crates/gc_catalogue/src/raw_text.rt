@@ -1,6 +1,8 @@
 //! The parameters of a procedure that isn't in the table: bytes as they are.
 
-ghost use Rattle.std.specs.Prelude.{◌≡◌, ◌-◌, ◌≤◌, ◌++◌, length, drop, replicate};
+ghost use Rattle.std.specs.Prelude.{◌≡◌, ◌-◌, ◌≤◌, length, drop, replicate};
+
+use gc_values::filled_up;
 
 /// The most bytes that the parameters of a procedure that isn't in the table may have: a request's line of 512 bytes with an id has at
 /// least 9 before them.
@@ -15,16 +17,6 @@ pub struct RawText {
     pub ghost few: { len ≤ 503 },
     pub ghost long: { length bytes ≡ 503 },
     pub ghost zeros: { drop len bytes ≡ replicate (503 - len) 0 },
-}
-
-// The bytes, at most 503, followed by as many zeros as make them 503 bytes.
-fn filled_up(bytes: &[u8]) -> [u8; RAW_BYTES]
-    requires { length bytes.now ≤ 503 }
-    ensures { result ≡ bytes.now ++ replicate (503 - length bytes.now) 0 }
-{
-    let mut all = [0; RAW_BYTES];
-    all[..bytes.len()].copy_from_slice(bytes);
-    all
 }
 
 impl RawText {

@@ -4,7 +4,7 @@
 ghost use Rattle.std.specs.Prelude.{◌≡◌, IsTrue, IsFalse};
 ghost use Rattle.gc_catalogue.specs.Answers.{answer_fields};
 ghost use Rattle.gc_catalogue.specs.Calls.{call_fields, IsNoProcedure};
-ghost use Rattle.gc_catalogue.specs.Lists.{ReadsRow};
+ghost use Rattle.gc_catalogue.specs.Rows.{ReadsAnswer, ReadsCall, ReadsRow};
 ghost use Rattle.gc_catalogue.specs.Structs.{date_values, station_values};
 ghost use Rattle.gc_catalogue.specs.declared.answer.Shape.TheVariants as shape;
 
@@ -18,7 +18,7 @@ use gc_values::Parameters;
 /// afterwards.
 pub(crate) fn read_row<P: Parameters>(rpc: u16, params: &mut P, call: &mut Call) -> bool
     ensures found { IsTrue result → (call_fields call.new).number ≡ rpc }
-    ensures row { IsTrue result → ReadsRow P.reads P.fails params.old params.new (call_fields call.new).values }
+    ensures row { IsTrue result → ReadsRow P.Parameters params.old params.new (call_fields call.new).values }
     ensures none { IsFalse result → IsNoProcedure rpc }
 {
     match rpc {
@@ -77,14 +77,12 @@ pub(crate) fn read_row<P: Parameters>(rpc: u16, params: &mut P, call: &mut Call)
 }
 
 // The rows with large values are in functions of their own, so that the stack frames of `read_row` and `read_answer_row` stay
-// small. Each has the contract of its table for its own row: that of `read_row` for one number, or of `read_answer_row` for one
-// shape.
+// small.
 
 // The row of CSV_SetDateTime: a date and a time of day.
 #[inline(never)]
 fn read_set_date<P: Parameters>(params: &mut P, call: &mut Call)
-    ensures number { (call_fields call.new).number ≡ 5007 }
-    ensures row { ReadsRow P.reads P.fails params.old params.new (call_fields call.new).values }
+    ensures { ReadsCall P.Parameters 5007 params.old params.new call.new }
 {
     *call = Call::SetDate(read_date(params));
 }
@@ -92,8 +90,7 @@ fn read_set_date<P: Parameters>(params: &mut P, call: &mut Call)
 // The row of TMC_SetStation: a station's coordinates and the instrument's height.
 #[inline(never)]
 fn read_set_station<P: Parameters>(params: &mut P, call: &mut Call)
-    ensures number { (call_fields call.new).number ≡ 2010 }
-    ensures row { ReadsRow P.reads P.fails params.old params.new (call_fields call.new).values }
+    ensures { ReadsCall P.Parameters 2010 params.old params.new call.new }
 {
     *call = Call::SetStation(read_station(params));
 }
@@ -101,8 +98,7 @@ fn read_set_station<P: Parameters>(params: &mut P, call: &mut Call)
 // The row of TMC_SetHeight: the reflector's height.
 #[inline(never)]
 fn read_set_height<P: Parameters>(params: &mut P, call: &mut Call)
-    ensures number { (call_fields call.new).number ≡ 2012 }
-    ensures row { ReadsRow P.reads P.fails params.old params.new (call_fields call.new).values }
+    ensures { ReadsCall P.Parameters 2012 params.old params.new call.new }
 {
     *call = Call::SetHeight(params.double());
 }
@@ -110,8 +106,7 @@ fn read_set_height<P: Parameters>(params: &mut P, call: &mut Call)
 // The row of AUT_MakePositioning: two angles, two modes and a Boolean.
 #[inline(never)]
 fn read_position<P: Parameters>(params: &mut P, call: &mut Call)
-    ensures number { (call_fields call.new).number ≡ 9027 }
-    ensures row { ReadsRow P.reads P.fails params.old params.new (call_fields call.new).values }
+    ensures { ReadsCall P.Parameters 9027 params.old params.new call.new }
 {
     *call = Call::Position {
         hz: params.double(),
@@ -125,8 +120,7 @@ fn read_position<P: Parameters>(params: &mut P, call: &mut Call)
 // The row of AUT_FineAdjust: the two angles of the search area and a Boolean.
 #[inline(never)]
 fn read_fine_adjust<P: Parameters>(params: &mut P, call: &mut Call)
-    ensures number { (call_fields call.new).number ≡ 9037 }
-    ensures row { ReadsRow P.reads P.fails params.old params.new (call_fields call.new).values }
+    ensures { ReadsCall P.Parameters 9037 params.old params.new call.new }
 {
     *call = Call::FineAdjust {
         area_hz: params.double(),
@@ -140,7 +134,7 @@ fn read_fine_adjust<P: Parameters>(params: &mut P, call: &mut Call)
 /// says afterwards.
 pub(crate) fn read_answer_row<P: Parameters>(shape: Shape, params: &mut P, answer: &mut Answer)
     ensures found { (answer_fields answer.new).shape ≡ shape }
-    ensures row { ReadsRow P.reads P.fails params.old params.new (answer_fields answer.new).values }
+    ensures row { ReadsRow P.Parameters params.old params.new (answer_fields answer.new).values }
 {
     match shape {
         Shape::Nothing => *answer = Answer::Nothing,
@@ -163,8 +157,7 @@ pub(crate) fn read_answer_row<P: Parameters>(shape: Shape, params: &mut P, answe
 // The answer `Name`: a string.
 #[inline(never)]
 fn read_name<P: Parameters>(params: &mut P, answer: &mut Answer)
-    ensures shape { (answer_fields answer.new).shape ≡ shape.Name }
-    ensures row { ReadsRow P.reads P.fails params.old params.new (answer_fields answer.new).values }
+    ensures { ReadsAnswer P.Parameters shape.Name params.old params.new answer.new }
 {
     *answer = Answer::Name(params.text());
 }
@@ -172,8 +165,7 @@ fn read_name<P: Parameters>(params: &mut P, answer: &mut Answer)
 // The answer `Date`: a date and a time of day.
 #[inline(never)]
 fn read_date_answer<P: Parameters>(params: &mut P, answer: &mut Answer)
-    ensures shape { (answer_fields answer.new).shape ≡ shape.Date }
-    ensures row { ReadsRow P.reads P.fails params.old params.new (answer_fields answer.new).values }
+    ensures { ReadsAnswer P.Parameters shape.Date params.old params.new answer.new }
 {
     *answer = Answer::Date(read_date(params));
 }
@@ -181,8 +173,7 @@ fn read_date_answer<P: Parameters>(params: &mut P, answer: &mut Answer)
 // The answer `Temperature`, in degrees Celsius.
 #[inline(never)]
 fn read_temperature<P: Parameters>(params: &mut P, answer: &mut Answer)
-    ensures shape { (answer_fields answer.new).shape ≡ shape.Temperature }
-    ensures row { ReadsRow P.reads P.fails params.old params.new (answer_fields answer.new).values }
+    ensures { ReadsAnswer P.Parameters shape.Temperature params.old params.new answer.new }
 {
     *answer = Answer::Temperature(params.double());
 }
@@ -190,8 +181,7 @@ fn read_temperature<P: Parameters>(params: &mut P, answer: &mut Answer)
 // The answer `Place`: a station's coordinates and the instrument's height.
 #[inline(never)]
 fn read_place<P: Parameters>(params: &mut P, answer: &mut Answer)
-    ensures shape { (answer_fields answer.new).shape ≡ shape.Place }
-    ensures row { ReadsRow P.reads P.fails params.old params.new (answer_fields answer.new).values }
+    ensures { ReadsAnswer P.Parameters shape.Place params.old params.new answer.new }
 {
     *answer = Answer::Place(read_station(params));
 }
@@ -199,8 +189,7 @@ fn read_place<P: Parameters>(params: &mut P, answer: &mut Answer)
 // The answer `Height`: the reflector's height.
 #[inline(never)]
 fn read_height<P: Parameters>(params: &mut P, answer: &mut Answer)
-    ensures shape { (answer_fields answer.new).shape ≡ shape.Height }
-    ensures row { ReadsRow P.reads P.fails params.old params.new (answer_fields answer.new).values }
+    ensures { ReadsAnswer P.Parameters shape.Height params.old params.new answer.new }
 {
     *answer = Answer::Height(params.double());
 }
@@ -208,8 +197,7 @@ fn read_height<P: Parameters>(params: &mut P, answer: &mut Answer)
 // The answer `Angles`: the horizontal direction and the vertical angle.
 #[inline(never)]
 fn read_angles<P: Parameters>(params: &mut P, answer: &mut Answer)
-    ensures shape { (answer_fields answer.new).shape ≡ shape.Angles }
-    ensures row { ReadsRow P.reads P.fails params.old params.new (answer_fields answer.new).values }
+    ensures { ReadsAnswer P.Parameters shape.Angles params.old params.new answer.new }
 {
     *answer = Answer::Angles {
         hz: params.double(),
@@ -220,8 +208,7 @@ fn read_angles<P: Parameters>(params: &mut P, answer: &mut Answer)
 // The answer `Measured`: two angles and a distance.
 #[inline(never)]
 fn read_measured<P: Parameters>(params: &mut P, answer: &mut Answer)
-    ensures shape { (answer_fields answer.new).shape ≡ shape.Measured }
-    ensures row { ReadsRow P.reads P.fails params.old params.new (answer_fields answer.new).values }
+    ensures { ReadsAnswer P.Parameters shape.Measured params.old params.new answer.new }
 {
     *answer = Answer::Measured {
         hz: params.double(),
@@ -233,8 +220,7 @@ fn read_measured<P: Parameters>(params: &mut P, answer: &mut Answer)
 // The answer `MeasuredMode`: two angles, a distance and its mode.
 #[inline(never)]
 fn read_measured_mode<P: Parameters>(params: &mut P, answer: &mut Answer)
-    ensures shape { (answer_fields answer.new).shape ≡ shape.MeasuredMode }
-    ensures row { ReadsRow P.reads P.fails params.old params.new (answer_fields answer.new).values }
+    ensures { ReadsAnswer P.Parameters shape.MeasuredMode params.old params.new answer.new }
 {
     *answer = Answer::MeasuredMode {
         hz: params.double(),
@@ -247,7 +233,7 @@ fn read_measured_mode<P: Parameters>(params: &mut P, answer: &mut Answer)
 // Reads the six parameters of a date and time of day, and makes a `DateTime` of them. As in `read_row`, zeros stand for those not
 // read.
 fn read_date<P: Parameters>(params: &mut P) -> DateTime
-    ensures row { ReadsRow P.reads P.fails params.old params.new (date_values result) }
+    ensures row { ReadsRow P.Parameters params.old params.new (date_values result) }
 {
     DateTime {
         year: params.short(),
@@ -261,7 +247,7 @@ fn read_date<P: Parameters>(params: &mut P) -> DateTime
 
 // Reads the four parameters of a station, and makes a station of them. As in `read_row`, zeros stand for those not read.
 fn read_station<P: Parameters>(params: &mut P) -> Station
-    ensures row { ReadsRow P.reads P.fails params.old params.new (station_values result) }
+    ensures row { ReadsRow P.Parameters params.old params.new (station_values result) }
 {
     Station {
         e0: params.double(),

@@ -1,12 +1,12 @@
 //! Answers and their reply lines.
 
-ghost use Rattle.std.specs.Prelude.{◌≡◌, ◌≢◌, ◌+◌, ◌<◌, ◌≤◌, ◌++◌, IsTrue};
+ghost use Rattle.std.specs.Prelude.{◌≡◌, ◌≢◌, ◌+◌, ◌<◌, ◌≤◌, ◌++◌, IsTrue, IsFalse};
 ghost use Rattle.arrayvec.specs.ArrayVec.{array_vec_len};
 ghost use Rattle.gc_lines.specs.Lines.{IsPlain};
 ghost use Rattle.gc_lines.specs.Replies.{reply_seen};
 ghost use Rattle.gc_catalogue.specs.Answers.{IsFittingAnswer, rounded_answer};
 ghost use Rattle.gc_catalogue.specs.Laws.{ReadsBackValue, ReadsBackRefusal};
-ghost use Rattle.gc_catalogue.specs.Readings.{successful_reply, IsReading};
+ghost use Rattle.gc_catalogue.specs.Readings.{successful_reply, IsCodeReading, IsReading};
 ghost use Rattle.gc_catalogue.specs.Texts.{reply_line};
 ghost use Rattle.gc_catalogue.specs.declared.answer.Reading.{Reading};
 
@@ -91,16 +91,33 @@ fn read_any_spelling(call: &Call, params: &[u8], reading: &mut Reading)
     };
 }
 
+// Reads the codes of a reply. If one of them isn't 0, it writes the reading that this makes into `reading`, and returns `true`.
+// Otherwise it returns `false`, and `reading` stays as it was.
+#[inline(always)]
+pub(crate) fn read_codes(reply: &Reply<'_>, reading: &mut Reading) -> bool
+    ensures found { IsTrue result → IsCodeReading (reply_seen reply.now) reading.new }
+    ensures none { IsFalse result → (reply.now.rc_com ≡ 0) × (reply.now.rc ≡ 0) }
+{
+    if reply.rc_com != 0 {
+        *reading = Reading::ComFault(reply.rc_com);
+        true
+    } else if reply.rc != 0 {
+        *reading = Reading::Refused(reply.rc);
+        true
+    } else {
+        false
+    }
+}
+
 /// As [`decode_answer`], but the reading is written into `reading`.
 pub fn decode_answer_into(call: &Call, reply: &Reply<'_>, reading: &mut Reading)
     ensures found { IsReading call.now (reply_seen reply.now) reading.new }
     ensures only { (other : Reading) → IsReading call.now (reply_seen reply.now) other → reading.new ≡ other }
 {
-    if reply.rc_com != 0 {
-        *reading = Reading::ComFault(reply.rc_com);
-    } else if reply.rc != 0 {
-        *reading = Reading::Refused(reply.rc);
-    } else if !read_quickly(call, reply.params, reading) {
+    if read_codes(reply, reading) {
+        return;
+    }
+    if !read_quickly(call, reply.params, reading) {
         read_any_spelling(call, reply.params, reading);
     }
 }

@@ -1,8 +1,11 @@
 -- What a client does with a line, this project's own: the line settles requests, is a stray, or is no reply by the manual's
 -- chapter on the ASCII protocol.
-use Rattle.std.specs.Prelude.{◌≡◌, ℕ, true, false, List, [], map, take, IsOk, Err}
+use Rattle.std.specs.Prelude.{◌≡◌, ℕ, ◌<◌, ◌≤◌, true, false, List, [], length, map, take, IsOk, Ok, Err}
 use Rattle.gc_lines.specs.Readers.{reply_at}
+use Rattle.gc_lines.specs.Replies.{ReplyFields}
 use Rattle.gc_client.specs.declared.pending.Pending.{Pending}
+use Rattle.gc_client.specs.declared.window.TheConstants.{WINDOW}
+use Rattle.gc_client.specs.Places.{IsPlaceHeard}
 use Rattle.gc_client.specs.declared.settlement.Settlement.{Settlement}
 use Rattle.gc_client.specs.declared.heard.Heard.{Heard}
 use Rattle.gc_client.specs.declared.heard.Hearing.{Hearing}
@@ -41,13 +44,20 @@ AreSettledByLine says old line settlements = AreSettledBy says settlements (hear
 abbrev pub IsAfterLine : {Q : Type 0} → (old : Windowed Q) → (line : List ℕ) → (new : Windowed Q) → Type 0
 IsAfterLine old line new = new ≡ record old { ids = (hears old.ids line (heard line)).client }
 
--- by the rule the line settles nothing in this client
-abbrev pub SettlesNone : {Q : Type 0} → ById Q → (line : List ℕ) → Type 0
-SettlesNone c line = (hears c line (heard line)).settlements ≡ []
+-- the line, which isn't overlong, is this reply, and the request that waits at place k of the client is the one that it is for
+pub record FitsAt {Q : Type 0} (c : ById Q) (k : ℕ) (reply : ReplyFields) (line : List ℕ) : Type 0 where
+  pub reads : reply_at line ≡ Ok reply
+  pub short : length line ≤ 512
+  pub place : IsPlaceHeard c reply.id k
+  pub waits : k < length c.waiting
+  pub narrow : k < WINDOW
 
--- by the rule the line leaves this client unchanged
-abbrev pub LeavesUnchanged : {Q : Type 0} → ById Q → (line : List ℕ) → Type 0
-LeavesUnchanged c line = (hears c line (heard line)).client ≡ c
+-- by the rule the line settles nothing in this client and leaves it unchanged, and the client is right to report it so
+-- (`HearsInto`)
+pub record ChangesNothing {Q : Type 0} (c : ById Q) (line : List ℕ) (hearing : Hearing) : Type 0 where
+  pub reported : HearsInto c line hearing [] c
+  pub none : (hears c line (heard line)).settlements ≡ []
+  pub same : (hears c line (heard line)).client ≡ c
 
 -- a line is reported as too long, with no settlements, and the client `new` is `old`
 abbrev pub ReportsTooLong : {Q : Type 0} → Hearing → List (Settlement Q) → (old new : Windowed Q) → Type 0

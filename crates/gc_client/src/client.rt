@@ -1,14 +1,13 @@
 //! The client. What each call does to the next id and to the requests that wait is the client's rule (`specs/Rule.antt`), this
 //! project's own.
 
-ghost use Rattle.std.specs.Prelude.{◌≡◌, ℕ, ◌+◌, ◌<◌, ◌≤◌, ◌↔◌, List, [], ◌∷◌, ◌++◌, length, Option, Some, None, Ok, Err, IfSome, IfOk, IfErr, OnOk, IsOk, IsErr, MatchResult};
+ghost use Rattle.std.specs.Prelude.{◌≡◌, ℕ, ◌+◌, ◌<◌, ◌≤◌, ◌↔◌, List, [], ◌∷◌, ◌++◌, length, Option, Some, None, Err, IfSome, IfOk, IfErr, OnOk, IsOk, IsErr, MatchResult};
 ghost use Rattle.gc_lines.specs.Lines.{IsPlain};
 ghost use Rattle.gc_lines.specs.Replies.{reply_seen};
-ghost use Rattle.gc_lines.specs.Readers.{reply_at};
 ghost use Rattle.gc_client.specs.Rule.{fresh, IsAcceptedSend, IsFull, IsRefusedSend, deadlines, IsEarliest, expires, expiring, restarts};
-ghost use Rattle.gc_client.specs.Places.{IsPlaceHeard, place_heard};
+ghost use Rattle.gc_client.specs.Places.{place_heard};
 ghost use Rattle.gc_client.specs.Settlements.{AreSettledBy};
-ghost use Rattle.gc_client.specs.Hearing.{AreSettledAt, AreSettledByLine, HearsAs, HearsInto, IsAfterLine, IsAfterSettling, LeavesUnchanged, ReportsTooLong, SettlesNone, settlements_in};
+ghost use Rattle.gc_client.specs.Hearing.{AreSettledAt, AreSettledByLine, ChangesNothing, FitsAt, HearsAs, HearsInto, IsAfterLine, IsAfterSettling, ReportsTooLong, settlements_in};
 ghost use Rattle.gc_client.specs.declared.heard.Hearing.TheVariants.{Unread};
 ghost use Rattle.gc_lines.specs.declared.fault.LineFault.TheVariants.{TooLong};
 
@@ -25,7 +24,7 @@ use std::fmt;
 use std::marker::Model;
 
 /// As many requests wait as the client's window is wide, so no further one was sent.
-#[derive(Clone, Copy, Debug, PartialEq, Eq)]
+#[derive(Clone, Copy, Debug)]
 pub struct WindowFull;
 
 impl WindowFull {
@@ -345,14 +344,8 @@ impl<W: Window> Client<W> {
     // nothing, and the error is what is to be reported of it, `Stray` or `Unread`.
     #[inline]
     fn find_request<'a>(&self, line: &'a [u8]) -> Result<(usize, Reply<'a>), Hearing>
-        ensures reads { IfOk result (λ found. reply_at line.now ≡ Ok (reply_seen found.1)) }
-        ensures place { IfOk result (λ found. IsPlaceHeard self.now.ids found.1.id found.0) }
-        ensures waits { IfOk result (λ found. found.0 < length self.now.ids.waiting) }
-        ensures narrow { IfOk result (λ found. found.0 < WINDOW) }
-        ensures short { IfOk result (λ _. length line.now ≤ 512) }
-        ensures none { IfErr result (λ hearing. length line.now ≤ 512 → HearsInto self.now.ids line.now hearing [] self.now.ids) }
-        ensures settled { IfErr result (λ _. length line.now ≤ 512 → SettlesNone self.now.ids line.now) }
-        ensures client { IfErr result (λ _. length line.now ≤ 512 → LeavesUnchanged self.now.ids line.now) }
+        ensures found { IfOk result (λ found. FitsAt self.now.ids found.0 (reply_seen found.1) line.now) }
+        ensures none { IfErr result (λ hearing. length line.now ≤ 512 → ChangesNothing self.now.ids line.now hearing) }
         ensures overlong { 512 < length line.now → result ≡ Err (Unread TooLong) }
     {
         if line.len() > 512 {
@@ -378,10 +371,7 @@ impl<W: Window> Client<W> {
         line: &[u8],
         settled: &mut ArrayVec<Settlement<W::Asked>, WINDOW>,
     )
-        requires reads { reply_at line.now ≡ Ok (reply_seen reply.now) }
-        requires short { length line.now ≤ 512 }
-        requires waits { k < length self.old.ids.waiting }
-        requires narrow { k < WINDOW }
+        requires { FitsAt self.old.ids k (reply_seen reply.now) line.now }
         ensures settled { AreSettledAt W.Asked.says self.old.ids line.now k settled.new.items }
         ensures client { IsAfterSettling self.old line.now k self.new }
     {

@@ -6,7 +6,7 @@ use arrayvec::ArrayVec;
 use gc_lines::LineFault;
 
 /// What a client reports of a line, with the settlements.
-#[derive(Debug, PartialEq, Eq, Drop)]
+#[derive(PartialEq, Eq, Drop)]
 pub enum Heard<Q> {
     /// The line is the reply to a request that waits. The list holds the settlement of each request that was sent before
     /// that request, and then its own, in the order of sending.
@@ -18,7 +18,7 @@ pub enum Heard<Q> {
 }
 
 /// What a client reports of a line, without the settlements, which it wrote into a list of the caller's.
-#[derive(Clone, Copy, Debug, PartialEq, Eq)]
+#[derive(Clone, Copy, PartialEq, Eq)]
 pub enum Hearing {
     /// The line is the reply to a request that waits. The caller's list holds the settlement of each request that was
     /// sent before that request, and then its own, in the order of sending.

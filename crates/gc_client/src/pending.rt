@@ -1,7 +1,7 @@
 //! Pendings: requests that were sent and wait for their reply.
 
 /// A request that was sent and is not settled.
-#[derive(Clone, Copy, Debug, PartialEq, Eq)]
+#[derive(Clone, Copy, PartialEq, Eq)]
 pub struct Pending<Q> {
     /// Whom it is for: a number of the caller's own, which is returned with the settlement.
     pub target: u32,

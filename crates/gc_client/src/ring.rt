@@ -53,6 +53,7 @@ impl<Q: Asking> Window for RingOf<Q> {
         *self.buffer.get(k).unwrap()
     }
 
+    // The clauses are the trait's, which `rattle check` can't give this method yet.
     fn push(&mut self, p: Pending<Q>)
         requires { length self.old < WINDOW }
         ensures { self.new ≡ self.old ++ p ∷ [] }

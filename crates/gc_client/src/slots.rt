@@ -86,7 +86,8 @@ impl<Q: Asking> Window for SlotsOf<Q> {
         self.places[(self.oldest + k) % PLACES]
     }
 
-    // The request goes to the place after the youngest, going round; if none waits, to the place `oldest`.
+    // The request goes to the place after the youngest, going round; if none waits, to the place `oldest`. The clauses are the trait's,
+    // which `rattle check` can't give this method yet.
     fn push(&mut self, p: Pending<Q>)
         requires { length self.old < WINDOW }
         ensures { self.new ≡ self.old ++ p ∷ [] }

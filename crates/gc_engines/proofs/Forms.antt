@@ -6,7 +6,8 @@ use Rattle.gc_world.specs.declared.event.Event.{Event}
 use Rattle.gc_world.specs.declared.event.Event.TheVariants.{Send}
 use Rattle.gc_texts.specs.Cuts.{Cuts}
 use Rattle.gc_texts.specs.Procedures.{IsNumber, IsProcedure}
-use Rattle.gc_texts.proofs.Cutting.{IsReadAs, read_alike, cut_found, digits_lack_spaces}
+use Rattle.gc_texts.specs.LineForms.{IsReadAs}
+use Rattle.gc_texts.proofs.Cutting.{read_alike, cut_found, digits_lack_spaces}
 use Rattle.std.proofs.lemmas.Option.{same_Some}
 use Rattle.gc_engines.specs.Schedule.{IsNumbered, IsRequested, IsSend, IsEvent, SendsRequested}
 

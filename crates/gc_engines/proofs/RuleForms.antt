@@ -8,7 +8,7 @@ use Rattle.gc_scenes.specs.declared.rules.Scripted.{Scripted}
 use Rattle.gc_texts.specs.Cuts.{before, behind}
 use Rattle.gc_texts.specs.Procedures.{IsNumber}
 use Rattle.gc_texts.specs.Words.{second_word, after_two_words}
-use Rattle.gc_texts.proofs.Cutting.{IsReadAs}
+use Rattle.gc_texts.specs.LineForms.{IsReadAs}
 use Rattle.gc_texts.proofs.Procedures.{one_number}
 use Rattle.gc_engines.specs.RuleScenes.{Begins, IsAnswer, Scripts}
 

@@ -10,9 +10,9 @@ use Rattle.gc_values.proofs.WholeLemmas.{one_whole}
 use Rattle.gc_instrument.specs.State.{State}
 use Rattle.gc_instrument.specs.declared.target.Target.{Target}
 use Rattle.gc_texts.specs.Cuts.{Cuts}
-use Rattle.gc_texts.specs.LineForms.{IsText, is_kept, text_lines}
+use Rattle.gc_texts.specs.LineForms.{IsReadAs, IsText, is_kept, text_lines}
 use Rattle.gc_texts.specs.Nears.{IsDouble}
-use Rattle.gc_texts.proofs.Cutting.{IsReadAs, read_alike, cut_found, one_front}
+use Rattle.gc_texts.proofs.Cutting.{read_alike, cut_found, one_front}
 use Rattle.gc_texts.proofs.OneReading.{one_list}
 use Rattle.gc_engines.specs.Scenes.{IsSerial, IsTargetWords, IsTarget, IsSceneLine, IsScene, IsOverfullScene, scene_opening, targets_of}
 use Rattle.gc_engines.specs.declared.scene_line.SceneLine.{SceneLine}

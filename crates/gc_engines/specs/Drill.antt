@@ -2,26 +2,35 @@
 -- the lists and counts of what has happened.
 use Rattle.std.specs.Prelude.{◌≡◌, ℕ, ◌+◌, ◌<◌, ◌≤◌, Bool, true, false, List, length, Option, Result, Ok, Err}
 use Rattle.std.specs.Io.KnownBytes.{Appends}
+use Rattle.gc_lines.specs.Answering.{Ports}
 use Rattle.gc_lines.specs.Ports.{TakesFront}
-use Rattle.gc_instrument.specs.State.{State, simulator_opening}
+use Rattle.gc_instrument.specs.State.{State}
 use Rattle.gc_world.specs.declared.event.Event.{Event}
 use Rattle.gc_world.specs.Clients.{played}
 use Rattle.gc_world.specs.World.{Wire}
 use Rattle.gc_texts.specs.LineForms.{MemoryOnlyIf}
-use Rattle.gc_engines.specs.Reports.{run_text, totals_text}
+use Rattle.gc_engines.specs.Reports.{run_text}
 use Rattle.gc_engines.specs.Schedule.{IsSchedule, IsFirstFaulty}
-use Rattle.gc_texts.specs.WholeTexts.{Input, IsReadToEnd}
+use Rattle.gc_engines.specs.declared.report_text.Totals.{Totals}
+use Rattle.gc_texts.specs.WholeTexts.{Gave, IsReadToEnd, source_of}
 use Rattle.gc_texts.specs.declared.text.TheConstants.{TEXT_LIMIT}
 use Rattle.gc_texts.specs.declared.fault.RunFault.{RunFault}
 use Rattle.gc_texts.specs.declared.fault.RunFault.TheVariants.{Read, Schedule, Memory, InputTooLong, Output}
 
--- the line of totals of a run, by the wire with which it ends
-abbrev pub totals_line : {S : Type 0} → Wire S → List ℕ
-totals_line w = totals_text (length w.sent) (length w.executed) (length w.made) (length w.settled) w.refused w.idle
+-- the counts of a run, by the wire with which it ends
+abbrev pub totals_of : {S : Type 0} → Wire S → Totals
+totals_of w = record {
+  sent = length w.sent;
+  executed = length w.executed;
+  made = length w.made;
+  settled = length w.settled;
+  refused = w.refused;
+  idle = w.idle;
+}
 
 -- what is written of a run: its settlements, and after them the totals if they are asked for
 abbrev pub wire_text : {S : Type 0} → Wire S → (totals : Bool) → List ℕ
-wire_text w totals = run_text w.settled (totals_line w) totals
+wire_text w totals = run_text w.settled (totals_of w) totals
 
 -- what is written of events that are played on an instrument with this opening state, with a window of this width
 unfoldable pub drill_text_on : (opening : State) → (width : ℕ) → List Event → (totals : Bool) → List ℕ
@@ -49,15 +58,6 @@ DrillsAs text_of given totals old new (Err Output) = (length given ≤ TEXT_LIMI
     × ((events : List Event) × IsSchedule given events × TookPart old new (text_of events totals))
 DrillsAs text_of given totals old new (Err _) = ⊥
 
--- what a drill on an instrument with this opening state, with a window of this width, did with the bytes given as a schedule
-abbrev pub DrillsOn : (opening : State) → (width : ℕ) → (given : List ℕ) → (totals : Bool) → (old new : Option (List ℕ))
-    → Result (Unit {0}) RunFault → Type 0
-DrillsOn opening width given totals old new result = DrillsAs (drill_text_on opening width) given totals old new result
-
--- what a drill on the simulator, with a window of this width, did with the bytes given as a schedule
-abbrev pub Drills : (width : ℕ) → (given : List ℕ) → (totals : Bool) → (old new : Option (List ℕ)) → Result (Unit {0}) RunFault → Type 0
-Drills width given totals old new result = DrillsOn simulator_opening width given totals old new result
-
 -- whether this result shows that a drill has read its source to the end: it has where the schedule was played, or has a faulty line. With
 -- `Memory` it may have, too, but the result doesn't show it
 abbrev pub is_read_whole : Result (Unit {0}) RunFault → Bool
@@ -65,15 +65,6 @@ is_read_whole (Ok _) = true
 is_read_whole (Err (Schedule n)) = true
 is_read_whole (Err Output) = true
 is_read_whole (Err _) = false
-
--- a drill with this result took its source from `old` to `new`: where the result says that it has read the source to the end
--- (`is_read_whole`), the last of its reads was the end, and the source has no byte left
-abbrev pub HasEndedIfWhole : (old new : Input) → Result (Unit {0}) RunFault → Type 0
-HasEndedIfWhole old new result = is_read_whole result ≡ true → IsReadToEnd old new
-
--- where memory was refused to a drill, which took its source from `old` to `new`, a read of the source had been answered
-abbrev pub HasReadIfMemory : (old new : Input) → Result (Unit {0}) RunFault → Type 0
-HasReadIfMemory old new result = MemoryOnlyIf (old.reads < new.reads) result
 
 -- whether the source has failed after a drill with this result; `failed` says whether it had before
 abbrev pub source_failed : Result (Unit {0}) RunFault → (failed : Bool) → Bool
@@ -84,3 +75,19 @@ source_failed _ failed = failed
 abbrev pub sink_failed : Result (Unit {0}) RunFault → (failed : Bool) → Bool
 sink_failed (Err Output) failed = true
 sink_failed _ failed = failed
+
+-- a drill took source and sink from `old` to `new`, with this result. `text_of` gives what is written of events that are played
+-- on its instrument, as for `DrillsAs`, and `totals` says whether the line of totals is asked for
+pub record IsDrill (text_of : List Event → (totals : Bool) → List ℕ) (totals : Bool) (old new : Ports) (result : Result (Unit {0}) RunFault) : Type 0 where
+  -- which bytes the source gave, and how much of their schedule's output the sink took. Each answered read gave at least one
+  -- byte, except a last one that was the end. After the end nothing was read
+  pub writes : Gave (source_of old) (source_of new) (λ given. DrillsAs text_of given totals old.taken new.taken result)
+  -- at most 65,537 reads were answered
+  pub bounded : new.reads ≤ old.reads + (TEXT_LIMIT + 1)
+  -- a schedule is played, or found faulty, only if the last read was the end, and the source has no byte left
+  pub whole : is_read_whole result ≡ true → IsReadToEnd (source_of old) (source_of new)
+  -- `Memory` comes only after a read that was answered
+  pub memory : MemoryOnlyIf (old.reads < new.reads) result
+  -- `Read` exactly if the source failed, and `Output` exactly if the sink did
+  pub source : new.source_failed ≡ source_failed result old.source_failed
+  pub sink : new.sink_failed ≡ sink_failed result old.sink_failed

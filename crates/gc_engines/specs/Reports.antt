@@ -7,27 +7,37 @@ use Rattle.gc_client.specs.Settlements.{settlement_seen}
 use Rattle.gc_scene_world.specs.declared.report.SceneReport.{SceneReport}
 use Rattle.gc_world.specs.declared.report.Report.{Report}
 use Rattle.gc_texts.specs.Settlements.{settlement_lines}
+use Rattle.gc_engines.specs.declared.report_text.Totals.{Totals}
 
 -- the line of totals, for these counts
-abbrev pub totals_text : (sent executed made settled refused idle : ℕ) → List ℕ
-totals_text sent executed made settled refused idle =
-    codes "sent " ++ decimal sent ++ codes " executed " ++ decimal executed ++ codes " made " ++ decimal made
-    ++ codes " settled " ++ decimal settled ++ codes " refused " ++ decimal refused ++ codes " idle " ++ decimal idle ++ codes "\n"
+abbrev pub totals_text : Totals → List ℕ
+totals_text t =
+    codes "sent " ++ decimal t.sent ++ codes " executed " ++ decimal t.executed ++ codes " made " ++ decimal t.made
+    ++ codes " settled " ++ decimal t.settled ++ codes " refused " ++ decimal t.refused ++ codes " idle " ++ decimal t.idle ++ codes "\n"
 
--- what is written of a run with these settlements and this line of totals: the settlements, and after them the line if the totals
--- are asked for
-abbrev pub run_text : List (Settlement Call) → (line : List ℕ) → (totals : Bool) → List ℕ
-run_text settled line totals = settlement_lines settled ++ (if totals then line else [])
+-- what is written of a run with these settlements and these counts: the settlements, and after them the line of totals if it is
+-- asked for
+abbrev pub run_text : List (Settlement Call) → Totals → (totals : Bool) → List ℕ
+run_text settled counts totals = settlement_lines settled ++ (if totals then totals_text counts else [])
 
 -- what is written of a report
 abbrev pub report_text : Report → (totals : Bool) → List ℕ
-report_text r totals =
-    run_text (map settlement_seen r.settled)
-    (totals_text (length r.sent) (length r.executed) (length r.made) (length r.settled) r.refused_sends r.idle_events) totals
+report_text r totals = run_text (map settlement_seen r.settled) (record {
+  sent = length r.sent;
+  executed = length r.executed;
+  made = length r.made;
+  settled = length r.settled;
+  refused = r.refused_sends;
+  idle = r.idle_events;
+}) totals
 
 -- what is written of the report of a run on the instrument of a scene with rules
 abbrev pub scene_report_text : SceneReport → (totals : Bool) → List ℕ
-scene_report_text r totals =
-    run_text (map settlement_seen r.settled.items)
-    (totals_text r.counts.sent r.counts.executed r.counts.made (length r.settled.items) r.counts.refused_sends r.counts.idle_events)
-    totals
+scene_report_text r totals = run_text (map settlement_seen r.settled.items) (record {
+  sent = r.counts.sent;
+  executed = r.counts.executed;
+  made = r.counts.made;
+  settled = length r.settled.items;
+  refused = r.counts.refused_sends;
+  idle = r.counts.idle_events;
+}) totals

@@ -12,6 +12,7 @@ use Rattle.gc_scenes.specs.declared.rules.Offset.{Offset}
 use Rattle.gc_scenes.specs.declared.rules.Fault.{Fault}
 use Rattle.gc_scenes.specs.declared.rules.Scripted.{Scripted}
 use Rattle.gc_scenes.specs.declared.rules.Noise.{Noise}
+use Rattle.gc_scenes.specs.declared.rules.SceneRules.{SceneRules}
 use Rattle.gc_scenes.specs.Ways.{no_ways, with_way}
 use Rattle.gc_scenes.specs.declared.ways.Ways.{Ways}
 use Rattle.gc_scenes.specs.declared.ways.Way.{Way}
@@ -46,10 +47,14 @@ abbrev pub IsTimes : (words : List ℕ) → (times : ℕ) → Type 0
 IsTimes [] times = times ≡ no_end
 IsTimes (b ∷ bs) times = Begins (codes "for") (b ∷ bs) × IsNumber (behind 32 (b ∷ bs)) times 4294967295
 
+-- which requests a fault meets, by the words behind `after`: they are `COUNT`, or `COUNT for COUNT`
+abbrev pub IsAfter : (words : List ℕ) → Span → Type 0
+IsAfter words span = IsNumber (first_word words) span.after 4294967295 × IsTimes (behind 32 words) span.times
+
 -- which requests a fault meets: the words are empty, `after COUNT`, `for COUNT`, or both in this order
 abbrev pub IsSpan : (words : List ℕ) → Span → Type 0
 IsSpan words span =
-    (Begins (codes "after") words × IsNumber (second_word words) span.after 4294967295 × IsTimes (after_two_words words) span.times)
+    (Begins (codes "after") words × IsAfter (behind 32 words) span)
     ⊎ ((Begins (codes "after") words → ⊥) × (span.after ≡ 0) × IsTimes words span.times)
 
 -- the line is `fault RPC RC [after COUNT] [for COUNT]`: a procedure is answered with a return code. Where the
@@ -191,6 +196,15 @@ abbrev pub rules_prisms : List RuleLine → ℕ → List Target → List Prism
 rules_prisms lines number [] = []
 rules_prisms lines number (t ∷ ts) = rules_prism number lines (still t) ∷ rules_prisms lines (suc number) ts
 
+-- these rules are what the lines say, with these targets
+pub record AreRulesOf (lines : List RuleLine) (targets : List Prism) (rules : SceneRules) : Type 0 where
+  pub prisms : rules.prisms.items ≡ targets
+  pub faults : rules.faults.items ≡ rules_faults lines
+  pub answers : rules.answers.items ≡ rules_answers lines
+  pub noise : rules.noise ≡ rules_noise None lines
+  pub repeats : rules.repeats ≡ rules_repeat true lines
+  pub ways : rules.ways ≡ rules_ways no_ways lines
+
 -- the opening state of the instrument that these lines set up. A serial number or a name that they don't say is the simulator's;
 -- targets, faults, replies and all else are those of the lines alone
 abbrev pub rules_opening : List RuleLine → SceneState
@@ -236,11 +250,3 @@ pub record IsOverfullOf (form : Form RuleLine) (text : List ℕ) : Type 0 where
 abbrev pub SceneFaultOf : Form RuleLine → List ℕ → RunFault → Type 0
 SceneFaultOf form text SceneFull = (length text ≤ TEXT_LIMIT) × IsOverfullOf form text
 SceneFaultOf form text fault = TextFault form text fault
-
--- the text is a scene with rules, and this is the opening state of its instrument
-abbrev pub IsRuleScene : List ℕ → SceneState → Type 0
-IsRuleScene text state = IsSceneOf IsRuleLine text state
-
--- the text is a scene with rules in which no line gives the instrument a clock, and this is the opening state of its instrument
-abbrev pub IsStillScene : List ℕ → SceneState → Type 0
-IsStillScene text state = IsSceneOf IsStillLine text state

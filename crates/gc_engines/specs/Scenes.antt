@@ -10,6 +10,7 @@ use Rattle.gc_texts.specs.Nears.{IsDouble}
 use Rattle.gc_texts.specs.declared.fault.RunFault.{RunFault}
 use Rattle.gc_texts.specs.declared.fault.RunFault.TheVariants.{SceneFull}
 use Rattle.gc_texts.specs.declared.text.TheConstants.{TEXT_LIMIT}
+use Rattle.gc_engines.specs.declared.scene.Base.{Base}
 use Rattle.gc_engines.specs.declared.scene_line.SceneLine.{SceneLine}
 use Rattle.gc_engines.specs.declared.scene_line.SceneLine.TheVariants as says
 
@@ -69,6 +70,13 @@ targets_of [] = []
 targets_of (says.Serial m ∷ rest) = targets_of rest
 targets_of (says.Name bytes ∷ rest) = targets_of rest
 targets_of (says.Target target ∷ rest) = target ∷ targets_of rest
+
+-- a base has what these lines say: a serial number or a name that they don't say is the simulator's, and the targets are theirs
+-- alone
+pub record IsBaseOf (lines : List SceneLine) (base : Base) : Type 0 where
+  pub serial : base.serial ≡ serial_of simulator_opening.serial lines
+  pub name : base.name ≡ name_of simulator_opening.name lines
+  pub targets : base.targets.items ≡ targets_of lines
 
 -- the opening state of the instrument that these lines set up: a serial number or a name that they don't say is the
 -- simulator's, and the targets are theirs alone

@@ -1,7 +1,7 @@
 //! The reading of one line of a schedule. The words of a schedule's events are known here alone.
 
-ghost use Rattle.std.specs.Prelude.{◌≡◌, ◌≢◌, ◌≤◌, ◌↔◌, IsTrue, IsFalse, ℕ, List, length, take, drop, ◌++◌, ◌∷◌, IfSome, IfNone, MatchOption, Option};
-ghost use Rattle.gc_texts.specs.Procedures.{IsNumber, IsProcedure};
+ghost use Rattle.std.specs.Prelude.{IsTrue, IsFalse, ℕ};
+ghost use Rattle.gc_texts.specs.LineForms.{IsReadAs};
 ghost use Rattle.gc_engines.specs.Schedule.{IsNumbered, IsEvent, IsSend, IsRequested, SendsRequested, IsNumberedEvent};
 ghost use Rattle.gc_catalogue.specs.declared.call.Call.{Call};
 ghost use Rattle.gc_world.specs.declared.event.Event.{Event};
@@ -17,7 +17,7 @@ pub(crate) const COUNT_MAX: u64 = 4294967295;
 // The number after `word` in a line, where `word` has the space before the number at its end. `None`: the line isn't `word` and then a
 // number of at most `max`.
 fn number_behind(word: &[u8], line: &[u8], max: u64) -> Option<u64>
-    ensures { MatchOption result ((n : ℕ) → IsNumbered word.now line.now n max → ⊥) (λ n. IsNumbered word.now line.now n max) }
+    ensures { IsReadAs (λ n. IsNumbered word.now line.now n max) result }
 {
     match after_word(word, line) {
         Some(digits) => number_of(digits, max),

@@ -21,12 +21,11 @@ mod verdict;
 
 pub use check::run_check;
 pub use check_log::run_check_log;
-pub use drill::{run_drill, run_drill_on, run_drill_width};
+pub use drill::{Playable, run_drill, run_drill_on, run_drill_width};
 pub use exec::run_exec;
-pub use rule_line::{Blocked, Drift, RuleLine, Span};
-pub use rule_scene::{read_rule_scene, read_still_scene};
+pub use rule_line::{Blocked, Drift, RuleForm, RuleLine, Span, StillForm};
+pub use rule_scene::read_rule_scene;
 pub use scene::read_scene;
-pub use scene_drill::run_drill_scene;
 pub use scene_line::SceneLine;
 pub use scene_trouble::{SceneTrouble, SceneWord, scene_trouble_of};
 pub use schedule::read_schedule;

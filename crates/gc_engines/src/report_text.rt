@@ -66,8 +66,7 @@ fn run_text(
     counts: Totals,
     totals: bool,
 ) -> Result<Vec<u8>, AllocError>
-    ensures { IfOk result (λ text. text.items ≡ run_text (map settlement_seen settled.now)
-        (totals_text counts.sent counts.executed counts.made counts.settled counts.refused counts.idle) totals) }
+    ensures { IfOk result (λ text. text.items ≡ run_text (map settlement_seen settled.now) counts totals) }
 {
     let mut text = Vec::new(alloc);
     append_settlements(&mut text, settled)?;
@@ -79,7 +78,7 @@ fn run_text(
 
 // Appends the line of totals: six counts, each after its word. `Err`: memory was refused.
 fn append_totals(text: &mut Vec<u8>, counts: Totals) -> Result<(), AllocError>
-    ensures { OnOk result (text.new.items ≡ text.old.items ++ totals_text counts.sent counts.executed counts.made counts.settled counts.refused counts.idle) }
+    ensures { OnOk result (text.new.items ≡ text.old.items ++ totals_text counts) }
 {
     append_number(text, b"sent ", counts.sent)?;
     append_number(text, b" executed ", counts.executed)?;

@@ -1,14 +1,9 @@
 //! The reading of one line of a scene with rules. Besides `scene_trouble.rt`, the words of rules are known here alone.
 
-ghost use Rattle.std.specs.Prelude.{◌≡◌, ◌↔◌, ℕ, MatchOption, IsTrue};
-ghost use Rattle.gc_texts.specs.Cuts.{before, behind};
+ghost use Rattle.std.specs.Prelude.{◌≡◌, ◌↔◌, IsTrue};
+ghost use Rattle.gc_texts.specs.LineForms.{IsReadAs};
 ghost use Rattle.gc_texts.specs.Procedures.{IsNumber};
-ghost use Rattle.gc_scenes.specs.declared.rules.Fault.{Fault};
-ghost use Rattle.gc_scenes.specs.declared.rules.Scripted.{Scripted};
-ghost use Rattle.gc_scenes.specs.declared.rules.Offset.{Offset};
-ghost use Rattle.gc_scenes.specs.declared.rules.Noise.{Noise};
-ghost use Rattle.gc_scenes.specs.declared.ways.Way.{Way};
-ghost use Rattle.gc_engines.specs.RuleScenes.{IsRuleLine, IsFault, IsAnswer, IsBlocked, IsOffset, IsDrift, IsNoise, IsSpan, IsTimes, IsStillLine, Scripts, GivesClock, way_line};
+ghost use Rattle.gc_engines.specs.RuleScenes.{IsRuleLine, IsFault, IsAfter, IsAnswer, IsBlocked, IsOffset, IsDrift, IsNoise, IsSpan, IsTimes, IsStillLine, Scripts, GivesClock, way_line};
 
 use crate::event::COUNT_MAX;
 use crate::scene_line::{AnySceneLine, SceneLine, put_found, read_scene_line};
@@ -27,7 +22,7 @@ pub(crate) const SCENE_TARGET_MAX: u64 = 32;
 
 /// A line `blocked`: the target with this number is hidden in the looks from number `from` to number `to`. A look is a measurement or a
 /// search of the instrument, of whichever target; looks are counted from 1, and so are targets.
-#[derive(Clone, Copy, Debug, PartialEq, Eq)]
+#[derive(Clone, Copy)]
 pub struct Blocked {
     pub target: u32,
     pub from: u32,
@@ -35,7 +30,7 @@ pub struct Blocked {
 }
 
 /// A line `drift`: the target with this number, counted from 1, moves by an offset with each measurement of it.
-#[derive(Clone, Copy, Debug, PartialEq, Eq)]
+#[derive(Clone, Copy)]
 pub struct Drift {
     pub target: u32,
     pub by: Offset,
@@ -44,14 +39,14 @@ pub struct Drift {
 /// Which requests of its procedure a fault meets: not the first `after`, but the next `times`. Requests are counted up to
 /// 4294967295, so a fault whose `after` and `times` add up to more never ends. Therefore 4294967295 `times` stand for "without
 /// end"; but if `after` is 0, the fault ends after as many.
-#[derive(Clone, Copy, Debug, PartialEq, Eq)]
+#[derive(Clone, Copy)]
 pub struct Span {
     pub after: u32,
     pub times: u32,
 }
 
 /// What a line of a scene with rules says.
-#[derive(Clone, Copy, Debug, PartialEq, Eq)]
+#[derive(Clone, Copy)]
 pub enum RuleLine {
     /// What a line of a scene without rules says, too.
     Plain(SceneLine),
@@ -85,7 +80,7 @@ impl AnySceneLine for RuleLine {
 }
 
 /// The form of the lines of a scene with rules.
-pub(crate) struct RuleForm;
+pub struct RuleForm;
 
 impl LineForm for RuleForm {
     type Item = RuleLine;
@@ -102,7 +97,7 @@ impl LineForm for RuleForm {
 }
 
 /// The form of the lines of a scene with rules for an instrument without a clock.
-pub(crate) struct StillForm;
+pub struct StillForm;
 
 impl LineForm for StillForm {
     type Item = RuleLine;
@@ -130,7 +125,7 @@ pub(crate) fn gives_clock(line: &[u8]) -> bool
 
 // Reads one line of a scene with rules. `None`: it has the form of no such line.
 pub(crate) fn read_rule_line(line: &[u8]) -> Option<RuleLine>
-    ensures { MatchOption result ((says : RuleLine) → IsRuleLine line.now says → ⊥) (λ says. IsRuleLine line.now says) }
+    ensures { IsReadAs (IsRuleLine line.now) result }
 {
     if let Some(plain) = read_scene_line(line) {
         return Some(RuleLine::Plain(plain));
@@ -159,9 +154,19 @@ pub(crate) fn read_rule_line(line: &[u8]) -> Option<RuleLine>
     None
 }
 
+// The number of a procedure or the return code that the digits write. `None`: they write no number up to 65535.
+pub(crate) fn code_of(digits: &[u8]) -> Option<u16>
+    ensures { IsReadAs (λ n. IsNumber digits.now n 65535) result }
+{
+    match number_of(digits, CODE_MAX) {
+        Some(n) => Some(n as u16),
+        None => None,
+    }
+}
+
 // How many requests a fault meets: reads `for COUNT`, or nothing, which gives `NO_END`. `None`: the words have no such form.
 fn read_times(words: &[u8]) -> Option<u32>
-    ensures { MatchOption result ((n : ℕ) → IsTimes words.now n → ⊥) (λ n. IsTimes words.now n) }
+    ensures { IsReadAs (IsTimes words.now) result }
 {
     if words.is_empty() {
         return Some(NO_END);
@@ -177,8 +182,7 @@ fn read_times(words: &[u8]) -> Option<u32>
 
 // Reads `COUNT [for COUNT]`, the words that follow `after`. `None`: they have no such form.
 fn read_after(words: &[u8]) -> Option<Span>
-    ensures { MatchOption result ((span : Span) → IsNumber (before 32 words.now) span.after 4294967295 → IsTimes (behind 32 words.now) span.times → ⊥)
-        (λ span. IsNumber (before 32 words.now) span.after 4294967295 × IsTimes (behind 32 words.now) span.times) }
+    ensures { IsReadAs (IsAfter words.now) result }
 {
     let Some(after) = number_of(before(b' ', words), COUNT_MAX) else {
         return None
@@ -194,7 +198,7 @@ fn read_after(words: &[u8]) -> Option<Span>
 
 // Reads nothing, `after COUNT`, `for COUNT`, or both. `None`: the words have no such form.
 fn read_span(words: &[u8]) -> Option<Span>
-    ensures { MatchOption result ((span : Span) → IsSpan words.now span → ⊥) (λ span. IsSpan words.now span) }
+    ensures { IsReadAs (IsSpan words.now) result }
 {
     if is_word(b"after", before(b' ', words)) {
         return read_after(behind(b' ', words));
@@ -208,31 +212,21 @@ fn read_span(words: &[u8]) -> Option<Span>
 // Reads `fault RPC RC [after COUNT] [for COUNT]`: a procedure, the return code that it is answered with, and which of its
 // requests get this code. Without `for` the line may end in a space. `None`: the line has no such form.
 fn read_fault(line: &[u8]) -> Option<Fault>
-    ensures { MatchOption result ((f : Fault) → IsFault line.now f → ⊥) (λ f. IsFault line.now f) }
+    ensures { IsReadAs (IsFault line.now) result }
 {
     if !is_word(b"fault", before(b' ', line)) {
         return None;
     }
     let rest = behind(b' ', line);
-    let Some(rpc) = number_of(before(b' ', rest), CODE_MAX) else {
+    let Some(rpc) = code_of(before(b' ', rest)) else {
         return None
     };
     let rest = behind(b' ', rest);
-    let Some(rc) = number_of(before(b' ', rest), CODE_MAX) else {
+    let Some(rc) = code_of(before(b' ', rest)) else {
         return None
     };
     match read_span(behind(b' ', rest)) {
-        Some(span) => Some(Fault::new(rpc as u16, rc as u16, span.after, span.times)),
-        None => None,
-    }
-}
-
-// The number of a procedure or the return code that the digits write. `None`: they write no number up to 65535.
-fn code_of(digits: &[u8]) -> Option<u16>
-    ensures { MatchOption result ((n : ℕ) → IsNumber digits.now n 65535 → ⊥) (λ n. IsNumber digits.now n 65535) }
-{
-    match number_of(digits, CODE_MAX) {
-        Some(n) => Some(n as u16),
+        Some(span) => Some(Fault::new(rpc, rc, span.after, span.times)),
         None => None,
     }
 }
@@ -251,7 +245,7 @@ fn scripted(rpc: u16, rc: u16, params: &[u8]) -> Option<Scripted>
 // Reads `answer RPC RC[,PARAMS]`: a procedure that isn't in the table, and its reply. The comma may also stand without
 // parameters. `None`: the line has no such form, or no such reply can be made (`scripted`).
 fn read_answer(line: &[u8]) -> Option<Scripted>
-    ensures { MatchOption result ((a : Scripted) → IsAnswer line.now a → ⊥) (λ a. IsAnswer line.now a) }
+    ensures { IsReadAs (IsAnswer line.now) result }
 {
     if !is_word(b"answer", before(b' ', line)) {
         return None;
@@ -269,7 +263,7 @@ fn read_answer(line: &[u8]) -> Option<Scripted>
 
 // Reads `blocked TARGET FROM TO`: a target, and the first and the last look in which it is hidden. `None`: the line has no such form.
 fn read_blocked(line: &[u8]) -> Option<Blocked>
-    ensures { MatchOption result ((b : Blocked) → IsBlocked line.now b → ⊥) (λ b. IsBlocked line.now b) }
+    ensures { IsReadAs (IsBlocked line.now) result }
 {
     if !is_word(b"blocked", before(b' ', line)) {
         return None;
@@ -295,7 +289,7 @@ fn read_blocked(line: &[u8]) -> Option<Blocked>
 // Reads `HZ V D`: two angles in radians and a distance in metres. `None`: the words have no such form, or `read_double` refuses
 // one of them, as one further than 10^13 from zero.
 fn read_offset(words: &[u8]) -> Option<Offset>
-    ensures { MatchOption result ((o : Offset) → IsOffset words.now o → ⊥) (λ o. IsOffset words.now o) }
+    ensures { IsReadAs (IsOffset words.now) result }
 {
     let Some(hz) = read_double(before(b' ', words)) else {
         return None
@@ -313,7 +307,7 @@ fn read_offset(words: &[u8]) -> Option<Offset>
 // Reads `drift TARGET HZ V D`: a target, and the offset by which it moves with each measurement of it, in radians and metres.
 // `None`: the line has no such form, or `read_offset` refuses the offset.
 fn read_drift(line: &[u8]) -> Option<Drift>
-    ensures { MatchOption result ((d : Drift) → IsDrift line.now d → ⊥) (λ d. IsDrift line.now d) }
+    ensures { IsReadAs (IsDrift line.now) result }
 {
     if !is_word(b"drift", before(b' ', line)) {
         return None;
@@ -334,7 +328,7 @@ fn read_drift(line: &[u8]) -> Option<Drift>
 // Reads `noise HZ V D SEED`: the most by which measurements deviate, in radians and metres, and the seed. `None`: the line has no
 // such form, or `read_double` refuses a number, as one further than 10^13 from zero.
 fn read_noise(line: &[u8]) -> Option<Noise>
-    ensures { MatchOption result ((n : Noise) → IsNoise line.now n → ⊥) (λ n. IsNoise line.now n) }
+    ensures { IsReadAs (IsNoise line.now) result }
 {
     if !is_word(b"noise", before(b' ', line)) {
         return None;
@@ -364,7 +358,7 @@ fn read_noise(line: &[u8]) -> Option<Noise>
 
 // Reads `behave WORD`: a way of real instruments, or all of them. `None`: the line has no such form.
 fn read_way(line: &[u8]) -> Option<Way>
-    ensures { MatchOption result ((w : Way) → line.now ≡ way_line w → ⊥) (λ w. line.now ≡ way_line w) }
+    ensures { IsReadAs (λ w. line.now ≡ way_line w) result }
 {
     if is_word(b"behave faces", line) {
         return Some(Way::Faces);

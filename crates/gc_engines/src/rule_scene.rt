@@ -1,26 +1,27 @@
 //! The text of a scene with rules, read into the instrument that it sets up.
 
-ghost use Rattle.std.specs.Prelude.{◌≡◌, ◌<◌, ◌≤◌, length, Err, IfErr, IfOk, MatchOption, None, true};
+ghost use Rattle.std.specs.Prelude.{◌≡◌, ◌⊎◌, ◌<◌, ◌≤◌, length, Err, IfErr, IfOk, MatchOption};
 ghost use Rattle.gc_texts.specs.LineForms.{FirstFaulty, NamesFaulty, RefusesLong};
 ghost use Rattle.gc_texts.specs.declared.fault.RunFault.{RunFault};
 ghost use Rattle.gc_scenes.specs.Laws.{still};
-ghost use Rattle.gc_scenes.specs.Ways.{no_ways};
-ghost use Rattle.gc_engines.specs.RuleScenes.{FitAnInstrument, OverfillAnInstrument, IsOverfullOf, IsRuleLine, IsRuleScene, IsSceneOf, IsStillLine, IsStillScene, SceneFaultOf, ruled, rules_answers, rules_faults, rules_noise, rules_opening, rules_prism, rules_prisms, rules_repeat, rules_ways};
+ghost use Rattle.gc_engines.specs.RuleScenes.{AreRulesOf, FitAnInstrument, OverfillAnInstrument, IsOverfullOf, IsSceneOf, SceneFaultOf, ruled, rules_answers, rules_faults, rules_opening, rules_prism, rules_prisms};
 
-use crate::rule_line::{RuleForm, RuleLine, StillForm};
-use crate::scene::{name_of, serial_of, targets_of};
+use crate::rule_line::RuleLine;
+use crate::scene::base_of;
 use arrayvec::ArrayVec;
 use gc_instrument::Target;
-use gc_scenes::{Fault, Noise, Prism, SceneInstrument, SceneRules, Scripted, Ways};
+use gc_scenes::{Prism, SceneInstrument, SceneRules, Ways};
 use gc_texts::{LineForm, RunFault, read_items};
 use std::alloc::Global;
 
-/// Reads the text of a scene with rules, and returns the instrument that it sets up, in its opening state.
+/// Reads the text of a scene whose lines have the form `F`, and returns the instrument that it sets up, in its opening state.
+/// `RuleForm` is that of a scene with rules, and `StillForm` that of one for an instrument without a clock.
 ///
 /// A line is one that [`read_scene`](crate::read_scene) takes, or a rule: `fault RPC RC [after COUNT] [for COUNT]`,
 /// `answer RPC RC[,PARAMS]`, `blocked TARGET FROM TO`, `drift TARGET HZ V D`, `noise HZ V D SEED`, `repeats no`, or `behave` with
 /// one of the words `faces`, `aims`, `takes`, `values`, `clock`, and `real`, which stands for these five. Empty lines and those
 /// that begin with `#` are skipped. Angles are in radians, and distances in metres; targets and looks are counted from 1.
+/// `behave clock` and `behave real`, which ask for a clock, have no form in `StillForm`.
 ///
 /// Of several lines `blocked` or `drift` of one target, or `noise`, the last one counts; of several lines `answer` of one procedure the
 /// first; and of several lines `fault` of one procedure the first that meets the request. A line `blocked` or `drift` of a target that the
@@ -29,31 +30,7 @@ use std::alloc::Global;
 /// `InputTooLong` refuses a text of more than 65,536 bytes, before any line is read. `Schedule` names the first line that has no form,
 /// counted from 1. `SceneFull` refuses more than 32 targets, 32 faults or 16 replies, if each line has a form. `Memory` comes only
 /// where the list of lines couldn't grow, at a line that has a form.
-pub fn read_rule_scene(alloc: Global, text: &[u8]) -> Result<SceneInstrument, RunFault>
-    ensures found { IfOk result (λ instrument. IsRuleScene text.now instrument) }
-    ensures too_long { RefusesLong text.now result }
-    ensures faulty { NamesFaulty (FirstFaulty IsRuleLine text.now) result }
-    ensures full { result ≡ Err RunFault.SceneFull → IsOverfullOf IsRuleLine text.now }
-    ensures faults { IfErr result (λ e. SceneFaultOf IsRuleLine text.now e) }
-{
-    read_scene_of::<RuleForm>(alloc, text)
-}
-
-/// Reads the text of a scene as `read_rule_scene` does, for an instrument without a clock: `behave clock` and `behave real`, which
-/// ask for one, have no form.
-pub fn read_still_scene(alloc: Global, text: &[u8]) -> Result<SceneInstrument, RunFault>
-    ensures found { IfOk result (λ instrument. IsStillScene text.now instrument) }
-    ensures too_long { RefusesLong text.now result }
-    ensures faulty { NamesFaulty (FirstFaulty IsStillLine text.now) result }
-    ensures full { result ≡ Err RunFault.SceneFull → IsOverfullOf IsStillLine text.now }
-    ensures faults { IfErr result (λ e. SceneFaultOf IsStillLine text.now e) }
-{
-    read_scene_of::<StillForm>(alloc, text)
-}
-
-// Reads the text of a scene whose lines have the form `F`, and returns the instrument that it sets up, in its opening state. The
-// faults are those of `read_rule_scene`.
-fn read_scene_of<F: LineForm<Item = RuleLine>>(
+pub fn read_rule_scene<F: LineForm<Item = RuleLine>>(
     alloc: Global,
     text: &[u8],
 ) -> Result<SceneInstrument, RunFault>
@@ -77,98 +54,53 @@ fn read_scene_of<F: LineForm<Item = RuleLine>>(
 pub(crate) fn set_up(lines: &[RuleLine]) -> Option<SceneInstrument>
     ensures { MatchOption result (OverfillAnInstrument lines.now) (λ instrument. (instrument ≡ rules_opening lines.now) × FitAnInstrument lines.now) }
 {
-    let Some(targets) = targets_of(lines) else {
+    let Some(base) = base_of(lines) else {
         return None
     };
-    let Some(faults) = faults_of(lines) else {
-        return None
-    };
-    let Some(answers) = answers_of(lines) else {
-        return None
-    };
-    let rules = SceneRules {
-        prisms: prisms_of(lines, targets.as_slice()),
-        faults,
-        answers,
-        noise: noise_of(lines),
-        repeats: repeats(lines),
-        ways: ways_of(lines),
-    };
-    Some(SceneInstrument::new(serial_of(lines), name_of(lines), rules))
+    let prisms = prisms_of(lines, base.targets.as_slice());
+    match scene_rules_of(lines, prisms) {
+        Some(rules) => Some(SceneInstrument::new(base.serial, base.name, rules)),
+        None => None,
+    }
 }
 
-// The faults of these lines, in order. `None`: they are more than 32.
-fn faults_of(lines: &[RuleLine]) -> Option<ArrayVec<Fault, 32>>
-    ensures { MatchOption result (32 < length (rules_faults lines.now)) (λ faults. faults.items ≡ rules_faults lines.now) }
+// The rules that these lines set up, with these targets. Of several lines `noise` the last one counts. `None`: they have more
+// than 32 faults or 16 replies.
+fn scene_rules_of(lines: &[RuleLine], prisms: ArrayVec<Prism, 32>) -> Option<SceneRules>
+    ensures { MatchOption result ((32 < length (rules_faults lines.now)) ⊎ (16 < length (rules_answers lines.now)))
+        (λ rules. AreRulesOf lines.now prisms.items rules) }
 {
     let mut faults = ArrayVec::new();
-    for line in lines {
-        let RuleLine::Fault(fault) = *line else {
-            continue;
-        };
-        if faults.try_push(fault).is_err() {
-            return None;
-        }
-    }
-    Some(faults)
-}
-
-// The replies of the lines `answer`, in order. `None`: they are more than 16.
-fn answers_of(lines: &[RuleLine]) -> Option<ArrayVec<Scripted, 16>>
-    ensures { MatchOption result (16 < length (rules_answers lines.now)) (λ answers. answers.items ≡ rules_answers lines.now) }
-{
     let mut answers = ArrayVec::new();
-    for line in lines {
-        let RuleLine::Answer(answer) = *line else {
-            continue;
-        };
-        if answers.try_push(answer).is_err() {
-            return None;
-        }
-    }
-    Some(answers)
-}
-
-// The noise of the last line `noise`. `None`: there is no such line, and nothing is added to measurements.
-fn noise_of(lines: &[RuleLine]) -> Option<Noise>
-    ensures { result ≡ rules_noise None lines.now }
-{
     let mut noise = None;
-    for line in lines {
-        let RuleLine::Noise(said) = *line else {
-            continue;
-        };
-        noise = Some(said);
-    }
-    noise
-}
-
-// Whether the instrument answers a repeated request with the reply that it keeps: it does unless a line is `repeats no`.
-fn repeats(lines: &[RuleLine]) -> bool
-    ensures { result ≡ rules_repeat true lines.now }
-{
     let mut repeats = true;
-    for line in lines {
-        let RuleLine::NoRepeats = *line else {
-            continue;
-        };
-        repeats = false;
-    }
-    repeats
-}
-
-// The ways of real instruments that these lines name.
-fn ways_of(lines: &[RuleLine]) -> Ways
-    ensures { result ≡ rules_ways no_ways lines.now }
-{
     let mut ways = Ways::none();
     for line in lines {
-        let RuleLine::Behave(way) = *line else {
-            continue;
-        };
-        ways = ways.with(way);
+        match *line {
+            RuleLine::Fault(fault) => {
+                if faults.try_push(fault).is_err() {
+                    return None;
+                }
+            }
+            RuleLine::Answer(answer) => {
+                if answers.try_push(answer).is_err() {
+                    return None;
+                }
+            }
+            RuleLine::Noise(said) => noise = Some(said),
+            RuleLine::Behave(way) => ways = ways.with(way),
+            RuleLine::NoRepeats => repeats = false,
+            _ => {}
+        }
     }
-    ways
+    Some(SceneRules {
+        prisms,
+        faults,
+        answers,
+        noise,
+        repeats,
+        ways,
+    })
 }
 
 // The target as this line changes it, if the line is about the target with this number: `blocked` sets the looks in which it is

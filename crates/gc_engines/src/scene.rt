@@ -1,12 +1,11 @@
 //! The text of a scene, read into the instrument that it sets up.
 
-ghost use Rattle.std.specs.Prelude.{◌≡◌, ◌<◌, ◌↔◌, ℤ, ℕ, List, length, Err, IfOk, IfErr, IsErr, MatchOption};
+ghost use Rattle.std.specs.Prelude.{◌≡◌, ◌<◌, ◌↔◌, length, Err, IfOk, IfErr, IsErr, MatchOption};
 ghost use Rattle.std.specs.List.{filter_map};
-ghost use Rattle.gc_instrument.specs.State.{IsFittingState, simulator_opening};
+ghost use Rattle.gc_instrument.specs.State.{IsFittingState};
 ghost use Rattle.gc_texts.specs.declared.fault.RunFault.{RunFault};
 ghost use Rattle.gc_texts.specs.LineForms.{RefusesLong};
-ghost use Rattle.gc_engines.specs.Scenes.{IsScene, IsOverfullScene, SceneFault, scene_opening, serial_of, name_of, targets_of};
-ghost use Rattle.gc_engines.specs.declared.scene_line.SceneLine.{SceneLine};
+ghost use Rattle.gc_engines.specs.Scenes.{IsBaseOf, IsScene, IsOverfullScene, SceneFault, scene_opening, targets_of};
 
 use crate::scene_line::{AnySceneLine, SceneForm, SceneLine};
 use arrayvec::ArrayVec;
@@ -54,53 +53,44 @@ fn set_up(lines: &[SceneLine]) -> Result<Instrument, SceneFull>
     ensures fits { IfOk result (λ instrument. IsFittingState instrument) }
     ensures full { IsErr result ↔ (32 < length (targets_of lines.now)) }
 {
-    match targets_of(lines) {
-        Some(targets) => Instrument::new(serial_of(lines), name_of(lines), targets.as_slice()),
+    match base_of(lines) {
+        Some(base) => Instrument::new(base.serial, base.name, base.targets.as_slice()),
         None => Err(SceneFull),
     }
 }
 
-// The serial number of the last line `serial`, or the simulator's.
-pub(crate) fn serial_of<L: AnySceneLine>(lines: &[L]) -> i32
-    ensures { result ≡ serial_of simulator_opening.serial (filter_map L.plain lines.now) }
+/// What the lines of a scene say of its instrument besides rules.
+#[derive(Drop)]
+pub(crate) struct Base {
+    pub(crate) serial: i32,
+    pub(crate) name: Text,
+    pub(crate) targets: ArrayVec<Target, MOST_TARGETS>,
+}
+
+// The serial number and the name of the last lines that say one, or the simulator's, and the targets, in order. `None`: they
+// are more than `MOST_TARGETS`.
+pub(crate) fn base_of<L: AnySceneLine>(lines: &[L]) -> Option<Base>
+    ensures { MatchOption result (32 < length (targets_of (filter_map L.plain lines.now)))
+        (λ base. IsBaseOf (filter_map L.plain lines.now) base) }
 {
     let mut serial = SIMULATOR_SERIAL;
-    for line in lines {
-        let Some(SceneLine::Serial(said)) = line.plain() else {
-            continue;
-        };
-        serial = *said;
-    }
-    serial
-}
-
-// The name of the last line `name`, or the simulator's.
-pub(crate) fn name_of<L: AnySceneLine>(lines: &[L]) -> Text
-    ensures { result ≡ name_of simulator_opening.name (filter_map L.plain lines.now) }
-{
     let mut name = simulator_name();
-    for line in lines {
-        let Some(SceneLine::Name(said)) = line.plain() else {
-            continue;
-        };
-        name = *said;
-    }
-    name
-}
-
-// The targets of these lines, in order. `None`: they are more than `MOST_TARGETS`.
-pub(crate) fn targets_of<L: AnySceneLine>(lines: &[L]) -> Option<ArrayVec<Target, MOST_TARGETS>>
-    ensures { MatchOption result (32 < length (targets_of (filter_map L.plain lines.now)))
-        (λ targets. targets.items ≡ targets_of (filter_map L.plain lines.now)) }
-{
     let mut targets = ArrayVec::new();
     for line in lines {
-        let Some(SceneLine::Target(target)) = line.plain() else {
-            continue;
-        };
-        if targets.try_push(*target).is_err() {
-            return None;
+        match line.plain() {
+            Some(SceneLine::Serial(said)) => serial = *said,
+            Some(SceneLine::Name(said)) => name = *said,
+            Some(SceneLine::Target(target)) => {
+                if targets.try_push(*target).is_err() {
+                    return None;
+                }
+            }
+            None => {}
         }
     }
-    Some(targets)
+    Some(Base {
+        serial,
+        name,
+        targets,
+    })
 }

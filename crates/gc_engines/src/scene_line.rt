@@ -1,9 +1,9 @@
 //! The reading of one line of a scene. Besides `scene_trouble.rt`, the words of a scene are known here alone.
 
-ghost use Rattle.std.specs.Prelude.{◌≡◌, ℕ, ℤ, List, MatchOption, IsTrue, IsFalse};
+ghost use Rattle.std.specs.Prelude.{◌≡◌, MatchOption, IsTrue, IsFalse};
 ghost use Rattle.gc_values.specs.Text.{IsText};
 ghost use Rattle.gc_values.specs.Whole.{NamesWhole, FitsLong};
-ghost use Rattle.gc_instrument.specs.declared.target.Target.{Target};
+ghost use Rattle.gc_texts.specs.LineForms.{IsReadAs};
 ghost use Rattle.gc_engines.specs.Scenes.{IsSerial, IsName, IsTargetWords, IsTarget, IsSceneLine};
 ghost use Rattle.gc_engines.specs.declared.scene_line.SceneLine.{SceneLine};
 
@@ -12,7 +12,7 @@ use gc_texts::{LineForm, after_word, cut_at, read_double};
 use gc_values::{Text, read_long};
 
 /// What a line of a scene says of the instrument.
-#[derive(Clone, Copy, Debug, PartialEq, Eq)]
+#[derive(Clone, Copy)]
 pub enum SceneLine {
     /// Its serial number.
     Serial(i32),
@@ -77,7 +77,7 @@ pub(crate) fn put_found<T: Copy>(found: Option<T>, item: &mut T) -> bool
 
 // Reads one line of a scene. `None`: it has the form of no such line.
 pub(crate) fn read_scene_line(line: &[u8]) -> Option<SceneLine>
-    ensures { MatchOption result ((says : SceneLine) → IsSceneLine line.now says → ⊥) (λ says. IsSceneLine line.now says) }
+    ensures { IsReadAs (IsSceneLine line.now) result }
 {
     if let Some(serial) = read_serial(line) {
         return Some(SceneLine::Serial(serial));
@@ -93,7 +93,7 @@ pub(crate) fn read_scene_line(line: &[u8]) -> Option<SceneLine>
 
 // Reads `serial N`: a serial number, a whole number of 32 bits that may have a sign. `None`: the line has no such form.
 fn read_serial(line: &[u8]) -> Option<i32>
-    ensures { MatchOption result ((n : ℤ) → IsSerial line.now n → ⊥) (λ n. IsSerial line.now n) }
+    ensures { IsReadAs (IsSerial line.now) result }
 {
     match after_word(b"serial ", line) {
         Some(digits) => long_of(digits),
@@ -103,7 +103,7 @@ fn read_serial(line: &[u8]) -> Option<i32>
 
 // Reads a Long: a whole number of 32 bits, with or without a sign. `None`: the text writes none.
 fn long_of(digits: &[u8]) -> Option<i32>
-    ensures { MatchOption result ((n : ℤ) → NamesWhole digits.now n → FitsLong n → ⊥) (λ n. NamesWhole digits.now n × FitsLong n) }
+    ensures { IsReadAs (λ n. NamesWhole digits.now n × FitsLong n) result }
 {
     match read_long(digits) {
         Ok(n) => Some(n),
@@ -113,7 +113,7 @@ fn long_of(digits: &[u8]) -> Option<i32>
 
 // Reads `name TEXT`: an instrument's name, as `name_from` takes it. `None`: the line has no such form.
 fn read_name(line: &[u8]) -> Option<Text>
-    ensures { MatchOption result ((bytes : List ℕ) → IsName line.now bytes → ⊥) (λ bytes. IsName line.now bytes) }
+    ensures { IsReadAs (IsName line.now) result }
 {
     match after_word(b"name ", line) {
         Some(bytes) => name_from(bytes),
@@ -134,7 +134,7 @@ fn name_from(bytes: &[u8]) -> Option<Text>
 // Reads `target HZ V DISTANCE`: a target's angles in radians and its slope distance in metres. `None`: the line has no such form,
 // or `read_double` refuses a number, as one further than 10^13 from zero.
 fn read_target(line: &[u8]) -> Option<Target>
-    ensures { MatchOption result ((target : Target) → IsTarget line.now target → ⊥) (λ target. IsTarget line.now target) }
+    ensures { IsReadAs (IsTarget line.now) result }
 {
     match after_word(b"target ", line) {
         Some(words) => read_target_words(words),
@@ -145,7 +145,7 @@ fn read_target(line: &[u8]) -> Option<Target>
 // Reads `HZ V DISTANCE`: where a target stands, by its angles in radians and its slope distance in metres. `None`: they aren't
 // three words, with one space between each two, or `read_double` refuses one of them.
 fn read_target_words(words: &[u8]) -> Option<Target>
-    ensures { MatchOption result ((target : Target) → IsTargetWords words.now target → ⊥) (λ target. IsTargetWords words.now target) }
+    ensures { IsReadAs (IsTargetWords words.now) result }
 {
     let (hz, rest) = cut_at(b' ', words);
     let Some(rest) = rest else { return None };

@@ -1,8 +1,9 @@
 //! Troubles of scenes: what is at fault in a faulty line of a scene, and what is printed of it.
 
-ghost use Rattle.std.specs.Prelude.{◌≡◌, ◌++◌, IsTrue, MatchOption, OnOk, codes};
+ghost use Rattle.std.specs.Prelude.{◌≡◌, ◌++◌, IsTrue, OnOk, codes};
 ghost use Rattle.std.specs.Io.KnownBytes.{Appends};
 ghost use Rattle.gc_texts.specs.Faults.{run_fault_text, fault_line};
+ghost use Rattle.gc_texts.specs.LineForms.{IsReadAs};
 ghost use Rattle.gc_texts.specs.Words.{first_word};
 ghost use Rattle.gc_texts.specs.declared.fault.RunFault.{RunFault};
 ghost use Rattle.gc_engines.specs.SceneTroubles.{IsReplyTrouble, IsSceneTrouble, NeedsClock, NoDecimal, NotNumber, form_text, scene_trouble_text, scene_trouble_line, word_text};
@@ -16,7 +17,7 @@ use gc_values::{Text, read_long};
 use std::io::{self, Write};
 
 /// A word that a line of a scene begins with.
-#[derive(Clone, Copy, Debug, PartialEq, Eq)]
+#[derive(Clone, Copy)]
 pub enum SceneWord {
     Serial,
     Name,
@@ -33,7 +34,7 @@ pub enum SceneWord {
 }
 
 /// What is at fault in a faulty line of a scene. The texts are this project's own.
-#[derive(Clone, Copy, Debug, PartialEq, Eq)]
+#[derive(Clone, Copy)]
 pub enum SceneTrouble {
     /// No line of a scene begins with the line's first word.
     NoWord,
@@ -193,7 +194,7 @@ fn needs_clock(line: &[u8]) -> bool
 
 // The word of a scene that these bytes spell. `None`: no line of a scene begins with them.
 fn word_of(first: &[u8]) -> Option<SceneWord>
-    ensures { MatchOption result ((word : SceneWord) → first.now ≡ word_text word → ⊥) (λ word. first.now ≡ word_text word) }
+    ensures { IsReadAs (λ word. first.now ≡ word_text word) result }
 {
     if is_word(b"serial", first) {
         return Some(SceneWord::Serial);

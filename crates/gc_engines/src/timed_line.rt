@@ -1,11 +1,10 @@
 //! The reading of one line of a scene that `serve` takes: a line of a scene with rules, or one with the word `delay` or `busy`. Besides
 //! `scene_trouble.rt`, these two words are known here alone.
 
-ghost use Rattle.std.specs.Prelude.{◌≡◌, MatchOption};
-ghost use Rattle.gc_scenes.specs.declared.delay.Delay.{Delay};
+ghost use Rattle.gc_texts.specs.LineForms.{IsReadAs};
 ghost use Rattle.gc_engines.specs.TimedScenes.{IsTimedLine, IsDelayLine};
 
-use crate::rule_line::{CODE_MAX, RuleLine, read_rule_line};
+use crate::rule_line::{RuleLine, code_of, read_rule_line};
 use crate::scene_line::put_found;
 use gc_scenes::Delay;
 use gc_texts::{LineForm, before, behind, is_word, number_of};
@@ -14,7 +13,7 @@ use gc_texts::{LineForm, before, behind, is_word, number_of};
 pub(crate) const DELAY_MAX: u64 = 3_600_000;
 
 /// What a line of a scene for `serve` says.
-#[derive(Clone, Copy, Debug, PartialEq, Eq)]
+#[derive(Clone, Copy)]
 pub enum TimedLine {
     /// A line of a scene with rules.
     Rule(RuleLine),
@@ -45,7 +44,7 @@ impl LineForm for TimedForm {
 
 // Reads one line of a scene for `serve`. `None`: it has the form of no such line.
 fn read_timed_line(line: &[u8]) -> Option<TimedLine>
-    ensures { MatchOption result ((says : TimedLine) → IsTimedLine line.now says → ⊥) (λ says. IsTimedLine line.now says) }
+    ensures { IsReadAs (IsTimedLine line.now) result }
 {
     if let Some(rule) = read_rule_line(line) {
         return Some(TimedLine::Rule(rule));
@@ -64,20 +63,17 @@ fn read_timed_line(line: &[u8]) -> Option<TimedLine>
 
 // Reads `delay RPC MS`: a procedure, and a delay in milliseconds, of at most an hour. `None`: the line has no such form.
 fn read_delay(line: &[u8]) -> Option<Delay>
-    ensures { MatchOption result ((d : Delay) → IsDelayLine line.now d → ⊥) (λ d. IsDelayLine line.now d) }
+    ensures { IsReadAs (IsDelayLine line.now) result }
 {
     if !is_word(b"delay", before(b' ', line)) {
         return None;
     }
     let rest = behind(b' ', line);
-    let Some(rpc) = number_of(before(b' ', rest), CODE_MAX) else {
+    let Some(rpc) = code_of(before(b' ', rest)) else {
         return None
     };
     match number_of(behind(b' ', rest), DELAY_MAX) {
-        Some(ms) => Some(Delay {
-            rpc: rpc as u16,
-            ms: ms as u32,
-        }),
+        Some(ms) => Some(Delay { rpc, ms: ms as u32 }),
         None => None,
     }
 }

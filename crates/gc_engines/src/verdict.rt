@@ -12,7 +12,7 @@ use gc_lines::{Lent, LineFault, Outgoing, Request, append, read_reply, read_requ
 use itoa::{Buffer, Integer};
 
 /// The verdict on a frame. The verdicts and the numbers of their faults are this project's own.
-#[derive(Clone, Copy, Debug, PartialEq, Eq)]
+#[derive(Clone, Copy)]
 pub(crate) enum Verdict {
     /// A line feed without a CR before it.
     Cleared,

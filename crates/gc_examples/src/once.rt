@@ -5,11 +5,10 @@ use crate::client::{call_client, make_ring};
 use crate::example::Example;
 use crate::links::{ask, loop_commands};
 use crate::outcome::Outcome;
-use gc_cases::Told;
 use gc_catalogue::Call;
-use gc_client::{Client, Ring, Slots, Window};
+use gc_client::{Ring, Slots, Window};
 use gc_engines::{
-    read_rule_scene, read_schedule, read_still_scene, run_check, run_drill, run_drill_scene,
+    RuleForm, StillForm, read_rule_scene, read_schedule, run_check, run_drill, run_drill_on,
     run_exec,
 };
 use gc_instrument::Instrument;
@@ -17,7 +16,7 @@ use gc_lines::ToWriter;
 use gc_probes::{PieceSink, PieceSource};
 use gc_scenes::{SceneInstrument, serve_scene};
 use gc_world::{Event, Report, play};
-use std::alloc::Global;
+use std::alloc::{AllocError, Global};
 use std::io;
 
 /// Plays each example once, those without files first, and prints a line for each, and two for a schedule without a scene.
@@ -97,7 +96,7 @@ fn answer_stream_into(example: &Example, taken: &mut [u8]) -> bool {
 // Has the instrument of the example's scene answer its requests: `Exact` if it ended well with the expected replies, `NoMemory` if memory
 // ran out for the scene, and else `Other`, also where the scene can't be read.
 fn answer_on_scene(alloc: Global, example: &Example) -> Outcome {
-    match read_rule_scene(alloc, example.setup.scene.as_slice()) {
+    match read_rule_scene::<RuleForm>(alloc, example.setup.scene.as_slice()) {
         Ok(mut instrument) => answer_on_instrument(&mut instrument, example),
         Err(fault) => Outcome::of_unread(fault),
     }
@@ -130,7 +129,7 @@ fn drill_schedule(alloc: Global, example: &Example) -> Outcome {
 // Drills the example's schedule on the instrument of its scene, as `drill --totals` does: `NoMemory` if memory ran out for the scene,
 // `Other` if the scene can't be read, and else the outcome of `drill_on_instrument`.
 fn drill_on_scene(alloc: Global, example: &Example) -> Outcome {
-    match read_still_scene(alloc, example.setup.scene.as_slice()) {
+    match read_rule_scene::<StillForm>(alloc, example.setup.scene.as_slice()) {
         Ok(instrument) => drill_on_instrument(alloc, instrument, example),
         Err(fault) => Outcome::of_unread(fault),
     }
@@ -141,7 +140,7 @@ fn drill_on_scene(alloc: Global, example: &Example) -> Outcome {
 fn drill_on_instrument(alloc: Global, instrument: SceneInstrument, example: &Example) -> Outcome {
     let mut source = PieceSource::new(example.setup.input.as_slice(), &[], u64::MAX);
     let mut sink = PieceSink::new(alloc, 5, u64::MAX);
-    let end = run_drill_scene(alloc, instrument, &mut source, &mut sink, true, 7);
+    let end = run_drill_on(alloc, instrument, &mut source, &mut sink, true, 7);
     Outcome::of(end, &sink, example.expected.as_slice())
 }
 
@@ -154,68 +153,70 @@ fn play_over_both(alloc: Global, example: &Example) -> Outcome {
     }
 }
 
-// Plays events over a ring and over places, and returns the outcome that `outcome_of` gives for the two reports.
+// Plays events over a ring and over places: `Exact` if they lead to the same, `NoMemory` if memory ran out for the ring or a
+// report, and else `Other`.
 fn compare_windows(alloc: Global, events: &[Event]) -> Outcome {
-    let mut ring = Told::new(alloc);
-    append_over_ring(alloc, events, &mut ring);
-    let mut places = Told::new(alloc);
-    append_over(alloc, Slots::new(), events, &mut places);
-    outcome_of(&ring, &places)
-}
-
-// `NoMemory` if memory ran out for the report over a ring or the one over places; otherwise `Exact` if they are the same, and
-// `Other` if they differ.
-fn outcome_of(ring: &Told, places: &Told) -> Outcome {
-    if ring.is_lacking() || places.is_lacking() {
-        return Outcome::NoMemory;
-    }
-    Outcome::of_answer(ring.as_bytes() == places.as_bytes())
-}
-
-// Appends the report of events that are played over a ring. If memory runs out, `told` notes that it lacks a part.
-fn append_over_ring(alloc: Global, events: &[Event], told: &mut Told) {
-    match Ring::new(alloc) {
-        Ok(ring) => append_over(alloc, ring, events, told),
-        Err(_) => told.lack(),
+    match (
+        play_over_ring(alloc, events),
+        play_over(alloc, Slots::new(), events),
+    ) {
+        (Ok(ring), Ok(places)) => Outcome::of_answer(are_same(&ring, &places)),
+        _ => Outcome::NoMemory,
     }
 }
 
-// Appends the report of events that are played over this window. If memory runs out, `told` notes that it lacks a part.
-fn append_over<W: Window<Asked = Call>>(
+// What events lead to.
+#[derive(Drop)]
+struct End {
+    report: Report,
+    // How many requests the client has outstanding.
+    waiting: usize,
+    // The client's next id.
+    next_id: u8,
+}
+
+// What events lead to over a ring. `Err`: memory ran out for the ring or the report.
+fn play_over_ring(alloc: Global, events: &[Event]) -> Result<End, AllocError> {
+    play_over(alloc, Ring::new(alloc)?, events)
+}
+
+// What events lead to over this window. `Err`: memory ran out.
+fn play_over<W: Window<Asked = Call>>(
     alloc: Global,
     window: W,
     events: &[Event],
-    told: &mut Told,
-) {
-    match play(alloc, Instrument::simulator(), window, events) {
-        Ok((report, client)) => append_report(&report, &client, told),
-        Err(_) => told.lack(),
-    }
+) -> Result<End, AllocError> {
+    let (report, client) = play(alloc, Instrument::simulator(), window, events)?;
+    Ok(End {
+        report,
+        waiting: client.waiting(),
+        next_id: client.next_id(),
+    })
 }
 
-// Appends what `append_lists` and `append_counts` append of a report, and then how many requests the client has outstanding, and
-// its next id.
-fn append_report<W: Window<Asked = Call>>(report: &Report, client: &Client<W>, told: &mut Told) {
-    append_lists(report, told);
-    append_counts(report, told);
-    told.counted(&client.waiting(), " ");
-    told.display(&client.next_id());
+// Whether two ends are the same: the reports, but for the instruments in them, and the clients' numbers.
+fn are_same(one: &End, other: &End) -> bool {
+    have_same_lists(&one.report, &other.report)
+        && have_same_counts(&one.report, &other.report)
+        && one.waiting == other.waiting
+        && one.next_id == other.next_id
 }
 
-// Appends the lists of a report: requests sent, requests executed, replies made, settlements, and restarts of the instrument.
-fn append_lists(report: &Report, told: &mut Told) {
-    told.debug(&report.sent.as_slice());
-    told.debug(&report.executed.as_slice());
-    told.debug(&report.made.as_slice());
-    told.debug(&report.settled.as_slice());
-    told.debug(&report.starts.as_slice());
+// Whether the lists of two reports are the same: requests sent, requests executed, replies made, settlements, and restarts of the
+// instrument.
+fn have_same_lists(one: &Report, other: &Report) -> bool {
+    one.sent.as_slice() == other.sent.as_slice()
+        && one.executed.as_slice() == other.executed.as_slice()
+        && one.made.as_slice() == other.made.as_slice()
+        && one.settled.as_slice() == other.settled.as_slice()
+        && one.starts.as_slice() == other.starts.as_slice()
 }
 
-// Appends of a report whether each direction is at the start of a line, how many sends were refused, and how many events weren't
-// possible.
-fn append_counts(report: &Report, told: &mut Told) {
-    told.counted(&report.up.at_start(), " ");
-    told.counted(&report.down.at_start(), " ");
-    told.counted(&report.refused_sends, " ");
-    told.counted(&report.idle_events, " ");
+// Whether two reports agree in how many sends were refused, how many events weren't possible, and whether each direction is at
+// the start of a line.
+fn have_same_counts(one: &Report, other: &Report) -> bool {
+    one.refused_sends == other.refused_sends
+        && one.idle_events == other.idle_events
+        && one.up.at_start() == other.up.at_start()
+        && one.down.at_start() == other.down.at_start()
 }

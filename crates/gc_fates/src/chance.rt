@@ -1,7 +1,7 @@
 //! Chances: how often something happens to a line, and from which range a number is drawn for it.
 
 /// How often something happens, and from which range a number is drawn for it: a time in milliseconds, or how many times.
-#[derive(Clone, Copy, Debug, PartialEq, Eq)]
+#[derive(Clone, Copy)]
 pub struct Chance {
     /// In how many of 100,000 lines it happens on average; 100,000 for a word without a percentage.
     pub share: u32,

@@ -15,7 +15,7 @@ const GOLDEN: u64 = 0x9e37_79b9_7f4a_7c15;
 const DRAWS: u64 = 16;
 
 /// A direction of the line.
-#[derive(Clone, Copy, Debug, PartialEq, Eq)]
+#[derive(Clone, Copy, PartialEq, Eq)]
 pub enum Direction {
     /// Towards the instrument.
     Up,
@@ -32,7 +32,7 @@ pub fn output_of_state(state: u64) -> u64
 }
 
 /// The draws of a seed for the lines of one direction, or for kills of the station.
-#[derive(Clone, Copy, Debug, PartialEq, Eq)]
+#[derive(Clone, Copy)]
 pub struct Draws {
     /// The state of splitmix64 before the first draw of line 1.
     pub start: u64,

@@ -28,7 +28,7 @@ const RESTART_DRAW: u64 = 8;
 const LEAST_OF_RESET: u64 = 2_147_483_648;
 
 /// What happens to a line. Times are in milliseconds.
-#[derive(Clone, Copy, Debug, PartialEq, Eq)]
+#[derive(Clone, Copy)]
 pub struct Fate {
     /// How long it is on the way at least. A hold or a line before it may keep it longer.
     pub wait: u64,

@@ -13,7 +13,7 @@ use crate::spaced::is_blank;
 use gc_texts::{TEXT_LIMIT, before, cut_at, line_at};
 
 /// Why a text has no rules.
-#[derive(Clone, Copy, Debug, PartialEq, Eq)]
+#[derive(Clone, Copy)]
 pub enum Refusal {
     /// It has more than 65,536 bytes.
     TooLong,

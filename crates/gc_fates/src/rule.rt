@@ -1,10 +1,9 @@
 //! Rules: what one line of the text says. The words of the text, and what follows each, are defined here alone.
 
-ghost use Rattle.std.specs.Prelude.{◌≡◌, ◌<◌, ℕ, IsTrue, ◌↔◌, MatchOption, IfOk, IfErr};
+ghost use Rattle.std.specs.Prelude.{◌≡◌, ◌<◌, IsTrue, ◌↔◌, IfOk, IfErr};
+ghost use Rattle.gc_texts.specs.LineForms.{IsReadAs};
 ghost use Rattle.gc_texts.specs.Procedures.{IsNumber};
 ghost use Rattle.gc_fates.specs.RuleForms.{name_of, shape_of, place_of, IsPercentage, IsLasting, IsSpan, AreTimes, IsChance, IsRule, IsNoRule};
-ghost use Rattle.gc_fates.specs.declared.chance.Chance.{Chance};
-ghost use Rattle.gc_fates.specs.declared.rule.Word.{Word};
 
 use crate::chance::Chance;
 use crate::share::{WHOLE, read_share};
@@ -21,7 +20,7 @@ const TIMES_MAX: u64 = 1000;
 pub(crate) const WORDS: usize = 8;
 
 /// A word of the text: what a rule is about.
-#[derive(Clone, Copy, Debug, PartialEq, Eq)]
+#[derive(Clone, Copy)]
 pub enum Word {
     /// Each line is delayed for a time.
     Delay,
@@ -109,7 +108,7 @@ impl Word {
 
     // The word that is written as this text. `None`: no word is.
     fn read(text: &[u8]) -> Option<Word>
-        ensures { MatchOption result ((word : Word) → name_of word ≡ text.now → ⊥) (λ word. name_of word ≡ text.now) }
+        ensures { IsReadAs (λ word. name_of word ≡ text.now) result }
     {
         // Word by word: where all are refused, each refusal is a part of the proof that the text is no word.
         if Word::Delay.is_named(text) {
@@ -148,7 +147,7 @@ pub(crate) struct Rule {
 }
 
 /// What is wrong with a line of the text.
-#[derive(Clone, Copy, Debug, PartialEq, Eq)]
+#[derive(Clone, Copy)]
 pub enum RuleFault {
     /// Its first word is no word of the text.
     NoWord,
@@ -161,7 +160,7 @@ pub enum RuleFault {
 // Reads a whole number of at most `most`. `None`: the word is no such number.
 fn read_number(word: &[u8], most: u64) -> Option<u32>
     requires { most < 4294967296 }
-    ensures { MatchOption result ((n : ℕ) → IsNumber word.now n most → ⊥) (λ n. IsNumber word.now n most) }
+    ensures { IsReadAs (λ n. IsNumber word.now n most) result }
 {
     match number_of(word, most) {
         Some(number) => Some(number as u32),
@@ -171,7 +170,7 @@ fn read_number(word: &[u8], most: u64) -> Option<u32>
 
 // Reads `P`: a percentage, with no number to draw. `None`: the text has another form, or P is above 100.
 fn read_percentage(text: &[u8]) -> Option<Chance>
-    ensures { MatchOption result ((chance : Chance) → IsPercentage text.now chance → ⊥) (λ chance. IsPercentage text.now chance) }
+    ensures { IsReadAs (IsPercentage text.now) result }
 {
     let Some(share) = read_share(first_word(text)) else {
         return None
@@ -189,7 +188,7 @@ fn read_percentage(text: &[u8]) -> Option<Chance>
 // Reads `P MS`: a percentage and a time in milliseconds, which is the only number to draw. `None`: the text has another form, P
 // is above 100, or MS above `MILLIS_MAX`.
 fn read_lasting(text: &[u8]) -> Option<Chance>
-    ensures { MatchOption result ((chance : Chance) → IsLasting text.now chance → ⊥) (λ chance. IsLasting text.now chance) }
+    ensures { IsReadAs (IsLasting text.now) result }
 {
     let Some(share) = read_share(first_word(text)) else {
         return None
@@ -211,7 +210,7 @@ fn read_lasting(text: &[u8]) -> Option<Chance>
 // Reads `FROM TO`: the range of times, in milliseconds, to draw from for each line. `None`: the text has another form, FROM is
 // above TO, or one of them above `MILLIS_MAX`.
 fn read_span(text: &[u8]) -> Option<Chance>
-    ensures { MatchOption result ((chance : Chance) → IsSpan text.now chance → ⊥) (λ chance. IsSpan text.now chance) }
+    ensures { IsReadAs (IsSpan text.now) result }
 {
     let Some(least) = read_number(first_word(text), MILLIS_MAX) else {
         return None
@@ -235,7 +234,7 @@ fn read_span(text: &[u8]) -> Option<Chance>
 
 // Reads `N`: how many times, which is the only number to draw. `None`: the text has another form, or N is above `TIMES_MAX`.
 fn read_times(text: &[u8]) -> Option<Chance>
-    ensures { MatchOption result ((chance : Chance) → AreTimes text.now chance → ⊥) (λ chance. AreTimes text.now chance) }
+    ensures { IsReadAs (AreTimes text.now) result }
 {
     let Some(times) = read_number(first_word(text), TIMES_MAX) else {
         return None
@@ -252,7 +251,7 @@ fn read_times(text: &[u8]) -> Option<Chance>
 
 // Reads what follows a word of this shape. `None`: the text has another form, or a number lies outside its range.
 fn read_chance(shape: Shape, text: &[u8]) -> Option<Chance>
-    ensures { MatchOption result ((chance : Chance) → IsChance shape text.now chance → ⊥) (λ chance. IsChance shape text.now chance) }
+    ensures { IsReadAs (IsChance shape text.now) result }
 {
     match shape {
         Shape::Share => read_percentage(text),

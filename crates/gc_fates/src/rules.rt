@@ -7,7 +7,7 @@ use crate::chance::Chance;
 use crate::rule::{Rule, WORDS, Word};
 
 /// The rules of a text: for each word that the text has, how often it applies and from which range it draws a number.
-#[derive(Clone, Copy, Debug, PartialEq, Eq)]
+#[derive(Clone, Copy)]
 pub struct Rules {
     // The chance of each word, at the word's place. `None`: the text doesn't have the word.
     pub(crate) chances: [Option<Chance>; WORDS],

@@ -1,6 +1,6 @@
 //! Percentages: 0 to 100 with at most three decimals, as whole numbers of thousandths of a percent.
 
-ghost use Rattle.std.specs.Prelude.{◌≡◌, ◌≤◌, ◌*◌, ℕ, MatchOption};
+ghost use Rattle.gc_texts.specs.LineForms.{IsReadAs};
 ghost use Rattle.gc_fates.specs.Shares.{IsShare, IsPlaces};
 
 use gc_texts::{cut_at, number_of};
@@ -10,7 +10,7 @@ pub(crate) const WHOLE: u64 = 100_000;
 
 // Reads the one to three digits after a decimal point as thousandths: `5` is 500. `None`: there are fewer or more, or other bytes.
 fn read_places(digits: &[u8]) -> Option<u64>
-    ensures { MatchOption result ((n : ℕ) → IsPlaces digits.now n → ⊥) (λ n. IsPlaces digits.now n) }
+    ensures { IsReadAs (IsPlaces digits.now) result }
 {
     let Some(number) = number_of(digits, 999) else {
         return None
@@ -25,7 +25,7 @@ fn read_places(digits: &[u8]) -> Option<u64>
 
 // Reads a percentage, in thousandths of a percent. `None`: the word is no percentage, or is above 100.
 pub(crate) fn read_share(word: &[u8]) -> Option<u32>
-    ensures { MatchOption result ((n : ℕ) → IsShare word.now n → ⊥) (λ n. IsShare word.now n) }
+    ensures { IsReadAs (IsShare word.now) result }
 {
     let (whole, places) = cut_at(b'.', word);
     let Some(whole) = number_of(whole, 100) else {

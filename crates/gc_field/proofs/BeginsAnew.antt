@@ -24,15 +24,15 @@ use Rattle.gc_field.proofs.CountingChain.{counted, opens_counting, shown_are}
 use Rattle.gc_field.proofs.Witness.{asked_each, one_part, part_of, units}
 
 -- what the turns of the second synchronization show to the station
-abbrev all_turns : List part.Turn
-all_turns =
+abbrev all_sync_steps : List part.SyncStep
+all_sync_steps =
     part.Asks ∷ part.Hears first_reply ∷ part.Hears seventh_reply ∷ part.Asks ∷ part.Hears seventh_reply ∷ part.Hears (codes "%R1P,0,5:0,38") ∷ asked_each (drop 1 later_replies)
 
 -- the parts of the run: until the station resynchronizes, from there on, and the empty one after the end
 abbrev parts : List Part
 parts =
     part_of (asked_each null_replies) (seen moves) (map (λ place. (place, 15)) (0 ∷ 1 ∷ 2 ∷ 3 ∷ 4 ∷ 5 ∷ 6 ∷ []))
-    ∷ one_part all_turns (seen moves_anew) ((7, 120) ∷ [])
+    ∷ one_part all_sync_steps (seen moves_anew) ((7, 120) ∷ [])
 
 -- the parts of the run are these
 parts_are : parts_of plan commands (opening plan scope) acts ≡ parts
@@ -40,7 +40,7 @@ unfolding is_elsewhere header_at reply_at digits
 parts_are = refl
 
 -- the turns of the second synchronization show this
-shown_anew : shown counting turns (begins left_by_first) ≡ all_turns
+shown_anew : shown counting turns (begins left_by_first) ≡ all_sync_steps
 unfolding is_elsewhere header_at reply_at digits
 shown_anew = refl
 

@@ -276,17 +276,17 @@ module _ {State : Type 0} (ends : Ends State) (Good : State → Type 0) (kept : 
           stands = stands;
           accounted = parts;
           one_for_one = pairs;
-          booked = λ m s ge safe e bytes answered.
-              let v = (own m s ge safe e).answered bytes answered in
+          booked = λ m s sure e bytes answered.
+              let v = (own m s sure.0 sure.1 e).answered bytes answered in
               let right = (pairs.same m s v.request e v.found).1 in
               (has_at _ a.wire.made v.among, subst (λ call. IsReplyTo ends Good call bytes) (sym right) v.reply);
-          executed = λ m s bytes ge safe e answered. has_at m a.wire.executed ((own m s ge safe e).answered bytes answered).acted;
-          made_on = λ m s bytes ge safe e answered.
-              let v = (own m s ge safe e).answered bytes answered in
+          executed = λ m s bytes sure e answered. has_at m a.wire.executed ((own m s sure.0 sure.1 e).answered bytes answered).acted;
+          made_on = λ m s bytes sure e answered.
+              let v = (own m s sure.0 sure.1 e).answered bytes answered in
               subst (λ call. M m call bytes) (sym (pairs.same m s v.request e v.found).1) v.on;
           in_order = subst (λ (w : Wire State). IsInOrder w.executed) (sym same) all.order;
-          late = λ m s ge safe e late.
-              let v = (own m s ge safe e).late late in
+          late = λ m s sure e late.
+              let v = (own m s sure.0 sure.1 e).late late in
               (v.0, subst (λ call. M m call v.0) (sym (pairs.same m s v.1.request e v.1.found).1) v.1.on);
           once = λ keeps k. subst (λ (w : Wire State). ActsOnce keeps w.sent w.executed w.starts) (sym same) (all.once keeps k);
           agrees = same;

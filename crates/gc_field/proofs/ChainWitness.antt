@@ -38,7 +38,7 @@ none_turns (suc zero) task above under e =
     ap (λ (t : Task). turns_telescope t.command.call) (sym (same_Some one task e))
 none_turns (suc (suc p)) task above under e = absurd (omega (arith, under))
 
--- the run's parts are these: one with these turns and steps, and with the three requests by place and moment; and the empty one
+-- the run's parts are these: one with these steps, and with the three requests by place and moment; and the empty one
 -- after the end
 parts_are : parts_of plan commands (opening plan scope) acts ≡ one_part (asked_each replies) (seen moves) ((0, 15) ∷ (1, 20) ∷ (2, 25) ∷ [])
 unfolding is_elsewhere header_at reply_at digits rounded

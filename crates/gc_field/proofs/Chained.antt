@@ -120,7 +120,7 @@ module _ {State : Type 0} (ends : Ends State) (Good : State → Type 0) (kept : 
 
   -- `CutRuns` of one part, p: its run is the first of possible runs, r, whose turns show those of p, cut after the moves that
   -- show the steps of p (`SplitSeen`)
-  cut_one : (p : Part) (u : UnderWay State) (r : Run State) (rs : List (Run State)) → shown ends r.turns (begins u) ≡ p.turns → SplitSeen r.moves p.steps → AreTurns ends Good kept r.turns (begins u)
+  cut_one : (p : Part) (u : UnderWay State) (r : Run State) (rs : List (Run State)) → shown ends r.turns (begins u) ≡ p.sync_steps → SplitSeen r.moves p.steps → AreTurns ends Good kept r.turns (begins u)
       → ArePossibleIf 7 ends Good kept (after_turns ends u r).left (after_turns ends u r) r.moves → CutRuns (p ∷ []) u (r ∷ rs)
   cut_one p u r rs e x turns possible = record {
     runs = record { turns = r.turns; moves = x.front } ∷ [];
@@ -148,7 +148,7 @@ module _ {State : Type 0} (ends : Ends State) (Good : State → Type 0) (kept : 
       cut_one p u r rs (e.0 ∙ same) (split_seen r.moves p.steps h.0.steps here) good.0.0 good.0.1
 
   -- `CutRuns` is preserved if a part and the possible run that shows it are put before the parts and the runs
-  cut_more : (p next : Part) (ps : List Part) (u : UnderWay State) (r : Run State) (rs : List (Run State)) → shown ends r.turns (begins u) ≡ p.turns → seen r.moves ≡ p.steps
+  cut_more : (p next : Part) (ps : List Part) (u : UnderWay State) (r : Run State) (rs : List (Run State)) → shown ends r.turns (begins u) ≡ p.sync_steps → seen r.moves ≡ p.steps
       → AreTurns ends Good kept r.turns (begins u) × ArePossibleIf 7 ends Good kept (after_turns ends u r).left (after_turns ends u r) r.moves
       → CutRuns (next ∷ ps) (left_by_run 7 ends u r) rs → CutRuns (p ∷ next ∷ ps) u (r ∷ rs)
   cut_more p next ps u r rs e f good c = record {
@@ -167,7 +167,7 @@ module _ {State : Type 0} (ends : Ends State) (Good : State → Type 0) (kept : 
   cut_on p next ps [] u rs h w e good again = absurd h
   cut_on p next ps (q ∷ qs) u [] h w e good again = absurd e
   cut_on p next ps (q ∷ qs) u (r ∷ rs) h w e good again =
-      cut_more p next ps u r rs (e.0 ∙ ap (λ (x : Part). x.turns) h.0) (e.1 ∙ ap (λ (x : Part). x.steps) h.0) good.0 (again qs (left_by_run 7 ends u r) rs h.1 w e.2 good.1)
+      cut_more p next ps u r rs (e.0 ∙ ap (λ (x : Part). x.sync_steps) h.0) (e.1 ∙ ap (λ (x : Part). x.steps) h.0) good.0 (again qs (left_by_run 7 ends u r) rs h.1 w e.2 good.1)
 
   -- `CutRuns` of any parts that are a front of those that possible runs show (`IsFront`, `AreWhole`), if the last of them has a
   -- request

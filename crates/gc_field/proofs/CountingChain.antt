@@ -96,13 +96,13 @@ third_made : WasMadeOn WINDOW counting stretch.from moves 10 reads_all third_rep
 unfolding is_elsewhere header_at reply_at digits
 third_made = record { front = take 13 moves; later = drop 14 moves; split = refl; id = 2; rest = []; reaches = refl; executed = refl; reply = refl }
 
--- the run's parts are these: one with these turns and steps, and with the three requests by place and moment; and the empty one
+-- the run's parts are these: one with these steps, and with the three requests by place and moment; and the empty one
 -- after the end
 parts_are : parts_of plan commands (opening plan scope) acts ≡ one_part (asked_each null_replies) (seen moves) ((0, 15) ∷ (1, 20) ∷ (2, 25) ∷ [])
 unfolding is_elsewhere header_at reply_at digits
 parts_are = refl
 
--- what happens while the station synchronizes shows these turns
+-- what happens while the station synchronizes shows these steps
 pub shown_are : shown counting eight_answered (begins at_start) ≡ asked_each null_replies
 unfolding is_elsewhere header_at reply_at digits
 shown_are = refl

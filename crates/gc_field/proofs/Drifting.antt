@@ -31,13 +31,13 @@ module _ (raw : RawCall) where
   unfolding is_elsewhere header_at reply_at digits
   was_made = record { front = take 11 (moves raw); later = drop 12 (moves raw); split = refl; id = 1; rest = []; reaches = refl; executed = refl; reply = refl }
 
-  -- the run's parts are these: one with these turns and steps, and with the two requests by place and moment; and the empty one
+  -- the run's parts are these: one with these steps, and with the two requests by place and moment; and the empty one
   -- after the end
   parts_are : parts_of plan (commands raw) (opening plan scope) (acts raw) ≡ one_part (part.Asks ∷ part.Asks ∷ asked_each null_replies) (seen (moves raw)) ((0, 220) ∷ (1, 320) ∷ [])
   unfolding is_elsewhere header_at reply_at digits
   parts_are = refl
 
-  -- what happens while the station synchronizes shows these turns
+  -- what happens while the station synchronizes shows these steps
   shown_are : shown drifting turns (begins (none_under_way 5)) ≡ part.Asks ∷ part.Asks ∷ asked_each null_replies
   unfolding is_elsewhere header_at reply_at digits
   shown_are = refl

@@ -45,7 +45,7 @@ module _ {State : Type 0} (ends : Ends State) (Good : State → Type 0) (kept : 
       (vouched_at width narrow is_of_table ends Good ex kept keeper (λ n. n < 1) (omega arith) M ms state good p table l on) in
       let own : (m : ℕ) (s : Settlement Asked) → 0 < m → slice_get a.wire.settled m ≡ Some s → IsOwnSettlement ends Good M a.wire m s = λ m s gt e. all.own m s (λ l. omega (arith, l, gt)) e in
       record {
-        settled = one.settled;
+        settled = sym one.settled;
         stands = one.client;
         accounted = parts;
         one_for_one = pairs;

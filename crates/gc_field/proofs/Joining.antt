@@ -121,8 +121,8 @@ module _ {State : Type 0} (ends : Ends State) (Good : State → Type 0) (kept : 
   abbrev pub AllFit : List Part → List (Stretch State) → Type 0
   AllFit ps ss = AllZip Fits ps ss
 
-  -- if the turns of a run show those of the part p, the ids that are left of the run's word are those that the turns of p leave
-  left_so : (u : UnderWay State) (r : Run State) (p : Part) → shown ends r.turns (begins u) ≡ p.turns → (after_turns ends u r).left ≡ unanswered_after the_word (heard_in p.turns)
+  -- if the turns of a run show those of the part p, the ids that are left of the run's word are those that the steps of p leave
+  left_so : (u : UnderWay State) (r : Run State) (p : Part) → shown ends r.turns (begins u) ≡ p.sync_steps → (after_turns ends u r).left ≡ unanswered_after the_word (heard_in p.sync_steps)
   left_so u r p e = left_is ends r.turns (begins u) ∙ ap (λ l. unanswered_after the_word (heard_in l)) e
 
   -- where possible runs over what is well formed, without the word in its ids, show these parts, and `AreBegun` holds of the
@@ -277,7 +277,7 @@ module _ {State : Type 0} (ends : Ends State) (Good : State → Type 0) (kept : 
       let there = get_drop 8 n (world ends s).wire.settled x here in
       let a = marks_ask_at commands p.marks (map asked (own_sent ends s)) n (Some mark) sent at in
       let r = get_seen asked (own_sent ends s) n a.0 a.1 in
-      let b = f.faithful.booked (8 + n) x beyond (safe n mark at) there line answered in
+      let b = f.faithful.booked (8 + n) x (beyond, safe n mark at) there line answered in
       let right : x.call ≡ call_at a.2.0 mark.sent = (f.faithful.one_for_one.same (8 + n) x r.0 there (get_drop 8 n (world ends s).wire.sent r.0 r.1)).1 ∙ ap
       (λ (o : Wanted Asked). o.call) (r.2 ∙ a.2.2) in
       record {
@@ -288,8 +288,8 @@ module _ {State : Type 0} (ends : Ends State) (Good : State → Type 0) (kept : 
         settled = here ∙ ap (λ (o : Outcome). Some (record { target = x.target; call = x.call; outcome = o })) answered;
         made = b.0;
         reply = subst (λ call. IsReplyTo ends Good call line) right b.1;
-        executed = f.faithful.executed (8 + n) x line beyond (safe n mark at) there answered;
-        made_on = subst (λ call. WasMadeOn 7 ends s.from s.moves (8 + n) call line) right (f.faithful.made_on (8 + n) x line beyond (safe n mark at) there answered);
+        executed = f.faithful.executed (8 + n) x line (beyond, safe n mark at) there answered;
+        made_on = subst (λ call. WasMadeOn 7 ends s.from s.moves (8 + n) call line) right (f.faithful.made_on (8 + n) x line (beyond, safe n mark at) there answered);
       })
 
   -- A command that wasn't sent has no answer.
@@ -323,7 +323,7 @@ module _ {State : Type 0} (ends : Ends State) (Good : State → Type 0) (kept : 
       let r = get_seen asked (own_sent ends s) n a.0 a.1 in
       let right : x.call ≡ call_at a.2.0 mark.sent = (f.faithful.one_for_one.same (8 + n) x r.0 there (get_drop 8 n (world ends s).wire.sent r.0 r.1)).1 ∙ ap
       (λ (o : Wanted Asked). o.call) (r.2 ∙ a.2.2) in
-      let made = f.faithful.late (8 + n) x beyond (safe n mark at) there late in
+      let made = f.faithful.late (8 + n) x (beyond, safe n mark at) there late in
       record {
         of = record { k = 0; part = p; stretch = s; of_parts = refl; of_stretches = refl; m = n; expected = mark.expected; mark = at; task = a.2.0; listed = a.2.1 };
         line = made.0;

@@ -32,7 +32,7 @@ answer_made : WasMadeOn WINDOW ends from moves 9 (Table InstrumentNo) answer
 unfolding is_elsewhere header_at reply_at handed exec digits
 answer_made = record { front = take 9 moves; later = drop 10 moves; split = refl; id = 1; rest = []; reaches = refl; executed = refl; reply = refl }
 
--- the run's parts are these: one with these turns and steps, and with the two requests by place and moment; and the empty one
+-- the run's parts are these: one with these steps, and with the two requests by place and moment; and the empty one
 -- after the end
 parts_are : parts_of plan commands (opening plan scope) acts ≡ one_part (asked_each replies) (seen moves) ((0, 15) ∷ (1, 115) ∷ [])
 unfolding is_elsewhere header_at reply_at digits

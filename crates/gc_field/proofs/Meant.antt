@@ -1,4 +1,4 @@
--- Each act of a run means what its part says: turns while the station synchronizes, steps of the client once it has
+-- Each act of a run means what its part says: steps of the synchronization until the station has synchronized, and then steps of the client
 -- synchronized.
 use Rattle.std.proofs.Common.{◌≡◌, ◌⊎◌, inl, inr, ℕ, Bool, true, false, if◌then◌else◌, List, [], ◌∷◌, map, refl, sym, ◌∙◌, ap, subst}
 use Rattle.gc_catalogue.specs.declared.asked.Asked.{Asked}
@@ -9,16 +9,16 @@ use Rattle.gc_links.specs.declared.link.Moment.{Moment}
 use Rattle.gc_station.specs.declared.plan.Plan.{Plan}
 use Rattle.gc_links.specs.Acts.{Act, Told, Untold, Put, Cut, Gave, Silent, Ended, Broke, Closed, Opened, Unopened}
 use Rattle.gc_station.specs.Deciding.{has_begun}
-use Rattle.gc_station.specs.Parts.{Part, Asks, Hears, sync_part, client_part, heard_steps, nothing, only_turns, put_part}
+use Rattle.gc_station.specs.Parts.{Part, Asks, Hears, sync_part, client_part, heard_steps, nothing, only_sync_steps, put_part}
 use Rattle.gc_station.specs.Model.{Model, action_at, is_heard, lines_completed, null_text, Performs, after, Runs}
-use Rattle.gc_station.proofs.Asked.{none_doing, steps_none, turns_gave, turns_none, word_after_turns}
+use Rattle.gc_station.proofs.Asked.{none_doing, steps_none, sync_steps_gave, sync_steps_none, word_after_sync_steps}
 use Rattle.gc_station.proofs.Booking.{sending_of, sends_with_room}
 use Rattle.gc_station.proofs.EachRun.{invariant_after}
 use Rattle.gc_station.proofs.Givens.{after_rest, rest_with}
 use Rattle.gc_station.proofs.Invariant.{Invariant}
 use Rattle.gc_station.proofs.Meant as meant
 use Rattle.gc_station.proofs.Meant.{asked_is, put_is}
-use Rattle.gc_field.specs.Asking.{IsAskedFor, IsTaken, MeansTurns}
+use Rattle.gc_field.specs.Asking.{IsAskedFor, IsTaken, MeansSyncSteps}
 use Rattle.gc_field.specs.Meaning.{IsPut, Means}
 use Rattle.gc_field.specs.Runs.{AreMeant, IsMeant}
 
@@ -50,11 +50,11 @@ taken true rest behind piece m e = inl (refl, e)
 taken false rest behind piece m e = inr (refl, e)
 
 -- where bytes are a line feed and p is the part in which nothing happens, or they are the line of the next null procedure and p
--- is the turn `Asks`, the bytes mean p's turns (`IsAskedFor`)
+-- is the step `Asks`, the bytes mean p's steps of the synchronization (`IsAskedFor`)
 asked_for : (s : Model) (bytes : List ℕ) (p : Part) → ((bytes ≡ 10 ∷ []) × (p ≡ nothing))
-    ⊎ ((bytes ≡ null_text s.progress.word) × (p ≡ only_turns (Asks ∷ []))) → IsAskedFor s.progress.word bytes p.turns
-asked_for s bytes p (inl e) = inl (e.0, ap (λ (x : Part). x.turns) e.1)
-asked_for s bytes p (inr e) = inr (e.0, ap (λ (x : Part). x.turns) e.1)
+    ⊎ ((bytes ≡ null_text s.progress.word) × (p ≡ only_sync_steps (Asks ∷ []))) → IsAskedFor s.progress.word bytes p.sync_steps
+asked_for s bytes p (inl e) = inl (e.0, ap (λ (x : Part). x.sync_steps) e.1)
+asked_for s bytes p (inr e) = inr (e.0, ap (λ (x : Part). x.sync_steps) e.1)
 
 -- an act brings no bytes, and does not close the connection
 abbrev LeavesRest : Act → Type 0
@@ -108,37 +108,37 @@ module _ (plan : Plan) (commands : List Task) where
   act_means s Opened fine begun obeys = (refl, same_rest s Opened obeys tt)
   act_means s Unopened fine begun obeys = (refl, same_rest s Unopened obeys tt)
 
-  -- while a station synchronizes, an act that it performs means the turns of its part (`MeansTurns`)
-  turns_mean : (s : Model) (act : Act) → has_begun s.progress ≡ false → Performs commands s (action_at plan s) act
-      → MeansTurns s.progress.word s.rest act (sync_part s (action_at plan s) act).turns (after plan commands s act).rest
-  turns_mean s (Gave piece m) begins obeys =
-      subst (λ turns. IsTaken s.rest piece turns (after plan commands s (Gave piece m)).rest) (sym (turns_gave commands s (action_at plan s) piece m obeys))
+  -- while a station synchronizes, an act that it performs means the steps of its part (`MeansSyncSteps`)
+  sync_steps_mean : (s : Model) (act : Act) → has_begun s.progress ≡ false → Performs commands s (action_at plan s) act
+      → MeansSyncSteps s.progress.word s.rest act (sync_part s (action_at plan s) act).sync_steps (after plan commands s act).rest
+  sync_steps_mean s (Gave piece m) begins obeys =
+      subst (λ steps. IsTaken s.rest piece steps (after plan commands s (Gave piece m)).rest) (sym (sync_steps_gave commands s (action_at plan s) piece m obeys))
       (taken (is_heard s.progress.phase) s.rest (after plan commands s (Gave piece m)).rest piece m (after_rest plan commands s (Gave piece m) obeys))
-  turns_mean s (Put bytes) begins obeys = (
+  sync_steps_mean s (Put bytes) begins obeys = (
     asked_for s bytes (sync_part s (action_at plan s) (Put bytes))
         (asked_is plan commands s (Put bytes) bytes obeys refl begins),
     same_rest s (Put bytes) obeys tt,
   )
-  turns_mean s (Cut bytes count) begins obeys = (
+  sync_steps_mean s (Cut bytes count) begins obeys = (
     asked_for s bytes (sync_part s (action_at plan s) (Cut bytes count))
         (asked_is plan commands s (Cut bytes count) bytes obeys refl begins),
     same_rest s (Cut bytes count) obeys tt,
   )
-  turns_mean s Untold begins obeys = (turns_none s (action_at plan s) Untold tt, same_rest s Untold obeys tt)
-  turns_mean s (Told m) begins obeys = (turns_none s (action_at plan s) (Told m) tt, same_rest s (Told m) obeys tt)
-  turns_mean s (Silent m) begins obeys = (turns_none s (action_at plan s) (Silent m) tt, same_rest s (Silent m) obeys tt)
-  turns_mean s Ended begins obeys = (turns_none s (action_at plan s) Ended tt, same_rest s Ended obeys tt)
-  turns_mean s Broke begins obeys = (turns_none s (action_at plan s) Broke tt, same_rest s Broke obeys tt)
-  turns_mean s Opened begins obeys = (turns_none s (action_at plan s) Opened tt, same_rest s Opened obeys tt)
-  turns_mean s Unopened begins obeys = (turns_none s (action_at plan s) Unopened tt, same_rest s Unopened obeys tt)
-  turns_mean s Closed begins obeys = (turns_none s (action_at plan s) Closed tt, no_rest s obeys)
+  sync_steps_mean s Untold begins obeys = (sync_steps_none s (action_at plan s) Untold tt, same_rest s Untold obeys tt)
+  sync_steps_mean s (Told m) begins obeys = (sync_steps_none s (action_at plan s) (Told m) tt, same_rest s (Told m) obeys tt)
+  sync_steps_mean s (Silent m) begins obeys = (sync_steps_none s (action_at plan s) (Silent m) tt, same_rest s (Silent m) obeys tt)
+  sync_steps_mean s Ended begins obeys = (sync_steps_none s (action_at plan s) Ended tt, same_rest s Ended obeys tt)
+  sync_steps_mean s Broke begins obeys = (sync_steps_none s (action_at plan s) Broke tt, same_rest s Broke obeys tt)
+  sync_steps_mean s Opened begins obeys = (sync_steps_none s (action_at plan s) Opened tt, same_rest s Opened obeys tt)
+  sync_steps_mean s Unopened begins obeys = (sync_steps_none s (action_at plan s) Unopened tt, same_rest s Unopened obeys tt)
+  sync_steps_mean s Closed begins obeys = (sync_steps_none s (action_at plan s) Closed tt, no_rest s obeys)
 
   -- where the `Invariant` holds, an act that the station performs means its part, whether the station has synchronized (`b`) or
   -- not
   pub is_meant : (s : Model) (act : Act) (b : Bool) → has_begun s.progress ≡ b → Invariant plan commands s → Performs commands s (action_at plan s) act
       → IsMeant b s act (if b then client_part plan commands s (action_at plan s) act else sync_part s (action_at plan s) act) (after plan commands s act)
   is_meant s act true e fine obeys = (none_doing plan commands s (action_at plan s) act, act_means s act fine e obeys)
-  is_meant s act false e fine obeys = (steps_none s (action_at plan s) act, turns_mean s act e obeys, word_after_turns plan commands s act obeys e)
+  is_meant s act false e fine obeys = (steps_none s (action_at plan s) act, sync_steps_mean s act e obeys, word_after_sync_steps plan commands s act obeys e)
 
   -- from a model of which the `Invariant` holds, each act of a run means its part
   pub are_meant : (s : Model) (acts : List Act) → Invariant plan commands s → Runs plan commands s acts → AreMeant plan commands s acts

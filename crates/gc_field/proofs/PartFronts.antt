@@ -9,15 +9,15 @@ use Rattle.gc_station.specs.Deciding.{has_begun}
 use Rattle.gc_station.specs.Parts.{Part, joined, nothing, in_front, part_of_act, sync_part, client_part, ends_part, parts_of}
 use Rattle.gc_station.specs.Progressing.{loses_all}
 use Rattle.gc_station.specs.Model.{Model, action_at, after}
-use Rattle.gc_station.proofs.Asked.{FirstHasNoTurns, goes_begun, marks_none, nil_both, no_turns}
+use Rattle.gc_station.proofs.Asked.{FirstHasNoSyncSteps, goes_begun, marks_none, nil_both, no_sync_steps}
 use Rattle.std.proofs.lemmas.Option.{same_Some, none-some}
 
 -- the first list has at least one part, and the second one at least as many; and if the last part of the first list has requests,
--- its turns are those of the part at its place in the second
+-- its steps of a synchronization are those of the part at its place in the second
 abbrev pub AreWhole : (ps qs : List Part) → Type 0
 AreWhole [] qs = ⊥
 AreWhole (p ∷ ps) [] = ⊥
-AreWhole (p ∷ []) (q ∷ qs) = (p.marks ≡ []) ⊎ (q.turns ≡ p.turns)
+AreWhole (p ∷ []) (q ∷ qs) = (p.marks ≡ []) ⊎ (q.sync_steps ≡ p.sync_steps)
 AreWhole (p ∷ next ∷ ps) (q ∷ qs) = AreWhole (next ∷ ps) qs
 
 -- `AreWhole` holds of the one part in which nothing happens, and of parts of which there is at least one (`in_front`)
@@ -26,32 +26,32 @@ whole_none p true ps = inl refl
 whole_none p false [] = inl refl
 whole_none p false (q ∷ ps) = inl refl
 
--- two parts without turns, joined to the same one, give parts with the same turns
-turns_alike : (p x y : Part) → x.turns ≡ [] → y.turns ≡ [] → (joined p y).turns ≡ (joined p x).turns
-turns_alike p x y e f = ap (λ l. p.turns ++ l) (f ∙ sym e)
+-- two parts without steps of a synchronization, joined to the same one, give parts with the same ones
+sync_steps_alike : (p x y : Part) → x.sync_steps ≡ [] → y.sync_steps ≡ [] → (joined p y).sync_steps ≡ (joined p x).sync_steps
+sync_steps_alike p x y e f = ap (λ l. p.sync_steps ++ l) (f ∙ sym e)
 
 -- `AreWhole` is preserved by part p put before both lists (`b`), or joined to the first part of each (`b` is false), if p has no
--- marks, or if the parts that it is joined to have no turns
-whole_more : (p : Part) (b : Bool) (ps qs : List Part) → (p.marks ≡ []) ⊎ (b ≡ false → FirstHasNoTurns ps × FirstHasNoTurns qs) → AreWhole ps qs → AreWhole (in_front p b ps) (in_front p b qs)
+-- marks, or if the parts that it is joined to have no steps of a synchronization
+whole_more : (p : Part) (b : Bool) (ps qs : List Part) → (p.marks ≡ []) ⊎ (b ≡ false → FirstHasNoSyncSteps ps × FirstHasNoSyncSteps qs) → AreWhole ps qs → AreWhole (in_front p b ps) (in_front p b qs)
 whole_more p b [] qs k h = absurd h
 whole_more p true (x ∷ ps) [] k h = absurd h
 whole_more p false (x ∷ ps) [] k h = absurd h
 whole_more p true (x ∷ ps) (y ∷ qs) k h = h
-whole_more p false (x ∷ []) (y ∷ qs) k (inr e) = inr (ap (λ l. p.turns ++ l) e)
+whole_more p false (x ∷ []) (y ∷ qs) k (inr e) = inr (ap (λ l. p.sync_steps ++ l) e)
 whole_more p false (x ∷ []) (y ∷ qs) (inl e) (inl f) = inl (nil_both p.marks x.marks e f)
-whole_more p false (x ∷ []) (y ∷ qs) (inr g) (inl f) = inr (turns_alike p x y (g refl).0 (g refl).1)
+whole_more p false (x ∷ []) (y ∷ qs) (inr g) (inl f) = inr (sync_steps_alike p x y (g refl).0 (g refl).1)
 whole_more p false (x ∷ next ∷ ps) (y ∷ qs) k h = h
 
 module _ (plan : Plan) (commands : List Task) where
   -- while the station synchronizes (`b` is false), an act's part has no marks; else, unless the act is the last of its part
-  -- (`loses_all`), no turn comes in the further acts, `xs` or `ys`, until the next part
+  -- (`loses_all`), no step of a synchronization comes in the further acts, `xs` or `ys`, until the next part
   sends_or_not : (s : Model) (act : Act) (xs ys : List Act) (b : Bool) → let t = after plan commands s act in
       ((if b then client_part plan commands s (action_at plan s) act else sync_part s (action_at plan s) act).marks ≡ [])
-      ⊎ ((b && loses_all t.progress) ≡ false → FirstHasNoTurns (parts_of plan commands t xs) × FirstHasNoTurns (parts_of plan commands t ys))
+      ⊎ ((b && loses_all t.progress) ≡ false → FirstHasNoSyncSteps (parts_of plan commands t xs) × FirstHasNoSyncSteps (parts_of plan commands t ys))
   sends_or_not s act xs ys false = inl (marks_none s (action_at plan s) act)
   sends_or_not s act xs ys true =
       let t = after plan commands s act in
-      inr (λ f. (no_turns plan commands t xs (goes_begun t f), no_turns plan commands t ys (goes_begun t f)))
+      inr (λ f. (no_sync_steps plan commands t xs (goes_begun t f), no_sync_steps plan commands t ys (goes_begun t f)))
 
   -- `AreWhole` holds of the parts of a run's first acts, and the parts of all of its acts
   pub whole_parts : (s : Model) (xs ys : List Act) → AreWhole (parts_of plan commands s xs) (parts_of plan commands s (xs ++ ys))

@@ -54,14 +54,14 @@ unfolding is_elsewhere header_at reply_at digits
 opens width tasks reads =
     (tt, (refl, (tt, (refl, (tt, (tt, (refl, (tt, (tt, (refl, (tt, (tt, (refl, (tt, (tt, (refl, (tt, (tt, (refl, (tt, (tt, (refl, (tt, (tt, (refl, (tt, (tt, tt)))))))))))))))))))))))))))
 
--- the part with these turns and steps, whose requests are of the first cycle: each by its place, and the moment before it was
+-- the part with these steps, of a synchronization and of the client, whose requests are of the first cycle: each by its place, and the moment before it was
 -- sent
-abbrev pub part_of : List part.Turn → List (Step Asked) → List (ℕ × ℕ) → Part
-part_of turns steps sent = record { turns = turns; steps = steps; marks = map (λ x. Some (record { cycle = 1; place = x.0; sent = x.1; expected = plain_expected })) sent }
+abbrev pub part_of : List part.SyncStep → List (Step Asked) → List (ℕ × ℕ) → Part
+part_of sync_steps steps sent = record { sync_steps = sync_steps; steps = steps; marks = map (λ x. Some (record { cycle = 1; place = x.0; sent = x.1; expected = plain_expected })) sent }
 
--- the parts of a run that never resynchronizes: the part with these turns, steps and requests, and the empty one after the end
-abbrev pub one_part : List part.Turn → List (Step Asked) → List (ℕ × ℕ) → List Part
-one_part turns steps sent = part_of turns steps sent ∷ nothing ∷ []
+-- the parts of a run that never resynchronizes: the part with these steps and requests, and the empty one after the end
+abbrev pub one_part : List part.SyncStep → List (Step Asked) → List (ℕ × ℕ) → List Part
+one_part sync_steps steps sent = part_of sync_steps steps sent ∷ nothing ∷ []
 
 -- The run of one command.
 
@@ -117,24 +117,24 @@ was_made : WasMadeOn WINDOW ends (leaves (turned ends turns (begins at_start))) 
 unfolding is_elsewhere header_at reply_at handed exec digits
 was_made = record { front = take 3 moves; later = drop 4 moves; split = refl; id = 0; rest = []; reaches = refl; executed = refl; reply = refl }
 
--- the turns of a synchronization in which, for each of these lines in order, a null procedure is sent, and then the line is
+-- the steps of a synchronization in which, for each of these lines in order, a null procedure is sent, and then the line is
 -- heard
-abbrev pub asked_each : List (List ℕ) → List part.Turn
+abbrev pub asked_each : List (List ℕ) → List part.SyncStep
 asked_each [] = []
 asked_each (line ∷ lines) = part.Asks ∷ part.Hears line ∷ asked_each lines
 
 -- what the turns of this run's synchronization show
-abbrev all_turns : List part.Turn
-all_turns = part.Asks ∷ part.Hears (codes "%R1P,0,0:0,654321") ∷ part.Hears answer ∷ part.Hears (codes "%R1P,0,6:0") ∷ asked_each (drop 1 replies)
+abbrev all_sync_steps : List part.SyncStep
+all_sync_steps = part.Asks ∷ part.Hears (codes "%R1P,0,0:0,654321") ∷ part.Hears answer ∷ part.Hears (codes "%R1P,0,6:0") ∷ asked_each (drop 1 replies)
 
--- the run's parts are these: one with these turns and steps, and with the request for the command at place 0, which was sent
+-- the run's parts are these: one with these steps, and with the request for the command at place 0, which was sent
 -- after the moment 15; and the empty one after the end
-parts_are : parts_of plan commands (opening plan scope) acts ≡ one_part all_turns (seen moves) ((0, 15) ∷ [])
+parts_are : parts_of plan commands (opening plan scope) acts ≡ one_part all_sync_steps (seen moves) ((0, 15) ∷ [])
 unfolding is_elsewhere header_at reply_at digits
 parts_are = refl
 
--- what happens while the station synchronizes shows these turns
-shown_are : shown ends turns (begins at_start) ≡ all_turns
+-- what happens while the station synchronizes shows these steps
+shown_are : shown ends turns (begins at_start) ≡ all_sync_steps
 unfolding is_elsewhere header_at reply_at handed exec digits
 shown_are = refl
 

@@ -13,7 +13,7 @@ use Rattle.gc_field.specs.World.{Ends, Wire}
 use Rattle.gc_field.specs.Begin.{IsWellFormed, LacksTheWord, AreTurns, Model, Turn, UnderWay, begins, ids_under_way, leaves, turned}
 use Rattle.gc_field.specs.Begun.{HasBegunCleanly, IsClean, IsFaithful, behind, ids_begun}
 use Rattle.gc_field.specs.Field.{Move, ArePossible}
-use Rattle.gc_field.specs.Instrument.{AnyState, IsAnInstrument}
+use Rattle.gc_field.specs.Instrument.{AnyState, IsAnInstrument, OfAnyInstrument}
 use Rattle.gc_field.specs.Laws.{kept_of}
 
 -- what is in flight on a wire
@@ -115,7 +115,7 @@ RunsInARowAreOwn {State = State} ends Good kept =
 
 -- `RunsInARowAreOwn`, for any instrument, in any state
 abbrev pub RunsAreTheirOwn : Type 0 → Type 0
-RunsAreTheirOwn State = (ends : Ends State) (kept : State → Option KeptReply) → IsAnInstrument ends AnyState kept → RunsInARowAreOwn ends AnyState kept
+RunsAreTheirOwn State = OfAnyInstrument {State = State} (λ ends Good kept. RunsInARowAreOwn ends Good kept)
 
 -- `RunsInARowAreOwn`, for the simulator, in any state that fits
 abbrev pub SimulatorsRunsAreTheirOwn : Type 0

@@ -1,7 +1,7 @@
 -- What holds once a station has synchronized, this project's own: nothing from before is in flight; and each answer of the
 -- client that sends then is its own, from its first request on. The word of a synchronization has the ids of its null
 -- procedures: 6 5 4 3 2 1 0 7.
-use Rattle.std.specs.Prelude.{◌≡◌, ℕ, ◌+◌, ◌-◌, ◌<◌, ◌≤◌, ◌⊎◌, Bool, true, false, List, [], ◌∷◌, ◌++◌, length, map, Option, Some, slice_get}
+use Rattle.std.specs.Prelude.{◌≡◌, ℕ, ◌+◌, ◌<◌, ◌≤◌, ◌⊎◌, true, false, List, [], ◌∷◌, ◌++◌, length, map, Option, Some, slice_get}
 use Rattle.std.specs.List.{AllByRecursion}
 use Rattle.gc_catalogue.specs.declared.asked.Asked.{Asked}
 use Rattle.gc_catalogue.specs.declared.asked.Asked.TheVariants.{Table}
@@ -10,19 +10,16 @@ use Rattle.gc_catalogue.specs.Asked.{asked_line}
 use Rattle.gc_client.specs.Beginning.{the_word}
 use Rattle.gc_client.specs.declared.pending.Pending.{Pending}
 use Rattle.gc_client.specs.declared.window.TheConstants.{WINDOW}
-use Rattle.gc_client.specs.OneForOne.{begun, course, of_settled, of_pending}
-use Rattle.gc_client.specs.Rule.{ById, Outcome, Settlement, Answered, Late, Lost, fresh, heard, settle}
+use Rattle.gc_client.specs.Rule.{ById, Outcome, Settlement, Answered, Late, Lost, fresh, heard}
 use Rattle.gc_instrument.specs.State.{KeptReply, IsFittingState}
-use Rattle.gc_world.specs.Clients.{ByNumber, by_ids, by_numbers}
+use Rattle.gc_world.specs.Clients.{ByNumber, by_ids}
 use Rattle.gc_field.specs.Simulator.{ends}
-use Rattle.gc_world.specs.Record.{IsBooked, IsOneForOne}
-use Rattle.gc_field.specs.World.{Ends, Numbered, Request, Sent, Wire, World}
+use Rattle.gc_field.specs.World.{Ends, Request, Sent, Wire, World}
 use Rattle.gc_field.specs.Begin.{IsWellFormed, LacksTheWord, AreTurns, Model, Turn, UnderWay, begins, none_under_way, turned}
-use Rattle.gc_field.specs.Field.{Move, Comes, Sends, ArePossible, AsksTheTable, moved, moves, seen}
-use Rattle.gc_field.specs.Instrument.{AnyState, IsAnInstrument, KeepsItsReply, TreatsRawsAlike}
-use Rattle.gc_field.specs.Laws.{WasExecuted, asked, kept_of}
+use Rattle.gc_field.specs.Field.{Move, Sends, ArePossible, AsksTheTable, moved}
+use Rattle.gc_field.specs.Instrument.{AnyState, IsAnInstrument, OfAnyInstrument, TreatsRawsAlike}
+use Rattle.gc_field.specs.Laws.{IsFaithfulFrom, kept_of}
 use Rattle.gc_field.specs.Made as making
-use Rattle.gc_field.specs.Once.{ActsOnce, IsInOrder}
 use Rattle.gc_catalogue.specs.Asked.{is_of_table}
 
 -- Clean.
@@ -123,10 +120,6 @@ module _ {State : Type 0} (width : ℕ) (ends : Ends State) (u : UnderWay State)
   abbrev pub behind : List (Move State) → World (ById Asked) State
   behind ms = moved ends (by_ids width ends) ms (ids_begun u)
 
-  -- the wire after the moves, with the client that is given the numbers
-  abbrev pub behind_by_numbers : List (Move State) → Wire State
-  behind_by_numbers ms = (moved ends (by_numbers width) ms (numbers_begun u)).wire
-
   -- at one of these moves, after the synchronization, request m, with this call, reaches the instrument, which executes the call;
   -- and this line is the instrument's reply
   abbrev pub WasMadeOn : List (Move State) → ℕ → Asked → List ℕ → Type 0
@@ -151,44 +144,10 @@ module _ {State : Type 0} (width : ℕ) (ends : Ends State) (u : UnderWay State)
   abbrev pub IsSafe : (State → Type 0) → (State → Option KeptReply) → List (Move State) → ℕ → Type 0
   IsSafe Good kept ms m = AsksTheTable ms ⊎ (TreatsRawsAlike ends Good kept ⊎ WentOutBehindTheTable ms m)
 
-  -- what holds after these moves of a client that has synchronized, for an instrument whose states are good ones (`Good`).
-  -- Settlement 8 + n is the client's settlement n
-  pub record IsFaithful (ms : List (Move State)) (Good : State → Type 0) (kept : State → Option KeptReply) : Type 0 where
-    -- a client that takes the steps of the moves settles what the world's client settled after the null procedures, and ends in
-    -- the same state
-    pub settled : (behind ms).wire.settled ≡ nulls_settled ++ (course width begun (seen ms)).settlements
-    pub stands : (course width begun (seen ms)).client ≡ (behind ms).client
-    -- one for one: what was settled and what is outstanding are the requests that were sent, in order, each once; so settlement
-    -- m has the target and the call of request m
-    pub accounted : map of_settled (behind ms).wire.settled ++ map of_pending (behind ms).client.waiting ≡ map asked (behind ms).wire.sent
-    pub one_for_one : IsOneForOne (behind ms).wire.sent (behind ms).wire.settled
-    -- its own, from the client's first request on (number 8), if the request is `IsSafe`: an answer is among the lines that the
-    -- instrument made for that request, and is its reply to that very call
-    pub booked : (m : ℕ) (s : Settlement Asked) → 8 ≤ m → IsSafe Good kept ms m → slice_get (behind ms).wire.settled m ≡ Some s → IsBooked ends Good (behind ms).wire.made m s
-    -- and the instrument executed request m at one of these moves, not before the client synchronized
-    pub executed :
-        (m : ℕ) (s : Settlement Asked) (line : List ℕ) → 8 ≤ m → IsSafe Good kept ms m → slice_get (behind ms).wire.settled m ≡ Some s → s.outcome ≡ Answered line
-        → WasExecuted (behind ms).wire.executed m
-    -- made on it: its line was made on executing request m, by `WasMadeOn`
-    pub made_on :
-        (m : ℕ) (s : Settlement Asked) (line : List ℕ) → 8 ≤ m → IsSafe Good kept ms m → slice_get (behind ms).wire.settled m ≡ Some s → s.outcome ≡ Answered line
-        → WasMadeOn ms m s.call line
-    -- in order: requests are executed in the order of sending, over starts too
-    pub in_order : IsInOrder (behind ms).wire.executed
-    -- late: the instrument executed the request, though its reply came too late
-    pub late :
-        (m : ℕ) (s : Settlement Asked) → 8 ≤ m → IsSafe Good kept ms m → slice_get (behind ms).wire.settled m ≡ Some s → s.outcome ≡ Late
-        → (line : List ℕ) × WasMadeOn ms m s.call line
-    -- acts once: if the instrument retains its reply to each request that it knows, between two of its starts each of these is
-    -- executed at most once
-    pub once : (knows : Asked → Bool) → KeepsItsReply ends Good kept knows → ActsOnce knows (behind ms).wire.sent (behind ms).wire.executed (behind ms).wire.starts
-    -- agreement: all is as with a client that is given the number of each reply's request
-    pub agrees : (behind ms).wire ≡ behind_by_numbers ms
-    -- in time: a reply whose request isn't settled settles that request, and those before it as lost. The request is answered
-    -- with that line, or late if it timed out
-    pub first_reply :
-        (n : ℕ) (line : List ℕ) (rest : List (Numbered (List ℕ))) → (behind ms).wire.down ≡ record { number = n; line = line } ∷ rest → length (behind ms).wire.settled ≤ n →
-        (moves ends (by_ids width ends) (behind ms) (Comes line)).wire.settled ≡ (behind ms).wire.settled ++ settle (n - length (behind ms).wire.settled) line (behind ms).client.waiting
+  -- what holds after these moves of a client that has synchronized: `IsFaithfulFrom`, where each answer from the client's first
+  -- request on (number 8) is its own, if the request is `IsSafe`. Settlement 8 + n is the client's settlement n
+  abbrev pub IsFaithful : List (Move State) → (Good : State → Type 0) (kept : State → Option KeptReply) → Type 0
+  IsFaithful ms Good kept = IsFaithfulFrom width ends (ids_begun u) (numbers_begun u) ms nulls_settled (λ m. (8 ≤ m) × IsSafe Good kept ms m) Good kept
 
 -- the wire after these moves of a client that has synchronized with an instrument in this state, with nothing in flight then
 abbrev pub wire_over_empty_line : {State : Type 0} → Ends State → State → List (Move State) → Wire State
@@ -204,7 +163,7 @@ MovesOnceBegunAreFaithful {State = State} ends Good kept =
 
 -- `MovesOnceBegunAreFaithful`, for any instrument, in any state
 abbrev pub AnswersAreTheirOwnOnceBegun : Type 0 → Type 0
-AnswersAreTheirOwnOnceBegun State = (ends : Ends State) (kept : State → Option KeptReply) → IsAnInstrument ends AnyState kept → MovesOnceBegunAreFaithful ends AnyState kept
+AnswersAreTheirOwnOnceBegun State = OfAnyInstrument {State = State} (λ ends Good kept. MovesOnceBegunAreFaithful ends Good kept)
 
 -- `MovesOnceBegunAreFaithful`, for the simulated instrument: its `ends` and its retained reply, in any state that fits
 abbrev pub SimulatorsAnswersAreTheirOwnOnceBegun : Type 0

@@ -10,7 +10,7 @@ use Rattle.gc_field.specs.World.{Ends}
 use Rattle.gc_field.specs.Begin.{UnderWay}
 use Rattle.gc_field.specs.Begun.{IsClean, IsFaithful, behind, ids_begun}
 use Rattle.gc_field.specs.Field.{Move, ArePossible, seen}
-use Rattle.gc_field.specs.Instrument.{IsAnInstrument, AnyState}
+use Rattle.gc_field.specs.Instrument.{OfAnyInstrument}
 use Rattle.gc_field.specs.Laws.{kept_of}
 use Rattle.gc_field.specs.Meaning.{AllMean}
 use Rattle.gc_station.specs.Parts.{client_after}
@@ -37,7 +37,7 @@ CarriedActsAreFaithful {State = State} ends Good kept =
 
 -- `CarriedActsAreFaithful`, for any instrument, in any state
 abbrev pub StationsAnswersAreTheirOwn : Type 0 → Type 0
-StationsAnswersAreTheirOwn State = (ends : Ends State) (kept : State → Option KeptReply) → IsAnInstrument ends AnyState kept → CarriedActsAreFaithful ends AnyState kept
+StationsAnswersAreTheirOwn State = OfAnyInstrument {State = State} (λ ends Good kept. CarriedActsAreFaithful ends Good kept)
 
 -- `CarriedActsAreFaithful`, for the simulator, in any state that fits
 abbrev pub SimulatorsStationsAnswersAreTheirOwn : Type 0

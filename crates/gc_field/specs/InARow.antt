@@ -13,7 +13,7 @@ use Rattle.gc_field.specs.Simulator.{ends}
 use Rattle.gc_field.specs.World.{Ends}
 use Rattle.gc_field.specs.Begin.{IsWellFormed, Turn, UnderWay}
 use Rattle.gc_field.specs.Beginnings.{AreRuns, HasRisingIds, Run, killed_if, left_by_run, left_by_runs, after_turns}
-use Rattle.gc_field.specs.Instrument.{AnyState, IsAnInstrument}
+use Rattle.gc_field.specs.Instrument.{OfAnyInstrument}
 use Rattle.gc_field.specs.Laws.{kept_of}
 use Rattle.gc_field.specs.Runs.{IsRunFaithful}
 use Rattle.gc_field.specs.Shown.{AreShownAs}
@@ -75,7 +75,7 @@ ProgramsInARowAreFaithful {State = State} ends Good kept =
 
 -- `ProgramsInARowAreFaithful`, for any instrument, in any state
 abbrev pub StationsInARowAreFaithful : Type 0 → Type 0
-StationsInARowAreFaithful State = (ends : Ends State) (kept : State → Option KeptReply) → IsAnInstrument ends AnyState kept → ProgramsInARowAreFaithful ends AnyState kept
+StationsInARowAreFaithful State = OfAnyInstrument {State = State} (λ ends Good kept. ProgramsInARowAreFaithful ends Good kept)
 
 -- `ProgramsInARowAreFaithful`, for the simulated instrument: its `ends` and its retained reply, in any state that fits
 abbrev pub SimulatorsStationsInARowAreFaithful : Type 0

@@ -107,6 +107,10 @@ MayBecome Good kept before after = Good after × (kept after ≡ kept before)
 abbrev pub AnyState : {State : Type 0} → State → Type 0
 AnyState state = Unit {0}
 
+-- `Holds` is true of any instrument, in any state
+abbrev pub OfAnyInstrument : {State : Type 0} → (Ends State → (State → Type 0) → (State → Option KeptReply) → Type 0) → Type 0
+OfAnyInstrument {State = State} Holds = (ends : Ends State) (kept : State → Option KeptReply) → IsAnInstrument ends AnyState kept → Holds ends AnyState kept
+
 -- all requests are known
 abbrev pub all_known : Asked → Bool
 all_known call = true

@@ -1,7 +1,7 @@
--- What holds in the field of a client that doesn't synchronize, this project's own; and the simulator as an instrument. Requests
--- are numbered from 0 on, in the order of sending. The client that knows ids finds a reply's request by the reply's id; the one
--- that is given numbers is given the request's number, and serves for comparison alone.
-use Rattle.std.specs.Prelude.{◌≡◌, ℕ, Bool, ◌-◌, ◌<◌, ◌≤◌, List, ◌∷◌, ◌++◌, length, map, Option, Some, slice_get}
+-- What holds in the field of a client, this project's own, and in particular of one that doesn't synchronize; and the simulator as
+-- an instrument. Requests are numbered from 0 on, in the order of sending. The client that knows ids finds a reply's request by
+-- the reply's id; the one that is given numbers is given the request's number, and serves for comparison alone.
+use Rattle.std.specs.Prelude.{◌≡◌, ℕ, Bool, ◌-◌, ◌<◌, ◌≤◌, List, [], ◌∷◌, ◌++◌, length, map, Option, Some, slice_get}
 use Rattle.gc_catalogue.specs.declared.asked.Asked.{Asked}
 use Rattle.gc_catalogue.specs.declared.asked.Asked.TheVariants.{Raw}
 use Rattle.gc_catalogue.specs.declared.raw.RawCall.{RawCall}
@@ -12,13 +12,13 @@ use Rattle.gc_instrument.specs.Replying.{IsReplied}
 pub use Rattle.gc_instrument.specs.Replying.{kept_of}
 pub use Rattle.gc_world.specs.Worlds.{of_sent as asked}
 use Rattle.gc_instrument.specs.State.{KeptReply, State, IsFittingState}
-use Rattle.gc_world.specs.Clients.{by_ids, by_numbers, ids_open, numbers_open}
+use Rattle.gc_world.specs.Clients.{ByNumber, by_ids, by_numbers, ids_open, numbers_open}
 use Rattle.gc_field.specs.Simulator.{ends, handed}
 use Rattle.gc_world.specs.Record.{IsBooked, IsOneForOne}
-use Rattle.gc_field.specs.World.{Ends, Numbered, Wire, World}
+use Rattle.gc_field.specs.World.{Ends, Numbered, World}
 use Rattle.gc_field.specs.Field.{Move, Comes, IsField, moved, moves, seen}
 use Rattle.gc_field.specs.Made.{WasMadeOn}
-use Rattle.gc_field.specs.Instrument.{IsAnInstrument, KeepsItsReply, AnyState}
+use Rattle.gc_field.specs.Instrument.{IsAnInstrument, KeepsItsReply, OfAnyInstrument}
 use Rattle.gc_field.specs.Once.{ActsOnce, IsInOrder}
 use Rattle.gc_catalogue.specs.Asked.{asked_line, is_of_table}
 
@@ -26,51 +26,60 @@ use Rattle.gc_catalogue.specs.Asked.{asked_line, is_of_table}
 abbrev pub WasExecuted : List ℕ → ℕ → Type 0
 WasExecuted executed m = (j : ℕ) × (slice_get executed j ≡ Some m)
 
+-- moves of a client from the world `start` on, where the client knows ids; `by_number` is the same world with a client that is
+-- given the number of each reply's request
+module _ {State : Type 0} (width : ℕ) (ends : Ends State) (start : World (ById Asked) State) (by_number : World (ByNumber Asked) State) (ms : List (Move State)) where
+  -- the world after the moves
+  abbrev pub world_then : World (ById Asked) State
+  world_then = moved ends (by_ids width ends) ms start
+
+  -- what holds after the moves, for an instrument whose states are good ones (`Good`). `old` are the settlements at the start, and
+  -- `IsSure` names the requests whose answers are their own
+  pub record IsFaithfulFrom (old : List (Settlement Asked)) (IsSure : ℕ → Type 0) (Good : State → Type 0) (kept : State → Option KeptReply) : Type 0 where
+    -- a new client that takes the steps of the moves settles what the world's client settled after `old`, and ends in the same
+    -- state
+    pub settled : world_then.wire.settled ≡ old ++ (course width begun (seen ms)).settlements
+    pub stands : (course width begun (seen ms)).client ≡ world_then.client
+    -- one for one: what was settled and what is outstanding are the requests that were sent, in order, each once; so settlement
+    -- m has the target and the call of request m
+    pub accounted : map of_settled world_then.wire.settled ++ map of_pending world_then.client.waiting ≡ map asked world_then.wire.sent
+    pub one_for_one : IsOneForOne world_then.wire.sent world_then.wire.settled
+    -- its own: an answer at place m is among the lines that the instrument made for request m, and is its reply to that very
+    -- call
+    pub booked : (m : ℕ) (s : Settlement Asked) → IsSure m → slice_get world_then.wire.settled m ≡ Some s → IsBooked ends Good world_then.wire.made m s
+    -- and the instrument executed request m at one of these moves
+    pub executed :
+        (m : ℕ) (s : Settlement Asked) (line : List ℕ) → IsSure m → slice_get world_then.wire.settled m ≡ Some s → s.outcome ≡ Answered line → WasExecuted world_then.wire.executed m
+    -- made on it: its line was made on executing request m, by `WasMadeOn`
+    pub made_on :
+        (m : ℕ) (s : Settlement Asked) (line : List ℕ) → IsSure m → slice_get world_then.wire.settled m ≡ Some s → s.outcome ≡ Answered line
+        → WasMadeOn width ends start ms m s.call line
+    -- in order: requests are executed in the order of sending, over starts too
+    pub in_order : IsInOrder world_then.wire.executed
+    -- late: the instrument executed the request, though its reply came too late
+    pub late :
+        (m : ℕ) (s : Settlement Asked) → IsSure m → slice_get world_then.wire.settled m ≡ Some s → s.outcome ≡ Late → (line : List ℕ) × WasMadeOn width ends start ms m s.call line
+    -- acts once: if the instrument retains its reply to each request that it knows, between two of its starts each of these is
+    -- executed at most once
+    pub once : (knows : Asked → Bool) → KeepsItsReply ends Good kept knows → ActsOnce knows world_then.wire.sent world_then.wire.executed world_then.wire.starts
+    -- agreement: all is as with a client that is given the number of each reply's request
+    pub agrees : world_then.wire ≡ (moved ends (by_numbers width) ms by_number).wire
+    -- in time: a reply whose request isn't settled settles that request, and those before it as lost. The request is answered
+    -- with that line, or late if it timed out
+    pub first_reply :
+        (n : ℕ) (line : List ℕ) (rest : List (Numbered (List ℕ))) → world_then.wire.down ≡ record { number = n; line = line } ∷ rest → length world_then.wire.settled ≤ n →
+        (moves ends (by_ids width ends) world_then (Comes line)).wire.settled ≡ world_then.wire.settled ++ settle (n - length world_then.wire.settled) line world_then.client.waiting
+
 module _ {State : Type 0} (width : ℕ) (ends : Ends State) (state : State) (ms : List (Move State)) where
   -- the world after the moves, with the client that knows ids
   abbrev pub world_after : World (ById Asked) State
   world_after = moved ends (by_ids width ends) ms (ids_open state)
 
-  -- the wire after the moves, with the client that is given the number of each reply's request
-  abbrev pub left_by_numbers : Wire State
-  left_by_numbers = (moved ends (by_numbers width) ms (numbers_open state)).wire
-
-  -- what holds after the moves of a new client that hasn't synchronized, for an instrument whose states are good ones (`Good`)
-  pub record IsFaithfulUnsynchronized (Good : State → Type 0) (kept : State → Option KeptReply) : Type 0 where
-    -- a client that takes the steps of the moves settles what the world's client settled, and ends in the same state
-    pub settled : (course width begun (seen ms)).settlements ≡ world_after.wire.settled
-    pub stands : (course width begun (seen ms)).client ≡ world_after.client
-    -- one for one: what was settled and what is outstanding are the requests that were sent, in order, each once; so settlement
-    -- m has the target and the call of request m
-    pub accounted : map of_settled world_after.wire.settled ++ map of_pending world_after.client.waiting ≡ map asked world_after.wire.sent
-    pub one_for_one : IsOneForOne world_after.wire.sent world_after.wire.settled
-    -- its own: an answer at place m is among the lines that the instrument made for request m, and is its reply to that very
-    -- call. The first request is excepted: an instrument that retained an older reply with its id may have sent that reply again
-    pub booked :
-        (m : ℕ) (s : Settlement Asked) → 0 < m → slice_get world_after.wire.settled m ≡ Some s → IsBooked ends Good world_after.wire.made m s
-    -- and the instrument executed request m at one of these moves
-    pub executed :
-        (m : ℕ) (s : Settlement Asked) (line : List ℕ) → 0 < m → slice_get world_after.wire.settled m ≡ Some s → s.outcome ≡ Answered line → WasExecuted world_after.wire.executed m
-    -- made on it: its line was made on executing request m, by `WasMadeOn`
-    pub made_on :
-        (m : ℕ) (s : Settlement Asked) (line : List ℕ) → 0 < m → slice_get world_after.wire.settled m ≡ Some s → s.outcome ≡ Answered line
-        → WasMadeOn width ends (ids_open state) ms m s.call line
-    -- in order: requests are executed in the order of sending, over starts too
-    pub in_order : IsInOrder world_after.wire.executed
-    -- late: the instrument executed the request, though its reply came too late
-    pub late :
-        (m : ℕ) (s : Settlement Asked) → 0 < m → slice_get world_after.wire.settled m ≡ Some s → s.outcome ≡ Late
-        → (line : List ℕ) × WasMadeOn width ends (ids_open state) ms m s.call line
-    -- acts once: if the instrument retains its reply to each request that it knows, between two of its starts each of these is
-    -- executed at most once
-    pub once : (knows : Asked → Bool) → KeepsItsReply ends Good kept knows → ActsOnce knows world_after.wire.sent world_after.wire.executed world_after.wire.starts
-    -- agreement: all is as with a client that is given the number of each reply's request
-    pub agrees : world_after.wire ≡ left_by_numbers
-    -- in time: a reply whose request isn't settled settles that request, and those before it as lost. The request is answered
-    -- with that line, or late if it timed out
-    pub first_reply :
-        (n : ℕ) (line : List ℕ) (rest : List (Numbered (List ℕ))) → world_after.wire.down ≡ record { number = n; line = line } ∷ rest → length world_after.wire.settled ≤ n →
-        (moves ends (by_ids width ends) world_after (Comes line)).wire.settled ≡ world_after.wire.settled ++ settle (n - length world_after.wire.settled) line world_after.client.waiting
+  -- what holds after the moves of a new client that hasn't synchronized: `IsFaithfulFrom`, where the answers but that of the first
+  -- request are their own. The first is excepted because an instrument that retained an older reply with its id may have sent
+  -- that reply again
+  abbrev pub IsFaithfulUnsynchronized : (Good : State → Type 0) (kept : State → Option KeptReply) → Type 0
+  IsFaithfulUnsynchronized Good kept = IsFaithfulFrom width ends (ids_open state) (numbers_open state) ms [] (λ m. 0 < m) Good kept
 
 -- moves that meet `IsField` are faithful, from a good state on, whatever reply it retains, and for a client with a window of at
 -- most `WINDOW` requests. `Good` says which states of the instrument are good, and `kept` what reply each of them retains
@@ -82,7 +91,7 @@ MovesInFieldAreFaithful {State = State} ends Good kept =
 -- `MovesInFieldAreFaithful`, for any instrument, from any state on: the premise that the state is a good one, `AnyState state`,
 -- holds of every state
 abbrev pub AnswersAreTheirOwn : Type 0 → Type 0
-AnswersAreTheirOwn State = (ends : Ends State) (kept : State → Option KeptReply) → IsAnInstrument ends AnyState kept → MovesInFieldAreFaithful ends AnyState kept
+AnswersAreTheirOwn State = OfAnyInstrument {State = State} (λ ends Good kept. MovesInFieldAreFaithful ends Good kept)
 
 -- the simulator is an instrument, in any state that fits, and one that retains its reply to each call of its table. It refuses
 -- other requests, and these refusals leave the retained reply as it is

@@ -32,12 +32,12 @@ use Rattle.gc_station.specs.Scopes.{Scope}
 use Rattle.gc_field.specs.Simulator.{ends}
 use Rattle.gc_world.specs.Record.{IsReplyTo}
 use Rattle.gc_field.specs.World.{Ends, Numbered, Sent, World}
-use Rattle.gc_field.specs.Asking.{MeansTurns}
+use Rattle.gc_field.specs.Asking.{MeansSyncSteps}
 use Rattle.gc_field.specs.Begin.{IsWellFormed, LacksTheWord, UnderWay}
 use Rattle.gc_field.specs.Beginnings.{AreOwn, AreRuns, Run}
 use Rattle.gc_field.specs.Begun.{IsFaithful, WasMadeOn, behind}
 use Rattle.gc_field.specs.Field.{Move, Sends, Tells, Comes}
-use Rattle.gc_field.specs.Instrument.{IsAnInstrument, AnyState}
+use Rattle.gc_field.specs.Instrument.{OfAnyInstrument}
 use Rattle.gc_field.specs.Laws.{WasExecuted, asked, kept_of}
 use Rattle.gc_field.specs.Meaning.{Means}
 use Rattle.gc_field.specs.Shown.{AreShownAs, Stretch, stretches}
@@ -92,11 +92,12 @@ module _ {State : Type 0} (ends : Ends State) where
   written_over reads _ _ = []
 
 -- the part p is what an act means that takes the station from the model s to t. While the station synchronizes (`false`), the
--- part has turns, as `MeansTurns` says, and the lines heard in them decide which ids of the word are left in t. Once it has
--- synchronized (`true`), the part has steps of the client, as `Means` says: a request is sent as the bytes of its line
+-- part has steps of the synchronization, as `MeansSyncSteps` says, and the lines heard in them decide which ids of the word are
+-- left in t. Once it has synchronized (`true`), the part has steps of the client, as `Means` says: a request is sent as the bytes
+-- of its line
 abbrev pub IsMeant : Bool → Model → Act → Part → Model → Type 0
-IsMeant true s act p t = (p.turns ≡ []) × Means s.client s.rest act p.steps t.rest
-IsMeant false s act p t = (p.steps ≡ []) × MeansTurns s.progress.word s.rest act p.turns t.rest × (t.progress.word ≡ unanswered_after s.progress.word (heard_in p.turns))
+IsMeant true s act p t = (p.sync_steps ≡ []) × Means s.client s.rest act p.steps t.rest
+IsMeant false s act p t = (p.steps ≡ []) × MeansSyncSteps s.progress.word s.rest act p.sync_steps t.rest × (t.progress.word ≡ unanswered_after s.progress.word (heard_in p.sync_steps))
 
 -- each act of a run, from the model s on, means what the parts of the run count for it (`part_of_act`, `IsMeant`)
 abbrev pub AreMeant : Plan → List Task → Model → List Act → Type 0
@@ -122,7 +123,7 @@ module _ {State : Type 0} (ends : Ends State) (Good : State → Type 0) (kept : 
   -- a run of a station, and for each of its parts what happens on the line and to an instrument: first while it synchronizes,
   -- then once it has synchronized. In flight at its start may be anything well formed (`IsWellFormed`) but the word
   -- (`LacksTheWord`); and each part is over what the one before it left. What these happenings show to the station and its client
-  -- are the turns and steps of its acts
+  -- are the steps of its acts
   pub record IsInField (plan : Plan) (commands : List Task) (scope : Scope) (acts : List Act) (u : UnderWay State) (rs : List (Run State)) : Type 0 where
     pub runs : Runs plan commands (opening plan scope) acts
     pub lines : IsWellFormed Good u
@@ -181,7 +182,7 @@ module _ {State : Type 0} (ends : Ends State) (Good : State → Type 0) (kept : 
     -- weren't sent, are how they ended there, answered, late or lost
     pub sent : AreSentAs ends commands (parts plan commands scope acts) (stretches ends u rs)
     pub written : map timeless (sent_of (state_after plan commands scope acts).records) ≡ written_over ends scope.reads (parts plan commands scope acts) (stretches ends u rs)
-    -- the turns and steps of a run are what its acts are to a synchronization and to a client: the bytes that are sent are the
+    -- the steps of a run are what its acts are to a synchronization and to a client: the bytes that are sent are the
     -- lines of these requests, and line feeds that clear the receiver
     pub meant : AreMeant plan commands (opening plan scope) acts
     -- in time: a reply that comes while its request isn't settled settles it, as answered, or as late if a moment at or past its
@@ -200,7 +201,7 @@ RunsInFieldAreFaithful {State = State} ends Good kept =
 
 -- `RunsInFieldAreFaithful`, for any instrument, in any state
 abbrev pub RunsAreFaithful : Type 0 → Type 0
-RunsAreFaithful State = (ends : Ends State) (kept : State → Option KeptReply) → IsAnInstrument ends AnyState kept → RunsInFieldAreFaithful ends AnyState kept
+RunsAreFaithful State = OfAnyInstrument {State = State} (λ ends Good kept. RunsInFieldAreFaithful ends Good kept)
 
 -- `RunsInFieldAreFaithful`, for the simulator, in any state whose values lie in their types (`IsFittingState`)
 abbrev pub SimulatorsRunsAreFaithful : Type 0

@@ -1,4 +1,4 @@
--- What a line shows to a station, this project's own: the turns of its synchronization; and a stretch, what happens once it has
+-- What a line shows to a station, this project's own: the steps of its synchronization; and a stretch, what happens once it has
 -- synchronized, over what the synchronization left in flight.
 use Rattle.std.specs.Prelude.{◌≡◌, ℕ, List, [], ◌∷◌, ◌++◌}
 use Rattle.gc_client.specs.declared.window.TheConstants.{WINDOW}
@@ -9,15 +9,15 @@ use Rattle.gc_field.specs.Begin.{InFlight, Model, Turn, Asks, Comes, Foreign, Re
 use Rattle.gc_field.specs.Beginnings.{Run, left_by_run}
 use Rattle.gc_field.specs.Field.{Move, seen}
 
--- the turn at which the front one of these replies is heard; no turn if there is no reply
-abbrev pub first_heard : List (InFlight (List ℕ)) → List part.Turn
+-- the step at which the front one of these replies is heard; no step if there is no reply
+abbrev pub first_heard : List (InFlight (List ℕ)) → List part.SyncStep
 first_heard [] = []
 first_heard (x ∷ rest) = part.Hears x.line ∷ []
 
 module _ {State : Type 0} where
   -- what a turn of the field shows to the synchronizing station: its null procedure is sent, or a line is heard; what happens
   -- on the line is nothing to the station
-  abbrev pub shows : Model State → Turn State → List part.Turn
+  abbrev pub shows : Model State → Turn State → List part.SyncStep
   shows s Asks = part.Asks ∷ []
   shows s Comes = first_heard s.down
   shows s (Foreign line) = part.Hears line ∷ []
@@ -30,7 +30,7 @@ module _ {State : Type 0} where
   shows s (Changes state) = []
 
   -- what these turns of the field show to the synchronizing station, in order
-  abbrev pub shown : Ends State → List (Turn State) → Model State → List part.Turn
+  abbrev pub shown : Ends State → List (Turn State) → Model State → List part.SyncStep
   shown ends [] s = []
   shown ends (t ∷ ts) s = shows s t ++ shown ends ts (turns ends s t)
 
@@ -46,9 +46,9 @@ module _ {State : Type 0} (ends : Ends State) where
   stretches u [] = []
   stretches u (r ∷ rs) = record { from = leaves (turned ends r.turns (begins u)); moves = r.moves } ∷ stretches (left_by_run WINDOW ends u r) rs
 
-  -- each run goes with one part of the station's run, in order: what its synchronization shows are the part's turns, and what
-  -- its moves show the client are the part's steps
+  -- each run goes with one part of the station's run, in order: what its synchronization shows are the part's steps of a
+  -- synchronization, and what its moves show the client are the part's steps of the client
   abbrev pub AreShownAs : UnderWay State → List (Run State) → List Part → Type 0
   AreShownAs u [] [] = Unit {0}
-  AreShownAs u (r ∷ rs) (p ∷ ps) = (shown ends r.turns (begins u) ≡ p.turns) × (seen r.moves ≡ p.steps) × AreShownAs (left_by_run WINDOW ends u r) rs ps
+  AreShownAs u (r ∷ rs) (p ∷ ps) = (shown ends r.turns (begins u) ≡ p.sync_steps) × (seen r.moves ≡ p.steps) × AreShownAs (left_by_run WINDOW ends u r) rs ps
   AreShownAs u _ _ = ⊥

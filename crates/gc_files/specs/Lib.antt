@@ -1,6 +1,7 @@
 pub mod Files
 pub mod Calls
 pub mod Rows
+pub mod Extents
 pub mod Runs
 pub mod Sinks
 pub mod Failing

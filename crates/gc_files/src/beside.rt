@@ -7,7 +7,7 @@ ghost use Rattle.gc_files.specs.Sinks.{has_failed, is_in_doubt, steps_in, IsOpen
 
 use crate::appending::Appending;
 use crate::copying::copy_lines;
-use crate::opening::{look_at, open_rows};
+use crate::opening::{extent_of, open_rows};
 use crate::rows_file::RowsFile;
 use crate::system::{SystemFile, Unfit, open_file};
 use std::alloc::Global;
@@ -202,11 +202,11 @@ pub fn open_at<R: Files<File = File>>(
     if !file.is_at(rt, path) {
         return Err(Unfit::Held);
     }
-    let (len, end) = look_at(&file, sign)?;
+    let extent = extent_of(&file, sign)?;
     let beside = Beside::of(rt, alloc, path)?;
     let file = beside.doubt_if_marked(rt, file)?;
     // Where the last row is torn, the opening cuts it off and syncs that: so this counts as a sync to come.
-    let is_torn = end < len;
+    let is_torn = extent.end < extent.len;
     let needs_mark = sync || is_torn || file.is_doubted();
     let (file, lines) = beside.replace_if_doubted(rt, file)?;
     if needs_mark {

@@ -5,6 +5,7 @@ ghost use Rattle.std.specs.Prelude.{◌≡◌, ◌<◌, ◌≤◌, ◌+◌, ◌-
 ghost use Rattle.gc_files.specs.declared.opening.Refused.TheVariants.{Foreign};
 ghost use Rattle.gc_files.specs.Sinks.{life_in, has_failed, torn_in, steps_in, IsOpenedAs};
 ghost use Rattle.gc_files.specs.Files.{Life, content};
+ghost use Rattle.gc_files.specs.Extents.{IsExtentOf};
 ghost use Rattle.gc_files.specs.Rows.{Fits, IsEndOfRows, IsLengthOf, IsMended, IsMendedInPart, IsTorn, LeavesForeign, whole, fits, Opens, OpensInPart, PutsAll, IsFront};
 
 use crate::appending::Appending;
@@ -16,7 +17,7 @@ use memchr::memrchr;
 pub(crate) const BLOCK: usize = 4096;
 
 /// Why a file isn't opened as a file of rows.
-#[derive(Clone, Copy, Debug, PartialEq, Eq)]
+#[derive(Clone, Copy, Debug)]
 pub enum Refused {
     /// It is no file of such rows: it neither begins with the sign nor is a front of it. It was not touched.
     Foreign,
@@ -24,6 +25,15 @@ pub enum Refused {
     /// that it held are still there. What followed them may be cut off. Where it held no whole row, a front of the head may
     /// be written. The next opening that succeeds does the rest.
     Failed,
+}
+
+/// How far a file of rows reaches.
+#[derive(Clone, Copy)]
+pub(crate) struct Extent {
+    /// How many bytes it holds.
+    pub(crate) len: u64,
+    /// How many of them its whole rows have: where the last one ends.
+    pub(crate) end: u64,
 }
 
 // The bytes after the first `at`.
@@ -116,15 +126,14 @@ fn end_of_rows<F: Appending>(file: &F, len: u64) -> Result<u64, PortFailed>
     Ok(0)
 }
 
-// Cuts a file of `len` bytes to its first `end` bytes, and syncs that cut before anything is appended. Where `end` is `len`,
-// it does nothing. It fails where the cut or the sync failed; the file may be cut then.
-fn repair<F: Appending>(file: &mut F, len: u64, end: u64) -> Result<(), PortFailed>
-    requires len { IsLengthOf (F.life file.old) len }
-    requires end { IsEndOfRows (F.life file.old) end }
-    requires within { end ≤ len }
+// Cuts off what follows the last whole row of a file of this extent, and syncs that cut before anything is appended. Where
+// nothing follows it, it does nothing. It fails where the cut or the sync failed; the file may be cut then.
+fn cut_torn_row<F: Appending>(file: &mut F, extent: Extent) -> Result<(), PortFailed>
+    requires { IsExtentOf (F.life file.old) extent }
     ensures ok { OnOk result (IsMended (F.life file.old) (F.life file.new)) }
     ensures err { OnErr result (IsMendedInPart (F.life file.old) (F.life file.new)) }
 {
+    let Extent { len, end } = extent;
     if end < len {
         file.cut(end)?;
         file.sync()?;
@@ -147,20 +156,18 @@ pub(crate) fn append_all<F: Appending>(file: &mut F, bytes: &[u8]) -> Result<(),
     Ok(())
 }
 
-// Cuts a file of `len` bytes off at `end`, where its last whole row ends, and writes the head where it has no whole row.
-// Where that fails, a part of it may be done.
-fn mend<F: Appending>(file: &mut F, len: u64, end: u64, head: &[u8]) -> Result<(), PortFailed>
-    requires len { IsLengthOf (F.life file.old) len }
-    requires end { IsEndOfRows (F.life file.old) end }
-    requires within { end ≤ len }
+// Makes a table of a file of this extent: cuts off what follows the last whole row, and writes the head where there is no
+// whole row. Where that fails, a part of it may be done.
+fn make_table<F: Appending>(file: &mut F, extent: Extent, head: &[u8]) -> Result<(), PortFailed>
+    requires { IsExtentOf (F.life file.old) extent }
     ensures ok { OnOk result (Opens head.now (F.life file.old) (F.life file.new)) }
     ensures err { OnErr result (OpensInPart head.now (F.life file.old) (F.life file.new)) }
 {
-    match repair(file, len, end) {
+    match cut_torn_row(file, extent) {
         Ok(()) => {}
         Err(failed) => return Err(failed),
     }
-    if end > 0 {
+    if extent.end > 0 {
         return Ok(());
     }
     match append_all(file, head) {
@@ -169,13 +176,11 @@ fn mend<F: Appending>(file: &mut F, len: u64, end: u64, head: &[u8]) -> Result<(
     }
 }
 
-// Looks at a file of rows, and returns how many bytes it holds, and how many of them its whole rows have. `Foreign`: the file
-// neither begins with the sign nor is a front of it. `Failed`: a call of the file failed, or a read gave nothing.
-pub(crate) fn look_at<F: Appending>(file: &F, sign: &[u8]) -> Result<(u64, u64), Refused>
+// The extent of a file of rows. `Foreign`: the file neither begins with the sign nor is a front of it. `Failed`: a call of the
+// file failed, or a read gave nothing.
+pub(crate) fn extent_of<F: Appending>(file: &F, sign: &[u8]) -> Result<Extent, Refused>
     ensures taken { OnOk result (Fits sign.now (F.life file.now) true) }
-    ensures len { IfOk result (λ found. IsLengthOf (F.life file.now) found.0) }
-    ensures end { IfOk result (λ found. IsEndOfRows (F.life file.now) found.1) }
-    ensures within { IfOk result (λ found. found.1 ≤ found.0) }
+    ensures extent { IfOk result (λ extent. IsExtentOf (F.life file.now) extent) }
     ensures why { IsErrOf result Refused.Foreign → Fits sign.now (F.life file.now) false }
 {
     let Ok(len) = file.len() else {
@@ -188,16 +193,19 @@ pub(crate) fn look_at<F: Appending>(file: &F, sign: &[u8]) -> Result<(u64, u64),
         return Err(Refused::Foreign);
     }
     match end_of_rows(file, len) {
-        Ok(end) => Ok((len, end)),
+        Ok(end) => Ok(Extent { len, end }),
         Err(_) => Err(Refused::Failed),
     }
 }
 
-// Checks that a file begins with the sign or is a front of it, cuts off what follows the last whole row, and writes the head
-// where there is no whole row. It returns how many bytes were cut off. `Foreign`: the file neither begins with the sign nor
-// is a front of it, and was not touched. `Failed`: a call of the file failed, or a read gave nothing, and a part of the
-// mending may be done.
-fn check_and_mend<F: Appending>(file: &mut F, head: &[u8], sign: &[u8]) -> Result<u64, Refused>
+// Checks that a file begins with the sign or is a front of it, and makes a table of it (`make_table`). It returns how many bytes
+// were cut off. `Foreign`: the file neither begins with the sign nor is a front of it, and was not touched. `Failed`: a call of
+// the file failed, or a read gave nothing, and a part of the table may be made.
+fn check_and_make_table<F: Appending>(
+    file: &mut F,
+    head: &[u8],
+    sign: &[u8],
+) -> Result<u64, Refused>
     ensures opened { OnOk result (Opens head.now (F.life file.old) (F.life file.new)) }
     ensures torn { IfOk result (λ torn. IsTorn (F.life file.old) torn) }
     ensures taken { OnOk result (Fits sign.now (F.life file.old) true) }
@@ -206,9 +214,9 @@ fn check_and_mend<F: Appending>(file: &mut F, head: &[u8], sign: &[u8]) -> Resul
     ensures failed { OnErr result (OpensInPart head.now (F.life file.old) (F.life file.new)) }
     ensures untouched { OnErr result (LeavesForeign sign.now (F.life file.old) (F.life file.new)) }
 {
-    match look_at(file, sign) {
-        Ok((len, end)) => match mend(file, len, end, head) {
-            Ok(()) => Ok(len - end),
+    match extent_of(file, sign) {
+        Ok(extent) => match make_table(file, extent, head) {
+            Ok(()) => Ok(extent.len - extent.end),
             Err(_) => Err(Refused::Failed),
         },
         Err(why) => Err(why),
@@ -251,7 +259,7 @@ pub fn open_rows<F: Appending>(
     if file.is_doubted() {
         return Err((Refused::Failed, file));
     }
-    match check_and_mend(&mut file, head, sign) {
+    match check_and_make_table(&mut file, head, sign) {
         Ok(torn) => Ok(RowsFile::new(file, head, sign, sync, torn)),
         Err(why) => Err((why, file)),
     }

@@ -13,7 +13,7 @@ use std::rt::Files;
 
 /// Why a path can't be used as a file of rows. In each case the whole rows of the file stay. Where the path was free, a file may
 /// have been left there: an empty one, or one that holds a front of the head.
-#[derive(Clone, Copy, Debug, PartialEq, Eq)]
+#[derive(Clone, Copy, PartialEq, Eq)]
 pub enum Unfit {
     /// It can't be opened for reading and appending: it is a folder or another thing that is no regular file, its folder
     /// isn't there, or the system refuses to look at it or to open it, for whatever reason. Nothing was touched.

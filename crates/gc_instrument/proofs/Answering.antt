@@ -1,11 +1,12 @@
 -- What the code wrote for a request is the reply that the definitions give to it (`AnswersRequest`, `IsReplied`, `handed`), and
 -- it reads as the outcome of carrying out the call (`IsAnswered`). Below, a state *fits* if `IsFittingState` holds of it, and a
 -- reply is *plain* if it has neither CR nor LF.
-use Rattle.std.proofs.Common.{◌≡◌, ◌⊎◌, inl, inr, ℕ, ◌<◌, arith, List, ◌==◌, if◌then◌else◌, Some, None, refl, sym, ap, ◌∙◌, subst, [], true, false, Option}
+use Rattle.std.proofs.Common.{◌≡◌, ◌⊎◌, inl, inr, ℕ, ◌<◌, arith, List, ◌==◌, if◌then◌else◌, Some, None, refl, sym, ap, ◌∙◌, subst, [], Bool, true, false, Option}
 use Rattle.gc_lines.specs.Lines.{IsPlain}
 use Rattle.std.proofs.lemmas.Bool.{cases_eq, cond-false, ne_eqb}
 use Rattle.gc_lines.specs.Answering.{AppendsAnswer}
-use Rattle.gc_lines.specs.Requests.{RequestFields, IsRequest, IsNoRequest}
+use Rattle.gc_lines.specs.AnsweringLines.{RepliesTo}
+use Rattle.gc_lines.specs.Requests.{RequestFields, IsRequest}
 use Rattle.gc_lines.proofs.AnsweringLines.{appended_alone}
 use Rattle.gc_lines.proofs.Replies.{reply_found}
 use Rattle.gc_lines.proofs.Requests.{request_found, one_request}
@@ -24,7 +25,7 @@ use Rattle.gc_catalogue.specs.declared.call.Call.{Call}
 use Rattle.gc_instrument.proofs.Executions.{IsSoundOutcome, exec_outcome}
 use Rattle.gc_instrument.specs.State.{State, IsFittingState}
 use Rattle.gc_instrument.specs.Execution.{Executed, exec}
-use Rattle.gc_instrument.specs.Replying.{IsReplied, answers, AnswersCall, repeats, executes, AnswersRequest, refuses, answers_call, IsReplyToCall, IsReplyToRequest, IsAnswered, IsExchanged, Handed, handed, again_or_new, kept_line, with_kept, reading_of, refusal_line, executed_line, reply_id}
+use Rattle.gc_instrument.specs.Replying.{IsReplied, silent, answers, AppendsExchange, AnswersCall, repeats, executes, AnswersRequest, refuses, answers_call, IsReplyToCall, IsReplyToRequest, IsAnswered, IsExchanged, Handed, handed, again_or_new, kept_line, with_kept, reading_of, refusal_line, executed_line, reply_id}
 
 -- a request that names no call gets the refusal's line, with the id of its reply, and changes nothing
 pub refused_reply : (state : State) (q : RequestFields) (fault : CallFault) (number : ℕ) (line : List ℕ)
@@ -128,12 +129,34 @@ pub handed_answered : (s : State) (id : ℕ) (call : Call) → IsFittingState s 
 handed_answered s id call good small fits new =
     subst (λ (h : Handed State). IsAnswered s id call h.reply) (sym (handed_new s id call new)) (executed_answered s id call good small fits)
 
--- a line that is no request isn't a call's request line: the premises contradict each other, so `IsExchanged` follows
-pub silence_exchanged : (state : State) (line : List ℕ) (id : ℕ) (call : Call) → IsNoRequest line → id < 8 → IsFitting call
-    → line ≡ request_line (Some id) call → IsExchanged state id call state None
-silence_exchanged state line id call none small fits own =
-    let q = request_of (Some id) call in
-    absurd (none q (subst (λ (x : List ℕ). IsRequest x q) (sym own) (own_request id call small fits)))
+-- What an instrument does with a line, from what holds of its replies to requests (`IsReplyToRequest`).
+module _ (before after : State) (line : List ℕ) where
+  -- where `IsReplyToRequest` holds of the reply, or there is none as the line is no request, `IsReplied` holds of the line
+  pub is_replied : (reply : Option (List ℕ)) → RepliesTo IsReplyToRequest before line after reply → IsReplied before line after reply
+  is_replied reply (silent none same quiet) = silent none same quiet
+  is_replied reply (answers q is text does told) = answers q is text does.answers told
+
+  -- and `IsExchanged` holds, if the line is the request line of a call with values in range and an id below 8
+  is_exchanged : (id : ℕ) (call : Call) (reply : Option (List ℕ)) → id < 8 → IsFitting call → line ≡ request_line (Some id) call
+      → RepliesTo IsReplyToRequest before line after reply → IsExchanged before id call after reply
+  is_exchanged id call reply small fits own (silent none same quiet) =
+      let q = request_of (Some id) call in
+      absurd (none q (subst (λ (x : List ℕ). IsRequest x q) (sym own) (own_request id call small fits)))
+  is_exchanged id call reply small fits own (answers q is text does told) =
+      subst (λ (o : Option (List ℕ)). IsExchanged before id call after o) (sym told)
+      (exchanged before after id call text small fits (subst (λ (r : RequestFields). IsReplyToRequest before r after text) (read_of line q id call small fits own is) does))
+
+  -- `IsReplied` holds of the reply that was appended, if there is one
+  pub line_replied : (old new : List ℕ) (has_reply : Bool) → AppendsAnswer (RepliesTo IsReplyToRequest before line after) old new has_reply
+      → AppendsAnswer (IsReplied before line after) old new has_reply
+  line_replied old new true h = (h.0, is_replied (Some h.0) h.1, h.2)
+  line_replied old new false h = (is_replied None h.0, h.1)
+
+  -- and `AppendsExchange` of that reply
+  pub line_exchanged : (old new : List ℕ) (has_reply : Bool) → AppendsAnswer (RepliesTo IsReplyToRequest before line after) old new has_reply
+      → AppendsExchange before line after old new has_reply
+  line_exchanged old new true h id call small fits own = (h.0, is_exchanged id call (Some h.0) small fits own h.1, h.2)
+  line_exchanged old new false h id call small fits own = (is_exchanged id call None small fits own h.0, h.1)
 
 -- an optional line is some line, or none
 pub some_line_or_none : (o : Option (List ℕ)) → ((line : List ℕ) × (o ≡ Some line)) ⊎ (o ≡ None)

@@ -1,5 +1,5 @@
 -- Frames that an instrument answered are lines that it was handed; frames that are no lines are ignored.
-use Rattle.std.proofs.Common.{◌≡◌, ℕ, ◌+◌, ◌<◌, List, [], ◌∷◌, ◌++◌, length, map, take, Option, Some, None, Result, Ok, Err, refl, sym, ap, ◌∙◌, subst, true, false}
+use Rattle.std.proofs.Common.{◌≡◌, ℕ, ◌+◌, ◌<◌, List, [], ◌∷◌, ◌++◌, length, map, take, Bool, Option, Some, None, Result, Ok, Err, refl, sym, ap, ◌∙◌, subst, true, false}
 use Rattle.std.specs.List.{filter_map}
 use Rattle.std.specs.Option.{option_map, option_to_list}
 use Rattle.std.proofs.lemmas.List.{length-map}
@@ -7,6 +7,7 @@ use Rattle.std.proofs.lemmas.Option.{none-some}
 use Rattle.std.proofs.lemmas.List.Elements.{filter_map-append}
 use Rattle.std.proofs.lemmas.List.Folds.{flat_map-map}
 use Rattle.gc_lines.specs.Answering.{AnswersInOrder, AnswersAll, AnswersPart, AnswersFrames, AppendsAnswer, Progress, all_of, progress}
+use Rattle.gc_lines.specs.AnsweringLines.{AnswersLines, RepliesTo}
 use Rattle.gc_lines.specs.Frames.{frames, line_in, lines, rest_of, rest_behind}
 use Rattle.gc_lines.specs.Lines.{with_end}
 use Rattle.gc_lines.specs.Passing.{frames_behind}
@@ -15,26 +16,28 @@ use Rattle.gc_lines.specs.declared.frame.Frame.TheVariants.{Line, Cleared, Overl
 use Rattle.gc_lines.specs.declared.served.Served.{Served}
 use Rattle.gc_lines.specs.declared.served.ServeFault.{ServeFault}
 use Rattle.gc_lines.specs.declared.served.ServeFault.TheVariants.{Read, Write, TooManyReads}
-use Rattle.gc_lines.proofs.AnsweringLines.{line_answered, line_unanswered}
 use Rattle.gc_lines.proofs.Known.{Appends-is}
 use Rattle.gc_lines.proofs.Passing.{frames-append}
 use Rattle.gc_instrument.specs.State.{State}
-use Rattle.gc_instrument.specs.Replying.{IsReplied}
+use Rattle.gc_instrument.specs.Replying.{IsReplied, IsReplyToRequest}
+use Rattle.gc_instrument.proofs.Answering.{is_replied}
 use Rattle.gc_instrument.specs.Hearing.{Hears, replies_text}
 use Rattle.gc_instrument.specs.Serving.{AnswersFrame, ServesAll, ServesPart, Serves}
 
--- Two lemmas of gc_lines with the instrument's rule filled in, since the search doesn't find the rule by itself.
+-- where `IsReplyToRequest` holds of the reply to a line, `AnswersFrame` holds of the frame and its text
+frame_answered : (before after : State) (frame : Frame) (text : Option (List ℕ)) → AnswersLines (RepliesTo IsReplyToRequest) before frame after text
+    → AnswersFrame before frame after text
+frame_answered before after (Line line) text h = (h.0, is_replied before after line.items h.0 h.1, h.2)
+frame_answered before after Cleared text h = h
+frame_answered before after Overlong text h = h
+frame_answered before after More text h = h
 
--- appending a line's reply, and CR LF after it, is how an instrument answers the frame of that line
-pub answered_line : (before after : State) (line old between new : List ℕ) → AppendsAnswer (IsReplied before line after) old between true
-    → new ≡ between ++ 13 ∷ 10 ∷ []
-    → AppendsAnswer (AnswersFrame before (Line (record { items = line })) after) old new true
-answered_line before after line old between new h e = line_answered IsReplied before after line old between new h e
-
--- where a line has no reply, appending nothing is how an instrument answers the frame of that line
-pub unanswered_line : (before after : State) (line old new : List ℕ) → AppendsAnswer (IsReplied before line after) old new false
-    → AppendsAnswer (AnswersFrame before (Line (record { items = line })) after) old new false
-unanswered_line before after line old new h = line_unanswered IsReplied before after line old new h
+-- and so of the text that was appended, if there is one
+pub answered_frame : (before after : State) (frame : Frame) (old new : List ℕ) (has_text : Bool)
+    → AppendsAnswer (AnswersLines (RepliesTo IsReplyToRequest) before frame after) old new has_text
+    → AppendsAnswer (AnswersFrame before frame after) old new has_text
+answered_frame before after frame old new true h = (h.0, frame_answered before after frame (Some h.0) h.1, h.2)
+answered_frame before after frame old new false h = (frame_answered before after frame None h.0, h.1)
 
 -- What an instrument heard of frames.
 

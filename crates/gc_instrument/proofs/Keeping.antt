@@ -61,7 +61,7 @@ set_apart true s t kept = refl
 set_apart false s t kept = refl
 
 -- answering with a distance doesn't depend on the stored reply
-distance_apart : (s : State) (kept : Option KeptReply) (answer_with : Decimal → Answer) (d : Option Decimal)
+pub distance_apart : (s : State) (kept : Option KeptReply) (answer_with : Decimal → Answer) (d : Option Decimal)
     → executed_with kept (distance_outcome s answer_with d) ≡ distance_outcome (with_kept kept s) answer_with d
 distance_apart s kept answer_with None = refl
 distance_apart s kept answer_with (Some d) = refl
@@ -82,7 +82,7 @@ commanded_apart s kept command = by_tests (int_eq command (pos 0)) (int_eq comma
   by_tests false false false = refl
 
 -- pointing at the target that a search found, or finding none, doesn't depend on the stored reply
-adjusted_apart : (s : State) (kept : Option KeptReply) (t : Option Target) → executed_with kept (adjusted s t) ≡ adjusted (with_kept kept s) t
+pub adjusted_apart : (s : State) (kept : Option KeptReply) (t : Option Target) → executed_with kept (adjusted s t) ≡ adjusted (with_kept kept s) t
 adjusted_apart s kept None = refl
 adjusted_apart s kept (Some t) = refl
 

@@ -4,7 +4,7 @@ ghost use Rattle.std.specs.Prelude.{◌≡◌};
 ghost use Rattle.gc_instrument.specs.Faces.{face_number, turned};
 
 /// The face of the telescope: normal, or turned over.
-#[derive(Clone, Copy, Debug, PartialEq, Eq)]
+#[derive(Clone, Copy, Debug)]
 pub enum Face {
     Normal,
     Turned,

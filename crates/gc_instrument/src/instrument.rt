@@ -5,6 +5,7 @@ ghost use Rattle.gc_instrument.specs.State.{IsFittingState, opening, restarted, 
 
 mod execution;
 mod kept;
+mod owner;
 mod replying;
 mod settings;
 
@@ -16,7 +17,7 @@ use crate::target::Target;
 use arrayvec::ArrayVec;
 use gc_catalogue::{DateTime, Station};
 use gc_values::{Decimal, Text};
-use kept::Kept;
+pub use kept::Kept;
 use settings::Settings;
 use std::error::Error;
 use std::fmt;
@@ -26,7 +27,7 @@ use std::marker::Model;
 const OPENING_PRECISION: u8 = 15;
 
 /// A scene has more than 32 targets.
-#[derive(Clone, Copy, Debug, PartialEq, Eq)]
+#[derive(Clone, Copy, Debug)]
 pub struct SceneFull;
 
 impl SceneFull {
@@ -53,7 +54,7 @@ impl Error for SceneFull {}
 /// A simulated total station: its serial number, its name, a scene of at most 32 targets, what calls
 /// have set, and the id and the reply of the last request that carried an id and was executed since
 /// the instrument was made or restarted, if there was one. It holds no allocated memory.
-#[derive(Debug, Drop)]
+#[derive(Drop)]
 pub struct Instrument {
     serial: i32,
     name: Text,

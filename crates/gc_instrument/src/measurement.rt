@@ -35,7 +35,7 @@ pub fn first_at<'a>(pointing: &Pointing, scene: &'a [Target]) -> Option<&'a Targ
 
 /// The first target of a scene whose angles differ from the telescope's by at most these areas, in radians. Full turns aren't taken
 /// off the differences. `None`: no target lies so near.
-pub fn first_within<'a>(
+pub(crate) fn first_within<'a>(
     pointing: &Pointing,
     area_hz: &Decimal,
     area_v: &Decimal,

@@ -4,26 +4,19 @@ ghost use Rattle.gc_lines.specs.Answering.{ports_of};
 ghost use Rattle.gc_instrument.specs.Serving.{IsServing};
 
 use crate::instrument::Instrument;
-use gc_lines::{Answers, Lent, Outgoing, ServeFault, Served, Sink, Source, answer_frames, append};
+use crate::replies::answer_frame;
+use gc_lines::{Answers, Lent, Outgoing, ServeFault, Served, Sink, Source, answer_frames};
 
-// An instrument answers a line that is a request by its reply and CR LF, and every other frame by nothing. `answer` returns whether
-// there is a reply.
+// An instrument answers a line that is a request by its reply and CR LF, and every other frame by nothing.
 impl Answers for Instrument {
     ghost use Rattle.gc_instrument.specs.Serving.{AnswersFrame};
 
     ghost answers = { AnswersFrame };
 
-    #[tactic(auto, using(crate::proofs::HeardFrames::answered_line, crate::proofs::HeardFrames::unanswered_line))]
+    #[tactic(auto, using(crate::proofs::HeardFrames::answered_frame))]
     #[inline(always)]
     fn answer(&mut self, frame: Lent<'_>, text: &mut Outgoing) -> bool {
-        let Lent::Line(line) = frame else {
-            return false;
-        };
-        if !self.reply_onto(line, text) {
-            return false;
-        }
-        append(text, b"\r\n");
-        true
+        answer_frame(self, frame, text)
     }
 }
 

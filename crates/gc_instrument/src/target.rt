@@ -6,7 +6,7 @@ use gc_values::Decimal;
 
 /// A prism that the instrument can find and measure: its horizontal direction and vertical angle in
 /// radians, and its slope distance in metres.
-#[derive(Clone, Copy, Debug, PartialEq, Eq)]
+#[derive(Clone, Copy)]
 pub struct Target {
     pub hz: Decimal,
     pub v: Decimal,

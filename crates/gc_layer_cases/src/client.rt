@@ -5,7 +5,7 @@ ghost use Rattle.gc_client.specs.declared.window.TheConstants.{WINDOW};
 
 use crate::calls::call_of;
 use arrayvec::ArrayVec;
-use gc_cases::{Case, Rows, Told, cut_word, number_or, play_rows};
+use gc_cases::{Case, Rows, Told, cut_word, play_rows};
 use gc_catalogue::{Call, Reading};
 use gc_client::{Client, Hearing, Outcome, Ring, Settlement, Slots, WINDOW, Window};
 use gc_lines::Line;
@@ -60,13 +60,13 @@ impl<W: Window<Asked = Call>> Rows for Clients<W> {
 
 impl<W: Window<Asked = Call>> Clients<W> {
     // Does with the client what the row's word says, and reports what that gives: `call` or `hear` with a line, `send` with a
-    // target and a deadline, `expire` with a moment (0 if it is no number), `restart` or `deadline`; or that the word is unknown.
+    // target and a deadline, `expire` with a moment, `restart` or `deadline`; or that the word is unknown.
     fn play_word(&mut self, word: &str, what: &str, bytes: &[u8], came: &mut Told) {
         match word {
             "call" => self.take_call(bytes, came),
             "send" => self.send(what, came),
             "hear" => self.hear(bytes, came),
-            "expire" => self.expire(number_or(what, 0), came),
+            "expire" => self.expire(what, came),
             "restart" => tell_settlements(self.client.restart().as_slice(), came),
             "deadline" => came.debug(&self.client.next_deadline()),
             _ => came.text("an unknown word"),
@@ -85,7 +85,7 @@ impl<W: Window<Asked = Call>> Clients<W> {
     // Sends the call to the target of the first word, to be answered before the moment of the second one. Reports the line, or
     // that the send was refused.
     fn send(&mut self, words: &str, came: &mut Told) {
-        let (target, deadline) = target_and_deadline(words);
+        let (target, deadline) = target_and_deadline(words, came);
         let line = &mut self.line;
         match self.client.send_into(target, &self.call, deadline, line) {
             Ok(()) => came.bytes(self.line.as_slice()),
@@ -104,19 +104,19 @@ impl<W: Window<Asked = Call>> Clients<W> {
         tell_settlements(self.settled.as_slice(), came)
     }
 
-    // Hands the client a moment, and reports the targets of the requests that it times out.
-    fn expire(&mut self, now: u64, came: &mut Told) {
+    // Hands the client the moment that `now` writes, and reports the targets of the requests that it times out.
+    fn expire(&mut self, now: &str, came: &mut Told) {
+        let now = came.number(now);
         for target in self.client.expire(now).as_slice() {
             came.counted(target, ", ");
         }
     }
 }
 
-/// A target and a deadline, which is a moment. The target is the first word, or 0 if that is no number of 32 bits; the deadline is what
-/// follows the first space, or 0 if that is no number of 64 bits.
-pub fn target_and_deadline(words: &str) -> (u32, u64) {
+/// The target and the deadline, a moment, that two words write, each as `Told::number` says.
+pub fn target_and_deadline(words: &str, came: &mut Told) -> (u32, u64) {
     let (target, deadline) = cut_word(words);
-    (target.parse::<u32>().unwrap_or(0), number_or(deadline, 0))
+    (came.number(target), came.number(deadline))
 }
 
 // Reports settlements: each with its target, and how its request ended.

@@ -4,7 +4,6 @@
 use gc_cases::{Rows, Told, bytes_of, cut_word};
 use gc_files::{MemoryFile, Refused, RowsFile, copy_lines, open_rows};
 use gc_lines::{Durable, PortFailed, Sink};
-use gc_values::read_whole;
 use std::alloc::{AllocError, Global};
 
 // The head: a new file gets it first, and an old one begins with it.
@@ -27,7 +26,7 @@ impl Files {
     // and reports what opening it gave. `is_synced`: a sync of the rows syncs the file; otherwise it leaves the file alone. If
     // memory runs out for the file, `came` notes that it lacks a part.
     fn open(&mut self, alloc: Global, is_synced: bool, words: &str, came: &mut Told) {
-        match file_of(alloc, words) {
+        match file_of(alloc, words, came) {
             Ok(file) => self.open_file(file, is_synced, came),
             Err(_) => came.lack(),
         }
@@ -35,7 +34,7 @@ impl Files {
 
     // Opens a file as `open` does if `is_synced` is true, but one whose syncs fail.
     fn open_failing(&mut self, alloc: Global, words: &str, came: &mut Told) {
-        match file_of(alloc, words) {
+        match file_of(alloc, words, came) {
             Ok(mut file) => {
                 file.fail_syncs();
                 self.open_file(file, true, came);
@@ -97,12 +96,12 @@ impl Rows for Files {
     }
 }
 
-// A file that holds the bytes of all words but the first, and has room for as many more as the first word says: at most 1000, and 0
-// where it says more, or is no number. `Err`: memory ran out.
-fn file_of(alloc: Global, words: &str) -> Result<MemoryFile, AllocError> {
+// A file that holds the bytes of all words but the first, and has room for as many more as the first word says. `Err`: memory
+// ran out.
+fn file_of(alloc: Global, words: &str, came: &mut Told) -> Result<MemoryFile, AllocError> {
     let (room, held) = cut_word(words);
+    let room = came.number(room);
     let held = bytes_of(alloc, held)?;
-    let room = usize::try_from(read_whole(room.as_bytes(), 1000).unwrap_or(0)).unwrap_or(0);
     MemoryFile::new(alloc, held.as_slice(), room).ok_or(AllocError)
 }
 

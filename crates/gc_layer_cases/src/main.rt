@@ -45,8 +45,8 @@ impl Player for Layer {
     }
 }
 
-// Plays a case of this layer; any name without a player of its own stands for `files`. What came otherwise than the case expects is
-// appended to `wrong`.
+// Plays a case of this layer. What came otherwise than the case expects is appended to `wrong`, and so is a layer without a
+// player.
 fn play_case(layer: &str, alloc: Global, case: &Case<'_>, wrong: &mut Told) {
     match layer {
         "lines" => play_rows(alloc, case, &mut Lines::new(), wrong),
@@ -57,7 +57,8 @@ fn play_case(layer: &str, alloc: Global, case: &Case<'_>, wrong: &mut Told) {
         "beginning" => play_rows(alloc, case, &mut Beginnings::new(), wrong),
         "stations" => play_rows(alloc, case, &mut Stations::new(alloc), wrong),
         "instrument" => play_rows(alloc, case, &mut Instruments::new(alloc), wrong),
-        _ => play_rows(alloc, case, &mut Files::new(), wrong),
+        "files" => play_rows(alloc, case, &mut Files::new(), wrong),
+        _ => case.tell_wrong("player", b"none", wrong),
     }
 }
 

@@ -2,7 +2,7 @@
 //! After it comes what plays the rows of a case with such a station.
 
 use crate::client::target_and_deadline;
-use gc_cases::{Rows, Told, bytes_behind, cut_word, number_or};
+use gc_cases::{Rows, Told, bytes_behind, cut_word};
 use gc_catalogue::{Answer, Call, Reading};
 use gc_client::{Client, Heard, Outcome, Settlement, Slots};
 use gc_lines::{Assembler, Frame};
@@ -123,7 +123,7 @@ impl Stations {
     // Asks for a measurement of the target that the first word says, to be answered before the moment of the second one. Reports only if
     // nothing was sent (seven wait), or memory ran out.
     fn ask(&mut self, words: &str, came: &mut Told) {
-        let (target, deadline) = target_and_deadline(words);
+        let (target, deadline) = target_and_deadline(words, came);
         let call = Call::SimpleMea {
             wait: 5000,
             mode: 1,
@@ -136,12 +136,12 @@ impl Stations {
         }
     }
 
-    // Hands the station the bytes of a read, those in `bytes` after the word `now`, and the moment that this word writes (0 if it
-    // is no number). Reports what the station reported.
+    // Hands the station the bytes of a read, those in `bytes` after the word `now`, and the moment that this word writes.
+    // Reports what the station reported.
     fn hear(&mut self, alloc: Global, now: &str, bytes: &[u8], came: &mut Told) {
         let mut told = String::new(alloc);
         let read = bytes_behind(now, bytes);
-        let heard = self.station.hear(read, number_or(now, 0), &mut told);
+        let heard = self.station.hear(read, came.number(now), &mut told);
         tell_report(heard, told.as_str(), came);
     }
 

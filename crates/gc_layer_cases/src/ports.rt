@@ -3,7 +3,7 @@
 
 ghost use Rattle.std.specs.Prelude.{None};
 
-use gc_cases::{Rows, Told, cut_word, number_or};
+use gc_cases::{Rows, Told, cut_word};
 use gc_lines::{FromReader, Line, ReadAhead, Sink, Source, ToWriter, begin_request, write_line};
 use std::alloc::Global;
 use std::cell::Cell;
@@ -63,8 +63,7 @@ impl Rows for Ports {
 }
 
 // Reads the bytes of the third word through a port, which reads ahead if `is_ahead`, and reports what `read_four_times` does. The
-// first word says how many bytes the reader gives a read at most (1 if it is no number), and the second at which read it is interrupted,
-// counted from 0 (9 if it is no number).
+// first word says how many bytes the reader gives a read at most, and the second at which read it is interrupted, counted from 0.
 fn read_through(is_ahead: bool, words: &str, came: &mut Told) {
     let (most, rest) = cut_word(words);
     let (fails_at, left) = cut_word(rest);
@@ -74,8 +73,8 @@ fn read_through(is_ahead: bool, words: &str, came: &mut Told) {
     };
     let reader = PieceReader {
         left: left.as_bytes(),
-        most: usize::try_from(number_or(most, 1)).unwrap_or(1),
-        fails_at: number_or(fails_at, 9),
+        most: came.number(most),
+        fails_at: came.number(fails_at),
         asked: &asked,
     };
     if is_ahead {
@@ -108,11 +107,11 @@ fn read_once<S: Source>(source: &mut S, came: &mut Told) {
     }
 }
 
-// Writes three bytes four times, into a writer with room for as many bytes as `room` says, at most 16 (0 if it is no number). Reports what
+// Writes three bytes four times, into a writer with room for as many bytes as `room` says, at most 16. Reports what
 // `write_four_times` does.
 fn write_through(room: &str, came: &mut Told) {
     let mut bytes = [0u8; 16];
-    let room = usize::try_from(number_or(room, 0)).unwrap_or(0).min(16);
+    let room = came.number::<usize>(room).min(16);
     write_four_times(&mut ToWriter::new(&mut bytes[..room]), came);
 }
 

@@ -2,7 +2,7 @@
 
 ghost use Rattle.std.specs.Prelude.{◌≤◌};
 
-use gc_cases::{Rows, Told, cut_word, number_or};
+use gc_cases::{Rows, Told, cut_word};
 use gc_values::{
     Decimal, Items, Kind, Text, Value, ValueFault, read_bool, read_byte, read_long, read_text,
     read_whole, split,
@@ -77,12 +77,10 @@ fn two_decimals(words: &str) -> Option<(Decimal, Decimal)> {
     Some((first, second))
 }
 
-// Makes a decimal of two words, its digits and its scale, and reports both as the decimal has them, and its text; or the fault. Digits that
-// are no Long (`read_long`) stand for 0, and a scale that is no number of 8 bits for 255.
+// Makes a decimal of two words, its digits and its scale, and reports both as the decimal has them, and its text; or the fault.
 fn new_decimal(words: &str, came: &mut Told) {
     let (digits, scale) = cut_word(words);
-    let digits = i128::from(read_long(digits.as_bytes()).unwrap_or(0));
-    match Decimal::new(digits, byte_or_255(scale)) {
+    match Decimal::new(came.number(digits), came.number(scale)) {
         Ok(decimal) => tell_parts(&decimal, came),
         Err(fault) => came.debug(&fault),
     }
@@ -95,11 +93,6 @@ fn tell_parts(decimal: &Decimal, came: &mut Told) {
     came.titled(" text ", decimal);
 }
 
-// The number of 8 bits that a word writes, and 255 for any other word.
-fn byte_or_255(word: &str) -> u8 {
-    word.parse::<u8>().unwrap_or(255)
-}
-
 // Reports how the decimals of two words compare, or that a word is no decimal.
 fn compare(words: &str, came: &mut Told) {
     match two_decimals(words) {
@@ -108,12 +101,14 @@ fn compare(words: &str, came: &mut Told) {
     }
 }
 
-// Reports the decimal that the second word is, rounded to as many places as the first word says; or the fault. A first word that is no
-// number, or one above 24, stands for 24.
+// Reports the decimal that the second word is, rounded to as many places as the first word says, at most 24; or the fault.
 fn round(words: &str, came: &mut Told) {
     let (places, text) = cut_word(words);
     match Decimal::read(text.as_bytes()) {
-        Ok(decimal) => round_to(&decimal, byte_or_255(places).min(24), came),
+        Ok(decimal) => {
+            let places = came.number::<u8>(places).min(24);
+            round_to(&decimal, places, came)
+        }
         Err(fault) => came.debug(&fault),
     }
 }
@@ -134,10 +129,11 @@ fn within(words: &str, came: &mut Told) {
     }
 }
 
-// Reads the second word as a whole number of at most the first word (0 if that is no number), and reports the number or the fault.
+// Reads the second word as a whole number of at most the first word, and reports the number or the fault.
 fn read_whole_word(words: &str, came: &mut Told) {
     let (most, item) = cut_word(words);
-    tell_read(read_whole(item.as_bytes(), number_or(most, 0)), came);
+    let most = came.number(most);
+    tell_read(read_whole(item.as_bytes(), most), came);
 }
 
 // Reports the string that was read, or the fault.

@@ -8,7 +8,7 @@ use crate::line::{Line, line_from};
 ///
 /// The manual ends a line by CR LF and says that a lone LF clears the receiver's buffer. That a line above 512 bytes is
 /// discarded whole is this project's own.
-#[derive(Debug, PartialEq, Eq, Drop)]
+#[derive(Drop)]
 pub enum Frame {
     /// A line of at most 512 bytes, without its CR LF. CR LF alone is a line of no bytes.
     Line(Line),
@@ -22,7 +22,7 @@ pub enum Frame {
 
 /// A frame whose line is borrowed: from the piece, where the line and its CR LF are whole in it, and else from the buffer in
 /// which the line was put together.
-#[derive(Clone, Copy, Debug, PartialEq, Eq)]
+#[derive(Clone, Copy)]
 pub enum Lent<'a> {
     /// As [`Frame::Line`].
     Line(&'a [u8]),

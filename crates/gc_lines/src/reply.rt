@@ -15,7 +15,7 @@ use arrayvec::ArrayVec;
 ///
 /// The form is that of the GeoCOM manual's chapter on the ASCII protocol; that ids are one digit from 0 to 7 is this project's
 /// own.
-#[derive(Clone, Copy, Debug, PartialEq, Eq)]
+#[derive(Clone, Copy)]
 pub struct Reply<'a> {
     /// The return code of the communication.
     pub rc_com: u16,

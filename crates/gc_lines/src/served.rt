@@ -16,7 +16,7 @@ pub const WRITE_FAILED: u8 = 43;
 pub const READS_SPENT: u8 = 44;
 
 /// The input was answered to its end.
-#[derive(Clone, Copy, Debug, PartialEq, Eq)]
+#[derive(Clone, Copy, Debug)]
 pub struct Served {
     /// How many replies were written whole.
     pub replies: u64,

@@ -19,7 +19,7 @@ use std::time::{Clock, Duration};
 pub(crate) const REST: u64 = 2;
 
 /// Why a path can't be used as the device of a link.
-#[derive(Clone, Copy, Debug, PartialEq, Eq)]
+#[derive(Clone, Copy)]
 pub enum Unusable {
     /// The path leads to something that is no terminal, or doesn't answer as one.
     NoTerminal,

@@ -7,7 +7,7 @@ use gc_lines::PortFailed;
 
 /// A moment, on two clocks. Either clock may go back. Where `elapsed` does, the deadline of a request isn't moved, so it is
 /// further away by as much.
-#[derive(Clone, Copy, Debug, PartialEq, Eq)]
+#[derive(Clone, Copy)]
 pub struct Moment {
     /// Milliseconds since some start, for deadlines.
     pub elapsed: u64,
@@ -18,7 +18,7 @@ pub struct Moment {
 }
 
 /// The result of a read of a link. With bytes comes the moment after the read, and with silence a moment by which none had come.
-#[derive(Clone, Copy, Debug, PartialEq, Eq)]
+#[derive(Clone, Copy)]
 pub enum Came {
     /// This many bytes came, at least one.
     Bytes(usize, Moment),

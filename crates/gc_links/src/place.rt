@@ -8,7 +8,7 @@ use memchr::{memchr, memrchr};
 use std::fmt::{self, Display, Formatter};
 
 /// Where an instrument is.
-#[derive(Clone, Copy, Debug, PartialEq, Eq)]
+#[derive(Clone, Copy, Debug)]
 pub enum Place<'a> {
     /// A port of 127.0.0.1.
     Port(u16),

@@ -162,9 +162,14 @@ came_behind came (Gave bytes m) = pending_behind came bytes
 came_behind came Closed = nothing
 came_behind came _ = came
 
--- a log took the lines of an act, and keeps what is then pending and the last moment
-pub record Logs (old new : LogSeen) (act : Act) : Type 0 where
-  pub took : Takes old.taken new.taken old.failed new.failed (log_text_of (utc_of old.utc act) (entries_of_act old.went old.came act))
-  pub went : new.went ≡ went_behind old.went act
-  pub came : new.came ≡ came_behind old.came act
-  pub utc : new.utc ≡ utc_of old.utc act
+-- a log took these lines, at the moment that it had and keeps, and these are pending then of the sent and of the received bytes
+pub record TakesLines (old new : LogSeen) (es : List Entry) (sent received : Unwritten) : Type 0 where
+  pub took : Takes old.taken new.taken old.failed new.failed (log_text_of old.utc es)
+  pub went : new.went ≡ sent
+  pub came : new.came ≡ received
+  pub utc : new.utc ≡ old.utc
+
+-- a log took the lines of an act, at its moment (`utc_of`), and keeps what is then pending
+abbrev pub Logs : (old new : LogSeen) → Act → Type 0
+Logs old new act =
+    TakesLines (record old { utc = utc_of old.utc act }) new (entries_of_act old.went old.came act) (went_behind old.went act) (came_behind old.came act)

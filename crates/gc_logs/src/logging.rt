@@ -2,7 +2,7 @@
 //! written into the log yet are pending.
 
 ghost use Rattle.std.specs.Prelude.{◌≡◌, ◌++◌, ◌≤◌, [], ◌∷◌, length, codes};
-ghost use Rattle.gc_logs.specs.Logging.{entry, line_mark, part_mark, nothing, entry_of_line, entries_at, pending_at, entries, pending_behind, entries_of_pending, link_entry, TakesEntries};
+ghost use Rattle.gc_logs.specs.Logging.{entry, line_mark, part_mark, nothing, entry_of_line, entries_at, pending_at, entries, pending_behind, entries_of_pending, link_entry, log_seen, TakesEntries, TakesLines};
 ghost use Rattle.gc_texts.specs.Logs.{log_line};
 ghost use Rattle.gc_logs.specs.declared.logging.Direction.TheVariants.{Went, Came};
 
@@ -61,6 +61,14 @@ impl Unwritten {
             is_long: false,
         }
     }
+
+    // Leaves nothing pending.
+    fn clear(&mut self)
+        ensures { self.new ≡ nothing }
+    {
+        self.bytes.clear();
+        self.is_long = false;
+    }
 }
 
 /// A log over a sink. If the sink has failed nothing more is written, and the link that is logged goes on.
@@ -91,10 +99,8 @@ impl<K: Sink> Log<K> {
 
     // Logs sent bytes, as `log_bytes` says: writes the lines that end in them, and full parts of longer ones. The rest is pending then.
     pub(crate) fn add_sent(&mut self, bytes: &[u8])
-        ensures took { TakesEntries K.Sink self.old.sink self.new.sink self.old.utc (entries Went self.old.went bytes.now) }
-        ensures went { self.new.went ≡ pending_behind self.old.went bytes.now }
-        ensures came { self.new.came ≡ self.old.came }
-        ensures utc { self.new.utc ≡ self.old.utc }
+        ensures { TakesLines (log_seen K.Sink self.old) (log_seen K.Sink self.new)
+            (entries Went self.old.went bytes.now) (pending_behind self.old.went bytes.now) self.old.came }
     {
         log_bytes(
             &mut self.sink,
@@ -107,10 +113,8 @@ impl<K: Sink> Log<K> {
 
     // Logs received bytes, as `log_bytes` says: writes the lines that end in them, and full parts of longer ones. The rest is pending then.
     pub(crate) fn add_received(&mut self, bytes: &[u8])
-        ensures took { TakesEntries K.Sink self.old.sink self.new.sink self.old.utc (entries Came self.old.came bytes.now) }
-        ensures went { self.new.went ≡ self.old.went }
-        ensures came { self.new.came ≡ pending_behind self.old.came bytes.now }
-        ensures utc { self.new.utc ≡ self.old.utc }
+        ensures { TakesLines (log_seen K.Sink self.old) (log_seen K.Sink self.new)
+            (entries Came self.old.came bytes.now) self.old.went (pending_behind self.old.came bytes.now) }
     {
         log_bytes(
             &mut self.sink,
@@ -124,11 +128,8 @@ impl<K: Sink> Log<K> {
     // Writes the pending bytes of both directions, the sent ones first, each as a part of a line; of a direction without pending
     // bytes it writes nothing. Nothing is pending after that.
     pub(crate) fn flush(&mut self)
-        ensures took { TakesEntries K.Sink self.old.sink self.new.sink self.old.utc
-            (entries_of_pending Went self.old.went.bytes.items ++ entries_of_pending Came self.old.came.bytes.items) }
-        ensures went { self.new.went ≡ nothing }
-        ensures came { self.new.came ≡ nothing }
-        ensures utc { self.new.utc ≡ self.old.utc }
+        ensures { TakesLines (log_seen K.Sink self.old) (log_seen K.Sink self.new)
+            (entries_of_pending Went self.old.went.bytes.items ++ entries_of_pending Came self.old.came.bytes.items) nothing nothing }
     {
         log_pending(&mut self.sink, self.utc, Direction::Went, &mut self.went);
         log_pending(&mut self.sink, self.utc, Direction::Came, &mut self.came);
@@ -137,10 +138,7 @@ impl<K: Sink> Log<K> {
     // Writes a line that says, in these words of at most 514 bytes, what became of the connection.
     pub(crate) fn add_word(&mut self, word: &[u8])
         requires { length word.now ≤ 514 }
-        ensures took { TakesEntries K.Sink self.old.sink self.new.sink self.old.utc (link_entry word.now ∷ []) }
-        ensures went { self.new.went ≡ self.old.went }
-        ensures came { self.new.came ≡ self.old.came }
-        ensures utc { self.new.utc ≡ self.old.utc }
+        ensures { TakesLines (log_seen K.Sink self.old) (log_seen K.Sink self.new) (link_entry word.now ∷ []) self.old.went self.old.came }
     {
         write_entry(&mut self.sink, self.utc, LogMark::Link, word);
     }
@@ -193,8 +191,7 @@ fn log_line_end<K: Sink>(sink: &mut K, utc: u64, way: Direction, pending: &mut U
         append(&mut part, b"\n");
         write_entry(sink, utc, way.part_mark(), &part);
     }
-    pending.bytes.clear();
-    pending.is_long = false;
+    pending.clear();
 }
 
 // Writes the pending bytes of one direction, if there are any, as a part of a line. Nothing is pending after that.
@@ -205,8 +202,7 @@ fn log_pending<K: Sink>(sink: &mut K, utc: u64, way: Direction, pending: &mut Un
     if !pending.bytes.is_empty() {
         write_entry(sink, utc, way.part_mark(), &pending.bytes);
     }
-    pending.bytes.clear();
-    pending.is_long = false;
+    pending.clear();
 }
 
 // Writes a line of the log with this moment, this mark and these bytes, at most 514. If the sink fails, the line isn't written whole,

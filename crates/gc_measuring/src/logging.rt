@@ -37,17 +37,11 @@ const FRONT: usize = 26;
 // Whether `front`, the first `FRONT` bytes of a file, begins as a log does: with a moment of the form of `MOMENT`, and then one of
 // `MARKS`. A shorter file has to agree only as far as it goes; an empty one counts as a log.
 fn begins_log(front: &[u8]) -> bool {
-    for (at, b) in front.iter().enumerate() {
-        let fits = match MOMENT.get(at) {
-            Some(b'0') => b.is_ascii_digit(),
-            Some(form) => b == form,
-            None => MARKS.contains(b),
-        };
-        if !fits {
-            return false;
-        }
-    }
-    true
+    front.iter().enumerate().all(|(at, b)| match MOMENT.get(at) {
+        Some(b'0') => b.is_ascii_digit(),
+        Some(form) => b == form,
+        None => MARKS.contains(b),
+    })
 }
 
 // Opens the file of a log, which is made if the path is free, and cuts off a torn last line. The file is refused, and stays as it

@@ -8,7 +8,7 @@ use gc_texts::{RunFault, Trouble};
 use std::io::{self, Write};
 
 /// Why a station stopped before its end.
-#[derive(Clone, Copy, Debug, PartialEq, Eq)]
+#[derive(Clone, Copy)]
 pub enum Stop {
     /// The text couldn't be read or was refused, or memory was refused, for this fault, before anything was done.
     Text(RunFault),

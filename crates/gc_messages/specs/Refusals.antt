@@ -1,15 +1,24 @@
 -- What the program writes of a command line that it refuses: this project's own.
-use Rattle.std.specs.Prelude.{ℕ, Bool, true, false, List, codes}
+use Rattle.std.specs.Prelude.{◌≡◌, ℕ, ◌++◌, Bool, true, false, List, Option, codes}
+use Rattle.std.specs.Io.KnownBytes.{Appends}
+
+-- the line that says why a command line is refused
+abbrev pub refusal_line : (why : List ℕ) → List ℕ
+refusal_line why = codes "error: " ++ (why ++ codes "\n")
 
 -- the line that says that a number of the command line is out of its range
 abbrev pub range_line : List ℕ
-range_line = codes "error: a number on the command line is out of range\n"
+range_line = refusal_line (codes "a number on the command line is out of range")
 
 -- the line that says that a station's run would end for want of an answer before its second cycle is due
 abbrev pub stale_line : List ℕ
-stale_line = codes "error: --stale is below --every: the run would end before its second cycle\n"
+stale_line = refusal_line (codes "--stale is below --every: the run would end before its second cycle")
 
 -- the line that says that a word is no place: none to serve a simulator on (`to_serve`), or none of an instrument
 abbrev pub place_line : (to_serve : Bool) → List ℕ
-place_line true = codes "error: a simulator is served on a port of 127.0.0.1, from 1 to 65535, on the path of a device, which has a /, or with --any-address at HOST:PORT\n"
-place_line false = codes "error: a place is a port from 1 to 65535, HOST:PORT, [ADDRESS]:PORT, or the path of a device, which has a /\n"
+place_line true = refusal_line (codes "a simulator is served on a port of 127.0.0.1, from 1 to 65535, on the path of a device, which has a /, or with --any-address at HOST:PORT")
+place_line false = refusal_line (codes "a place is a port from 1 to 65535, HOST:PORT, [ADDRESS]:PORT, or the path of a device, which has a /")
+
+-- a command line was refused: the status is 2, and this line was written. `old` and `new` are the messages before and after
+abbrev pub Refuses : (line : List ℕ) → (status : ℕ) → (old new : Option (List ℕ)) → Type 0
+Refuses line status old new = (status ≡ 2) × Appends old new line

@@ -1,11 +1,10 @@
 //! How an end is reported: the exit status, and a line for a refusal or a fault.
 
-ghost use Rattle.std.specs.Prelude.{◌≡◌, ◌≤◌, IfOk};
-ghost use Rattle.std.specs.Io.KnownBytes.{Appends};
+ghost use Rattle.std.specs.Prelude.{◌≤◌, IfOk};
 ghost use Rattle.std.specs.Process.{exit_status};
 ghost use Rattle.gc_lines.specs.Answering.{fault_text};
 ghost use Rattle.gc_texts.specs.Faults.{run_fault_text, Tells};
-ghost use Rattle.gc_messages.specs.Refusals.{range_line, stale_line, place_line};
+ghost use Rattle.gc_messages.specs.Refusals.{Refuses, refusal_line, range_line, stale_line, place_line};
 
 use crate::oddity::tell_place;
 use gc_lines::{ServeFault, Served};
@@ -14,46 +13,47 @@ use gc_texts::RunFault;
 use std::io::{self, Write};
 use std::process::ExitCode;
 
+// Reports, with status 2, why a command line is refused. `Err`: the messages couldn't be written.
+fn refuse<E: Write>(why: &str, messages: &mut E) -> io::Result<ExitCode>
+    ensures { IfOk result (λ status. Refuses (refusal_line why.now) (exit_status status) (E.contents messages.old) (E.contents messages.new)) }
+{
+    writeln!(messages, "error: {why}")?;
+    Ok(ExitCode::from(2))
+}
+
 /// Reports, with status 2, that a number on the command line is out of its range. `Err`: the messages couldn't be written.
 pub fn refuse_numbers<E: Write>(messages: &mut E) -> io::Result<ExitCode>
-    ensures told { IfOk result (λ status. (exit_status status ≡ 2) × Appends (E.contents messages.old) (E.contents messages.new) range_line) }
+    ensures told { IfOk result (λ status. Refuses range_line (exit_status status) (E.contents messages.old) (E.contents messages.new)) }
 {
-    writeln!(
-        messages,
-        "error: a number on the command line is out of range"
-    )?;
-    Ok(ExitCode::from(2))
+    refuse("a number on the command line is out of range", messages)
 }
 
 /// Reports, with status 2, that a station's run would end for want of an answer before its second cycle is due. `Err`: the messages
 /// couldn't be written.
 pub fn refuse_stale<E: Write>(messages: &mut E) -> io::Result<ExitCode>
-    ensures told { IfOk result (λ status. (exit_status status ≡ 2) × Appends (E.contents messages.old) (E.contents messages.new) stale_line) }
+    ensures told { IfOk result (λ status. Refuses stale_line (exit_status status) (E.contents messages.old) (E.contents messages.new)) }
 {
-    writeln!(
+    refuse(
+        "--stale is below --every: the run would end before its second cycle",
         messages,
-        "error: --stale is below --every: the run would end before its second cycle"
-    )?;
-    Ok(ExitCode::from(2))
+    )
 }
 
 /// Reports, with status 2, that a word is no place of an instrument or, if `serves`, no place to serve a simulator on (a port, a
 /// device, or an address with `--any-address`). `Err`: the messages couldn't be written.
 pub fn refuse_place<E: Write>(serves: bool, messages: &mut E) -> io::Result<ExitCode>
-    ensures told { IfOk result (λ status. (exit_status status ≡ 2) × Appends (E.contents messages.old) (E.contents messages.new) (place_line serves)) }
+    ensures told { IfOk result (λ status. Refuses (place_line serves) (exit_status status) (E.contents messages.old) (E.contents messages.new)) }
 {
     if serves {
-        writeln!(
+        return refuse(
+            "a simulator is served on a port of 127.0.0.1, from 1 to 65535, on the path of a device, which has a /, or with --any-address at HOST:PORT",
             messages,
-            "error: a simulator is served on a port of 127.0.0.1, from 1 to 65535, on the path of a device, which has a /, or with --any-address at HOST:PORT"
-        )?;
-    } else {
-        writeln!(
-            messages,
-            "error: a place is a port from 1 to 65535, HOST:PORT, [ADDRESS]:PORT, or the path of a device, which has a /"
-        )?;
+        );
     }
-    Ok(ExitCode::from(2))
+    refuse(
+        "a place is a port from 1 to 65535, HOST:PORT, [ADDRESS]:PORT, or the path of a device, which has a /",
+        messages,
+    )
 }
 
 /// Reports how a run ended: with status 0 and no line, or with status 1 and the line of the fault. `Err`: the messages couldn't be

@@ -4,7 +4,7 @@
 
 ghost use Rattle.std.specs.Prelude.{OnOk};
 ghost use Rattle.std.specs.Io.KnownBytes.{Appends};
-ghost use Rattle.gc_messages.specs.Repairs.{copied_line, torn_line};
+ghost use Rattle.gc_messages.specs.Repairs.{copied_line, count_line, torn_line};
 
 use gc_links::Moment;
 use std::io::{self, Write};
@@ -15,7 +15,7 @@ use std::io::{self, Write};
 pub const MINUTE: u64 = 60_000;
 
 /// What became of the log.
-#[derive(Clone, Copy, Debug, PartialEq, Eq)]
+#[derive(Clone, Copy, PartialEq, Eq)]
 pub enum LogSeen {
     /// It hasn't ended, or there is no log.
     Whole,
@@ -26,7 +26,7 @@ pub enum LogSeen {
 }
 
 /// What was seen of the files of a station.
-#[derive(Clone, Copy, Debug, PartialEq, Eq)]
+#[derive(Clone, Copy, PartialEq, Eq)]
 pub struct FilesSeen {
     /// The log.
     pub log: LogSeen,
@@ -181,18 +181,28 @@ impl FilesNews {
     }
 }
 
+// Writes a line on a number of things, with these texts before and after the number; nothing if there are none. `Err`: the line
+// couldn't be written.
+fn report_count<E: Write>(before: &str, count: u64, after: &str, messages: &mut E) -> io::Result<()>
+    ensures { OnOk result (Appends (E.contents messages.old) (E.contents messages.new) (count_line before.now count after.now)) }
+{
+    if count == 0 {
+        // For the proof: writing an empty text gives the clause, which an `Ok(())` alone doesn't.
+        return write!(messages, "");
+    }
+    writeln!(messages, "geocom: {before}{count}{after}")
+}
+
 /// Writes how many rows were copied to a new file (`open_at`), as after a kill or a failed sync; nothing if there were none.
 /// `Err`: the line couldn't be written.
 pub fn report_copied<E: Write>(copied: u64, messages: &mut E) -> io::Result<()>
     ensures { OnOk result (Appends (E.contents messages.old) (E.contents messages.new) (copied_line copied)) }
 {
-    if copied == 0 {
-        // For the proof: writing an empty text gives the clause, which an `Ok(())` alone doesn't.
-        return write!(messages, "");
-    }
-    writeln!(
+    report_count(
+        "the last run was killed, or a sync failed: ",
+        copied,
+        " rows were copied to a new file and synced",
         messages,
-        "geocom: the last run was killed, or a sync failed: {copied} rows were copied to a new file and synced"
     )
 }
 
@@ -200,12 +210,10 @@ pub fn report_copied<E: Write>(copied: u64, messages: &mut E) -> io::Result<()>
 pub fn report_torn<E: Write>(torn: u64, messages: &mut E) -> io::Result<()>
     ensures { OnOk result (Appends (E.contents messages.old) (E.contents messages.new) (torn_line torn)) }
 {
-    if torn == 0 {
-        // For the proof: writing an empty text gives the clause, which an `Ok(())` alone doesn't.
-        return write!(messages, "");
-    }
-    writeln!(
+    report_count(
+        "",
+        torn,
+        " bytes of an incomplete row were cut off",
         messages,
-        "geocom: {torn} bytes of an incomplete row were cut off"
     )
 }

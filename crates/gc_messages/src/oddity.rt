@@ -11,7 +11,7 @@ use std::cell::Cell;
 use std::io::{self, Write};
 
 /// What is odd about a line.
-#[derive(Clone, Copy, Debug, PartialEq, Eq)]
+#[derive(Clone, Copy, PartialEq, Eq)]
 pub struct Oddities {
     /// It sends back what is sent.
     pub echoes: bool,
@@ -30,7 +30,7 @@ impl Oddities {
 }
 
 /// What was noticed of a line, of its connection, and of the files of the station that measures over it.
-#[derive(Clone, Copy, Debug, PartialEq, Eq)]
+#[derive(Clone, Copy)]
 pub struct Noticed {
     /// What is odd about the line.
     pub odd: Oddities,

@@ -12,7 +12,7 @@ use std::os::fd::AsFd;
 use std::process::ExitCode;
 
 /// Which of the standard streams are open, and whether a terminal shows the messages alone.
-#[derive(Clone, Copy, Debug, PartialEq, Eq)]
+#[derive(Clone, Copy)]
 pub struct Standard {
     pub input: bool,
     pub output: bool,

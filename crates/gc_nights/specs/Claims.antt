@@ -1,19 +1,29 @@
 -- What it means that rows are true: this project's own. A claim is what a row says of a reply, and a truth is a reply that came, with the
 -- request on whose execution the instrument made it.
-use Rattle.std.specs.Prelude.{◌≡◌, ◌↔◌, ℕ, ◌+◌, ◌<◌, ◌⊎◌, true, List, [], ◌∷◌, slice_get, Some}
+use Rattle.std.specs.Prelude.{◌≡◌, ◌↔◌, ℕ, ◌+◌, ◌<◌, ◌⊎◌, true, List, [], ◌∷◌, slice_get, Some, IfSome, is_some, Result, Ok, Err}
 use Rattle.gc_catalogue.specs.Asked.{asked_line}
+use Rattle.gc_catalogue.specs.declared.asked.Asked.{Asked}
+use Rattle.gc_nights.specs.declared.book.Seen.{Seen}
 use Rattle.gc_nights.specs.declared.claim.Claim.{Claim}
+use Rattle.gc_nights.specs.declared.halt.FalseRow.{FalseRow}
+use Rattle.gc_nights.specs.declared.halt.Halt.{Halt}
+use Rattle.gc_nights.specs.declared.halt.Halt.TheVariants.{Fault, Untrue}
 use Rattle.gc_rehearsal.specs.declared.truth.Truth.{Truth}
+use Rattle.gc_texts.specs.declared.fault.RunFault.TheVariants.{Memory}
+
+-- these bytes are the request line of what is asked, with one of the ids 0 to 7
+abbrev pub IsRequestFor : Asked → (line : List ℕ) → Type 0
+IsRequestFor asked line = (id : ℕ) × (id < 8) × (line ≡ asked_line (Some id) asked)
 
 -- the claim speaks of this reply: the reply came at the claim's moment, in time exactly if the claim has a line, which then is
--- the reply's; and its request asked for the claim's command, with one of the ids 0 to 7, and was sent when the claim says. A
--- reply is in time if it came before the moment `deadline` after `sent`. `at` may be before `sent`, as the clock may go back
+-- the reply's; and its request asked for the claim's command, and was sent when the claim says. A reply is in time if it came
+-- before the moment `deadline` after `sent`. `at` may be before `sent`, as the clock may go back
 pub record SpeaksOf (claim : Claim) (truth : Truth) : Type 0 where
   pub at : claim.at ≡ truth.given
   pub sent : claim.sent ≡ truth.sent
-  pub timed : claim.has_line ≡ true ↔ claim.at < claim.sent + claim.deadline
-  pub asked : (id : ℕ) × (id < 8) × (truth.asked.items ≡ asked_line (Some id) claim.call)
-  pub line : claim.has_line ≡ true → claim.line.items ≡ truth.reply.items
+  pub timed : is_some claim.line ≡ true ↔ claim.at < claim.sent + claim.deadline
+  pub asked : IsRequestFor claim.call truth.asked.items
+  pub line : IfSome claim.line (λ l. l.items ≡ truth.reply.items)
 
 -- there is a claim at this place, and it speaks of this reply
 pub record IsTrueAt (claims : List Claim) (place : ℕ) (truth : Truth) : Type 0 where
@@ -21,13 +31,37 @@ pub record IsTrueAt (claims : List Claim) (place : ℕ) (truth : Truth) : Type 0
   pub there : slice_get claims place ≡ Some claim
   pub is : SpeaksOf claim truth
 
--- the first `matched` claims were matched with replies, and with this further reply the first `next` are: as many as before, or one
--- more, which then speaks of the reply
+-- the first `matched` claims were matched with replies, and with this further reply the first `next` are: one more if the claim after
+-- them speaks of the reply, and else as many as before
 abbrev pub MatchesNext : List Claim → (matched : ℕ) → Truth → (next : ℕ) → Type 0
-MatchesNext claims matched truth next = (next ≡ matched) ⊎ ((next ≡ matched + 1) × IsTrueAt claims matched truth)
+MatchesNext claims matched truth next =
+    ((next ≡ matched) × (IsTrueAt claims matched truth → ⊥)) ⊎ ((next ≡ matched + 1) × IsTrueAt claims matched truth)
 
 -- the claims speak of replies that came, in their order: each of one that came after the reply of the claim before it
 abbrev pub AreTrue : List Claim → List Truth → Type 0
 AreTrue [] truths = Unit {0}
 AreTrue (claim ∷ claims) [] = ⊥
 AreTrue (claim ∷ claims) (truth ∷ truths) = (SpeaksOf claim truth × AreTrue claims truths) ⊎ AreTrue (claim ∷ claims) truths
+
+-- the claim is one of these
+abbrev pub IsAmong : List Claim → Claim → Type 0
+IsAmong claims claim = (place : ℕ) × (slice_get claims place ≡ Some claim)
+
+-- the row of a claim
+abbrev pub row_of : Claim → FalseRow
+row_of claim = record { row = claim.row; stamp = claim.stamp; target = claim.target }
+
+-- a count or a claim of the rows is missing, because memory was refused for it, or some truths are, `missing` of them
+abbrev pub IsIncomplete : Seen → (missing : ℕ) → Type 0
+IsIncomplete seen missing = (seen.lacks_memory ≡ true) ⊎ (0 < missing)
+
+-- how a rehearsal with this seed stops for a row of these claims: it names the row of one of them
+abbrev pub NamesRow : List Claim → (seed : ℕ) → Halt → Type 0
+NamesRow claims seed halt = (claim : Claim) × IsAmong claims claim × (halt ≡ Untrue seed (row_of claim))
+
+-- the result of comparing these claims with these truths, where `incomplete` says that some of them are missing: none is, and the
+-- claims are true; or some are, which is the fault `Memory`; or none is, the claims aren't true, and a row is named (`NamesRow`)
+abbrev pub Compares : {X : Type 0} → (incomplete : Type 0) → List Claim → List Truth → (seed : ℕ) → Result X Halt → Type 0
+Compares incomplete claims truths seed (Ok _) = (incomplete → ⊥) × AreTrue claims truths
+Compares incomplete claims truths seed (Err halt) =
+    (incomplete × (halt ≡ Fault Memory)) ⊎ ((incomplete → ⊥) × (AreTrue claims truths → ⊥) × NamesRow claims seed halt)

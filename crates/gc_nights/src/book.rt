@@ -60,7 +60,6 @@ impl Seen {
             at: stamp.utc.saturating_sub(self.start),
             deadline: self.deadlines.of(stamp),
             call: command.call,
-            has_line: ending.line().is_some(),
             line: line_of(ending),
             stamp,
             target: command.target,
@@ -80,11 +79,11 @@ fn speaks_of_reply(ending: Ending<'_>) -> bool {
     }
 }
 
-// The reply's line of a row with this ending; empty where it has none.
-fn line_of(ending: Ending<'_>) -> Line {
+// A copy of the reply's line of a row with this ending, if it has one.
+fn line_of(ending: Ending<'_>) -> Option<Line> {
     match ending.line() {
-        Some(line) => line_from(line.as_slice()),
-        None => Line::new(),
+        Some(line) => Some(line_from(line.as_slice())),
+        None => None,
     }
 }
 

@@ -1,9 +1,8 @@
-//! Claims: what rows say of replies, and the comparison with the truth. The contract of each test here says what `true` means; of `false`
-//! it says nothing.
+//! Claims: what rows say of replies, and the comparison with the truth.
 
-ghost use Rattle.std.specs.Prelude.{◌≡◌, ◌↔◌, ◌+◌, ◌<◌, ℕ, IsTrue, IfNone, IfSome, length, Some, true};
+ghost use Rattle.std.specs.Prelude.{◌≡◌, ◌↔◌, ◌+◌, ◌<◌, IsTrue, IfNone, IfSome, OnSome, Some};
 ghost use Rattle.gc_catalogue.specs.Asked.{asked_line};
-ghost use Rattle.gc_nights.specs.Claims.{SpeaksOf, IsTrueAt, MatchesNext, AreTrue};
+ghost use Rattle.gc_nights.specs.Claims.{IsRequestFor, SpeaksOf, IsTrueAt, MatchesNext, AreTrue, IsAmong};
 
 use gc_catalogue::{Asked, encode_asked};
 use gc_lines::Line;
@@ -12,7 +11,7 @@ use gc_texts::Stamp;
 
 /// What a row says of a reply: that the request of its command was answered by it, or that the reply came late. `sent` and `at` are in
 /// milliseconds since the line was made.
-#[derive(Debug, Drop)]
+#[derive(Drop)]
 pub struct Claim {
     /// The last moment that the clock gave before the request was sent.
     pub sent: u64,
@@ -22,10 +21,8 @@ pub struct Claim {
     pub deadline: u64,
     /// What was asked.
     pub call: Asked,
-    /// Whether the row has a reply's line.
-    pub has_line: bool,
-    /// That line; empty if the row has none.
-    pub line: Line,
+    /// The reply's line that the row has. `None`: the row has none, because the reply came late.
+    pub line: Option<Line>,
     /// The row's moments, in milliseconds since 1970, and its cycle, place and turn.
     pub stamp: Stamp,
     /// The row's target.
@@ -37,7 +34,7 @@ pub struct Claim {
 // Whether `asked` is the request line of this call with this id.
 fn is_asked_by(id: u8, call: &Asked, asked: &[u8]) -> bool
     requires { id < 8 }
-    ensures { IsTrue result → asked.now ≡ asked_line (Some id) call.now }
+    ensures { IsTrue result ↔ (asked.now ≡ asked_line (Some id) call.now) }
 {
     let line = encode_asked(Some(id), call);
     asked == line.as_slice()
@@ -45,7 +42,7 @@ fn is_asked_by(id: u8, call: &Asked, asked: &[u8]) -> bool
 
 // Whether `asked` is the request line of this call with one of the ids 0 to 7.
 fn is_asked(call: &Asked, asked: &[u8]) -> bool
-    ensures { IsTrue result → (id : ℕ) × (id < 8) × (asked.now ≡ asked_line (Some id) call.now) }
+    ensures { IsTrue result ↔ IsRequestFor call.now asked.now }
 {
     for id in 0..8u8 {
         if is_asked_by(id, call, asked) {
@@ -55,11 +52,14 @@ fn is_asked(call: &Asked, asked: &[u8]) -> bool
     false
 }
 
-// Whether a row has no line (`has_line` is false), or has the line of this reply.
-fn same_line(has_line: bool, line: &[u8], reply: &[u8]) -> bool
-    ensures { IsTrue result → has_line ≡ true → line.now ≡ reply.now }
+// Whether a row has no line, or has the line of this reply.
+fn has_no_other_line(claim: &Claim, reply: &Line) -> bool
+    ensures { IsTrue result ↔ IfSome claim.now.line (λ l. l.items ≡ reply.now.items) }
 {
-    !has_line || line == reply
+    match &claim.line {
+        Some(line) => line.as_slice() == reply.as_slice(),
+        None => true,
+    }
 }
 
 // Whether the claim's reply came before its deadline. A reply before `sent`, as a clock that was set back gives it, counts as one
@@ -73,22 +73,18 @@ fn is_in_time(claim: &Claim) -> bool
 // Whether a reply (`truth`) is the one that a claim speaks of: it came at the claim's moment, in time exactly if the claim has a line,
 // which then is the reply's; and its request asked for the claim's call, and was sent when the claim says.
 fn speaks_of(claim: &Claim, truth: &Truth) -> bool
-    ensures { IsTrue result → SpeaksOf claim.now truth.now }
+    ensures { IsTrue result ↔ SpeaksOf claim.now truth.now }
 {
     claim.at == truth.given
         && claim.sent == truth.sent
-        && is_in_time(claim) == claim.has_line
-        && same_line(
-            claim.has_line,
-            claim.line.as_slice(),
-            truth.reply.as_slice(),
-        )
+        && is_in_time(claim) == claim.line.is_some()
+        && has_no_other_line(claim, &truth.reply)
         && is_asked(&claim.call, truth.asked.as_slice())
 }
 
 // Whether the claim at this place speaks of this reply; `false` if there is no such place.
 fn is_true_by(claims: &[Claim], place: usize, truth: &Truth) -> bool
-    ensures { IsTrue result → IsTrueAt claims.now place truth.now }
+    ensures { IsTrue result ↔ IsTrueAt claims.now place truth.now }
 {
     match claims.get(place) {
         Some(claim) => speaks_of(claim, truth),
@@ -110,19 +106,16 @@ fn matched_with(claims: &[Claim], matched: usize, truth: &Truth) -> usize
     matched
 }
 
-/// The place of the first claim that isn't true, counted from 0: the claims before it speak of replies that came, in their order,
-/// and it speaks of none that came after those. `None`: all claims are true. Of a place the contract says only that there is a
-/// claim at it.
-pub fn first_false(claims: &[Claim], truths: &[Truth]) -> Option<usize>
+/// The first claim that isn't true: the claims before it speak of replies that came, in their order, and it speaks of none that
+/// came after those. `None`: all claims are true. Which of the claims it is the contract doesn't say.
+pub fn first_false<'a>(claims: &'a [Claim], truths: &[Truth]) -> Option<&'a Claim>
     ensures all_true { IfNone result (AreTrue claims.now truths.now) }
-    ensures within { IfSome result (λ k. k < length claims.now) }
+    ensures not_all { OnSome result (AreTrue claims.now truths.now → ⊥) }
+    ensures among { IfSome result (λ claim. IsAmong claims.now claim.now) }
 {
     let mut matched = 0;
     for truth in truths {
         matched = matched_with(claims, matched, truth);
     }
-    if matched < claims.len() {
-        return Some(matched);
-    }
-    None
+    claims.get(matched)
 }

@@ -1,6 +1,9 @@
 //! Why a rehearsal stopped before its end, and how that is reported: a text or a file was refused, the output failed, memory was
 //! refused, or a row is false.
 
+ghost use Rattle.std.specs.Prelude.{◌≡◌};
+ghost use Rattle.gc_nights.specs.Claims.{row_of};
+
 use crate::claim::Claim;
 use gc_engines::SceneTrouble;
 use gc_fates::Refusal;
@@ -21,7 +24,9 @@ pub(crate) struct FalseRow {
 
 impl FalseRow {
     /// The row of a claim.
-    pub(crate) fn of(claim: &Claim) -> FalseRow {
+    pub(crate) fn of(claim: &Claim) -> FalseRow
+        ensures { result ≡ row_of claim.now }
+    {
         FalseRow {
             row: claim.row,
             stamp: claim.stamp,

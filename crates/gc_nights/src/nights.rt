@@ -1,7 +1,7 @@
 //! Nights: the runs of a station over the line of a rehearsal. A station that was killed, or gave up, begins again.
 
-ghost use Rattle.std.specs.Prelude.{[], ◌≡◌, OnOk};
-ghost use Rattle.gc_nights.specs.Claims.{AreTrue};
+ghost use Rattle.std.specs.Prelude.{[], ◌≡◌};
+ghost use Rattle.gc_nights.specs.Claims.{Compares, IsIncomplete};
 ghost use Rattle.gc_nights.specs.Runs.{AreRuns, AreFaithfulRuns};
 
 use crate::book::RunBook;
@@ -50,28 +50,15 @@ pub(crate) struct Programme<'a> {
     pub(crate) start: u64,
 }
 
-/// How many runs ended before they were done, and how.
-#[derive(Clone, Copy, Drop)]
-pub(crate) struct RunCounts {
-    /// How many were killed.
-    pub(crate) killed: u64,
-    /// How many gave up, and the fault of the last that did.
-    pub(crate) gave_up: u64,
-    pub(crate) fault: Option<RunFault>,
-    /// How many were cut off at the end of their night.
-    pub(crate) cut_off: u64,
-}
-
-impl RunCounts {
-    /// No run has ended yet.
-    pub(crate) fn none() -> RunCounts {
-        RunCounts {
-            killed: 0,
-            gave_up: 0,
-            fault: None,
-            cut_off: 0,
-        }
-    }
+// How far a run of the station may come.
+#[derive(Clone, Copy)]
+struct RunLimits {
+    // How many cycles it has.
+    cycles: u64,
+    // After how many acts it is killed.
+    acts: u64,
+    // When its night is over, in milliseconds since 1970.
+    until: u64,
 }
 
 // How a run ended.
@@ -82,14 +69,14 @@ enum RunEnd {
     Killed,
     // Its night was over.
     CutOff,
-    // It stopped for this fault.
-    GaveUp(RunFault),
+    // It stopped for a fault.
+    GaveUp,
 }
 
 /// Rehearses all nights over a link that is new. However they end, the acts that the link recorded are those of a station, run after
 /// run. As long as fewer than six runs in a row ended while they synchronized, each run is one in the field: whatever the line lost,
 /// repeated, held or closed, each answer that it recorded was made on executing the very request of its cycle and place. Runs that
-/// end before they are done are counted in `counts`, but not a run at which the rehearsal fails.
+/// end before they are done are counted in the book's summary, but not a run at which the rehearsal fails.
 ///
 /// It fails with `Untrue` after the first run with a false row, with the fault `Memory` if memory was refused for a claim, a
 /// count or a truth, and with the fault `Output` if a row couldn't be written. The nights that are left aren't rehearsed then. A
@@ -98,12 +85,11 @@ pub(crate) fn run_nights<K: Sink>(
     link: &mut Rehearsed<Seeded>,
     book: &mut RunBook<K>,
     programme: Programme<'_>,
-    counts: &mut RunCounts,
 ) -> Result<(), Halt>
     requires { link.old.carried ≡ [] }
     ensures { AreFaithfulRuns programme.entry.tasks.now link.new.carried }
 {
-    let end = run_each_night(link, book, programme, counts);
+    let end = run_each_night(link, book, programme);
     link.is_of_line();
     rehearsals_in_a_row_are_faithful();
     end
@@ -122,26 +108,23 @@ fn run_each_night<K: Sink>(
     link: &mut Rehearsed<Seeded>,
     book: &mut RunBook<K>,
     programme: Programme<'_>,
-    counts: &mut RunCounts,
 ) -> Result<(), Halt>
     ensures { AreRuns programme.entry.tasks.now link.old.carried link.new.carried }
 {
     for night in 0..programme.nights {
         wait_until(link, night.saturating_mul(DAY));
-        run_night(link, book, programme, night, counts)?;
+        run_night(link, book, programme, night)?;
     }
     Ok(())
 }
 
 // Rehearses the night with this number, counted from 0, run after run, until its cycles are done or its time is over. A station
-// that was killed begins again at once, and one that gave up after `RESTART_DELAY`. It counts in `counts` and fails as
-// `run_nights` does.
+// that was killed begins again at once, and one that gave up after `RESTART_DELAY`. It fails as `run_nights` does.
 fn run_night<K: Sink>(
     link: &mut Rehearsed<Seeded>,
     book: &mut RunBook<K>,
     programme: Programme<'_>,
     night: u64,
-    counts: &mut RunCounts,
 ) -> Result<(), Halt>
     ensures { AreRuns programme.entry.tasks.now link.old.carried link.new.carried }
 {
@@ -158,28 +141,15 @@ fn run_night<K: Sink>(
         } else {
             acts_until_kill(programme, night, kills)
         };
-        match run_once(
-            link,
-            book,
-            programme,
+        let limits = RunLimits {
             cycles,
             acts,
-            end_of_night(programme, begins),
-        )? {
-            RunEnd::Done => return Ok(()),
-            RunEnd::CutOff => {
-                counts.cut_off = counts.cut_off.saturating_add(1);
-                return Ok(());
-            }
-            RunEnd::Killed => {
-                counts.killed = counts.killed.saturating_add(1);
-                kills = kills.saturating_sub(1);
-            }
-            RunEnd::GaveUp(fault) => {
-                counts.gave_up = counts.gave_up.saturating_add(1);
-                counts.fault = Some(fault);
-                link.wait(RESTART_DELAY);
-            }
+            until: end_of_night(programme, begins),
+        };
+        match run_once(link, book, programme, limits)? {
+            RunEnd::Done | RunEnd::CutOff => return Ok(()),
+            RunEnd::Killed => kills = kills.saturating_sub(1),
+            RunEnd::GaveUp => link.wait(RESTART_DELAY),
         }
     }
     Ok(())
@@ -237,34 +207,32 @@ fn run_by_plan<K: Sink>(
     run_station(link, book, programme.tasks, plan, u64::MAX, &mut kept).err()
 }
 
-// Runs the station over the line for this many cycles, in at most `acts` acts, and until it has read the moment `until`, in milliseconds
-// since 1970, or a later one. Then the rows of the run are compared with the truth (`check_rows`), and if that succeeds, the end of
-// the run is judged (`end_of_run`). It fails as these two do.
+// Runs the station over the line within these limits. Then the rows of the run are compared with the truth (`check_rows`), and if that
+// succeeds, the end of the run is judged (`end_of_run`). It fails as these two do.
 fn run_once<K: Sink>(
     link: &mut Rehearsed<Seeded>,
     book: &mut RunBook<K>,
     programme: Programme<'_>,
-    cycles: u64,
-    acts: u64,
-    until: u64,
+    limits: RunLimits,
 ) -> Result<RunEnd, Halt>
     ensures { AreRuns programme.entry.tasks.now link.old.carried link.new.carried }
 {
     let choice = Choice {
-        cycles,
+        cycles: limits.cycles,
         ..programme.choice
     };
     let plan = plan_of(choice, programme.setup, programme.tasks);
     link.begin();
-    book.begin(programme.start.saturating_add(link.elapsed()), acts, until);
+    let begins = programme.start.saturating_add(link.elapsed());
+    book.begin(begins, limits.acts, limits.until);
     let fault = run_by_plan(link, book, programme, &plan);
     check_rows(link, book, programme.seed)?;
     end_of_run(book, fault)
 }
 
 // How a run ended that stopped for this fault; `None`: it is done. The summary counts the last cycle of a run that is done, and
-// leaves out the last one of any other, also if it has a row for each command. A run that was killed, or cut off at the end of
-// its night, ended for that, whatever its fault. It fails with `Output` for any other run with that fault, and with `Memory` if
+// leaves out the last one of any other, also if it has a row for each command; but it counts how the run ended. A run that was
+// killed, or cut off at the end of its night, ended for that, whatever its fault. It fails with `Output` for any other run with that fault, and with `Memory` if
 // memory was refused for the last cycle.
 fn end_of_run<K>(book: &mut RunBook<K>, fault: Option<RunFault>) -> Result<RunEnd, Halt> {
     let Some(fault) = fault else {
@@ -275,29 +243,32 @@ fn end_of_run<K>(book: &mut RunBook<K>, fault: Option<RunFault>) -> Result<RunEn
     };
     book.seen.summary.leave();
     if book.is_killed() {
+        book.seen.summary.runs.count_killed();
         return Ok(RunEnd::Killed);
     }
     if book.is_cut_off() {
+        book.seen.summary.runs.count_cut_off();
         return Ok(RunEnd::CutOff);
     }
-    match fault {
-        RunFault::Output => Err(Halt::Fault(RunFault::Output)),
-        _ => Ok(RunEnd::GaveUp(fault)),
+    if let RunFault::Output = fault {
+        return Err(Halt::Fault(RunFault::Output));
     }
+    book.seen.summary.runs.count_given_up(fault);
+    Ok(RunEnd::GaveUp)
 }
 
 // Compares each row of a run that says that a reply came with the truth, and fails with `Untrue` at the first false one. If
 // memory was refused in this run or an earlier one, so that claims, counts or truths are missing, it compares none, and fails
 // with the fault `Memory`.
 fn check_rows<K>(link: &Rehearsed<Seeded>, book: &RunBook<K>, seed: u64) -> Result<(), Halt>
-    ensures { OnOk result (AreTrue book.now.seen.claims.items link.now.state.truths.items) }
+    ensures { Compares (IsIncomplete book.now.seen link.now.state.missing_truths) book.now.seen.claims.items link.now.state.truths.items seed result }
 {
     if book.seen.lacks_memory || link.missing_truths() > 0 {
         return Err(Halt::Fault(RunFault::Memory));
     }
     let claims = book.seen.claims.as_slice();
     match first_false(claims, link.truths()) {
-        Some(place) => Err(Halt::Untrue(seed, FalseRow::of(&claims[place]))),
+        Some(claim) => Err(Halt::Untrue(seed, FalseRow::of(claim))),
         None => Ok(()),
     }
 }

@@ -6,11 +6,11 @@ ghost use Rattle.std.specs.Process.{exit_status};
 use crate::book::{RunBook, Seen};
 use crate::deadlines::Deadlines;
 use crate::halt::{FileOption, Halt};
-use crate::nights::{Programme, RunCounts, run_nights};
+use crate::nights::{Programme, run_nights};
 use crate::report::tell_summary;
 use crate::seeded::Seeded;
 use crate::summary::Summary;
-use gc_engines::{read_rule_scene, scene_trouble_of};
+use gc_engines::{RuleForm, read_rule_scene, scene_trouble_of};
 use gc_fates::{Rules, Word, read_rules};
 use gc_lines::{FromReader, Sink, Source};
 use gc_measuring::{Work, read_task_text, work_of};
@@ -142,7 +142,7 @@ fn instrument_of<R: Files>(
     scene: Option<&str>,
 ) -> Result<SceneInstrument, Halt> {
     let Some(path) = scene else {
-        return match read_rule_scene(alloc, SIMULATOR) {
+        return match read_rule_scene::<RuleForm>(alloc, SIMULATOR) {
             Ok(instrument) => Ok(instrument),
             Err(fault) => Err(Halt::Fault(fault)),
         };
@@ -154,7 +154,7 @@ fn instrument_of<R: Files>(
 // The instrument of the text of a scene. It fails with `Scene` at the first faulty line, such as one with `delay` or `busy`, because
 // `serve` alone delays replies; and with `File` for a fault that isn't one line's.
 fn instrument_in(alloc: Global, text: &[u8]) -> Result<SceneInstrument, Halt> {
-    match read_rule_scene(alloc, text) {
+    match read_rule_scene::<RuleForm>(alloc, text) {
         Ok(instrument) => Ok(instrument),
         Err(RunFault::Schedule { line }) => Err(Halt::Scene(
             line,
@@ -231,14 +231,12 @@ fn rehearse_over<K: Sink + Drop, E: Write>(
 ) -> (K, Result<(), Halt>)
     requires { link.carried ≡ [] }
 {
-    let mut runs = RunCounts::none();
-    let end = run_nights(&mut link, &mut book, programme, &mut runs);
+    let end = run_nights(&mut link, &mut book, programme);
     let (output, mut seen, named) = book.end();
     if end.is_ok() {
         // If the summary can't be written, the rows are there all the same.
         let _ = tell_summary(
             programme,
-            runs,
             &mut seen.summary,
             &named,
             link.counts(),

@@ -1,6 +1,6 @@
 //! The report of a rehearsal: the summary of its nights on the messages.
 
-use crate::nights::{Programme, RunCounts};
+use crate::nights::Programme;
 use crate::quotient::quotient;
 use crate::summary::{Summary, TargetTally};
 use gc_measuring::{write_main_counts, write_other_counts, write_target};
@@ -14,13 +14,12 @@ use std::io::{self, Write};
 /// may be wrong. `Err`: the messages couldn't be written.
 pub(crate) fn tell_summary<E: Write>(
     programme: Programme<'_>,
-    runs: RunCounts,
     summary: &mut Summary,
     named: &Tasks,
     counts: Counts,
     messages: &mut E,
 ) -> io::Result<()> {
-    tell_nights(programme, runs, summary.rows, messages)?;
+    tell_nights(programme, summary, messages)?;
     tell_tally(summary.tally, messages)?;
     // If this fails, the spans stay in their order.
     let _ = summary.spans.sort();
@@ -36,10 +35,10 @@ pub(crate) fn tell_summary<E: Write>(
 // or were cut off, and how many rows there were. None of the rows is false, because a false one ends the rehearsal.
 fn tell_nights<E: Write>(
     programme: Programme<'_>,
-    runs: RunCounts,
-    rows: u64,
+    summary: &Summary,
     messages: &mut E,
 ) -> io::Result<()> {
+    let runs = summary.runs;
     let nights = programme.nights;
     let seed = programme.seed;
     write!(messages, "nights {nights} seed {seed} ")?;
@@ -53,6 +52,7 @@ fn tell_nights<E: Write>(
     }
     let cut_off = runs.cut_off;
     write!(messages, " cut off {cut_off}")?;
+    let rows = summary.rows;
     writeln!(messages, " rows {rows} false 0")
 }
 

@@ -1,7 +1,7 @@
 //! The summary of a rehearsal: how commands ended, for each target too, and how long cycles took.
 
 use gc_station::{Tally, is_well};
-use gc_texts::{Ending, Stamp, Wish};
+use gc_texts::{Ending, RunFault, Stamp, Wish};
 use std::alloc::{AllocError, Global};
 
 /// How the commands of a target ended, in all its rows.
@@ -11,9 +11,51 @@ pub(crate) struct TargetTally {
     pub(crate) tally: Tally,
 }
 
+/// How many runs ended before they were done, and how.
+#[derive(Clone, Copy, Drop)]
+pub(crate) struct RunCounts {
+    /// How many were killed.
+    pub(crate) killed: u64,
+    /// How many gave up, and the fault of the last that did.
+    pub(crate) gave_up: u64,
+    pub(crate) fault: Option<RunFault>,
+    /// How many were cut off at the end of their night.
+    pub(crate) cut_off: u64,
+}
+
+impl RunCounts {
+    // No run has ended yet.
+    fn none() -> RunCounts {
+        RunCounts {
+            killed: 0,
+            gave_up: 0,
+            fault: None,
+            cut_off: 0,
+        }
+    }
+
+    /// Counts a run that was killed.
+    pub(crate) fn count_killed(&mut self) {
+        self.killed = self.killed.saturating_add(1);
+    }
+
+    /// Counts a run that gave up for this fault.
+    pub(crate) fn count_given_up(&mut self, fault: RunFault) {
+        self.gave_up = self.gave_up.saturating_add(1);
+        self.fault = Some(fault);
+    }
+
+    /// Counts a run that was cut off at the end of its night.
+    pub(crate) fn count_cut_off(&mut self) {
+        self.cut_off = self.cut_off.saturating_add(1);
+    }
+}
+
 /// What is counted over all nights. Times are in milliseconds.
 #[derive(Drop)]
 pub(crate) struct Summary {
+    // How runs ended that weren't done.
+    pub(crate) runs: RunCounts,
     // How many rows there are.
     pub(crate) rows: u64,
     // How the commands of all rows ended, those of the setup and of each attempt of a chain, too; and those of each target.
@@ -50,6 +92,7 @@ impl Summary {
     /// `finish` do.
     pub(crate) fn new(alloc: Global, commands: usize) -> Result<Summary, AllocError> {
         Ok(Summary {
+            runs: RunCounts::none(),
             rows: 0,
             tally: Tally::new(),
             targets: Vec::new(alloc),

@@ -27,7 +27,7 @@ use gc_instrument::Instrument;
 use gc_links::{Place, listen};
 use gc_probes::{PieceSink, PieceSource};
 use gc_scenes::{Delay, SceneInstrument, SceneRules, SlowInstrument, Ways};
-use gc_texts::{RunFault, number_of};
+use gc_texts::RunFault;
 use gc_values::Text;
 use std::alloc::Global;
 use std::io::{self, Write};
@@ -87,25 +87,6 @@ impl<'a> Rows for Played<'a> {
     }
 }
 
-// The number that digits write, if it is at most `most`; otherwise, or if the word isn't of digits, 0.
-fn u64_up_to(digits: &str, most: u64) -> u64
-    ensures { result ≤ most }
-{
-    number_of(digits.as_bytes(), most).unwrap_or(0)
-}
-
-// What `u64_up_to` returns, in 32 bits.
-fn u32_up_to(digits: &str, most: u32) -> u32
-    ensures { result ≤ most }
-{
-    u32::try_from(u64_up_to(digits, u64::from(most))).unwrap_or(0)
-}
-
-// The number of 16 bits that digits write, as of a port or of a procedure; otherwise 0.
-fn u16_of(digits: &str) -> u16 {
-    u16::try_from(u64_up_to(digits, 65535)).unwrap_or(0)
-}
-
 // Reports how asking or serving ended. Of a write that failed, the number of replies before it is reported as `+` if there were any,
 // because it isn't known how many the system takes.
 fn tell_end(end: Result<(), RunFault>, came: &mut Told) {
@@ -135,7 +116,7 @@ impl<'a> Played<'a> {
     fn prepare(&mut self, word: &str, what: &str, bytes: &[u8], came: &mut Told) {
         match word {
             "call" => tell_done(self.call(bytes), came),
-            "again" => tell_done(self.write_times(cut_word(what).0, bytes), came),
+            "again" => self.write_times(cut_word(what).0, bytes, came),
             "shut" => tell_done(self.shut(), came),
             "leave" => drop(self.callers.pop()),
             "accept" => tell_done(self.accept(), came),
@@ -166,15 +147,14 @@ impl<'a> Played<'a> {
         }
     }
 
-    // The last caller writes what is in `bytes` after the number `times`, that many times; a number above 1000, or a word that is
-    // none, counts as 0. Returns whether that could be done, as `write` says; it stops at the first write that fails.
-    fn write_times(&mut self, times: &str, bytes: &[u8]) -> bool {
-        for _ in 0..u64_up_to(times, 1000) {
+    // The last caller writes what is in `bytes` after the number `times`, that many times. At the first write that fails it
+    // stops, and reports that.
+    fn write_times(&mut self, times: &str, bytes: &[u8], came: &mut Told) {
+        for _ in 0..came.number::<u64>(times) {
             if !self.write(bytes_behind(times, bytes)) {
-                return false;
+                return tell_done(false, came);
             }
         }
-        true
     }
 
     // The last caller writes these bytes. Returns whether that could be done; also `true` without a caller, where
@@ -217,12 +197,11 @@ impl<'a> Played<'a> {
         }
     }
 
-    // Serves callers, and reports how that ended. `what` says how many callers, and how many reads each may take, each a digit; anything
-    // else counts as 0.
+    // Serves callers, and reports how that ended. `what` says how many callers, and how many reads each may take.
     fn serve(&mut self, what: &str, came: &mut Told) {
         let (count, reads) = cut_word(what);
-        let count = u32_up_to(count, 9);
-        let reads = u32_up_to(reads, 9);
+        let count = came.number(count);
+        let reads = came.number(reads);
         let end = serve_on(
             self.rt,
             &self.listener,
@@ -235,15 +214,14 @@ impl<'a> Played<'a> {
     }
 
     // Serves a caller, in at most 99 reads, with an instrument whose reply to a procedure takes time. `what` is `drop` or
-    // `queue`, the procedure and the time in milliseconds, at most 9999; a procedure or a time that is no such number counts as
-    // 0. Reports how serving ended, and `late` if it took at least that time by the clock; or `no clock`, with nobody served, if
-    // the clock can't be read.
+    // `queue`, the procedure and the time in milliseconds. Reports how serving ended, and `late` if it took at least that time
+    // by the clock; or `no clock`, with nobody served, if the clock can't be read.
     fn serve_slowly(&mut self, what: &str, came: &mut Told) {
         let (busy, rest) = cut_word(what);
         let (rpc, ms) = cut_word(rest);
         let delay = Delay {
-            rpc: u16_of(rpc),
-            ms: u32_up_to(ms, 9_999),
+            rpc: came.number(rpc),
+            ms: came.number(ms),
         };
         let drops = busy == "drop";
         let (Ok(clock), Ok(begun)) = (BusyClock::new(self.rt, drops), Instant::now(self.rt)) else {
@@ -264,12 +242,11 @@ impl<'a> Played<'a> {
         }
     }
 
-    // Serves as many callers as the digit `what` says (0 if it is no digit) at a kept port, each in at most nine reads. The port
-    // closes the connection of one that is idle for a second. Reports whether all lines on their faults could be written, and
-    // these lines.
+    // Serves as many callers as `what` says at a kept port, each in at most nine reads. The port closes the connection of one
+    // that is idle for a second. Reports whether all lines on their faults could be written, and these lines.
     fn keep(&mut self, alloc: Global, what: &str, came: &mut Told) {
         let keeping = Keeping {
-            connections: Some(u32_up_to(what, 9)),
+            connections: Some(came.number(what)),
             idle: 1,
             max_reads: 9,
         };
@@ -285,18 +262,17 @@ impl<'a> Played<'a> {
         tell_kept(all, messages.as_slice(), came);
     }
 
-    // Reports what the caller at the place `what`, counted from 0, has heard, or that there is no such caller. Anything but a digit counts
-    // as 0.
+    // Reports what the caller at the place `what`, counted from 0, has heard, or that there is no such caller.
     fn hear(&mut self, alloc: Global, what: &str, came: &mut Told) {
-        let place = usize::try_from(u64_up_to(what, 9)).unwrap_or(usize::MAX);
+        let place = came.number::<usize>(what);
         match self.callers.get_mut(place) {
             Some(caller) => tell_heard(alloc, caller, came),
             None => came.text("no such caller"),
         }
     }
 
-    // Asks the commands in `bytes` after the digit `reads` at the port, in at most that many reads (0 if it is no digit), and reports what
-    // was written and how it ended; or `no port` if the system doesn't say which port it is.
+    // Asks the commands in `bytes` after the number `reads` at the port, in at most that many reads, and reports what was
+    // written and how it ended; or `no port` if the system doesn't say which port it is.
     fn ask(&mut self, alloc: Global, reads: &str, bytes: &[u8], came: &mut Told) {
         let port = port_of(&self.listener);
         if port == 0 {
@@ -304,7 +280,7 @@ impl<'a> Played<'a> {
         }
         let mut source = PieceSource::new(bytes_behind(reads, bytes), &[], u64::MAX);
         let mut sink = PieceSink::new(alloc, 1000, u64::MAX);
-        let reads = u32_up_to(reads, 9);
+        let reads = came.number(reads);
         let end = ask_tcp(self.rt, alloc, port, &mut source, &mut sink, reads);
         came.bytes(sink.taken());
         tell_end(end, came)
@@ -326,7 +302,7 @@ impl<'a> Played<'a> {
     // Asks a text without commands at the port that `what` says, by its number and as a place, then serves that port, and reports how
     // each of these ended; or `no port` if `what` is no number from 1 to 65535.
     fn ask_port(&mut self, alloc: Global, what: &str, came: &mut Told) {
-        let port = u16_of(what);
+        let port = came.number::<u16>(what);
         if port == 0 {
             return came.text("no port");
         }

@@ -2,7 +2,7 @@
 //! address that doesn't answer, and a socket that leads to itself.
 
 use crate::links::{await_silence, dots, put_counted};
-use crate::rig::{Done, Rig};
+use crate::rig::{Done, Rig, rigged};
 use gc_cases::{CaseRuntime, Told};
 use gc_links::{Came, Link, Place, PlacedLink, TcpLink, Unusable};
 use std::alloc::Global;
@@ -101,13 +101,7 @@ fn device_outcome(rt: &HostRuntime, much: &[u8]) -> Outcome {
 // other opening, isn't refused then, and otherwise what the first link's acts come to.
 fn opened_twice_outcome(rt: &HostRuntime, devices: &[File], much: &[u8]) -> Outcome {
     let done = RefCell::new(Done::nothing());
-    let rig = CaseRuntime {
-        stand_in: Rig {
-            devices,
-            connections: &[],
-            done: &done,
-        },
-    };
+    let rig = rigged(devices, &[], &done);
     let Some(mut link) = device_link(rt, &rig) else {
         return Outcome::Held;
     };
@@ -164,13 +158,7 @@ fn pulled_outcome(rt: &HostRuntime) -> Outcome {
     };
     let devices = [device];
     let done = RefCell::new(Done::nothing());
-    let rig = CaseRuntime {
-        stand_in: Rig {
-            devices: devices.as_slice(),
-            connections: &[],
-            done: &done,
-        },
-    };
+    let rig = rigged(devices.as_slice(), &[], &done);
     match device_link(rt, &rig) {
         Some(mut link) => failure_outcome(&mut link),
         None => Outcome::Held,
@@ -205,13 +193,7 @@ fn opening_outcome<L: Link>(link: &mut L) -> Outcome {
 // link can't be made.
 fn named_outcome(connections: &[Option<TcpStream>]) -> Outcome {
     let done = RefCell::new(Done::nothing());
-    let rig = CaseRuntime {
-        stand_in: Rig {
-            devices: &[],
-            connections,
-            done: &done,
-        },
-    };
+    let rig = rigged(&[], connections, &done);
     match TcpLink::to_host(&rig, "station:4001") {
         Ok(mut link) => opening_outcome(&mut link),
         Err(_) => Outcome::Nothing,

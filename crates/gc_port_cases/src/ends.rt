@@ -4,6 +4,7 @@ ghost use Rattle.std.specs.Prelude.{None};
 
 use gc_ask::{CallerFault, Callers, keep};
 use gc_cases::Told;
+use gc_lines::ServeFault;
 use std::alloc::Global;
 
 // Callers whose connections end as `FIRST_ENDS` says, in this order, and those of all later callers well.
@@ -16,12 +17,12 @@ struct Ends {
 // How the connections of the first seven callers end.
 const FIRST_ENDS: [Result<(), CallerFault>; 7] = [
     Ok(()),
-    Err(CallerFault::Read),
-    Err(CallerFault::Write {
+    Err(CallerFault::Serving(ServeFault::Read { replies: 0 })),
+    Err(CallerFault::Serving(ServeFault::Write {
         replies: 7,
         bytes: 21,
-    }),
-    Err(CallerFault::TooManyReads),
+    })),
+    Err(CallerFault::Serving(ServeFault::TooManyReads { replies: 0 })),
     Ok(()),
     Err(CallerFault::Socket),
     Err(CallerFault::Idle),

@@ -21,7 +21,6 @@ use crate::devices::tell_outcome;
 use crate::streams::{accepted, hear, listener_at_1024, tell_end_behind};
 use gc_cases::{Case, Player, Rows, Told, play_rows};
 use gc_links::{Came, Link, TcpLink, listen};
-use gc_texts::number_of;
 use std::alloc::{AllocError, Global};
 use std::io::{self, Write};
 use std::net::{TcpListener, TcpStream};
@@ -140,12 +139,16 @@ impl<'a> Played<'a> {
 
     // Puts `much`, more than a connection takes while nobody reads, and stores in `sent` how many of its bytes were sent. If that is a
     // part of it, and the put took less than two seconds, reports `a part, in its time`; else how many bytes were sent in how many
-    // milliseconds. If the clock can't be read before the put, it counts as having taken no time.
+    // milliseconds. If the clock can't be read, it reports `no clock`.
     fn put_much(&mut self, much: &[u8], came: &mut Told) {
         let begun = elapsed(&mut self.link);
         let sent = put_counted(&mut self.link, much);
-        let waited = elapsed(&mut self.link).saturating_sub(begun);
+        let ended = elapsed(&mut self.link);
         self.sent = sent;
+        let (Some(begun), Some(ended)) = (begun, ended) else {
+            return came.text("no clock");
+        };
+        let waited = ended.saturating_sub(begun);
         if waited >= 2000 || sent == 0 || sent >= much.len() {
             came.counted(&sent, " bytes in ");
             return came.counted(&waited, " milliseconds");
@@ -161,10 +164,10 @@ impl<'a> Played<'a> {
         tell_came(ended, buf, came)
     }
 
-    // Waits until the link was silent for as many milliseconds as `what` says (0 if it is no number). Reports that the link was
-    // silent so long, in less than a second, or else for how many milliseconds it was silent, as `await_silence` says.
+    // Waits until the link was silent for as many milliseconds as `what` says. Reports that the link was silent so long, in less
+    // than a second, or else for how many milliseconds it was silent, as `await_silence` says.
     fn wait(&mut self, what: &str, came: &mut Told) {
-        let millis = number_of(what.as_bytes(), u64::MAX).unwrap_or(0);
+        let millis = came.number(what);
         let waited = await_silence(&mut self.link, millis);
         if waited < millis || waited >= 1000 {
             return came.counted(&waited, " milliseconds of silence");
@@ -230,11 +233,11 @@ pub fn dots(alloc: Global, count: usize) -> Result<Vec<u8>, AllocError> {
     Ok(vec![in alloc; b'.'; count]?)
 }
 
-// The moment by a link's clock for deadlines, in milliseconds; `u64::MAX` if the clock can't be read.
-fn elapsed<L: Link>(link: &mut L) -> u64 {
+// The moment by a link's clock for deadlines, in milliseconds. `None`: the clock can't be read.
+fn elapsed<L: Link>(link: &mut L) -> Option<u64> {
     match link.now() {
-        Ok(moment) => moment.elapsed,
-        Err(_) => u64::MAX,
+        Ok(moment) => Some(moment.elapsed),
+        Err(_) => None,
     }
 }
 
@@ -267,7 +270,9 @@ fn tell_came(ended: Came, buf: &[u8], came: &mut Told) {
 /// Reads a link until it was silent for `millis` milliseconds, and returns for how many milliseconds it was: 0 if something else
 /// came or the clock couldn't be read, and fewer than `millis` if a thousand reads, each of which may end early, were too few.
 pub fn await_silence<L: Link>(link: &mut L, millis: u64) -> u64 {
-    let begun = elapsed(link);
+    let Some(begun) = elapsed(link) else {
+        return 0;
+    };
     let mut buf = [0; 2];
     let mut waited = 0;
     for _ in 0..1000 {

@@ -1,6 +1,6 @@
 //! A stand-in for the system whose devices and connections a case made before, and whose clock goes only while a link rests.
 
-use gc_cases::{StandIn, in_use, not_found};
+use gc_cases::{CaseRuntime, StandIn, in_use, not_found};
 use gc_links::millis_of;
 use std::cell::RefCell;
 use std::fs::File;
@@ -31,9 +31,24 @@ impl Done {
 // `None` is an address that doesn't answer.
 #[derive(Drop)]
 pub(crate) struct Rig<'a, 'b, 'c> {
-    pub(crate) devices: &'a [File],
-    pub(crate) connections: &'b [Option<TcpStream>],
-    pub(crate) done: &'c RefCell<Done>,
+    devices: &'a [File],
+    connections: &'b [Option<TcpStream>],
+    done: &'c RefCell<Done>,
+}
+
+// A runtime with these devices and these connections, which notes in `done` what is done.
+pub(crate) fn rigged<'a, 'b, 'c>(
+    devices: &'a [File],
+    connections: &'b [Option<TcpStream>],
+    done: &'c RefCell<Done>,
+) -> CaseRuntime<Rig<'a, 'b, 'c>> {
+    CaseRuntime {
+        stand_in: Rig {
+            devices,
+            connections,
+            done,
+        },
+    }
 }
 
 impl<'a, 'b, 'c> StandIn for Rig<'a, 'b, 'c> {
@@ -71,12 +86,13 @@ impl<'a, 'b, 'c> StandIn for Rig<'a, 'b, 'c> {
         }
     }
 
-    // A handle of device 0 if the path ends in `0`, and otherwise of device 1. `Err`: the rig has no such device, or no further handle of
-    // it can be had.
+    // A handle of the device whose number, 0 or 1, the path ends in. `Err`: the path ends in neither, the rig has no such
+    // device, or no further handle of it can be had.
     fn open(&self, path: &str) -> io::Result<File> {
         let number = match path.as_bytes().last() {
             Some(b'0') => 0,
-            _ => 1,
+            Some(b'1') => 1,
+            _ => return not_found(),
         };
         match self.devices.get(number) {
             Some(device) => device.try_clone(),

@@ -65,17 +65,101 @@ fn play_at(rt: &HostRuntime, case: &Case<'_>, port: u16, wrong: &mut Told) {
 fn play_named(rt: &HostRuntime, case: &Case<'_>, port: &str, wrong: &mut Told) {
     let mut seen = RefCell::new(Seen::new(rt.alloc()));
     let mut said = Said::new(rt.alloc(), case.number("room", u64::MAX));
-    run_case(rt, case, port, &seen, &mut said);
+    let run = Run {
+        alloc: rt.alloc(),
+        case: *case,
+        port,
+    };
+    run.play(rt, &seen, &mut said);
     said.tell(rt.alloc(), case, port, wrong);
     tell_seen(rt.alloc(), case, seen.get_mut(), wrong);
 }
 
-// Runs the program over the system, or, if the case has `far`, at a far end. `far` is the milliseconds that an answer there takes, or
-// another word for a far end that gives no answers. What came there is noted in `seen`.
-fn run_case(rt: &HostRuntime, case: &Case<'_>, port: &str, seen: &RefCell<Seen>, said: &mut Said) {
-    match case.value("far") {
-        "" => run(rt, rt.alloc(), case, port, said),
-        answer => run_far(rt, case, port, answer.parse::<u64>().ok(), seen, said),
+// A run of the program: the case that says how it is run, and the digits for which `PORT` stands in the case's words.
+#[derive(Drop)]
+struct Run<'a, 'b> {
+    alloc: Global,
+    case: Case<'a>,
+    port: &'b str,
+}
+
+impl<'a, 'b> Run<'a, 'b> {
+    // Runs the program over the system, or, if the case has `far`, at a far end. `far` is the milliseconds that an answer there
+    // takes, or another word for a far end that gives no answers. What came there is noted in `seen`.
+    fn play(&self, rt: &HostRuntime, seen: &RefCell<Seen>, said: &mut Said) {
+        match self.case.value("far") {
+            "" => self.run(rt, said),
+            answer => self.run_far(rt, answer.parse::<u64>().ok(), seen, said),
+        }
+    }
+
+    // Runs the program at a far end whose answers take `answer` milliseconds. `None`: it gives no answers. If the connection
+    // can't be made, the program isn't run, and `said` has no status.
+    fn run_far(
+        &self,
+        rt: &HostRuntime,
+        answer: Option<u64>,
+        seen: &RefCell<Seen>,
+        said: &mut Said,
+    ) {
+        if let Ok(ends) = both_ends(rt) {
+            self.run(&far_end_of(&self.case, answer, &ends, seen), said);
+        }
+    }
+
+    // Runs the program over this runtime with the case's input. If memory runs out for the input, the program isn't run, and
+    // `said` has no status.
+    fn run<R: Net<Listener = TcpListener, Stream = TcpStream> + Clock + Files<File = File>>(
+        &self,
+        rt: &R,
+        said: &mut Said,
+    ) {
+        if let Ok(input) = input_of(self.alloc, &self.case) {
+            self.run_with_input(rt, input.as_slice(), said);
+        }
+    }
+
+    // Runs the program with this input and the case's words and streams. `said` takes the output, the messages and the status,
+    // which is `None` if the run ended with an error of the system.
+    fn run_with_input<
+        R: Net<Listener = TcpListener, Stream = TcpStream> + Clock + Files<File = File>,
+    >(&self, rt: &R, input: &[u8], said: &mut Said) {
+        let streams = Streams {
+            input: Input {
+                bytes: input,
+                is_broken: self.case.is("reads", "fail"),
+            },
+            output: &mut said.output,
+            messages: &mut said.messages,
+        };
+        let standard = standard_of(&self.case);
+        said.status = run_program(rt, self.alloc, standard, self.words(), streams).ok();
+    }
+
+    // The program's name and the words of the case after it. `Err`: the error that the program gets in their place, because the
+    // case says so (`!no memory`, `!no text`), or memory ran out.
+    fn words(&self) -> io::Result<Args> {
+        match self.case.value("words") {
+            "!no memory" => Err(io::Error::from(ErrorKind::OutOfMemory)),
+            "!no text" => Err(io::Error::from(ErrorKind::InvalidData)),
+            words => Ok(self.split_words(words)?),
+        }
+    }
+
+    // The program's name, and after it these words, which have spaces between. `PORT` stands for the port. `Err`: memory ran out.
+    fn split_words(&self, words: &str) -> Result<Args, AllocError> {
+        let mut all = Vec::new(self.alloc);
+        self.push_words(words, &mut all)?;
+        Ok(all.into_iter())
+    }
+
+    // Appends the program's name and these words, the port in place of `PORT`. `Err`: memory ran out; some words may be appended.
+    fn push_words(&self, words: &str, all: &mut Vec<String>) -> Result<(), AllocError> {
+        push_word(self.alloc, "geocom", all)?;
+        for word in words.split(' ') {
+            push_word(self.alloc, port_or_word(word, self.port), all)?;
+        }
+        Ok(())
     }
 }
 
@@ -84,27 +168,6 @@ fn oddities_of(case: &Case<'_>) -> Oddities {
     Oddities {
         echoes: case.is("line", "echoes"),
         bare: case.is("line", "bare"),
-    }
-}
-
-// Runs the program at a far end whose answers take `answer` milliseconds. `None`: it gives no answers. If the connection can't
-// be made, the program isn't run, and `said` has no status.
-fn run_far(
-    rt: &HostRuntime,
-    case: &Case<'_>,
-    port: &str,
-    answer: Option<u64>,
-    seen: &RefCell<Seen>,
-    said: &mut Said,
-) {
-    if let Ok(ends) = both_ends(rt) {
-        run(
-            &far_end_of(case, answer, &ends, seen),
-            rt.alloc(),
-            case,
-            port,
-            said,
-        );
     }
 }
 
@@ -129,42 +192,6 @@ fn far_end_of<'a, 'b>(
     }
 }
 
-// Runs the program over this runtime with the case's input. If memory runs out for the input, the program isn't run, and `said` has no
-// status.
-fn run<R: Net<Listener = TcpListener, Stream = TcpStream> + Clock + Files<File = File>>(
-    rt: &R,
-    alloc: Global,
-    case: &Case<'_>,
-    port: &str,
-    said: &mut Said,
-) {
-    if let Ok(input) = input_of(alloc, case) {
-        run_with_input(rt, alloc, case, port, input.as_slice(), said);
-    }
-}
-
-// Runs the program with this input and the case's words and streams. `said` takes the output, the messages and the status, which is
-// `None` if the run ended with an error of the system.
-fn run_with_input<R: Net<Listener = TcpListener, Stream = TcpStream> + Clock + Files<File = File>>(
-    rt: &R,
-    alloc: Global,
-    case: &Case<'_>,
-    port: &str,
-    input: &[u8],
-    said: &mut Said,
-) {
-    let streams = Streams {
-        input: Input {
-            bytes: input,
-            is_broken: case.is("reads", "fail"),
-        },
-        output: &mut said.output,
-        messages: &mut said.messages,
-    };
-    let words = words_of(alloc, case, port);
-    said.status = run_program(rt, alloc, standard_of(case), words, streams).ok();
-}
-
 // Which standard streams of a case are open, and whether its messages go to a terminal.
 fn standard_of(case: &Case<'_>) -> Standard {
     let closed = case.value("closed");
@@ -174,37 +201,6 @@ fn standard_of(case: &Case<'_>) -> Standard {
         messages: !closed.contains("messages"),
         terminal: case.is("terminal", "yes"),
     }
-}
-
-// The program's name and the words of a case after it. `Err`: the error that the program gets in their place, because the case says so
-// (`!no memory`, `!no text`), or memory ran out.
-fn words_of(alloc: Global, case: &Case<'_>, port: &str) -> io::Result<Args> {
-    match case.value("words") {
-        "!no memory" => Err(io::Error::from(ErrorKind::OutOfMemory)),
-        "!no text" => Err(io::Error::from(ErrorKind::InvalidData)),
-        words => Ok(split_words(alloc, words, port)?),
-    }
-}
-
-// The program's name, and after it these words, which have spaces between. `PORT` stands for the port. `Err`: memory ran out.
-fn split_words(alloc: Global, words: &str, port: &str) -> Result<Args, AllocError> {
-    let mut all = Vec::new(alloc);
-    push_words(alloc, words, port, &mut all)?;
-    Ok(all.into_iter())
-}
-
-// Appends the program's name and these words, the port in place of `PORT`. `Err`: memory ran out; some words may be appended.
-fn push_words(
-    alloc: Global,
-    words: &str,
-    port: &str,
-    all: &mut Vec<String>,
-) -> Result<(), AllocError> {
-    push_word(alloc, "geocom", all)?;
-    for word in words.split(' ') {
-        push_word(alloc, port_or_word(word, port), all)?;
-    }
-    Ok(())
 }
 
 // The port if the word is `PORT`, and otherwise the word itself.

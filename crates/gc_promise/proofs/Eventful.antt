@@ -49,11 +49,11 @@ reporting_is = keeps_none (List ℕ) reporting (λ line. refl) (λ s id call sma
 -- What the station sees of the line.
 
 -- what the turns of the first synchronization show to the station
-abbrev begins_shown : List part.Turn
+abbrev begins_shown : List part.SyncStep
 begins_shown = part.Asks ∷ part.Hears (codes "%R1Q,0,6:") ∷ part.Hears (codes "%R1P,0,0:0,4") ∷ asked_each replies
 
 -- what the turns of the second synchronization show to the station
-abbrev anew_shown : List part.Turn
+abbrev anew_shown : List part.SyncStep
 anew_shown =
     part.Asks
     ∷ part.Hears (codes "%R1P,0,2:0,27")
@@ -67,9 +67,9 @@ anew_shown =
 
 -- a part with requests of this cycle: for each request that is sent, in order, the place of its command and the moment at which
 -- it was sent; `None` for a null procedure
-abbrev part_of_cycle : ℕ → List part.Turn → List (Step Asked) → List (Option (ℕ × ℕ)) → Part
-part_of_cycle cycle turns steps sent =
-    record { turns = turns; steps = steps; marks = map (option_map (λ x. record { cycle = cycle; place = x.0; sent = x.1; expected = expected_first (drop x.0 commands) })) sent }
+abbrev part_of_cycle : ℕ → List part.SyncStep → List (Step Asked) → List (Option (ℕ × ℕ)) → Part
+part_of_cycle cycle sync_steps steps sent =
+    record { sync_steps = sync_steps; steps = steps; marks = map (option_map (λ x. record { cycle = cycle; place = x.0; sent = x.1; expected = expected_first (drop x.0 commands) })) sent }
 
 -- the parts of the run: until it resynchronizes, from there on, and after its end
 abbrev all_parts : List Part

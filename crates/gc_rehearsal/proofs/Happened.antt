@@ -7,7 +7,8 @@ use Rattle.gc_links.specs.Acts.{Act, Put, Gave}
 use Rattle.gc_links.specs.declared.link.Moment.{Moment}
 use Rattle.gc_scenes.specs.SceneState.{SceneState, scene_restarted, at_moment}
 use Rattle.gc_rehearsal.specs.Carrying.{Lines, Happening, Call, Reaches, Restarts, Passes, Repeats_up, Repeats_down, Loses_up, Loses_down, Loses_front, Does, IsQuiet, Leads, LeadAll, acts_of, HasComeTo}
-use Rattle.gc_rehearsal.specs.Queues.{texts, MayAddLine, MayRepeat, MayHandOver}
+use Rattle.gc_rehearsal.specs.Queues.{texts, lines_of, MayAddLine, MayRepeat, MayHandOver}
+use Rattle.gc_rehearsal.specs.declared.carried.Traffic.{Traffic}
 use Rattle.gc_rehearsal.specs.declared.flight.Flight.{Flight}
 
 -- where the events `hs` lead from `l` to `m`, and one more leads from `m` to `n`, all of them lead from `l` to `n`
@@ -120,14 +121,11 @@ passes acts moment up down state state' is c =
 
 -- acts that have come to lines have also come to those in which the request in front may have been handed to the instrument
 -- (`MayHandOver`)
-pub reaches : (acts : List Act) (up down up' down' : List Flight) (state state' : SceneState) → MayHandOver state up down state' up' down'
-    → HasComeTo acts (lines (texts up) (texts down) state) → HasComeTo acts (lines (texts up') (texts down') state')
-reaches acts up down up' down' state state' (inl same) c =
-    subst (λ s. HasComeTo acts (lines (texts up') (texts down') s)) (sym same.0)
-    (subst (λ q. HasComeTo acts (lines (texts q) (texts down') state)) (sym same.1) (subst (λ q. HasComeTo acts (lines (texts up) (texts q) state)) (sym same.2) c))
-reaches acts up down up' down' state state' (inr x) c =
-    one_more_unseen acts Reaches (lines (texts up) (texts down) state) (lines (texts up') (texts down') state') refl c
-    (record { line = x.0.line.items; reply = x.2.reply; front = ap texts x.1; played = x.2.played; sends = x.2.sends })
+pub reaches : (acts : List Act) (old new : Traffic) → MayHandOver old new → HasComeTo acts (lines_of old) → HasComeTo acts (lines_of new)
+reaches acts old new (inl same) c = subst (HasComeTo acts) (sym same) c
+reaches acts old new (inr x) c =
+    one_more_unseen acts Reaches (lines_of old) (lines_of new) refl c
+    (record { line = x.request.line.items; reply = x.reply; front = ap texts x.front; played = x.played; sends = x.sends })
 
 -- acts that have come to lines have also come to those without the reply in front
 pub loses_front : (acts : List Act) (up : List (List ℕ)) (down down' : List Flight) (flight : Flight) (state : SceneState) → down ≡ flight ∷ down'

@@ -2,7 +2,7 @@
 use Rattle.std.specs.Prelude.{List}
 use Rattle.gc_links.specs.Acts.{Act}
 use Rattle.gc_rehearsal.specs.Carrying.{Lines, HasComeTo}
-use Rattle.gc_rehearsal.specs.Queues.{texts}
+use Rattle.gc_rehearsal.specs.Queues.{lines_of}
 use Rattle.gc_rehearsal.specs.declared.carried.Carried.TheInside.{Inside}
 
 -- the acts so far
@@ -11,7 +11,7 @@ acts_in c = c.history.acts
 
 -- the lines in flight, and the instrument
 abbrev pub lines_in : Inside → Lines
-lines_in c = record { up = texts c.up.items; down = texts c.down.items; state = c.instrument }
+lines_in c = lines_of c.traffic
 
 -- the acts so far have led to the lines that are in flight now (`HasComeTo`)
 abbrev pub KeepsToLine : Inside → Type 0

@@ -2,8 +2,8 @@
 use Rattle.std.specs.Prelude.{◌≡◌, ◌⊎◌, ℕ, List, [], ◌∷◌, ◌++◌, map, Option, Some}
 use Rattle.gc_lines.specs.Lines.{with_end}
 use Rattle.gc_scenes.specs.SceneReplying.{IsPlayed}
-use Rattle.gc_scenes.specs.SceneState.{SceneState}
-use Rattle.gc_rehearsal.specs.Carrying.{IsRepeated, MaySendOut}
+use Rattle.gc_rehearsal.specs.Carrying.{IsRepeated, Lines, MaySendOut}
+use Rattle.gc_rehearsal.specs.declared.carried.Traffic.{Traffic}
 use Rattle.gc_rehearsal.specs.declared.flight.Flight.{Flight}
 
 -- the lines of a queue
@@ -26,16 +26,19 @@ MayRepeat old new = (new ≡ old) ⊎ IsRepeated (texts old) (texts new)
 abbrev pub MaySend : (old : List Flight) → (reply : List ℕ) → (new : List Flight) → Type 0
 MaySend old reply new = MaySendOut (texts old) (Some reply) (texts new)
 
--- this request was handed to the instrument, whose state was `state` and is now `state'`. Its reply, if there is one, was put at the back
--- of the replies in flight, which were `down` and are now `down'`, or is lost
-pub record IsHandedOver (request : Flight) (state : SceneState) (down : List Flight) (state' : SceneState) (down' : List Flight) : Type 0 where
-  pub reply : Option (List ℕ)
-  pub played : IsPlayed state request.line.items state' reply
-  pub sends : MaySendOut (texts down) reply (texts down')
+-- the lines in flight, and the instrument
+abbrev pub lines_of : Traffic → Lines
+lines_of traffic = record { up = texts traffic.up.items; down = texts traffic.down.items; state = traffic.instrument }
 
--- nothing changes; or the request in front of the queue up is taken from it, and handed to the instrument (`IsHandedOver`). The instrument
--- and both queues were `state`, `up` and `down`, and are now `state'`, `up'` and `down'`
-abbrev pub MayHandOver : (state : SceneState) → (up down : List Flight) → (state' : SceneState) → (up' down' : List Flight) → Type 0
-MayHandOver state up down state' up' down' =
-    ((state' ≡ state) × (up' ≡ up) × (down' ≡ down))
-    ⊎ ((request : Flight) × (up ≡ request ∷ up') × IsHandedOver request state down state' down')
+-- the request in front was taken from those in flight, and handed to the instrument. Its reply, if there is one, was put at the back of the
+-- replies in flight, or is lost
+pub record IsHandedOver (old new : Traffic) : Type 0 where
+  pub request : Flight
+  pub front : old.up.items ≡ request ∷ new.up.items
+  pub reply : Option (List ℕ)
+  pub played : IsPlayed old.instrument request.line.items new.instrument reply
+  pub sends : MaySendOut (texts old.down.items) reply (texts new.down.items)
+
+-- the lines in flight and the instrument are the same; or the request in front was handed to the instrument (`IsHandedOver`)
+abbrev pub MayHandOver : (old new : Traffic) → Type 0
+MayHandOver old new = (lines_of new ≡ lines_of old) ⊎ IsHandedOver old new

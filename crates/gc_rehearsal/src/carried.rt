@@ -4,7 +4,7 @@ ghost use Rattle.std.specs.Prelude.{◌≡◌, ◌≤◌, ◌+◌, [], ◌∷◌
 ghost use Rattle.gc_links.specs.Acts.{Act, Put, Gave};
 ghost use Rattle.gc_links.specs.Noted.{act_of};
 ghost use Rattle.gc_rehearsal.specs.Carrying.{IsOfLine, IsQuiet};
-ghost use Rattle.gc_rehearsal.specs.Queues.{MayHandOver, MaySend};
+ghost use Rattle.gc_rehearsal.specs.Queues.{MaySend};
 
 use crate::flight::{Flight, Origin, add, add_request, due, len_with_end, repeat_last, write_into};
 use gc_lines::{Line, is_plain, line_from, read_request};
@@ -40,14 +40,49 @@ impl Stored {
     }
 }
 
-/// The requests and the replies in flight, the one that was sent first in front, and the instrument. Contracts see this value as the acts
-/// of the link so far: the results of its calls, in order.
+/// The requests (`up`) and the replies (`down`) in flight, the one that was sent first in front, and the instrument between them.
 #[derive(Drop)]
-pub(crate) struct Carried {
+pub(crate) struct Traffic {
     instrument: SceneInstrument,
     up: VecDeque<Flight>,
     down: VecDeque<Flight>,
     stored: Stored,
+}
+
+impl Traffic {
+    ghost use Rattle.gc_rehearsal.specs.Queues.{MayHandOver};
+
+    // Takes the first request in flight, and hands it to the instrument. Its reply, if it makes one, is put at the back of those in
+    // flight or is lost, as `send` does it. Returns whether the instrument made a reply, also one that is lost; `false` if no
+    // request is in flight.
+    fn hand_over(&mut self, lost: bool, arrives: u64) -> bool
+        ensures { MayHandOver self.old self.new }
+    {
+        let Some(request) = self.up.pop_front() else {
+            return false;
+        };
+        let id = id_of(request.line.as_slice());
+        let was_stored = has_stored(&self.instrument, id);
+        let mut reply = Line::new();
+        if !self
+            .instrument
+            .reply_onto(request.line.as_slice(), &mut reply)
+        {
+            return false;
+        }
+        let is_stored = has_stored(&self.instrument, id);
+        let answered = self
+            .stored
+            .note(&reply, request.origin, was_stored, is_stored);
+        send(&mut self.down, reply, lost, arrives, &answered);
+        true
+    }
+}
+
+/// What is in flight, and the instrument. Contracts see this value as the acts of the link so far: the results of its calls, in order.
+#[derive(Drop)]
+pub(crate) struct Carried {
+    traffic: Traffic,
     history: History,
 }
 
@@ -74,15 +109,17 @@ impl Carried {
     {
         instrument.restart();
         Carried {
-            instrument,
-            up: VecDeque::new(alloc),
-            down: VecDeque::new(alloc),
-            stored: Stored {
-                line: Line::new(),
-                origin: Origin {
-                    request: 0,
-                    sent: 0,
-                    asked: Line::new(),
+            traffic: Traffic {
+                instrument,
+                up: VecDeque::new(alloc),
+                down: VecDeque::new(alloc),
+                stored: Stored {
+                    line: Line::new(),
+                    origin: Origin {
+                        request: 0,
+                        sent: 0,
+                        asked: Line::new(),
+                    },
                 },
             },
             history: History::new(),
@@ -99,12 +136,12 @@ impl Carried {
 
     /// When the next request arrives. `None`: no request is in flight.
     pub fn request_due(&self) -> Option<u64> {
-        due(&self.up)
+        due(&self.traffic.up)
     }
 
     /// When the next reply arrives. `None`: no reply is in flight.
     pub fn reply_due(&self) -> Option<u64> {
-        due(&self.down)
+        due(&self.traffic.down)
     }
 
     /// Adds an act that changes nothing on the line: the result of a call that neither wrote a whole request nor read a reply.
@@ -128,7 +165,7 @@ impl Carried {
     pub fn put(&mut self, bytes: &[u8], arrives: u64, request: u64, sent: u64)
         ensures { self.new ≡ self.old ++ Put bytes.now ∷ [] }
     {
-        add_request(&mut self.up, bytes, arrives, request, sent);
+        add_request(&mut self.traffic.up, bytes, arrives, request, sent);
         self.history = self.history.then(&Note::Put(bytes));
     }
 
@@ -137,7 +174,7 @@ impl Carried {
     pub fn repeat_request(&mut self)
         ensures { self.new ≡ self.old }
     {
-        repeat_last(&mut self.up);
+        repeat_last(&mut self.traffic.up);
     }
 
     /// Lets the reply in flight that was sent last arrive twice, the second time directly after the first. Nothing happens if none is in
@@ -145,36 +182,36 @@ impl Carried {
     pub fn repeat_reply(&mut self)
         ensures { self.new ≡ self.old }
     {
-        repeat_last(&mut self.down);
+        repeat_last(&mut self.traffic.down);
     }
 
     /// Drops all requests in flight.
     pub fn lose_requests(&mut self)
         ensures { self.new ≡ self.old }
     {
-        self.up.clear();
+        self.traffic.up.clear();
     }
 
     /// Drops all replies in flight.
     pub fn lose_replies(&mut self)
         ensures { self.new ≡ self.old }
     {
-        self.down.clear();
+        self.traffic.down.clear();
     }
 
     /// Restarts the instrument, which has stored no reply then. The lines in flight stay.
     pub fn restart(&mut self)
         ensures { self.new ≡ self.old }
     {
-        self.instrument.restart();
-        self.stored.line = Line::new();
+        self.traffic.instrument.restart();
+        self.traffic.stored.line = Line::new();
     }
 
     /// Lets time pass at the instrument: sets its clock to this moment, in milliseconds since the line was made.
     pub fn pass(&mut self, moment: u64)
         ensures { self.new ≡ self.old }
     {
-        self.instrument.set_moment(moment);
+        self.traffic.instrument.set_moment(moment);
     }
 
     /// Hands the next request to the instrument. Its reply, if it makes one, is sent, and arrives at the moment `arrives`, in
@@ -183,14 +220,7 @@ impl Carried {
     pub fn reach(&mut self, lost: bool, arrives: u64) -> bool
         ensures { self.new ≡ self.old }
     {
-        answer(
-            &mut self.instrument,
-            &mut self.up,
-            &mut self.down,
-            &mut self.stored,
-            lost,
-            arrives,
-        )
+        self.traffic.hand_over(lost, arrives)
     }
 
     /// Reads the next reply, whole and with its CR LF, into the front of `buf`, at this moment, and returns it. `None`: no reply
@@ -200,7 +230,7 @@ impl Carried {
             (λ flight. self.new ≡ self.old ++ Gave (take (length flight.line.items + 2) buf.new) moment ∷ []) }
         ensures within { IfSome result (λ flight. length flight.line.items + 2 ≤ length buf.new) }
     {
-        let flight = self.down.pop_front()?;
+        let flight = self.traffic.down.pop_front()?;
         let n = len_with_end(&flight.line);
         if buf.len() < n {
             return None;
@@ -209,34 +239,6 @@ impl Carried {
         self.history = self.history.then(&Note::Gave(&buf[..n], moment));
         Some(flight)
     }
-}
-
-// Takes the first request from the queue `up`, and hands it to the instrument. Its reply, if it makes one, is put at the back of
-// the queue `down` or is lost, as `send` does it. Returns whether the instrument made a reply, also one that is lost; `false` if
-// `up` is empty.
-fn answer(
-    instrument: &mut SceneInstrument,
-    up: &mut VecDeque<Flight>,
-    down: &mut VecDeque<Flight>,
-    stored: &mut Stored,
-    lost: bool,
-    arrives: u64,
-) -> bool
-    ensures { MayHandOver instrument.old up.old.items down.old.items instrument.new up.new.items down.new.items }
-{
-    let Some(request) = up.pop_front() else {
-        return false;
-    };
-    let id = id_of(request.line.as_slice());
-    let was_stored = has_stored(instrument, id);
-    let mut reply = Line::new();
-    if !instrument.reply_onto(request.line.as_slice(), &mut reply) {
-        return false;
-    }
-    let is_stored = has_stored(instrument, id);
-    let answered = stored.note(&reply, request.origin, was_stored, is_stored);
-    send(down, reply, lost, arrives, &answered);
-    true
 }
 
 // The id of a request's line. `None`: it has no id, or is no request.

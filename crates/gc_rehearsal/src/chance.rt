@@ -1,7 +1,7 @@
 //! What happens by chance on a rehearsed line: the trait `Chance` decides.
 
 /// What happens to a line that is sent: to a request when it is written, or to a reply when the instrument has made it.
-#[derive(Clone, Copy, Debug, PartialEq, Eq)]
+#[derive(Clone, Copy)]
 pub struct Fate {
     /// Whether it is lost, and doesn't arrive. If not, it may be lost all the same: by a cut or a close, or where memory is
     /// refused.

@@ -1,7 +1,7 @@
 //! Counts of what happened on a line.
 
 /// How often each of these happened since a line was made. A count that has reached the greatest `u64` stays there.
-#[derive(Clone, Copy, Debug, PartialEq, Eq)]
+#[derive(Clone, Copy)]
 pub struct Counts {
     /// Requests that were written whole.
     pub requests: u64,

@@ -8,7 +8,7 @@ use gc_lines::{Line, line_from};
 use std::collections::VecDeque;
 
 /// The request that a line in flight comes from: of a request in flight that request itself, and of a reply the request that it answers.
-#[derive(Debug, Drop)]
+#[derive(Drop)]
 pub(crate) struct Origin {
     // Its number among the requests that were written whole, from 0.
     pub request: u64,
@@ -30,7 +30,7 @@ impl Origin {
 }
 
 /// A line in flight.
-#[derive(Debug, Drop)]
+#[derive(Drop)]
 pub(crate) struct Flight {
     // The line without its CR LF.
     pub line: Line,

@@ -8,7 +8,7 @@ use gc_links::Moment;
 use std::alloc::Global;
 
 /// The next event on a line.
-#[derive(Clone, Copy, Debug, PartialEq, Eq)]
+#[derive(Clone, Copy)]
 pub(crate) enum Next {
     /// A request reaches the instrument at this moment.
     Request(u64),
@@ -21,7 +21,7 @@ pub(crate) enum Next {
 }
 
 /// The clock of a line, its connection, its counts and the truths. Moments are in milliseconds since the line was made.
-#[derive(Debug, Drop)]
+#[derive(Drop)]
 pub(crate) struct LineState {
     // The present moment.
     pub now: u64,

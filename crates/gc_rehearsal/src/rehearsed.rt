@@ -1,6 +1,6 @@
 //! The line of a rehearsal as a link: which decisions each call takes from the chance, and what it returns.
 
-ghost use Rattle.std.specs.Prelude.{◌≡◌, ◌<◌, ◌++◌, ◌∷◌, [], length};
+ghost use Rattle.std.specs.Prelude.{◌≡◌, ℕ, ◌<◌, ◌++◌, ◌∷◌, [], List, length};
 ghost use Rattle.gc_links.specs.Acts.{Cut, IsPart, Put, put_act};
 ghost use Rattle.gc_rehearsal.specs.Carrying.{IsOfLine};
 ghost use Rattle.gc_rehearsal.specs.Reading.{MayRead, Reads};
@@ -74,7 +74,9 @@ impl<C> Rehearsed<C> {
     }
 
     /// How many truths are missing since the start, because memory was refused for them.
-    pub fn missing_truths(&self) -> u64 {
+    pub fn missing_truths(&self) -> u64
+        ensures { result ≡ self.now.state.missing_truths }
+    {
         self.state.missing_truths
     }
 
@@ -85,12 +87,10 @@ impl<C> Rehearsed<C> {
         self.state.next(request, reply, limit)
     }
 
-    // A read during which nothing comes until the moment `limit`: sets the clock to it, and returns silence. `buf` is there for the clause
-    // alone.
-    fn be_silent(&mut self, limit: u64, buf: &[u8]) -> Came
-        ensures { Reads self.old.carried self.new.carried result buf.now }
+    // A read during which nothing comes until the moment `limit`: sets the clock to it, and returns silence.
+    fn be_silent(&mut self, limit: u64) -> Came
+        ensures { (buf : List ℕ) → Reads self.old.carried self.new.carried result buf }
     {
-        let _ = buf;
         self.state.come_to(limit);
         let moment = self.state.moment();
         self.carried.note(&Note::Silent(moment));
@@ -98,11 +98,10 @@ impl<C> Rehearsed<C> {
     }
 
     // A read during which, or before which, the other end closes the connection at this moment: sets the clock forward to it,
-    // unless it is past, and returns the end. `buf` is there for the clause alone.
-    fn end(&mut self, moment: u64, buf: &[u8]) -> Came
-        ensures { Reads self.old.carried self.new.carried result buf.now }
+    // unless it is past, and returns the end.
+    fn end(&mut self, moment: u64) -> Came
+        ensures { (buf : List ℕ) → Reads self.old.carried self.new.carried result buf }
     {
-        let _ = buf;
         self.state.come_to(moment);
         self.carried.note(&Note::Ended);
         Came::End
@@ -180,8 +179,8 @@ impl<C: Chance> Rehearsed<C> {
                 None
             }
             Next::Reply(moment) => self.give(moment, buf),
-            Next::End(moment) => Some(self.end(moment, buf)),
-            Next::Nothing => Some(self.be_silent(limit, buf)),
+            Next::End(moment) => Some(self.end(moment)),
+            Next::Nothing => Some(self.be_silent(limit)),
         }
     }
 
@@ -282,7 +281,7 @@ impl<C: Chance> Link for Rehearsed<C> {
             }
         }
         // Never in practice: 2^64 lines.
-        self.be_silent(limit, buf)
+        self.be_silent(limit)
     }
 
     // Sends a request, which a close may cut. Nothing is sent without a connection, or once the other end has closed it. A line

@@ -4,7 +4,7 @@ use gc_lines::Line;
 
 /// A reply that a read gave, and the request on which the instrument made it. If the instrument sent a stored reply again, the
 /// request is the one on which it first sent that reply. Times are in milliseconds since the line was made.
-#[derive(Debug, Drop)]
+#[derive(Drop)]
 pub struct Truth {
     /// Which request it was: its number among all that were written whole, from 0.
     pub request: u64,

@@ -26,7 +26,7 @@ use Rattle.gc_station.specs.Model.{lines_completed}
 use Rattle.gc_station.specs.Parts as part
 use Rattle.gc_station.specs.Parts.{Part, client_after, course_at}
 use Rattle.gc_world.specs.Clients.{by_ids}
-use Rattle.gc_field.specs.Asking.{IsAskedFor, IsTaken, MeansTurns}
+use Rattle.gc_field.specs.Asking.{IsAskedFor, IsTaken, MeansSyncSteps}
 use Rattle.gc_field.specs.Begin as begin
 use Rattle.gc_field.specs.Begin.{InFlight, Model, leaves, turns}
 use Rattle.gc_field.specs.Beginnings.{on_line}
@@ -78,9 +78,9 @@ ids_left word (line ∷ others) ids = ids_left (left_by word (heard line)) other
 
 -- what an act comes to while the station synchronizes: from the state b the turns of the act lead to one with these lines in
 -- flight and these ids unanswered, and whatever follows from there follows from b after these turns
-abbrev pub TurnsTo : Model SceneState → List part.Turn → List ℕ → Lines → Type 0
+abbrev pub TurnsTo : Model SceneState → List part.SyncStep → List ℕ → Lines → Type 0
 TurnsTo b turns word n =
-    (show : List part.Turn) (steps : List (client.Step Asked)) (others : List Part) (m : Lines) (done : Bool)
+    (show : List part.SyncStep) (steps : List (client.Step Asked)) (others : List Part) (m : Lines) (done : Bool)
     → ((c : Model SceneState) → Holds (leaves c) n → c.left ≡ word → FromBegin c show steps others m done) → FromBegin b (turns ++ show) steps others m done
 
 -- an act that leaves the line as it is comes to no turns
@@ -126,17 +126,17 @@ turns_asks b asked rest line l n left ids is holds came show steps others m done
           on (once_asked b asked)
           (subst (λ q. Holds (flow q (leaves b).down b.state) n) (sym up_is) (one_more (leaves b) l n (asked_next asked) line holds of_line more)) left
 
--- an act that puts bytes, whole or in part, while the station synchronizes comes to the turns that the act means (`IsAskedFor`)
-turns_put : (b : Model SceneState) (word : List ℕ) (bytes : List ℕ) (ts : List part.Turn) (l n : Lines) → b.left ≡ word → IsSmall word → Holds (leaves b) l
+-- an act that puts bytes, whole or in part, while the station synchronizes comes to the steps that the act means (`IsAskedFor`)
+turns_put : (b : Model SceneState) (word : List ℕ) (bytes : List ℕ) (ts : List part.SyncStep) (l n : Lines) → b.left ≡ word → IsSmall word → Holds (leaves b) l
     → IsAskedFor word bytes ts → IsPut l bytes n → (word ≡ [] → ⊥) → TurnsTo b ts word n
-turns_put b word bytes ts l n left ids holds (inl feed) (inl same) some = subst (λ (t : List part.Turn). TurnsTo b t word n) (sym feed.1) (turns_none b word l n left holds same)
+turns_put b word bytes ts l n left ids holds (inl feed) (inl same) some = subst (λ (t : List part.SyncStep). TurnsTo b t word n) (sym feed.1) (turns_none b word l n left holds same)
 turns_put b word bytes ts l n left ids holds (inl feed) (inr sent) some = absurd (feed_no_line sent.0 (sym feed.0 ∙ sent.1))
 turns_put b [] bytes ts l n left ids holds (inr asks) put some = absurd (some refl)
 turns_put b (asked ∷ rest) bytes ts l n left ids holds (inr asks) (inl same) some =
-    subst (λ (t : List part.Turn). TurnsTo b t (asked ∷ rest) n) (sym asks.1)
+    subst (λ (t : List part.SyncStep). TurnsTo b t (asked ∷ rest) n) (sym asks.1)
     (turns_asks b asked rest (request_line (Some asked) NullProc) l n left ids refl holds (inl same))
 turns_put b (asked ∷ rest) bytes ts l n left ids holds (inr asks) (inr sent) some =
-    subst (λ (t : List part.Turn). TurnsTo b t (asked ∷ rest) n) (sym asks.1)
+    subst (λ (t : List part.SyncStep). TurnsTo b t (asked ∷ rest) n) (sym asks.1)
     (turns_asks b asked rest sent.0 l n left ids (same_line sent.0 (request_line (Some asked) NullProc) (sym sent.1 ∙ asks.0)) holds (inr sent.2))
 
 -- the state of a synchronization once the front one of these replies came
@@ -150,7 +150,7 @@ turns_comes b word [] line rest l n is left holds front new show steps others m 
     let none : [] ≡ line ∷ rest = sym (ap (λ (d : List (InFlight (List ℕ))). map (λ x. x.line) d) is) ∙ holds.down ∙ front in
     absurd (cons_not_nil line rest (sym none))
 turns_comes b word (x ∷ q) line rest l n is left holds front new show steps others m done on =
-    subst (λ (t : List part.Turn). FromBegin b (t ++ show) steps others m done) (shows_is ∙ ap (λ z. part.Hears z ∷ []) lines_are.0)
+    subst (λ (t : List part.SyncStep). FromBegin b (t ++ show) steps others m done) (shows_is ∙ ap (λ z. part.Hears z ∷ []) lines_are.0)
     (turn_first b begin.Comes show steps others m done tt (subst (λ (c : Model SceneState). FromBegin c show steps others m done) (sym came) (on (once_came b x q) holds_next left_next))) where
       -- the front reply in flight in the field is that on the line, and so are those after it
       lines_are : (x.line ≡ line) × (map (λ (y : InFlight (List ℕ)). y.line) q ≡ rest)
@@ -182,32 +182,32 @@ turns_drops b word line rest l n left holds front new show steps others m done o
 
 -- a read that gave bytes while the station synchronizes leaves no bytes of an unfinished line if there were none, and comes to
 -- the turns that the read means (`IsTaken`)
-turns_gave : (b : Model SceneState) (word : List ℕ) (piece : List ℕ) (ts : List part.Turn) (behind : List ℕ) (l n : Lines) → b.left ≡ word → Holds (leaves b) l
+turns_gave : (b : Model SceneState) (word : List ℕ) (piece : List ℕ) (ts : List part.SyncStep) (behind : List ℕ) (l n : Lines) → b.left ≡ word → Holds (leaves b) l
     → IsTaken [] piece ts behind → IsGiven l piece n → (behind ≡ []) × TurnsTo b ts (unanswered_after word (heard_in ts)) n
 turns_gave b word piece ts behind l n left holds (inl taken) given =
     let one = (subst (AllByRecursion IsOneLine) given.2 holds.one).0 in
     let ts_is : ts ≡ part.Hears given.0 ∷ [] = taken.0 ∙ ap (λ bytes. map part.Hears (lines_completed [] bytes)) given.3 ∙ ap (map part.Hears) (one_line given.0 one) in
     let behind_is : behind ≡ [] = taken.1 ∙ ap (rest_behind []) given.3 ∙ no_rest given.0 one in
-    (behind_is, subst (λ (t : List part.Turn). TurnsTo b t (unanswered_after word (heard_in t)) n) (sym ts_is) (turns_comes b word b.down given.0 given.1 l n refl left holds given.2 given.4))
+    (behind_is, subst (λ (t : List part.SyncStep). TurnsTo b t (unanswered_after word (heard_in t)) n) (sym ts_is) (turns_comes b word b.down given.0 given.1 l n refl left holds given.2 given.4))
 turns_gave b word piece ts behind l n left holds (inr taken) given =
-    (taken.1, subst (λ (t : List part.Turn). TurnsTo b t (unanswered_after word (heard_in t)) n) (sym taken.0) (turns_drops b word given.0 given.1 l n left holds given.2 given.4))
+    (taken.1, subst (λ (t : List part.SyncStep). TurnsTo b t (unanswered_after word (heard_in t)) n) (sym taken.0) (turns_drops b word given.0 given.1 l n left holds given.2 given.4))
 
 -- an act that means no turn, and leaves the line as it is, comes to no turns; it leaves no bytes of an unfinished line if there
 -- were none
-turns_quiet : (b : Model SceneState) (word : List ℕ) (ts : List part.Turn) (behind rest : List ℕ) (l n : Lines) → b.left ≡ word → Holds (leaves b) l
+turns_quiet : (b : Model SceneState) (word : List ℕ) (ts : List part.SyncStep) (behind rest : List ℕ) (l n : Lines) → b.left ≡ word → Holds (leaves b) l
     → (ts ≡ []) × (behind ≡ rest) → rest ≡ [] → n ≡ l → (behind ≡ []) × TurnsTo b ts (unanswered_after word (heard_in ts)) n
 turns_quiet b word ts behind rest l n left holds means empty same =
-    (means.1 ∙ empty, subst (λ (t : List part.Turn). TurnsTo b t (unanswered_after word (heard_in t)) n) (sym means.0) (turns_none b word l n left holds same))
+    (means.1 ∙ empty, subst (λ (t : List part.SyncStep). TurnsTo b t (unanswered_after word (heard_in t)) n) (sym means.0) (turns_none b word l n left holds same))
 
 -- bytes that are put leave all ids of the word unanswered
-put_left : (word bytes : List ℕ) (ts : List part.Turn) → IsAskedFor word bytes ts → unanswered_after word (heard_in ts) ≡ word
-put_left word bytes ts (inl feed) = ap (λ (t : List part.Turn). unanswered_after word (heard_in t)) feed.1
-put_left word bytes ts (inr asks) = ap (λ (t : List part.Turn). unanswered_after word (heard_in t)) asks.1
+put_left : (word bytes : List ℕ) (ts : List part.SyncStep) → IsAskedFor word bytes ts → unanswered_after word (heard_in ts) ≡ word
+put_left word bytes ts (inl feed) = ap (λ (t : List part.SyncStep). unanswered_after word (heard_in t)) feed.1
+put_left word bytes ts (inr asks) = ap (λ (t : List part.SyncStep). unanswered_after word (heard_in t)) asks.1
 
 -- an act while the station synchronizes leaves no bytes of an unfinished line if there were none, and comes to the turns that
--- the act means (`MeansTurns`)
-pub turns_act : (b : Model SceneState) (word : List ℕ) (act : Act) (ts : List part.Turn) (behind : List ℕ) (l n : Lines) → b.left ≡ word → IsSmall word → Holds (leaves b) l
-    → (word ≡ [] → ⊥) → MeansTurns word [] act ts behind → Does l act n → (behind ≡ []) × TurnsTo b ts (unanswered_after word (heard_in ts)) n
+-- the act means (`MeansSyncSteps`)
+pub turns_act : (b : Model SceneState) (word : List ℕ) (act : Act) (ts : List part.SyncStep) (behind : List ℕ) (l n : Lines) → b.left ≡ word → IsSmall word → Holds (leaves b) l
+    → (word ≡ [] → ⊥) → MeansSyncSteps word [] act ts behind → Does l act n → (behind ≡ []) × TurnsTo b ts (unanswered_after word (heard_in ts)) n
 turns_act b word (Put bytes) ts behind l n left ids holds some means does =
     (means.1, subst (λ w. TurnsTo b ts w n) (sym (put_left word bytes ts means.0)) (turns_put b word bytes ts l n left ids holds means.0 does some))
 turns_act b word (Cut bytes count) ts behind l n left ids holds some means does =

@@ -58,7 +58,7 @@ IsLastUnlessBegun (asked ∷ word) done rs = (rs ≡ []) × (done ≡ false)
 -- from the state b of a synchronization on: possible turns show `turns`, and possible moves after them `steps`; later runs show
 -- the other parts, and lead to the lines m, and there are none if the turns leave ids unanswered. `done` says, as in `Later`,
 -- whether the station has synchronized at the end
-pub record FromBegin (b : Model SceneState) (turns : List part.Turn) (steps : List (client.Step Asked)) (others : List Part) (m : Lines) (done : Bool) : Type 0 where
+pub record FromBegin (b : Model SceneState) (turns : List part.SyncStep) (steps : List (client.Step Asked)) (others : List Part) (m : Lines) (done : Bool) : Type 0 where
   pub ts : List (begin.Turn SceneState)
   pub ms : List (Move SceneState)
   pub rs : List (Run SceneState)
@@ -82,7 +82,7 @@ pub record FromClient (w : SceneWorld) (steps : List (client.Step Asked)) (other
 
 -- if t is a possible turn in the state b, and `FromBegin` holds from the state after t, it holds from b, with what t shows
 -- before the turns `xs`
-pub turn_first : (b : Model SceneState) (t : begin.Turn SceneState) (xs : List part.Turn) (steps : List (client.Step Asked)) (others : List Part) (m : Lines) (done : Bool)
+pub turn_first : (b : Model SceneState) (t : begin.Turn SceneState) (xs : List part.SyncStep) (steps : List (client.Step Asked)) (others : List Part) (m : Lines) (done : Bool)
     → IsTurn RetainedReads scene_kept b t → FromBegin (turns scene_ends b t) xs steps others m done → FromBegin b (shows b t ++ xs) steps others m done
 turn_first b t xs steps others m done is f = record {
   ts = t ∷ f.ts;
@@ -99,7 +99,7 @@ turn_first b t xs steps others m done is f = record {
 
 -- if `xs` are possible steps from what b has in flight, and `FromBegin` holds from each state with what they leave in flight
 -- and with the unanswered ids of b, it holds from b: the steps show nothing
-pub steps_turn : (xs : List Step) (b : Model SceneState) (show : List part.Turn) (steps : List (client.Step Asked)) (others : List Part) (m : Lines) (done : Bool) → AreSteps xs (leaves b)
+pub steps_turn : (xs : List Step) (b : Model SceneState) (show : List part.SyncStep) (steps : List (client.Step Asked)) (others : List Part) (m : Lines) (done : Bool) → AreSteps xs (leaves b)
     → ((c : Model SceneState) → leaves c ≡ all_stepped xs (leaves b) → c.left ≡ b.left → FromBegin c show steps others m done) → FromBegin b show steps others m done
 steps_turn [] b show steps others m done are on = on b refl refl
 steps_turn (x ∷ xs) b show steps others m done are on =
@@ -142,7 +142,7 @@ pub begins_line : (u : UnderWay SceneState) → leaves (begins u) ≡ u
 begins_line u = ap (λ q. flow q (leaves (begins u)).down u.state) (same_lines u.up) ∙ ap (λ q. flow u.up q u.state) (same_lines u.down)
 
 -- if all ids are answered, `FromClient` of the client that has synchronized gives `FromBegin`, which shows no further turns
-pub begun_from : (b : Model SceneState) (show : List part.Turn) (steps : List (client.Step Asked)) (others : List Part) (m : Lines) (done : Bool) → b.left ≡ [] → show ≡ []
+pub begun_from : (b : Model SceneState) (show : List part.SyncStep) (steps : List (client.Step Asked)) (others : List Part) (m : Lines) (done : Bool) → b.left ≡ [] → show ≡ []
     → FromClient (ids_begun (leaves b)) steps others m done → FromBegin b show steps others m done
 begun_from b show steps others m done none quiet f = record {
   ts = [];
@@ -170,7 +170,7 @@ killed_first n u r (asked ∷ word) (t ∷ ts) done rs e same rest =
 
 -- if `unbegun n done` is at most five, then in the runs from a synchronization on, before which `n` in a row were killed while
 -- they synchronized, at most five in a row are killed so, counted with those `n`, and at the end at most `unbegun n done`
-pub few_from : (n : ℕ) (u : UnderWay SceneState) (show : List part.Turn) (steps : List (client.Step Asked)) (others : List Part) (m : Lines) (done : Bool)
+pub few_from : (n : ℕ) (u : UnderWay SceneState) (show : List part.SyncStep) (steps : List (client.Step Asked)) (others : List Part) (m : Lines) (done : Bool)
     → (f : FromBegin (begins u) show steps others m done) → unbegun n done ≤ 5
     → AreFewKilledWithTurns scene_ends n u (run f.ts f.ms ∷ f.rs) × (killed_over scene_ends n u (run f.ts f.ms ∷ f.rs) ≤ unbegun n done)
 few_from n u show steps others m done f small = by_end (killed_first n u (run f.ts f.ms) (turned scene_ends f.ts (begins u)).left f.ts done f.rs refl refl f.rest) where
@@ -208,9 +208,9 @@ one_few false = omega arith
 
 -- `FromBegin` of a synchronization over what is in flight in the world w, which shows the part p and then `others`, gives
 -- `FromClient` from w, with no steps, and with p and then `others` as other parts
-pub ended_from : (w : SceneWorld) (p : Part) (others : List Part) (m : Lines) (done : Bool) → FromBegin (begins (on_line w.wire)) p.turns p.steps others m done → FromClient w [] (p ∷ others) m done
+pub ended_from : (w : SceneWorld) (p : Part) (others : List Part) (m : Lines) (done : Bool) → FromBegin (begins (on_line w.wire)) p.sync_steps p.steps others m done → FromClient w [] (p ∷ others) m done
 ended_from w p others m done f =
-    let few = few_from 0 (on_line w.wire) p.turns p.steps others m done f (one_few done) in
+    let few = few_from 0 (on_line w.wire) p.sync_steps p.steps others m done f (one_few done) in
     record {
       ms = [];
       rs = run f.ts f.ms ∷ f.rs;

@@ -70,7 +70,7 @@ quiet_same act l n quiet does = does
 
 -- if all acts of what happens on the line between two stations are quiet, and `FromBegin` holds from each state with the lines
 -- that this leads to in flight and with the unanswered ids of b, it holds from b
-idle_first : (hs : List Happening) (b : begin.Model SceneState) (l n : Lines) (show : List part.Turn) (steps : List (client.Step Asked)) (more : List Part) (m : Lines) (done : Bool)
+idle_first : (hs : List Happening) (b : begin.Model SceneState) (l n : Lines) (show : List part.SyncStep) (steps : List (client.Step Asked)) (more : List Part) (m : Lines) (done : Bool)
     → AllByRecursion IsQuiet (acts_of hs) → Holds (leaves b) l → LeadAll l hs n
     → ((c : begin.Model SceneState) → Holds (leaves c) n → c.left ≡ b.left → FromBegin c show steps more m done) → FromBegin b show steps more m done
 idle_first [] b l n show steps more m done quiet holds all on = on b (subst (Holds (leaves b)) (sym all) holds) refl
@@ -113,13 +113,13 @@ goes_in_a_row n (x ∷ xs) hs before u l m quiet holds all told lives few =
     let one = cut hs before (acts_of_all (x ∷ xs)) l m told all in
     let two = cut one.back x.acts (x.after_run ++ acts_of_all xs) one.middle m one.backs one.later in
     let f : OnBegin (begins u) two.middle ps done =
-    idle_first one.front (begins u) l one.middle (first_part ps).turns (first_part ps).steps (other_parts ps) two.middle done (subst (AllByRecursion IsQuiet) (sym one.fronts) quiet)
+    idle_first one.front (begins u) l one.middle (first_part ps).sync_steps (first_part ps).steps (other_parts ps) two.middle done (subst (AllByRecursion IsQuiet) (sym one.fronts) quiet)
     (subst (λ v. Holds v l) (sym (begins_line u)) holds) one.leads
     (λ c h k. subst (λ acts. OnBegin c two.middle (parts_of x.plan x.commands s acts) (has_begun (after_all x.plan x.commands s acts).progress)) two.fronts
     ((shows_the_run x.plan x.commands lives.0.askable two.front two.middle).0 s c one.middle (invariant_opening x.plan x.commands x.scope) refl refl k
     word_small h two.leads (subst (Runs x.plan x.commands s) (sym two.fronts) lives.0.runs))) in
     let rs = run f.ts f.ms ∷ f.rs in
-    let killed = few_from n u (first_part ps).turns (first_part ps).steps (other_parts ps) two.middle done f few.0 in
+    let killed = few_from n u (first_part ps).sync_steps (first_part ps).steps (other_parts ps) two.middle done f few.0 in
     let rest = goes_in_a_row (killed_over scene_ends n u rs) xs two.back x.after_run (left_by_runs WINDOW scene_ends u rs) two.middle m lives.0.quiet f.later.holds two.later two.backs lives.1
     (fewer (killed_over scene_ends n u rs) (unbegun n done) xs killed.1 few.1) in
     record {

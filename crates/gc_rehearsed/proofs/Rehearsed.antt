@@ -15,7 +15,7 @@ use Rattle.gc_station.specs.Deciding.{has_begun, is_none_left}
 use Rattle.gc_station.specs.Model.{Model, Performs, Runs, action_at, after, after_all, losing, moved, opening, waiting_of, with_progress}
 use Rattle.gc_station.specs.Parts.{MarksAsk, MarkAsks, Part, sync_part, client_part, in_front, nothing, parts_of, put_part, client_after, course_at}
 use Rattle.gc_station.specs.Progressing.{is_over, loses_all, turned}
-use Rattle.gc_station.proofs.Asked.{FirstHasNoTurns, goes_begun, no_turns, word_empty}
+use Rattle.gc_station.proofs.Asked.{FirstHasNoSyncSteps, goes_begun, no_sync_steps, word_empty}
 use Rattle.gc_station.proofs.Booking.{sends_with_room, sent_by}
 use Rattle.gc_station.proofs.EachRun.{invariant_after, invariant_opening}
 use Rattle.gc_station.proofs.Facts.{action_for}
@@ -29,7 +29,7 @@ use Rattle.gc_station.proofs.Lists.{all_at}
 use Rattle.gc_station.proofs.Beginnings.{word_if_resynchronizing}
 use Rattle.gc_field.specs.Begin as begin
 use Rattle.gc_field.specs.Begin.{begins, leaves, none_under_way}
-use Rattle.gc_field.specs.Asking.{MeansTurns}
+use Rattle.gc_field.specs.Asking.{MeansSyncSteps}
 use Rattle.gc_field.specs.Beginnings.{on_line}
 use Rattle.gc_field.specs.Begun.{ids_begun}
 use Rattle.gc_field.specs.Runs.{IsInField, IsMeant}
@@ -68,19 +68,19 @@ first_and_others (p ∷ ps) some = refl
 
 -- `FromBegin` by parts: from the state b of a synchronization on, its run shows the first part, and later runs the others
 abbrev pub OnBegin : begin.Model SceneState → Lines → List Part → Bool → Type 0
-OnBegin b m ps done = FromBegin b (first_part ps).turns (first_part ps).steps (other_parts ps) m done
+OnBegin b m ps done = FromBegin b (first_part ps).sync_steps (first_part ps).steps (other_parts ps) m done
 
 -- `FromClient` by parts: from the world w on, its client's run shows the steps of the first part, and later runs the others
 abbrev pub OnClient : SceneWorld → Lines → List Part → Bool → Type 0
 OnClient w m ps done = FromClient w (first_part ps).steps (other_parts ps) m done
 
--- if an act comes to the turns of its part p (`TurnsTo`), which has no steps, and `OnBegin` holds of the later parts from each
--- state that these turns may lead to, it holds from b of the later parts with p as the front of the first one (`in_front`)
-begin_first : (b : begin.Model SceneState) (p : Part) (word : List ℕ) (n m : Lines) (ps : List Part) (done : Bool) → HasSome ps → p.steps ≡ [] → TurnsTo b p.turns word n
+-- if an act comes to the steps of the synchronization in its part p (`TurnsTo`), which has no steps of the client, and `OnBegin` holds of the later parts from each
+-- state that these steps may lead to, it holds from b of the later parts with p as the front of the first one (`in_front`)
+begin_first : (b : begin.Model SceneState) (p : Part) (word : List ℕ) (n m : Lines) (ps : List Part) (done : Bool) → HasSome ps → p.steps ≡ [] → TurnsTo b p.sync_steps word n
     → ((c : begin.Model SceneState) → Holds (leaves c) n → c.left ≡ word → OnBegin c m ps done) → OnBegin b m (in_front p false ps) done
 begin_first b p word n m [] done some none to on = absurd some
 begin_first b p word n m (q ∷ ps) done some none to on =
-    subst (λ (ss : List (client.Step Asked)). FromBegin b (p.turns ++ q.turns) (ss ++ q.steps) ps m done) (sym none) (to q.turns q.steps ps m done on)
+    subst (λ (ss : List (client.Step Asked)). FromBegin b (p.sync_steps ++ q.sync_steps) (ss ++ q.steps) ps m done) (sym none) (to q.sync_steps q.steps ps m done on)
 
 -- if an act comes to the steps of its part p (`MovesTo`), and `OnClient` holds of the later parts from each world that these
 -- steps may lead to, it holds from w of the later parts with p as the front of the first one (`in_front`)
@@ -233,8 +233,8 @@ module _ (plan : Plan) (commands : List Task) (askable : AreAskable commands) wh
 
   -- From a synchronization and from a client on.
 
-  -- if these parts are `FirstHasNoTurns`, the first of them has no turns
-  first_none : (ps : List Part) → FirstHasNoTurns ps → (first_part ps).turns ≡ []
+  -- if these parts are `FirstHasNoSyncSteps`, the first of them has no steps of a synchronization
+  first_none : (ps : List Part) → FirstHasNoSyncSteps ps → (first_part ps).sync_steps ≡ []
   first_none [] none = refl
   first_none (p ∷ ps) none = none
 
@@ -267,29 +267,29 @@ module _ (plan : Plan) (commands : List Task) (askable : AreAskable commands) wh
       let p = sync_part s o act in
       let done = has_begun (after_all plan commands t (acts_of hs)).progress in
       subst (λ x. OnBegin b m (in_front (if x then client_part plan commands s o act else sync_part s o act) (x && loses_all t.progress) (parts_of plan commands t (acts_of hs))) done) (sym begins)
-      (begin_first b p (unanswered_after s.progress.word (heard_in p.turns)) all.0 m (parts_of plan commands t (acts_of hs)) done (some_parts plan commands t (acts_of hs)) means.0 to.1
+      (begin_first b p (unanswered_after s.progress.word (heard_in p.sync_steps)) all.0 m (parts_of plan commands t (acts_of hs)) done (some_parts plan commands t (acts_of hs)) means.0 to.1
       (λ c h k. next c h (k ∙ sym means.2) (has_begun t.progress) refl)) where
         -- the act means its part
         means : IsMeant false s act (sync_part s (action_at plan s) act) (after plan commands s act)
         means = is_meant plan commands s act false begins fine runs.0
 
-        -- no bytes of an unfinished line are left, and the act comes to its turns
+        -- no bytes of an unfinished line are left, and the act comes to the steps of its part
         to : ((after plan commands s act).rest ≡ [])
-            × TurnsTo b (sync_part s (action_at plan s) act).turns (unanswered_after s.progress.word (heard_in (sync_part s (action_at plan s) act).turns)) all.0
-        to = turns_act b s.progress.word act (sync_part s (action_at plan s) act).turns (after plan commands s act).rest l all.0 left ids holds (some_left s.progress.word begins)
-            (subst (λ r. MeansTurns s.progress.word r act (sync_part s (action_at plan s) act).turns (after plan commands s act).rest) rest means.1) all.1
+            × TurnsTo b (sync_part s (action_at plan s) act).sync_steps (unanswered_after s.progress.word (heard_in (sync_part s (action_at plan s) act).sync_steps)) all.0
+        to = turns_act b s.progress.word act (sync_part s (action_at plan s) act).sync_steps (after plan commands s act).rest l all.0 left ids holds (some_left s.progress.word begins)
+            (subst (λ r. MeansSyncSteps s.progress.word r act (sync_part s (action_at plan s) act).sync_steps (after plan commands s act).rest) rest means.1) all.1
 
         -- what happens later, from the state after the act, by whether the station has synchronized then (`x`)
         next : (c : begin.Model SceneState) → Holds (leaves c) all.0 → c.left ≡ (after plan commands s act).progress.word → (x : Bool) → has_begun (after plan commands s act).progress ≡ x
             → OnBegin c m (parts_of plan commands (after plan commands s act) (acts_of hs)) (has_begun (after_all plan commands (after plan commands s act) (acts_of hs)).progress)
         next c h k false e =
             later_begin (after plan commands s act) c all.0 (invariant_after plan commands s act fine) to.0 e k
-            (subst IsSmall (sym means.2) (ids_left s.progress.word (heard_in (sync_part s (action_at plan s) act).turns) ids)) h all.2 runs.1
+            (subst IsSmall (sym means.2) (ids_left s.progress.word (heard_in (sync_part s (action_at plan s) act).sync_steps) ids)) h all.2 runs.1
         next c h k true e =
             let u = after plan commands s act in
             let ps = parts_of plan commands u (acts_of hs) in
-            begun_from c (first_part ps).turns (first_part ps).steps (other_parts ps) m (has_begun (after_all plan commands u (acts_of hs)).progress)
-            (k ∙ word_empty u.progress.word e) (first_none ps (no_turns plan commands u (acts_of hs) e))
+            begun_from c (first_part ps).sync_steps (first_part ps).steps (other_parts ps) m (has_begun (after_all plan commands u (acts_of hs)).progress)
+            (k ∙ word_empty u.progress.word e) (first_none ps (no_sync_steps plan commands u (acts_of hs) e))
             (later_client u (ids_begun (leaves c)) all.0 (invariant_after plan commands s act fine) to.0 e (sym (client_new s act fine runs.0 begins))
             (subst (λ v. Holds v all.0) (sym (begun_line (leaves c))) h) all.2 runs.1)
 

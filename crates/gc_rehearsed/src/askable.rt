@@ -6,8 +6,7 @@ ghost use Rattle.gc_rehearsed.specs.Rehearsals.{AreAskable, IsAskable};
 use gc_catalogue::encode_asked;
 use gc_texts::Task;
 
-// What a command asks is allowed (`IsAskedFitting`), at whatever moment it is sent: a call's numbers lie in their types, and a
-// procedure that isn't in the table may be asked for with its parameters.
+// What this command asks is allowed, as `are_askable` has it of several.
 fn is_askable(task: &Task)
     ensures { IsAskable task.entry.now }
 {

@@ -18,7 +18,7 @@ use gc_values::ValueFault;
 use itoa::Buffer;
 
 /// How records are written.
-#[derive(Clone, Copy, Debug, PartialEq, Eq)]
+#[derive(Clone, Copy)]
 pub enum Form {
     /// Each a line: the moment at which the command ended, its place, its target, and how it ended, with the bytes of the reply
     /// escaped as in a log.

@@ -3,7 +3,7 @@
 use gc_texts::Stamp;
 
 /// When a command was sent and ended, which command of its run it was, and when that run began.
-#[derive(Clone, Copy, Debug, PartialEq, Eq)]
+#[derive(Clone, Copy)]
 pub struct When {
     /// When its run began, in milliseconds since 1970-01-01, UTC.
     pub run: u64,

@@ -17,6 +17,7 @@ use Rattle.gc_scenes.specs.SceneExecution.{Played, plays, played_call, unless_fa
 use Rattle.gc_scenes.specs.SceneReplying.{IsPlayed, answers, names_call, resent_line, again_or_played, handed_call, played_line}
 use Rattle.gc_scenes.specs.SceneState.{SceneState}
 use Rattle.gc_scene_world.specs.SceneRuns.{scene_handed, scene_ends}
+use Rattle.gc_scene_world.specs.SceneStages.{Notes}
 use Rattle.gc_world.specs.Exchange.{IsExchange, ReadsWithItsId}
 use Rattle.gc_world.proofs.Handing.{kept_id, again_kept, kept_reads, other_id, reply_heard}
 use Rattle.std.proofs.lemmas.Option.{same_Some, none-some}
@@ -87,13 +88,6 @@ exchange = record {
 }
 
 -- Executions.
-
--- the count `old` of executions became `new`: the same where the instrument stores replies and the stored id stayed, and one
--- more where that id changed, or the instrument stores no replies
-pub record Notes (repeats : Bool) (before after : Option ℕ) (old new : ℕ) : Type 0 where
-  pub same : repeats ≡ true → before ≡ after → new ≡ old
-  pub another : (before ≡ after → ⊥) → new ≡ old + 1
-  pub never : repeats ≡ false → new ≡ old + 1
 
 -- a call, whether a fault answers it or not, leaves as it is whether the instrument repeats
 same_repeats : (s : SceneState) (rpc : ℕ) (call : Call) (o : Option ℕ) → (unless_faulted (counting rpc s) call o).state.repeats ≡ s.repeats

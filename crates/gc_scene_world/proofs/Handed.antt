@@ -8,11 +8,12 @@ use Rattle.gc_client.specs.Rule.{ById}
 use Rattle.gc_scenes.specs.SceneState.{SceneState}
 use Rattle.gc_scene_world.specs.Lanes.{Flight, further}
 use Rattle.gc_scene_world.specs.SceneRuns.{scene_ends}
-use Rattle.gc_scene_world.specs.SceneStages.{Seen, AreStreamsOf, IsRemainder, after_event, after_bytes}
+use Rattle.gc_scene_world.specs.SceneStages.{Seen, AreStreamsOf, IsRemainder}
 use Rattle.gc_world.specs.declared.direction.Direction.{Direction}
 use Rattle.gc_world.specs.declared.direction.Direction.TheVariants.{Up, Down}
 use Rattle.gc_world.specs.Clients.{by_ids}
 use Rattle.gc_world.specs.Directions.{deliver, delivery, lines, gone, after_cut, handed_over}
+use Rattle.gc_world.specs.Staging.{after_event, after_bytes}
 use Rattle.gc_world.specs.Streams.{Streams, up_texts, down_texts, remaining}
 use Rattle.gc_world.specs.World.{Request, Numbered, Wire, World, up_delivered, down_delivered, happens}
 use Rattle.gc_world.proofs.Counts.{one_answered}
@@ -48,7 +49,7 @@ no_more width Down w = down_no_more width w w.wire.down
 
 -- a delivery as an event leads to the same wire as the delivery as a step
 delivered_wire : (width : ℕ) (d : Direction) (v : Streams (ById Call) SceneState)
-    → (after_event width v (delivery d)).world.wire ≡ (happens scene_ends (by_ids width scene_ends) v.world (deliver d)).wire
+    → (after_event scene_ends width v (delivery d)).world.wire ≡ (happens scene_ends (by_ids width scene_ends) v.world (deliver d)).wire
 delivered_wire width Up v = refl
 delivered_wire width Down v = refl
 
@@ -57,7 +58,7 @@ delivered_wire width Down v = refl
 pub record IsReached (width : ℕ) (d : Direction) (s : Seen) (v : Streams (ById Call) SceneState) (n left : ℕ) : Type 0 where
   pub now : Streams (ById Call) SceneState
   pub shows : AreStreamsOf width s now
-  pub same : after_bytes width d now left ≡ after_bytes width d v n
+  pub same : after_bytes scene_ends width d now left ≡ after_bytes scene_ends width d v n
   pub idle : now.world.wire.idle ≡ v.world.wire.idle
   pub room : IsNoMore v.world.wire now.world.wire
 
@@ -69,12 +70,12 @@ module _ (width : ℕ) (d : Direction) (s : Seen) (v : Streams (ById Call) Scene
   -- `IsReached` holds also once the front line was delivered, with `used` bytes fewer left: those of the line that were still to
   -- go, at least one, and no more than were left
   pub reaches_next : (t : Seen) (used : ℕ) → used ≡ remaining (gone d h.now) (lines d h.now.world.wire) → 0 < used → used ≤ left
-      → AreStreamsOf width t (after_event width h.now (delivery d)) → IsReached width d t v n (left - used)
+      → AreStreamsOf width t (after_event scene_ends width h.now (delivery d)) → IsReached width d t v n (left - used)
   reaches_next t used e some le shows =
       let one = next scene_ends (by_ids width scene_ends) d h.now left used e some le in
       let more = subst (IsNoMore h.now.world.wire) (sym (delivered_wire width d h.now)) (no_more width d h.now.world) in
       record {
-        now = after_event width h.now (delivery d);
+        now = after_event scene_ends width h.now (delivery d);
         shows = shows;
         same = sym (next_same scene_ends (by_ids width scene_ends) d h.now left used one) ∙ h.same;
         idle = next_idle scene_ends (by_ids width scene_ends) d h.now left used one ∙ h.idle;
@@ -82,11 +83,11 @@ module _ (width : ℕ) (d : Direction) (s : Seen) (v : Streams (ById Call) Scene
       }
 
   -- where a stage shows the streams that handing over the bytes that are left leads to, it shows those that all n bytes lead to
-  pub reaches_end : (t : Seen) → AreStreamsOf width t (after_bytes width d h.now left) → AreStreamsOf width t (after_bytes width d v n)
+  pub reaches_end : (t : Seen) → AreStreamsOf width t (after_bytes scene_ends width d h.now left) → AreStreamsOf width t (after_bytes scene_ends width d v n)
   reaches_end t shows = subst (λ x. AreStreamsOf width t x) h.same shows
 
   -- where no byte of the direction is in flight any more, the stage shows the streams that all n bytes lead to
-  pub runs_dry : (r : ℕ) → IsRemainder d h.now r → r ≡ 0 → AreStreamsOf width s (after_bytes width d v n)
+  pub runs_dry : (r : ℕ) → IsRemainder d h.now r → r ≡ 0 → AreStreamsOf width s (after_bytes scene_ends width d v n)
   runs_dry r is e = subst (λ x. AreStreamsOf width s x) (sym (ended scene_ends (by_ids width scene_ends) d h.now left is.part (sym is.left ∙ e)) ∙ h.same) h.shows
 
 -- Bytes that complete no line.

@@ -16,14 +16,15 @@ use Rattle.gc_scene_world.specs.declared.report.Counts.{Counts}
 use Rattle.gc_scene_world.specs.Lanes.{Flight, is_whole, pushed}
 use Rattle.gc_scene_world.specs.SceneReports.{AreCounts}
 use Rattle.gc_scene_world.specs.SceneRuns.{scene_handed, scene_ends}
-use Rattle.gc_scene_world.specs.SceneStages.{Seen, AreStreamsOf, MayBeWritten, IsRemainder, after_event}
-use Rattle.gc_scene_world.proofs.Exchanges.{Notes, counted, exchanged}
+use Rattle.gc_scene_world.specs.SceneStages.{Seen, AreStreamsOf, MayBeWritten, IsRemainder, Notes}
+use Rattle.gc_scene_world.proofs.Exchanges.{counted, exchanged}
 use Rattle.gc_scene_world.proofs.Lanes.{flight}
 use Rattle.gc_world.specs.declared.direction.Direction.{Direction}
 use Rattle.gc_world.specs.declared.event.Event.TheVariants as event
 use Rattle.gc_world.specs.Clients.{by_ids}
 use Rattle.gc_world.specs.Directions.{bytes, lines, gone}
 use Rattle.gc_world.specs.Stages.{bytes_of}
+use Rattle.gc_world.specs.Staging.{after_event}
 use Rattle.gc_world.specs.Streams.{Streams, is_begun, at_line}
 use Rattle.gc_world.specs.World.{Request, Numbered, Wire, World, Step, Up_lose, Up_repeat, Down_lose, Down_repeat, Nothing, without, doubled, idle, up_delivered, with_up, with_down, on_wire, happens}
 use Rattle.gc_world.proofs.Directions.{bytes_pass, idle_bytes}
@@ -107,7 +108,7 @@ module _ (width : ℕ) (s : Seen) (v : Streams (ById Call) SceneState) (h : AreS
   -- Deliveries.
 
   -- once the front request was delivered, the streams after that event are shown
-  pub streams_up_deliver : (left : HandsToInstrument s) → AreStreamsOf width (after_handing s left) (after_event width v event.UpDeliver)
+  pub streams_up_deliver : (left : HandsToInstrument s) → AreStreamsOf width (after_handing s left) (after_event scene_ends width v event.UpDeliver)
   streams_up_deliver left = by_front v.world.wire.up refl
     where
       -- by whether a line is in flight
@@ -263,7 +264,7 @@ module _ (width : ℕ) (s : Seen) (v : Streams (ById Call) SceneState) (h : AreS
   module _ (k : ℕ) (b : Bool) (lane : Flight) where
     -- once line k of the upward lane was lost, if that was possible, the streams after that event are shown
     pub up_lost : b ≡ is_whole k s.up → lane ≡ cond (is_begun k s.up.gone) s.up (record s.up { texts = without k s.up.texts })
-        → AreStreamsOf width (record s { up = lane; counts = tallied b s.counts }) (after_event width v (event.UpLose k))
+        → AreStreamsOf width (record s { up = lane; counts = tallied b s.counts }) (after_event scene_ends width v (event.UpLose k))
     up_lost said left =
         changed s.up v.up_gone (λ (f : Flight) (c : Counts). record s { up = f; counts = c }) k (without k s.up.texts) (Up_lose k) b lane
         (ap (λ (f : Flight). f.gone) h.up) refl said left
@@ -272,7 +273,7 @@ module _ (width : ℕ) (s : Seen) (v : Streams (ById Call) SceneState) (h : AreS
 
     -- once line k of the upward lane was repeated, if that was possible, the streams after that event are shown
     pub up_repeated : b ≡ is_whole k s.up → lane ≡ cond (is_begun k s.up.gone) s.up (record s.up { texts = doubled k s.up.texts })
-        → AreStreamsOf width (record s { up = lane; counts = tallied b s.counts }) (after_event width v (event.UpRepeat k))
+        → AreStreamsOf width (record s { up = lane; counts = tallied b s.counts }) (after_event scene_ends width v (event.UpRepeat k))
     up_repeated said left =
         changed s.up v.up_gone (λ (f : Flight) (c : Counts). record s { up = f; counts = c }) k (doubled k s.up.texts) (Up_repeat k) b lane
         (ap (λ (f : Flight). f.gone) h.up) refl said left
@@ -281,7 +282,7 @@ module _ (width : ℕ) (s : Seen) (v : Streams (ById Call) SceneState) (h : AreS
 
     -- once line k of the downward lane was lost, if that was possible, the streams after that event are shown
     pub down_lost : b ≡ is_whole k s.down → lane ≡ cond (is_begun k s.down.gone) s.down (record s.down { texts = without k s.down.texts })
-        → AreStreamsOf width (record s { down = lane; counts = tallied b s.counts }) (after_event width v (event.DownLose k))
+        → AreStreamsOf width (record s { down = lane; counts = tallied b s.counts }) (after_event scene_ends width v (event.DownLose k))
     down_lost said left =
         changed s.down v.down_gone (λ (f : Flight) (c : Counts). record s { down = f; counts = c }) k (without k s.down.texts) (Down_lose k) b lane
         (ap (λ (f : Flight). f.gone) h.down) refl said left
@@ -289,7 +290,7 @@ module _ (width : ℕ) (s : Seen) (v : Streams (ById Call) SceneState) (h : AreS
 
     -- once line k of the downward lane was repeated, if that was possible, the streams after that event are shown
     pub down_repeated : b ≡ is_whole k s.down → lane ≡ cond (is_begun k s.down.gone) s.down (record s.down { texts = doubled k s.down.texts })
-        → AreStreamsOf width (record s { down = lane; counts = tallied b s.counts }) (after_event width v (event.DownRepeat k))
+        → AreStreamsOf width (record s { down = lane; counts = tallied b s.counts }) (after_event scene_ends width v (event.DownRepeat k))
     down_repeated said left =
         changed s.down v.down_gone (λ (f : Flight) (c : Counts). record s { down = f; counts = c }) k (doubled k s.down.texts) (Down_repeat k) b lane
         (ap (λ (f : Flight). f.gone) h.down) refl said left
@@ -299,7 +300,7 @@ module _ (width : ℕ) (s : Seen) (v : Streams (ById Call) SceneState) (h : AreS
 
   -- an event of 0 bytes, or of bytes while none are in flight, is only counted
   pub streams_idle_bytes : (d : Direction) (n r : ℕ) → IsRemainder d v r → (n ≡ 0) ⊎ (r ≡ 0)
-      → AreStreamsOf width (record s { counts = tallied false s.counts }) (after_event width v (bytes d n))
+      → AreStreamsOf width (record s { counts = tallied false s.counts }) (after_event scene_ends width v (bytes d n))
   streams_idle_bytes d n r left none =
       subst (λ (x : Streams (ById Call) SceneState). AreStreamsOf width (record s { counts = tallied false s.counts }) x)
       (sym (bytes_pass scene_ends (by_ids width scene_ends) d v n ∙ idle_bytes scene_ends (by_ids width scene_ends) d v (lines d v.world.wire) n left.left none left.part)) idle_event

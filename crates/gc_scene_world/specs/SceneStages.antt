@@ -1,6 +1,6 @@
 -- How a stage corresponds to the streams of a run: for contracts of private functions. A stage is the code's state while it plays events:
 -- the client, the instrument, the lines in flight in both directions, the settlements, and counts.
-use Rattle.std.specs.Prelude.{◌≡◌, ℕ, ◌+◌, ◌<◌, ◌^◌, List, length}
+use Rattle.std.specs.Prelude.{◌≡◌, ℕ, ◌+◌, ◌<◌, ◌^◌, Bool, true, false, List, length, Option}
 use Rattle.std.specs.List.{AllByRecursion}
 use Rattle.gc_catalogue.specs.Calls.{IsFitting}
 use Rattle.gc_catalogue.specs.declared.call.Call.{Call}
@@ -8,18 +8,17 @@ use Rattle.gc_client.specs.declared.settlement.Settlement.{Settlement}
 use Rattle.gc_client.specs.declared.window.TheConstants.{IDS}
 use Rattle.gc_client.specs.Rule.{ById, Windowed}
 use Rattle.gc_client.specs.Settlements.{AreSettlements}
-use Rattle.gc_scenes.specs.SceneState.{SceneState, scene_restarted}
+use Rattle.gc_scenes.specs.SceneState.{SceneState}
 use Rattle.gc_scene_world.specs.declared.report.Counts.{Counts}
 use Rattle.gc_scene_world.specs.declared.stage.Stage.{Stage}
 use Rattle.gc_scene_world.specs.Lanes.{Flight}
 use Rattle.gc_scene_world.specs.SceneReports.{AreCounts}
 use Rattle.gc_scene_world.specs.SceneRuns.{scene_ends}
 use Rattle.gc_world.specs.declared.direction.Direction.{Direction}
-use Rattle.gc_world.specs.declared.event.Event.{Event}
-use Rattle.gc_world.specs.Clients.{by_ids, ids_open}
-use Rattle.gc_world.specs.Directions.{lines, gone, handed_over}
+use Rattle.gc_world.specs.Directions.{lines, gone}
 use Rattle.gc_world.specs.Sides.{IsPart}
-use Rattle.gc_world.specs.Streams.{Streams, untouched, up_texts, down_texts, remaining, flows}
+use Rattle.gc_world.specs.Staging.{Staging}
+use Rattle.gc_world.specs.Streams.{Streams, up_texts, down_texts, remaining}
 use Rattle.gc_world.specs.World.{Request, Numbered}
 
 -- the parts of a stage of which contracts speak
@@ -34,19 +33,6 @@ pub record Seen : Type 0 where
 -- the parts of this stage
 abbrev pub seen : Stage → Seen
 seen s = record { client = s.client; instrument = s.instrument; up = s.up; down = s.down; settled = s.settled.items; counts = s.counts }
-
--- the streams before the first event: the instrument is restarted from this state, and nothing is in flight
-abbrev pub streams_at_start : SceneState → Streams (ById Call) SceneState
-streams_at_start opening = untouched (ids_open (scene_restarted opening))
-
--- the streams after one event of the run by ids, with a window of this width
-abbrev pub after_event : ℕ → Streams (ById Call) SceneState → Event → Streams (ById Call) SceneState
-after_event width v e = flows scene_ends (by_ids width scene_ends) v e
-
--- the streams after the next n bytes of a direction, or after all that are in flight if these are fewer; no idle event is counted, even for
--- 0 bytes
-abbrev pub after_bytes : (width : ℕ) → Direction → Streams (ById Call) SceneState → (n : ℕ) → Streams (ById Call) SceneState
-after_bytes width d v n = handed_over scene_ends (by_ids width scene_ends) d v n
 
 -- a client may have written the request: its id is below 8, and the numbers of its call are in the ranges of their types
 abbrev pub MayBeWritten : Numbered Request → Type 0
@@ -64,17 +50,10 @@ pub record AreStreamsOf (width : ℕ) (s : Seen) (v : Streams (ById Call) SceneS
   pub settled : AreSettlements s.settled v.world.wire.settled
   pub counts : AreCounts s.counts v.world.wire
 
--- the stage, whose client's window has this width, corresponds to these streams
-abbrev pub Shows : ℕ → Stage → Streams (ById Call) SceneState → Type 0
-Shows width s v = AreStreamsOf width (seen s) v
-
--- the stage corresponds to some streams
-abbrev pub IsShown : Stage → Type 0
-IsShown s = (width : ℕ) × (v : Streams (ById Call) SceneState) × Shows width s v
-
--- for all streams that the stage s shows, the stage t shows the streams after this event
-abbrev pub Follows : Stage → Event → Stage → Type 0
-Follows s e t = (width : ℕ) (v : Streams (ById Call) SceneState) → Shows width s v → Shows width t (after_event width v e)
+-- the kind of this crate's stages: their runs are on the instrument of a scene, and such a stage shows the streams to which its
+-- parts correspond (`AreStreamsOf`)
+abbrev pub staging : Staging Stage SceneState
+staging = record { ends = scene_ends; shows = λ width s v. AreStreamsOf width (seen s) v }
 
 -- `n` is how many bytes of the front line of a direction are still to go, 0 if no line is in flight; not all bytes of the front line have
 -- gone, and none count as gone if there is no line
@@ -94,11 +73,10 @@ pub record HasRoom (s : Seen) : Type 0 where
   pub refused : s.counts.refused_sends + 1 < 2 ^ 64
   pub idle : s.counts.idle_events + 1 < 2 ^ 64
 
--- on whatever streams the stage shows, more than n bytes of the front line of the direction are still to go
-abbrev pub HasMoreThan : Stage → Direction → ℕ → Type 0
-HasMoreThan s d n = (width : ℕ) (v : Streams (ById Call) SceneState) → Shows width s v
-    → n < remaining (gone d v) (lines d v.world.wire)
-
--- for all streams that the stage s shows, the stage t shows the streams after the next n bytes of the direction
-abbrev pub FollowsBytes : Stage → Direction → ℕ → Stage → Type 0
-FollowsBytes s d n t = (width : ℕ) (v : Streams (ById Call) SceneState) → Shows width s v → Shows width t (after_bytes width d v n)
+-- the count of executions was `old`, and is `new` once a request was handed over, by which the stored id went from `before` to
+-- `after`: the count stayed if the instrument stores replies (`repeats`) and the id stayed, and grew by one if the id changed, or
+-- if the instrument stores no replies
+pub record Notes (repeats : Bool) (before after : Option ℕ) (old new : ℕ) : Type 0 where
+  pub same : repeats ≡ true → before ≡ after → new ≡ old
+  pub another : (before ≡ after → ⊥) → new ≡ old + 1
+  pub never : repeats ≡ false → new ≡ old + 1

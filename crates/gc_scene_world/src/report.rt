@@ -4,7 +4,7 @@ use gc_catalogue::Call;
 use gc_client::Settlement;
 
 /// The counts of a run.
-#[derive(Clone, Copy, Debug, PartialEq, Eq)]
+#[derive(Clone, Copy)]
 pub struct Counts {
     /// How many requests were sent, without those whose send was refused.
     pub sent: usize,

@@ -1,14 +1,21 @@
 //! The stage: the state of a run after some events, and what the next event does to it.
+//!
+//! The stage of `gc_world` stores every line in its report, and hands it over through an assembler; this one stores the lines in
+//! flight alone. What both are to do is defined once (`specs/Staging.antt` there). Yet `happen`, `deliver_bytes`, `deliver` and
+//! `go_on` are written in both, since each stage has its own clauses on them: that one says which events take no memory, and this
+//! one requires room in its counts. Who changes one of them changes the other.
 
-ghost use Rattle.std.specs.Prelude.{◌≡◌, ◌↔◌, ◌+◌, ◌<◌, ◌≤◌, ◌^◌, ◌++◌, ℕ, [], OnOk, IsTrue, true, false};
+ghost use Rattle.std.specs.Prelude.{◌≡◌, ◌↔◌, ◌+◌, ◌<◌, ◌≤◌, ◌^◌, ◌++◌, ℕ, [], OnOk, IsTrue};
 ghost use Rattle.gc_catalogue.specs.declared.call.Call.{Call};
 ghost use Rattle.gc_client.specs.Rule.{ById};
 ghost use Rattle.gc_scenes.specs.SceneState.{SceneState};
 ghost use Rattle.gc_world.specs.declared.event.Event.{Event};
 ghost use Rattle.gc_world.specs.Directions.{bytes, delivery};
+ghost use Rattle.gc_world.specs.Staging.{streams_at_start, IsShown, Follows, FollowsBytes, HasMoreThan};
 ghost use Rattle.gc_world.specs.Streams.{Streams};
 ghost use Rattle.gc_scene_world.specs.Lanes.{losing, repeating, idle_after};
-ghost use Rattle.gc_scene_world.specs.SceneStages.{streams_at_start, seen, Shows, IsShown, IsRemainder, Follows, FollowsBytes, HasMoreThan, HasRoom, HasRoomFor};
+ghost use Rattle.gc_scene_world.specs.SceneRuns.{scene_ends};
+ghost use Rattle.gc_scene_world.specs.SceneStages.{seen, staging, IsRemainder, HasRoom, HasRoomFor, Notes};
 
 use crate::lane::Lane;
 use crate::report::{Counts, SceneReport};
@@ -39,7 +46,7 @@ impl Stage {
     pub fn new(alloc: Global, mut instrument: SceneInstrument, width: u8) -> Stage
         requires least { 1 ≤ width }
         requires most { width ≤ WINDOW }
-        ensures { Shows width result (streams_at_start instrument) }
+        ensures { staging.shows width result (streams_at_start scene_ends instrument) }
     {
         instrument.restart();
         Stage {
@@ -62,8 +69,8 @@ impl Stage {
     /// flight was refused, and the event may have happened in part.
     pub fn happen(&mut self, event: &Event) -> Result<(), AllocError>
         requires room { HasRoom (seen self.old) }
-        requires shown { IsShown self.old }
-        ensures { OnOk result (Follows self.old event.now self.new) }
+        requires shown { IsShown staging self.old }
+        ensures { OnOk result (Follows staging self.old event.now self.new) }
     {
         match *event {
             Event::Send(target, ref call, deadline) => self.send(target, call, deadline)?,
@@ -102,7 +109,7 @@ impl Stage {
     fn send(&mut self, target: u32, call: &Call, deadline: u64) -> Result<(), AllocError>
         requires sent { self.old.counts.sent + 1 < 2 ^ 64 }
         requires refused { self.old.counts.refused_sends + 1 < 2 ^ 64 }
-        ensures { OnOk result (Follows self.old (Event.Send target call.now deadline) self.new) }
+        ensures { OnOk result (Follows staging self.old (Event.Send target call.now deadline) self.new) }
     {
         let mut line = Line::new();
         let Ok(()) = self.client.send_into(target, call, deadline, &mut line) else {
@@ -119,8 +126,8 @@ impl Stage {
         requires executed { HasRoomFor self.old.counts.executed self.old.up }
         requires made { HasRoomFor self.old.counts.made self.old.up }
         requires idle { self.old.counts.idle_events + 1 < 2 ^ 64 }
-        requires shown { IsShown self.old }
-        ensures { OnOk result (Follows self.old Event.UpDeliver self.new) }
+        requires shown { IsShown staging self.old }
+        ensures { OnOk result (Follows staging self.old Event.UpDeliver self.new) }
     {
         let Some(request) = self.up.take() else {
             self.counts.idle_events += 1;
@@ -141,7 +148,7 @@ impl Stage {
     // is only counted. `Err`: memory was refused.
     fn down_deliver(&mut self) -> Result<(), AllocError>
         requires idle { self.old.counts.idle_events + 1 < 2 ^ 64 }
-        ensures { OnOk result (Follows self.old Event.DownDeliver self.new) }
+        ensures { OnOk result (Follows staging self.old Event.DownDeliver self.new) }
     {
         let Some(reply) = self.down.take() else {
             self.counts.idle_events += 1;
@@ -156,8 +163,8 @@ impl Stage {
     // If `n` is 0 or no byte is in flight, the event is only counted. `Err`: memory was refused.
     fn deliver_bytes(&mut self, direction: Direction, n: usize) -> Result<(), AllocError>
         requires room { HasRoom (seen self.old) }
-        requires shown { IsShown self.old }
-        ensures { OnOk result (Follows self.old (bytes direction n) self.new) }
+        requires shown { IsShown staging self.old }
+        ensures { OnOk result (Follows staging self.old (bytes direction n) self.new) }
     {
         let mut left = n;
         let mut remaining = self.remaining(direction);
@@ -182,8 +189,8 @@ impl Stage {
         requires executed { HasRoomFor self.old.counts.executed self.old.up }
         requires made { HasRoomFor self.old.counts.made self.old.up }
         requires idle { self.old.counts.idle_events + 1 < 2 ^ 64 }
-        requires shown { IsShown self.old }
-        ensures { OnOk result (Follows self.old (delivery direction) self.new) }
+        requires shown { IsShown staging self.old }
+        ensures { OnOk result (Follows staging self.old (delivery direction) self.new) }
     {
         match direction {
             Direction::Up => self.up_deliver(),
@@ -193,7 +200,7 @@ impl Stage {
 
     // How many bytes of the front line of a direction have still to go, CR LF included; 0 if no line is in flight.
     fn remaining(&self, direction: Direction) -> usize
-        ensures { (width : ℕ) (v : Streams (ById Call) SceneState) → Shows width self.now v → IsRemainder direction v result }
+        ensures { (width : ℕ) (v : Streams (ById Call) SceneState) → staging.shows width self.now v → IsRemainder direction v result }
     {
         match direction {
             Direction::Up => self.up.remaining(),
@@ -203,9 +210,9 @@ impl Stage {
 
     // Hands over the next `n` bytes of the front line of a direction. They don't complete the line.
     fn go_on(&mut self, direction: Direction, n: usize)
-        requires shown { IsShown self.old }
-        requires some { HasMoreThan self.old direction n }
-        ensures { FollowsBytes self.old direction n self.new }
+        requires shown { IsShown staging self.old }
+        requires some { HasMoreThan staging self.old direction n }
+        ensures { FollowsBytes staging self.old direction n self.new }
     {
         match direction {
             Direction::Up => self.up.go_on(n),
@@ -217,7 +224,7 @@ impl Stage {
 
     // Lets the client time out each outstanding request whose deadline is at most `now`. The request stays outstanding: nothing is settled.
     fn expire(&mut self, now: u64)
-        ensures { Follows self.old (Event.Expire now) self.new }
+        ensures { Follows staging self.old (Event.Expire now) self.new }
     {
         self.client.expire(now);
     }
@@ -226,7 +233,7 @@ impl Stage {
     // only counted. `Err`: memory was refused.
     fn restart_client(&mut self) -> Result<(), AllocError>
         requires { self.old.counts.idle_events + 1 < 2 ^ 64 }
-        ensures { OnOk result (Follows self.old Event.RestartClient self.new) }
+        ensures { OnOk result (Follows staging self.old Event.RestartClient self.new) }
     {
         if !self.is_quiet() {
             self.counts.idle_events += 1;
@@ -239,7 +246,7 @@ impl Stage {
     // Restarts the instrument, and leaves the client as it is. If a line is in flight, the event is only counted.
     fn restart_instrument(&mut self)
         requires { self.old.counts.idle_events + 1 < 2 ^ 64 }
-        ensures { Follows self.old Event.RestartInstrument self.new }
+        ensures { Follows staging self.old Event.RestartInstrument self.new }
     {
         if self.is_quiet() {
             self.instrument.restart();
@@ -285,9 +292,7 @@ fn repeat(lane: &mut Lane, k: usize, idle: &mut usize) -> Result<(), AllocError>
 // execution changes that id, and a repeat leaves it.
 fn note_execution(executed: &mut usize, repeats: bool, before: Option<u8>, after: Option<u8>)
     requires { executed.old + 1 < 2 ^ 64 }
-    ensures same { repeats ≡ true → before ≡ after → executed.new ≡ executed.old }
-    ensures another { (before ≡ after → ⊥) → executed.new ≡ executed.old + 1 }
-    ensures never { repeats ≡ false → executed.new ≡ executed.old + 1 }
+    ensures { Notes repeats before after executed.old executed.new }
 {
     if !repeats || before != after {
         *executed += 1;

@@ -1,5 +1,5 @@
 -- What holds of each outcome with ways of real instruments, and that without ways it is that of the execution table.
-use Rattle.std.proofs.Common.{◌≡◌, ◌≢◌, ℤ, ◌<◌, ◌&&◌, Bool, true, cond, Option, Some, None, refl, ap, ◌∙◌, lit<}
+use Rattle.std.proofs.Common.{◌≡◌, ◌≢◌, ℕ, ℤ, ◌<◌, ◌&&◌, Bool, true, false, cond, [], Option, Some, None, refl, sym, ap, ◌∙◌, subst, lit<}
 use Rattle.std.specs.Prelude.{pos}
 use Rattle.std.specs.Ordering.{int_eq}
 use Rattle.std.proofs.lemmas.Bool.{cond_both}
@@ -9,16 +9,25 @@ use Rattle.gc_catalogue.specs.declared.answer.Answer.TheVariants as answer
 use Rattle.gc_catalogue.specs.declared.call.Call.{Call}
 use Rattle.gc_catalogue.specs.declared.call.Call.TheVariants as call
 use Rattle.gc_catalogue.specs.declared.call.DateTime.{DateTime}
-use Rattle.gc_instrument.specs.Execution.{Executed, exec, done, distance_outcome, adjusted, pointed, unmeasured}
-use Rattle.gc_instrument.specs.State.{State}
+use Rattle.gc_instrument.specs.Execution.{Executed, Gives, exec, done, distance_outcome, adjusted, pointed, unmeasured}
+use Rattle.gc_instrument.specs.Replying.{with_kept, executed_with}
+use Rattle.gc_instrument.specs.State.{State, KeptReply}
 use Rattle.gc_instrument.specs.declared.target.Target.{Target}
 use Rattle.gc_instrument.proofs.Executions.{exec_outcome}
-use Rattle.gc_scenes.specs.Acting.{acted_faceless, dated}
+use Rattle.gc_instrument.proofs.Keeping.{executes_apart, distance_apart, adjusted_apart}
+use Rattle.gc_scenes.specs.Acting.{acted, acted_faceless, dated, faced}
 use Rattle.gc_scenes.specs.SceneExecution.{outcome, shown, seen_by}
-use Rattle.gc_scenes.specs.SceneState.{SceneState}
-use Rattle.gc_scenes.specs.Machine.{seeing}
+use Rattle.gc_scenes.specs.SceneState.{SceneState, seeing}
 use Rattle.gc_scenes.specs.Ways.{no_ways, nearest, other_hz, other_v}
 use Rattle.gc_scenes.specs.declared.ways.Ways.{Ways}
+
+-- the outcome, with the face by the vertical angle if the instrument has both faces' angles (true)
+abbrev faced_outcome : (faces : Bool) → Executed → Executed
+faced_outcome faces x = record { state = faced faces x.state; rc = x.rc; answer = x.answer }
+
+-- the outcome, but in this state
+abbrev outcome_in : Executed → State → Executed
+outcome_in x s = record { state = s; rc = x.rc; answer = x.answer }
 
 -- an outcome is sound: its return code has 16 bits, and with a code other than 0 there is no answer
 pub record HasSoundCode (x : Executed) : Type 0 where
@@ -77,6 +86,58 @@ table_without_ways s (call.ChangeFace pos_mode atr_mode dummy) = refl
 table_without_ways s (call.SimpleMea wait mode) = refl
 table_without_ways s call.GetDate = refl
 table_without_ways s asked = refl
+
+-- The outcome with ways doesn't depend on the stored reply.
+module _ (kept : Option KeptReply) where
+  -- where two outcomes don't depend on the stored reply, neither does the one of them that a test chooses
+  either_apart : (b : Bool) (x y v w : Executed) → v ≡ executed_with kept x → w ≡ executed_with kept y → cond b v w ≡ executed_with kept (cond b x y)
+  either_apart true x y v w is other = is
+  either_apart false x y v w is other = other
+
+  -- the outcome of asking for the date doesn't depend on the stored reply
+  dated_apart : (now : Option DateTime) (s : State) → dated now (with_kept kept s) ≡ executed_with kept (dated now s)
+  dated_apart (Some d) s = refl
+  dated_apart None s = refl
+
+  -- the outcome with ways, but for the face, doesn't depend on the stored reply
+  faceless_apart : (w : Ways) (now : Option DateTime) (s : State) (asked : Call)
+      → acted_faceless w now (with_kept kept s) asked ≡ executed_with kept (acted_faceless w now s asked)
+  faceless_apart w now s (call.Position hz v pos_mode atr_mode dummy) =
+      either_apart (w.aims && int_eq atr_mode (pos 1)) _ _ _ _ (sym (adjusted_apart (pointed s hz v) kept (nearest (record { hz = hz; v = v }) s.scene)))
+      (executes_apart s kept (call.Position hz v pos_mode atr_mode dummy))
+  faceless_apart w now s (call.ChangeFace pos_mode atr_mode dummy) = either_apart w.faces _ _ _ _ refl (executes_apart s kept (call.ChangeFace pos_mode atr_mode dummy))
+  faceless_apart w now s (call.SimpleMea wait mode) =
+      either_apart w.takes _ _ _ _ (sym (distance_apart (unmeasured s) kept (λ d. answer.Measured s.pointing.hz s.pointing.v d) s.distance))
+      (executes_apart s kept (call.SimpleMea wait mode))
+  faceless_apart w now s call.GetDate = dated_apart now s
+  faceless_apart w now s asked = executes_apart s kept asked
+
+  -- the face by the vertical angle doesn't depend on the stored reply
+  faced_apart : (b : Bool) (s : State) → faced b (with_kept kept s) ≡ with_kept kept (faced b s)
+  faced_apart true s = refl
+  faced_apart false s = refl
+
+  -- where a call with ways leads from the state s to t, it does so with any stored reply in both
+  acts_apart : (w : Ways) (now : Option DateTime) (s t : State) (asked : Call) (code : ℕ) (said : Answer) → Gives (acted w now s asked) t code said
+      → Gives (acted w now (with_kept kept s) asked) (with_kept kept t) code said
+  acts_apart w now s t asked code said does =
+      let x = acted_faceless w now s asked in
+      ap (faced_outcome w.faces) (faceless_apart w now s asked) ∙ ap (outcome_in x) (faced_apart w.faces x.state) ∙ ap (executed_with kept) does
+
+-- where an instrument with the targets that the call sees (`seen`) acts on it, and goes to the state t, that is the outcome of the
+-- call in a scene with these ways: `v` is the scene's state before, made of the instrument's state b and the stored reply, and
+-- equals s
+pub acts_over_seen : (kept : Option KeptReply) (v s : SceneState) (b seen t : State) (now : Option DateTime) (asked : Call) (code : ℕ) (said : Answer)
+    → v ≡ s → v.base ≡ with_kept kept (seeing [] b) → seen ≡ seeing (seen_by s asked) b → now ≡ shown s
+    → Gives (acted v.ways now seen asked) t code said → Gives (outcome s asked) (with_kept kept t) code said
+acts_over_seen kept v s b seen t now asked code said e base over date does =
+    let Acts : Ways → Option DateTime → State → Type 0 = λ w n u. Gives (acted w n u asked) t code said in
+    let here : Acts s.ways (shown s) (seeing (seen_by s asked) b) =
+    subst (λ (w : Ways). Acts w (shown s) (seeing (seen_by s asked) b)) (ap (λ (u : SceneState). u.ways) e)
+    (subst (λ (n : Option DateTime). Acts v.ways n (seeing (seen_by s asked) b)) date (subst (λ (u : State). Acts v.ways now u) over does)) in
+    subst (λ (u : State). Gives (acted s.ways (shown s) (seeing (seen_by s asked) u) asked) (with_kept kept t) code said)
+    (sym base ∙ ap (λ (u : SceneState). u.base) e)
+    (acts_apart kept s.ways (shown s) (seeing (seen_by s asked) b) t asked code said here)
 
 -- The outcomes that the ways change.
 

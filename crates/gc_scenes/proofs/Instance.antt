@@ -15,10 +15,10 @@ use Rattle.gc_instrument.specs.declared.target.Target.{Target}
 use Rattle.gc_instrument.proofs.Executions.{exec_outcome}
 use Rattle.gc_instrument.proofs.Keeping.{kept_stays}
 use Rattle.gc_scenes.specs.Laws.{still, all_still, ruleless, TableIsTheInstance}
-use Rattle.gc_scenes.specs.Machine.{seeing}
 use Rattle.gc_scenes.specs.Rules.{seen, drifted, moved_by, is_clear}
 use Rattle.gc_scenes.specs.SceneExecution.{Played, plays, played_of, outcome, after_call, look_of, is_measurement}
 use Rattle.gc_scenes.specs.SceneReplying.{silent, answers, AnswersRequest, names_call, names_none, unreadable, IsHanded, again_or_played, handed_call, handed_raw, holding}
+use Rattle.gc_scenes.specs.SceneState.{seeing}
 use Rattle.gc_scenes.specs.Acting.{acted_faceless}
 use Rattle.gc_scenes.specs.Ways.{no_ways}
 use Rattle.gc_scenes.specs.declared.rules.Prism.{Prism}

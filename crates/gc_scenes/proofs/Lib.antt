@@ -4,7 +4,6 @@ pub mod Days
 pub mod Instance
 pub mod Nearest
 pub mod Playing
-pub mod Rows
 pub mod Shifts
 pub mod Turns
 pub mod Values

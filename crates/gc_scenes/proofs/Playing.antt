@@ -1,10 +1,8 @@
 -- What the code appends for a request is what the definitions give.
-use Rattle.std.proofs.Common.{◌≡◌, ◌≢◌, ℕ, List, [], ◌∷◌, ◌++◌, Some, None, Option, true, false, refl, sym, ap, ◌∙◌, subst}
+use Rattle.std.proofs.Common.{◌≡◌, ◌≢◌, ℕ, List, [], ◌++◌, Some, None, Option, refl, sym, ap, ◌∙◌, subst}
 use Rattle.std.specs.Prelude.{unwrap_or}
-use Rattle.gc_lines.specs.Answering.{AppendsAnswer, AppendsText}
+use Rattle.gc_lines.specs.Answering.{AppendsText}
 use Rattle.gc_lines.specs.Requests.{RequestFields}
-use Rattle.gc_lines.specs.declared.frame.Frame.TheVariants.{Line}
-use Rattle.gc_lines.proofs.AnsweringLines.{appended_alone, line_answered, line_unanswered}
 use Rattle.gc_values.specs.declared.fault.ValueFault.{ValueFault}
 use Rattle.gc_catalogue.specs.Calls.{IsCall, IsRefusal}
 use Rattle.gc_catalogue.specs.Texts.{reply_line}
@@ -17,8 +15,7 @@ use Rattle.gc_instrument.specs.Replying.{refusal_line, reply_id}
 use Rattle.gc_scenes.specs.Appending.{AppendsHanded, AppendsPlayed}
 use Rattle.gc_scenes.specs.Rules.{fault_of, scripted_reply, noisy, noise_after}
 use Rattle.gc_scenes.specs.SceneExecution.{Played, Reports, plays, outcome, after_call, replied_answer, played_call, played_raw, unless_faulted_raw, scripted, counting, faulted}
-use Rattle.gc_scenes.specs.SceneReplying.{IsPlayed, executed_reply_line, names_call, unreadable, AnswersRequest, resent_line, again_or_played, handed_call, handed_raw, played_or_refused, holding, kept_if_repeating, played_line}
-use Rattle.gc_scenes.specs.SceneServing.{PlaysFrame}
+use Rattle.gc_scenes.specs.SceneReplying.{executed_reply_line, names_call, unreadable, AnswersRequest, resent_line, again_or_played, handed_call, handed_raw, played_or_refused, holding, kept_if_repeating, played_line}
 use Rattle.gc_scenes.specs.SceneState.{SceneState}
 use Rattle.gc_scenes.specs.declared.rules.Noise.{Noise}
 use Rattle.gc_scenes.specs.declared.rules.Scripted.{Scripted}
@@ -137,19 +134,3 @@ pub unread_reply : (s : SceneState) (q : RequestFields) (e : ValueFault) (number
     → new ≡ old ++ refusal_line number (Parameters e) → AppendsText (AnswersRequest s q s) old new
 unread_reply s q e number old new is same appended =
     record { text = refusal_line number (Parameters e); appended = appended; is = unreadable e is refl (ap (λ n. refusal_line n (Parameters e)) same) }
-
--- where a reply to a line, as `IsPlayed` has it, was appended to the empty text, the text is then that reply. This lemma and the
--- two below are lemmas of gc_lines with the rule filled in, which the search doesn't find by itself
-pub played_alone : (s t : SceneState) (line new : List ℕ) → AppendsAnswer (IsPlayed s line t) [] new true → IsPlayed s line t (Some new)
-played_alone s t line new h = appended_alone (IsPlayed s line t) new h
-
--- appending a line's reply, and CR LF after it, is how the instrument answers the frame of that line
-pub answered_line : (before after : SceneState) (line old between new : List ℕ)
-    → AppendsAnswer (IsPlayed before line after) old between true → new ≡ between ++ 13 ∷ 10 ∷ []
-    → AppendsAnswer (PlaysFrame before (Line (record { items = line })) after) old new true
-answered_line before after line old between new h e = line_answered IsPlayed before after line old between new h e
-
--- where a line has no reply, appending nothing is how the instrument answers the frame of that line
-pub unanswered_line : (before after : SceneState) (line old new : List ℕ) → AppendsAnswer (IsPlayed before line after) old new false
-    → AppendsAnswer (PlaysFrame before (Line (record { items = line })) after) old new false
-unanswered_line before after line old new h = line_unanswered IsPlayed before after line old new h

@@ -6,10 +6,9 @@ use Rattle.gc_instrument.specs.Replying as table
 use Rattle.gc_instrument.specs.State.{State}
 use Rattle.gc_instrument.specs.declared.pointing.Pointing.{Pointing}
 use Rattle.gc_instrument.specs.declared.target.Target.{Target}
-use Rattle.gc_scenes.specs.Machine.{seeing}
 use Rattle.gc_scenes.specs.Ways.{no_ways, apart, window, nearest}
 use Rattle.gc_scenes.specs.SceneReplying.{IsPlayed}
-use Rattle.gc_scenes.specs.SceneState.{SceneState}
+use Rattle.gc_scenes.specs.SceneState.{SceneState, seeing}
 use Rattle.gc_scenes.specs.declared.rules.Prism.{Prism}
 
 -- a target that never moves and is never hidden

@@ -1,5 +1,4 @@
 pub mod Params
-pub mod Machine
 pub mod Shifting
 pub mod ShiftedFacts
 pub mod Ways

@@ -1,6 +1,6 @@
 -- What a call does to the instrument of a scene: the execution table over the targets that aren't hidden, with the instrument's
 -- ways of real instruments, and then the scene's rules. This project's own. `rpc` is a procedure's number, `rc` a return code.
-use Rattle.std.specs.Prelude.{ℕ, pos, ◌==◌, ◌&&◌, Bool, true, false, List, [], Option, Some, None, unwrap_or, if◌then◌else◌}
+use Rattle.std.specs.Prelude.{ℕ, pos, ◌==◌, ◌&&◌, ◌||◌, Bool, true, false, List, [], Option, Some, None, unwrap_or, if◌then◌else◌}
 use Rattle.std.specs.Option.{option_map}
 use Rattle.std.specs.Ordering.{int_eq}
 use Rattle.gc_values.specs.Decimals.{zero}
@@ -18,9 +18,8 @@ use Rattle.gc_instrument.specs.declared.target.Target.{Target}
 use Rattle.gc_scenes.specs.Acting.{acted}
 use Rattle.gc_scenes.specs.Clocks.{shown_at}
 use Rattle.gc_scenes.specs.Params.{scripted_params}
-use Rattle.gc_scenes.specs.Machine.{seeing}
 use Rattle.gc_scenes.specs.Rules.{seen, drifted, one_more, fault_of, counted, scripted_reply, noisy, noise_after}
-use Rattle.gc_scenes.specs.SceneState.{SceneState}
+use Rattle.gc_scenes.specs.SceneState.{SceneState, seeing}
 use Rattle.gc_scenes.specs.Ways.{is_over, is_warning, has_distance, valued}
 use Rattle.gc_scenes.specs.declared.clock.Clock.{Clock}
 use Rattle.gc_scenes.specs.declared.rules.Scripted.{Scripted}
@@ -41,7 +40,7 @@ is_search aims other = false
 
 -- the number of looks after this call: measurements and searches are counted, up to the greatest number of 32 bits
 abbrev pub look_of : (aims : Bool) (looks : ℕ) → Call → ℕ
-look_of aims looks asked = if is_measurement asked then one_more looks else (if is_search aims asked then one_more looks else looks)
+look_of aims looks asked = if is_measurement asked || is_search aims asked then one_more looks else looks
 
 -- where the telescope points when the call looks for a target: at the angles of a positioning, and else `there`
 abbrev pub heading : Pointing → Call → Pointing

@@ -1,12 +1,17 @@
 -- The state of the instrument of a scene: this project's own.
 use Rattle.std.specs.Prelude.{ℕ, Bool, List, Option}
 use Rattle.gc_instrument.specs.State.{State, restarted}
+use Rattle.gc_instrument.specs.declared.target.Target.{Target}
 use Rattle.gc_scenes.specs.declared.rules.Prism.{Prism}
 use Rattle.gc_scenes.specs.declared.rules.Fault.{Fault}
 use Rattle.gc_scenes.specs.declared.rules.Scripted.{Scripted}
 use Rattle.gc_scenes.specs.declared.rules.Noise.{Noise}
 use Rattle.gc_scenes.specs.declared.clock.Clock.{Clock}
 use Rattle.gc_scenes.specs.declared.ways.Ways.{Ways}
+
+-- the state of the execution table with these targets
+abbrev pub seeing : List Target → State → State
+seeing targets s = record s { scene = targets }
 
 -- the state of a scene's instrument
 pub record SceneState : Type 0 where

@@ -1,11 +1,14 @@
 -- What a contract sees of a scene's instrument: this project's own.
-use Rattle.gc_scenes.specs.SceneState.{SceneState}
+use Rattle.std.specs.Prelude.{[]}
+use Rattle.gc_instrument.specs.Replying.{with_kept}
+use Rattle.gc_scenes.specs.SceneState.{SceneState, seeing}
 use Rattle.gc_scenes.specs.declared.instrument.SceneInstrument.TheInside.{Inside}
 
--- the state that the fields of a scene's instrument make up
+-- the state that the fields of a scene's instrument make up; the targets of `base`, which are those that the last call saw, are
+-- left out
 abbrev pub scene_of : Inside → SceneState
 scene_of i = record {
-  base = i.machine;
+  base = with_kept i.kept (seeing [] i.base);
   prisms = i.prisms.items;
   faults = i.faults.items;
   answers = i.answers.items;

@@ -10,7 +10,7 @@ use gc_catalogue::{DateTime, month_days};
 const DAY: u64 = 86_400;
 
 /// A clock that runs: the date that it was set to, and the moment at which it was set, in milliseconds of the program's clock.
-#[derive(Clone, Copy, Debug, PartialEq, Eq)]
+#[derive(Clone, Copy)]
 pub struct Clock {
     pub set: DateTime,
     pub at: u64,

@@ -1,7 +1,7 @@
 //! How long the replies to a procedure take.
 
 /// The reply to each request of the procedure `rpc` goes out `ms` milliseconds after the instrument starts on the request.
-#[derive(Clone, Copy, Debug, PartialEq, Eq)]
+#[derive(Clone, Copy)]
 pub struct Delay {
     pub rpc: u16,
     pub ms: u32,

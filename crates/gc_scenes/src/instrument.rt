@@ -1,27 +1,31 @@
 //! The instrument of a scene with rules: its parts, how it starts, and how it executes a call.
 
-ghost use Rattle.std.specs.Prelude.{◌≡◌, ◌<◌, ◌≤◌, ◌++◌, ℕ, List, Bool, [], length, true, false, Option, None};
+ghost use Rattle.std.specs.Prelude.{◌≡◌, ◌<◌, ◌≤◌, ◌++◌, ℕ, List, Bool, [], length, true, false, Option, None, if◌then◌else◌};
 ghost use Rattle.std.specs.Option.{option_map};
 ghost use Rattle.gc_instrument.specs.State.{opening};
+ghost use Rattle.gc_instrument.specs.Targets.{first_at};
 ghost use Rattle.gc_scenes.specs.Rules.{seen, drifted, counted, fault_of, scripted_reply, noisy, noise_after};
 ghost use Rattle.gc_scenes.specs.SceneExecution.{Reports, is_measurement, is_search, look_of, heading, is_over_for, outcome, after_call, counting, shown, seen_by, clock_after, distance_in_warning, known_distance};
-ghost use Rattle.gc_scenes.specs.SceneState.{scene_restarted, at_moment};
+ghost use Rattle.gc_scenes.specs.SceneState.{scene_restarted, at_moment, seeing};
 ghost use Rattle.gc_catalogue.specs.declared.answer.Answer.TheVariants.{Nothing};
 
+use crate::acting::act;
 use crate::clock::Clock;
-use crate::machine::Machine;
 use crate::rules::{Fault, Noise, Prism, SceneRules, Scripted};
 use crate::ways::{Ways, has_distance, target_in_face};
 use arrayvec::ArrayVec;
 use gc_catalogue::{Answer, Call, DateTime};
-use gc_instrument::{Pointing, Target};
+use gc_instrument::{Instrument, Kept, Pointing, Target, first_at};
 use gc_values::{Decimal, Text};
 use std::marker::Model;
 
 /// The instrument of a scene with rules: at most 32 targets, 32 faults and 16 replies. It holds no allocated memory.
-#[derive(Debug, Drop)]
+#[derive(Drop)]
 pub struct SceneInstrument {
-    pub(crate) machine: Machine,
+    // The instrument of the execution table. It isn't handed lines, so it stores no reply; its targets are those that the last call saw.
+    pub(crate) base: Instrument,
+    // The stored reply, if there is one.
+    pub(crate) kept: Kept,
     // The scene's targets.
     prisms: ArrayVec<Prism, 32>,
     faults: ArrayVec<Fault, 32>,
@@ -75,7 +79,8 @@ impl SceneInstrument {
             ways,
         } = rules;
         SceneInstrument {
-            machine: Machine::new(serial, name),
+            base: without_targets(serial, name),
+            kept: Kept::nothing(),
             prisms,
             faults,
             answers,
@@ -96,15 +101,8 @@ impl SceneInstrument {
         self.moment = moment;
     }
 
-    /// Whether the instrument has a clock that runs, once it is set.
-    pub fn has_clock(&self) -> bool
-        ensures { result ≡ self.now.ways.clock }
-    {
-        self.ways.clock
-    }
-
     /// Whether the instrument stores its last reply to a request with an id, and sends it again to a request with that id
-    /// (`on_line` says which replies it doesn't store).
+    /// (`reply_onto` says which replies it doesn't store).
     pub fn repeats(&self) -> bool
         ensures { result ≡ self.now.repeats }
     {
@@ -115,7 +113,7 @@ impl SceneInstrument {
     pub fn kept_id(&self) -> Option<u8>
         ensures { result ≡ option_map (λ k. k.id) self.now.base.kept }
     {
-        self.machine.kept_id()
+        self.kept.id()
     }
 
     /// Restarts the instrument, as the simulator is restarted. The scene goes on: its counts, its targets and its noise stay,
@@ -123,7 +121,8 @@ impl SceneInstrument {
     pub fn restart(&mut self)
         ensures { self.new ≡ scene_restarted self.old }
     {
-        self.machine.restart();
+        self.base.restart();
+        self.kept.forget();
     }
 
     /// The return code of the first fault that answers the next request of this procedure. `None`: no fault answers it.
@@ -171,7 +170,7 @@ impl SceneInstrument {
     fn is_over_for(&self, call: &Call) -> bool
         ensures { result ≡ is_over_for self.now call.now }
     {
-        self.ways.is_over(&heading(self.machine.pointing(), call))
+        self.ways.is_over(&heading(self.base.pointing(), call))
     }
 
     // The targets that aren't hidden in the look of this call or, if the call is no look, in the last look (number 0 before the
@@ -181,6 +180,36 @@ impl SceneInstrument {
     {
         let look = look_of(self.ways.aims, self.looks, call);
         seen(self.is_over_for(call), look, self.prisms.as_slice())
+    }
+
+    // Carries out a call with the instrument's ways, over the targets of `seen_by`, and returns the return code. An answer is written into
+    // `answer`, which stays `Answer::Nothing` if there is none.
+    fn act_over_seen(&mut self, call: &Call, answer: &mut Answer) -> u16
+        requires { answer.old ≡ Nothing }
+        ensures gives { Reports (outcome self.old call.now) result answer.new }
+        ensures state { self.new ≡ record self.old { base = seeing self.old.base.scene (outcome self.old call.now).state } }
+    {
+        let now = self.shown();
+        let targets = self.seen_by(call);
+        self.base.set_scene(&targets);
+        act(&mut self.base, &self.ways, now, call, answer)
+    }
+
+    // Notes that a call was carried out in this look and had this return code, where the telescope had pointed `there`, in face II if `over`:
+    // the look counts, after a measurement each target that isn't hidden and lies exactly there has moved by its drift, and setting the
+    // date may start the clock.
+    fn note_act(&mut self, over: bool, look: u32, there: &Pointing, call: &Call, rc: u16)
+        ensures { self.new ≡ record self.old {
+          prisms = if is_measurement call.now then drifted over look there.now self.old.prisms else self.old.prisms;
+          looks = look;
+          clock = clock_after self.old.ways.clock self.old.moment call.now rc self.old.clock;
+        } }
+    {
+        if is_measurement(call) {
+            self.prisms = drifted(over, look, there, self.prisms.as_slice());
+        }
+        self.looks = look;
+        self.clock = clock_after(self.ways.clock, self.moment, call, rc, self.clock);
     }
 
     /// Executes a call that no fault answers, and returns the return code. An answer is written into `answer`, which stays
@@ -193,18 +222,10 @@ impl SceneInstrument {
         ensures state { self.new ≡ record (after_call self.old call.now (outcome self.old call.now)) { noise = self.old.noise } }
     {
         let look = look_of(self.ways.aims, self.looks, call);
-        let there = self.machine.pointing();
+        let there = self.base.pointing();
         let over = self.is_over_for(call);
-        let targets = self.seen_by(call);
-        let now = self.shown();
-        let rc = self
-            .machine
-            .act(&self.ways, now, call, targets.as_slice(), answer);
-        if is_measurement(call) {
-            self.prisms = drifted(over, look, &there, self.prisms.as_slice());
-        }
-        self.looks = look;
-        self.clock = clock_after(self.ways.clock, self.moment, call, rc, self.clock);
+        let rc = self.act_over_seen(call, answer);
+        self.note_act(over, look, &there, call, rc);
         rc
     }
 
@@ -225,8 +246,8 @@ impl SceneInstrument {
         ensures { result ≡ known_distance self.now call.now }
     {
         match call {
-            Call::SimpleMea { .. } => self.machine.distance(),
-            _ => self.machine.distance_at(self.seen_by(call).as_slice()),
+            Call::SimpleMea { .. } => self.base.distance(),
+            _ => distance_at(&self.base.pointing(), self.seen_by(call).as_slice()),
         }
     }
 
@@ -241,6 +262,24 @@ impl SceneInstrument {
             noise.disturb(answer);
         }
     }
+}
+
+// An instrument with this serial number, this name and no targets, in the opening state.
+fn without_targets(serial: i32, name: Text) -> Instrument
+    ensures { result ≡ opening serial name [] }
+{
+    match Instrument::new(serial, name, &[]) {
+        Ok(instrument) => instrument,
+        // More than 32 targets are refused, and nothing else; here are none.
+        Err(_) => unreachable!(),
+    }
+}
+
+// The distance, in metres, of the first of these targets that lies exactly `there`, where the telescope points. `None`: none does.
+fn distance_at(there: &Pointing, targets: &[Target]) -> Option<Decimal>
+    ensures { result ≡ option_map (λ t. t.distance) (first_at there.now targets.now) }
+{
+    first_at(there, targets).map(|target| target.distance)
 }
 
 // Whether the call measures a distance. TMC_GetSimpleMea doesn't: it answers the one that was measured last.
@@ -303,9 +342,7 @@ fn clock_after(runs: bool, moment: u64, call: &Call, rc: u16, clock: Option<Cloc
 fn look_of(aims: bool, looks: u32, call: &Call) -> u32
     ensures { result ≡ look_of aims looks call.now }
 {
-    if is_measurement(call) {
-        looks.saturating_add(1)
-    } else if is_search(aims, call) {
+    if is_measurement(call) || is_search(aims, call) {
         looks.saturating_add(1)
     } else {
         looks

@@ -9,7 +9,6 @@ mod clock;
 mod delay;
 mod instrument;
 pub mod laws;
-mod machine;
 mod replying;
 mod rules;
 mod ruling;

@@ -3,12 +3,11 @@
 ghost use Rattle.std.specs.Prelude.{◌≡◌, ◌≢◌, ◌<◌, ◌≤◌, ◌+◌, ◌++◌, ℕ, List, Option, Some, None, length, unwrap_or, IfSome};
 ghost use Rattle.std.specs.Option.{ForSome, option_map};
 ghost use Rattle.arrayvec.specs.ArrayVec.{array_vec_len};
-ghost use Rattle.gc_lines.specs.Answering.{AppendsAnswer, AppendsText};
-ghost use Rattle.gc_lines.specs.Requests.{request_seen};
+ghost use Rattle.gc_lines.specs.Answering.{AppendsAnswer};
 ghost use Rattle.gc_instrument.specs.Replying.{Handed};
 ghost use Rattle.gc_catalogue.specs.Texts.{reply_line};
 ghost use Rattle.gc_scenes.specs.SceneExecution.{Played, answer_or_values, plays, unless_faulted, warned};
-ghost use Rattle.gc_scenes.specs.SceneReplying.{IsPlayed, AnswersRequest, IsHanded, resent_line, executed_reply_line, handed_call, handed_raw, handed_unexecuted, played_line, line_with, kept_if_repeating, holding};
+ghost use Rattle.gc_scenes.specs.SceneReplying.{IsPlayed, IsHanded, resent_line, executed_reply_line, handed_call, handed_raw, handed_unexecuted, played_line, line_with, kept_if_repeating, holding};
 ghost use Rattle.gc_scenes.specs.Appending.{AppendsHanded, AppendsPlayed};
 
 use crate::beside::push_reply_with_values;
@@ -16,8 +15,8 @@ use crate::instrument::SceneInstrument;
 use crate::ways::is_warning;
 use arrayvec::ArrayVec;
 use gc_catalogue::{Answer, Call, CallFault, decode_call_into, encode_answer_onto};
-use gc_instrument::{UNKNOWN_PROCEDURE, WRONG_PARAMETERS};
-use gc_lines::{Line, Request, append, push_reply, read_request};
+use gc_instrument::{Replies, UNKNOWN_PROCEDURE, WRONG_PARAMETERS, reply_to_line};
+use gc_lines::{Request, append, push_reply};
 use gc_values::Decimal;
 
 // The size of the buffer in which a line is put together before it is appended, in bytes.
@@ -27,58 +26,22 @@ impl SceneInstrument {
     ghost use Rattle.gc_catalogue.specs.declared.call.Call.{Call};
     ghost use Rattle.gc_catalogue.specs.declared.answer.Answer.TheVariants.{Nothing};
 
-    /// The reply to a line, without CR LF. `None`: the line is no request. The reply is that of the simulator, but for the
-    /// scene's rules and the instrument's ways: a request that a fault answers is not executed, a hidden target isn't found, and
-    /// a procedure that isn't in the catalogue gets the code of a fault or the scene's reply, if there is one, in place of the
-    /// communication code 3081.
+    /// Appends the reply to a line to `out`, without CR LF, and returns `true`. If the line is no request, it returns `false`, and `out`
+    /// and the instrument are unchanged.
+    ///
+    /// The reply is that of the simulator, but for the scene's rules and the instrument's ways: a request that a fault answers is not
+    /// executed, a hidden target isn't found, and a procedure that isn't in the catalogue gets the code of a fault or the scene's reply, if
+    /// there is one, in place of the communication code 3081.
     ///
     /// If the instrument repeats, the reply to a request with an id is stored, also if the request wasn't executed; and a request with the
     /// stored id gets the stored reply again, and changes nothing. Neither holds of a request that is refused with a communication code
     /// (3080 or 3081).
-    #[tactic(auto, using(crate::proofs::Playing::played_alone))]
-    pub fn on_line(&mut self, line: &Line) -> Option<Line>
-        ensures { IsPlayed self.old line.now.items self.new (option_map (λ r. r.items) result) }
-    {
-        let mut reply = Line::new();
-        if self.reply_onto(line.as_slice(), &mut reply) {
-            Some(reply)
-        } else {
-            None
-        }
-    }
-
-    /// Appends the reply to a line to `out`, without CR LF, and returns `true`. If the line is no request, it returns `false`, and `out`
-    /// and the instrument are unchanged.
     pub fn reply_onto<const N: usize>(&mut self, line: &[u8], out: &mut ArrayVec<u8, N>) -> bool
         requires { array_vec_len out.old + 512 ≤ N }
         ensures played { AppendsAnswer (IsPlayed self.old line.now self.new) out.old.items out.new.items result }
         ensures bound { length out.new.items ≤ length out.old.items + 512 }
     {
-        match read_request(line) {
-            Ok(request) => {
-                self.reply_to(&request, out);
-                true
-            }
-            Err(_) => false,
-        }
-    }
-
-    // Appends the reply to a request. Parameters that can't be read are refused with the communication code 3080: then the instrument stays
-    // as it is, and no fault counts the request.
-    fn reply_to<const N: usize>(&mut self, request: &Request<'_>, out: &mut ArrayVec<u8, N>)
-        requires id { ForSome request.now.id (λ id. id < 8) }
-        requires room { array_vec_len out.old + 512 ≤ N }
-        ensures replies { AppendsText (AnswersRequest self.old (request_seen request.now) self.new) out.old.items out.new.items }
-        ensures bound { length out.new.items ≤ length out.old.items + 512 }
-    {
-        let mut call = Call::NullProc;
-        match decode_call_into(request, &mut call) {
-            Ok(()) => self.answer_call(request.rpc, request.id, &call, out),
-            Err(CallFault::Unknown) => self.answer_raw(request.rpc, request.id, out),
-            Err(CallFault::Parameters(_)) => {
-                push_reply(out, WRONG_PARAMETERS, request.id.unwrap_or(0), 0)
-            }
-        }
+        reply_to_line(self, line, out)
     }
 
     // The stored line that answers a request with this id, if the instrument repeats. `None`: `id` is `None`, no line is stored
@@ -88,7 +51,7 @@ impl SceneInstrument {
         ensures within { IfSome result (λ r. length r.now ≤ 512) }
     {
         if self.repeats {
-            self.machine.line_of(id)
+            self.kept.line_of(id)
         } else {
             None
         }
@@ -101,9 +64,9 @@ impl SceneInstrument {
         ensures { self.new ≡ holding (kept_if_repeating self.old id line.now) self.old }
     {
         if self.repeats {
-            self.machine.keep(id, line);
+            self.kept.keep(id, line);
         } else {
-            self.machine.forget();
+            self.kept.forget();
         }
     }
 
@@ -222,8 +185,8 @@ impl SceneInstrument {
         ensures bound { length out.new.items ≤ length out.old.items + 512 }
     {
         if self.ways.values && is_warning(rc) {
-            let there = self.machine.pointing();
-            let places = self.machine.precision();
+            let there = self.base.pointing();
+            let places = self.base.precision();
             push_reply_with_values(out, id, rc, &there, call, distance, places);
         } else {
             self.answer_onto(id, rc, answer, out);
@@ -247,7 +210,7 @@ impl SceneInstrument {
         ensures bound { length out.new.items ≤ length out.old.items + 512 }
     {
         let mut line: ArrayVec<u8, BUFFER> = ArrayVec::new();
-        encode_answer_onto(&mut line, id, rc, answer, self.machine.precision());
+        encode_answer_onto(&mut line, id, rc, answer, self.base.precision());
         append(out, line.as_slice());
     }
 
@@ -296,6 +259,25 @@ impl SceneInstrument {
         self.count(rpc);
         push_reply_with(id.unwrap_or(0), rc, params, out);
         self.keep(id, &out[start..]);
+    }
+}
+
+impl<const N: usize> Replies<N> for SceneInstrument {
+    ghost use Rattle.gc_scenes.specs.SceneReplying.{AnswersRequest};
+
+    ghost does = { AnswersRequest };
+
+    // Parameters that can't be read are refused with the communication code 3080: then the instrument stays as it is, and no fault counts
+    // the request.
+    fn reply_to(&mut self, request: &Request<'_>, out: &mut ArrayVec<u8, N>) {
+        let mut call = Call::NullProc;
+        match decode_call_into(request, &mut call) {
+            Ok(()) => self.answer_call(request.rpc, request.id, &call, out),
+            Err(CallFault::Unknown) => self.answer_raw(request.rpc, request.id, out),
+            Err(CallFault::Parameters(_)) => {
+                push_reply(out, WRONG_PARAMETERS, request.id.unwrap_or(0), 0)
+            }
+        }
     }
 }
 

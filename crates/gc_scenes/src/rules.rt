@@ -10,7 +10,7 @@ use gc_instrument::Target;
 use gc_values::Decimal;
 
 /// What is added to a target: to its horizontal direction and its vertical angle, in radians, and to its distance, in metres.
-#[derive(Clone, Copy, Debug, PartialEq, Eq)]
+#[derive(Clone, Copy)]
 pub struct Offset {
     pub hz: Decimal,
     pub v: Decimal,
@@ -20,7 +20,7 @@ pub struct Offset {
 /// A target of a scene: where it is; the offset by which it moves at each measurement with the telescope pointing exactly at it
 /// (`None`: it never moves); and the looks in which it is hidden and doesn't move: those from number `from` to `to`. A look is a
 /// measurement or a search; looks are counted from 1. A target that is never hidden has 1 and 0.
-#[derive(Clone, Copy, Debug, PartialEq, Eq)]
+#[derive(Clone, Copy)]
 pub struct Prism {
     pub at: Target,
     pub drift: Option<Offset>,
@@ -31,7 +31,7 @@ pub struct Prism {
 /// A procedure whose requests are answered with a return code, and do nothing: `times` of them, after the first `after`, but for
 /// those that an earlier fault of the scene answers. `met` counts its requests, up to 2^32 - 1, but none that gets the stored
 /// reply again or has parameters that can't be read.
-#[derive(Clone, Copy, Debug, PartialEq, Eq)]
+#[derive(Clone, Copy)]
 pub struct Fault {
     pub rpc: u16,
     pub rc: u16,
@@ -43,7 +43,7 @@ pub struct Fault {
 
 /// The reply to a procedure that isn't in the table: its number, the return code, and parameters of at most 490 bytes, which are
 /// those of a request `with` of that procedure (`None`: the reply has no parameters).
-#[derive(Clone, Copy, Debug, PartialEq, Eq)]
+#[derive(Clone, Copy)]
 pub struct Scripted {
     pub rpc: u16,
     pub rc: u16,
@@ -53,7 +53,7 @@ pub struct Scripted {
 }
 
 /// What a scene says of its instrument besides the serial number and the name: at most 32 targets, 32 faults and 16 replies.
-#[derive(Debug, Drop)]
+#[derive(Drop)]
 pub struct SceneRules {
     /// The targets.
     pub prisms: ArrayVec<Prism, 32>,
@@ -70,7 +70,7 @@ pub struct SceneRules {
 
 /// The most by which an answer with angles and a distance deviates, either way, in radians and metres, and the generator's last
 /// number, or, before the first such answer, the number from which the generator starts.
-#[derive(Clone, Copy, Debug, PartialEq, Eq)]
+#[derive(Clone, Copy)]
 pub struct Noise {
     pub hz: Decimal,
     pub v: Decimal,

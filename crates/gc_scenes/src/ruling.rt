@@ -144,9 +144,7 @@ impl Prism {
             None => *self,
             Some(offset) => Prism {
                 at: offset.applied_to(&self.at),
-                drift: self.drift,
-                from: self.from,
-                to: self.to,
+                ..*self
             },
         }
     }
@@ -238,10 +236,8 @@ impl Noise {
         if is_measured(answer) {
             let (_, _, third) = self.next_three_numbers();
             Noise {
-                hz: self.hz,
-                v: self.v,
-                distance: self.distance,
                 seed: third,
+                ..*self
             }
         } else {
             *self

@@ -4,25 +4,17 @@ ghost use Rattle.gc_lines.specs.Answering.{ports_of};
 ghost use Rattle.gc_scenes.specs.SceneServing.{IsSceneServing};
 
 use crate::instrument::SceneInstrument;
-use gc_lines::{Answers, Lent, Outgoing, ServeFault, Served, Sink, Source, answer_frames, append};
+use gc_instrument::answer_frame;
+use gc_lines::{Answers, Lent, Outgoing, ServeFault, Served, Sink, Source, answer_frames};
 
-// The instrument answers frames as the simulator does (`Answers` for `Instrument` in gc_instrument), and returns whether there is
-// a reply. The two bodies aren't shared: that one is in the loop of `geocom exec`, where a second caller can end inlining.
+// The instrument answers a line that is a request by its reply and CR LF, and every other frame by nothing.
 impl Answers for SceneInstrument {
     ghost use Rattle.gc_scenes.specs.SceneServing.{PlaysFrame};
 
     ghost answers = { PlaysFrame };
 
-    #[tactic(auto, using(crate::proofs::Playing::answered_line, crate::proofs::Playing::unanswered_line))]
     fn answer(&mut self, frame: Lent<'_>, text: &mut Outgoing) -> bool {
-        let Lent::Line(line) = frame else {
-            return false;
-        };
-        if !self.reply_onto(line, text) {
-            return false;
-        }
-        append(text, b"\r\n");
-        true
+        answer_frame(self, frame, text)
     }
 }
 

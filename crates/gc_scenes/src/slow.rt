@@ -15,7 +15,7 @@ use std::marker::Model;
 
 /// The instrument of a scene, whose replies to some procedures take time. Until a reply goes out it is busy: lines that come then wait in
 /// order, or are discarded. Moments are milliseconds on one clock.
-#[derive(Debug, Drop)]
+#[derive(Drop)]
 pub struct SlowInstrument {
     scene: SceneInstrument,
     delays: ArrayVec<Delay, 32>,

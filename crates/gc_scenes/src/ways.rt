@@ -3,10 +3,10 @@
 ghost use Rattle.std.specs.Prelude.{◌≡◌, ◌≤◌, ◌*◌, ◌^◌, ◌-ℤ◌, List, unsigned_abs};
 ghost use Rattle.gc_values.specs.Decimals.{units};
 ghost use Rattle.gc_values.specs.Directions.{half_turn};
-ghost use Rattle.gc_scenes.specs.Ways.{no_ways, with_way, is_in_face_two, other_hz, other_v, target_in_face, is_over, on_circle, apart, nearer, nearest, is_warning, has_distance};
+ghost use Rattle.gc_scenes.specs.Ways.{no_ways, with_way, is_in_face_two, face_at, other_hz, other_v, target_in_face, is_over, on_circle, apart, nearer, nearest, is_warning, has_distance};
 
 use crate::shifting::shifted;
-use gc_instrument::{NO_DISTANCE, Pointing, Target};
+use gc_instrument::{Face, NO_DISTANCE, Pointing, Target};
 use gc_values::Decimal;
 
 // Half a turn, pi to 24 places, in units of 10^-24 radians: the same number as in `gc_values`, whose code compares directions.
@@ -36,7 +36,7 @@ const ANGLES_UNCORRECTED: u16 = 1288;
 const ANGLES_UNGUARANTEED: u16 = 1289;
 
 /// Which ways of real instruments a scene's instrument has.
-#[derive(Clone, Copy, Debug, PartialEq, Eq)]
+#[derive(Clone, Copy)]
 pub struct Ways {
     /// In face II the telescope has other angles, and meets targets there; a face change turns it to them.
     pub faces: bool,
@@ -51,7 +51,7 @@ pub struct Ways {
 }
 
 /// One of the ways of [`Ways`], or all of them.
-#[derive(Clone, Copy, Debug, PartialEq, Eq)]
+#[derive(Clone, Copy)]
 pub enum Way {
     Faces,
     Aims,
@@ -108,11 +108,22 @@ impl Ways {
     }
 }
 
-/// Whether a vertical angle is one of face II: greater than half a turn.
-pub(crate) fn is_in_face_two(v: &Decimal) -> bool
+// Whether a vertical angle is one of face II: greater than half a turn.
+fn is_in_face_two(v: &Decimal) -> bool
     ensures { result ≡ is_in_face_two v.now }
 {
     !(v.units() <= HALF_TURN)
+}
+
+/// The face of the telescope at this vertical angle.
+pub(crate) fn face_at(v: &Decimal) -> Face
+    ensures { result ≡ face_at v.now }
+{
+    if is_in_face_two(v) {
+        Face::Turned
+    } else {
+        Face::Normal
+    }
 }
 
 /// The horizontal direction in the other face: half a turn less if it is at least half a turn, and else half a turn more. What would leave

@@ -20,6 +20,7 @@ use Rattle.gc_station.specs.declared.progress.Action.{Action}
 use Rattle.gc_station.specs.declared.progress.Action.TheVariants as actions
 use Rattle.gc_station.specs.declared.progress.Progress.{Progress}
 use Rattle.gc_station.specs.declared.progress.Until.{Until}
+use Rattle.gc_station.specs.declared.progress.Upcoming.{Upcoming}
 use Rattle.gc_links.specs.Acts.{Act, Told, Untold, Put, Cut, Gave, Silent, Ended, Broke, Closed, Opened, Unopened}
 use Rattle.gc_station.specs.Answers.{ReadsBefore, first_deadline, deadline_after, AnswerIsJustified}
 use Rattle.gc_station.specs.Ends.{LateIsJustified, LostIsJustified}
@@ -32,7 +33,7 @@ use Rattle.gc_station.specs.Records.{Record}
 use Rattle.gc_station.specs.Runs.{state_after}
 use Rattle.gc_station.specs.ActKinds.{Puts, ReadsClock, IsOpening, IsReading}
 use Rattle.gc_station.specs.Model.{Model, opening, action_at, waiting_of, request_text, null_text, first_text, with_progress, is_heard, client_sent, asks_null, asks_first, asks_next, after_pass, with_more_passes, next_left_out, with_listed, listed_after_skip, with_more_records, unsent_record, first_unsent_record, after_clock, after_put, after_open, after_read, Performs, moved, Runs, cycle_length, place_to_send, text_or_null, asks_or_null, asks_setup}
-use Rattle.gc_station.specs.NextCommand.{mark_next, place_next, is_chained_after_next, others_after_next, is_chained_after, others_after, mark_setup}
+use Rattle.gc_station.specs.NextCommand.{mark_next, place_next, upcoming_after, mark_setup}
 use Rattle.gc_station.proofs.EachRun.{invariant_holds}
 use Rattle.gc_station.proofs.Outs.{prepare_cycle, prepare_place, send_cycle, send_place, sending_asks}
 use Rattle.gc_station.proofs.Facts.{action_for}
@@ -157,12 +158,12 @@ module _ (plan : Plan) (commands : List Task) (scope : Scope) (acts : List Act) 
 
   -- an act that sends the first of the commands `left`, those from the next one on, with the mark of that one (`Marked`) and with
   -- room for it, preserves `IsHonest`
-  first_honest : (act : Act) (next_is_chained : Bool) (next_others : ℕ) (left : List Task) (mark : Mark) → Invariant plan commands here → HonestBefore act here
+  first_honest : (act : Act) (next : Upcoming) (left : List Task) (mark : Mark) → Invariant plan commands here → HonestBefore act here
       → (marked : Marked plan commands scope acts mark) → (room : length here.client.waiting < 7) → (there : drop (place_to_send plan commands here) commands ≡ left)
       → (puts : Puts (first_text mark.sent here.client left) act)
-      → HonestAfter act (with_progress (sent next_is_chained next_others) (asks_first mark left (with_progress turned here)))
-  first_honest act next_is_chained next_others [] mark fine h is room at puts = honest_untold plan commands scope acts act _ _ _ (puts_still [] act puts) h
-  first_honest act next_is_chained next_others (task ∷ others) mark fine h is room at puts =
+      → HonestAfter act (with_progress (sent next) (asks_first mark left (with_progress turned here)))
+  first_honest act next [] mark fine h is room at puts = honest_untold plan commands scope acts act _ _ _ (puts_still [] act puts) h
+  first_honest act next (task ∷ others) mark fine h is room at puts =
       let s = here in
       let limit = deadline_after plan commands scope acts in
       let d : later s.progress.moment.elapsed task.deadline ≡ limit = ap (λ (left : List Task). later s.progress.moment.elapsed (first_deadline left)) (sym at) in
@@ -199,7 +200,8 @@ module _ (plan : Plan) (commands : List Task) (scope : Scope) (acts : List Act) 
       → (room : length here.client.waiting < 7) → (there : drop (place_to_send plan commands here) commands ≡ left) → (puts : Puts (text_or_null mark.sent here.client left) act)
       → HonestAfter act (with_progress (setup_sent plan) (asks_or_null plan mark left (with_progress turned here)))
   setup_honest act [] mark fine h is room at puts = null_honest act (setup_sent plan) fine h room (λ above. sending_asks plan here is.sends) puts
-  setup_honest act (task ∷ others) mark fine h is room at puts = first_honest act false 0 (task ∷ others) mark fine h is room at puts
+  setup_honest act (task ∷ others) mark fine h is room at puts =
+      first_honest act (record { is_chained = false; others = 0 }) (task ∷ others) mark fine h is room at puts
 
   -- Each action.
 
@@ -214,7 +216,7 @@ module _ (plan : Plan) (commands : List Task) (scope : Scope) (acts : List Act) 
   pass_honest (Told m) s h o =
       let p = turned s.progress in
       let n = p.next_others in
-      clock_honest (Told m) (λ m p'. early_noted plan (commands_in s.marks) (attempts_left_out (is_chained_after n commands p) (others_after n commands p) m p'))
+      clock_honest (Told m) (λ m p'. early_noted plan (commands_in s.marks) (attempts_left_out (upcoming_after n commands p) m p'))
       (with_more_passes (next_left_out plan commands p) s) (record { waiting = h.waiting; written = h.written }) o
   pass_honest Untold s h o = clock_honest Untold (λ m p. p) s h o
   pass_honest act s h o = absurd o
@@ -263,15 +265,15 @@ module _ (plan : Plan) (commands : List Task) (scope : Scope) (acts : List Act) 
   moved_honest actions.Send act tail fine h is needs o ends =
       let s = here in
       put_honest plan commands scope (acts ++ act ∷ []) _
-      (λ (x : Model). with_progress (sent (is_chained_after_next commands x.progress) (others_after_next commands x.progress)) (asks_next plan commands x))
+      (λ (x : Model). with_progress (sent (upcoming_after 1 commands x.progress)) (asks_next plan commands x))
       (with_progress turned s) act
-      (first_honest act (is_chained_after_next commands s.progress) (others_after_next commands s.progress)
+      (first_honest act (upcoming_after 1 commands s.progress)
       (drop (place_next commands s.progress) commands) (mark_next plan commands s.progress) fine h
       (record { sends = inl is; cycle = sym (send_cycle plan s is); place = sym (send_place plan commands s is); sent = refl }) needs.3.1
       (ap (λ n. drop n commands) (send_place plan commands s is)) o)
   moved_honest actions.Skip act tail fine h is needs o ends =
       let s = here in
-      clock_honest act (λ m p. early_noted plan (commands_in s.marks) (skipped (is_chained_after_next commands s.progress) (others_after_next commands s.progress) m p))
+      clock_honest act (λ m p. early_noted plan (commands_in s.marks) (skipped (upcoming_after 1 commands s.progress) m p))
       (with_listed (listed_after_skip plan commands (with_progress turned s) act) (with_more_records (unsent_record plan commands s.progress act) s))
       (record {
         waiting = h.waiting;

@@ -1,4 +1,4 @@
--- The turns of a station's parts, and which ids of the word they leave. A part reaches from one synchronization to the next.
+-- The steps of synchronizations in a station's parts, and which ids of the word they leave. A part reaches from one synchronization to the next.
 -- The word is the ids of a synchronization's null procedures, and what is left of it are those that aren't answered yet;
 -- `the_word` is all eight. `AreBegun word parts`: the lines of each part but the last answered all ids of its synchronization,
 -- `word` for the first part and all eight for each later one; and the last part did so, too, or has no step of the client. An
@@ -17,7 +17,7 @@ use Rattle.gc_station.specs.Beginnings.{lines_heard_at, unanswered_after}
 use Rattle.gc_station.specs.Begun.{AreBegun, heard_in}
 use Rattle.gc_station.specs.Deciding.{has_begun, is_none_left}
 use Rattle.gc_station.specs.Parts as part
-use Rattle.gc_station.specs.Parts.{Part, only_turns, sync_part, client_part, in_front, parts_of}
+use Rattle.gc_station.specs.Parts.{Part, only_sync_steps, sync_part, client_part, in_front, parts_of}
 use Rattle.gc_station.specs.Progressing.{is_over, loses_all}
 use Rattle.gc_station.specs.Model.{Performs, Runs, Model, after, is_heard, lines_completed, action_at}
 use Rattle.gc_station.specs.NextCommand.{mark_next, place_next, mark_setup}
@@ -26,10 +26,10 @@ use Rattle.gc_station.proofs.Midway.{none_lost_parts}
 use Rattle.gc_station.proofs.Turns.{no_act_once_over}
 use Rattle.gc_station.proofs.Words.{left_none}
 
--- What is heard among turns.
+-- What is heard among steps of a synchronization.
 
--- the lines of two lists of turns, one after the other, are those of the first and then those of the second
-pub heard_append : (xs ys : List part.Turn) → heard_in (xs ++ ys) ≡ heard_in xs ++ heard_in ys
+-- the lines of two lists of steps, one after the other, are those of the first and then those of the second
+pub heard_append : (xs ys : List part.SyncStep) → heard_in (xs ++ ys) ≡ heard_in xs ++ heard_in ys
 heard_append [] ys = refl
 heard_append (part.Asks ∷ xs) ys = heard_append xs ys
 heard_append (part.Hears line ∷ xs) ys = ap (λ l. line ∷ l) (heard_append xs ys)
@@ -39,7 +39,7 @@ pub left_append : (word : List ℕ) (xs ys : List (List ℕ)) → unanswered_aft
 left_append word [] ys = refl
 left_append word (line ∷ xs) ys = left_append (left_by word (heard line)) xs ys
 
--- the turns that hear `lines`, one turn for each line, hear these lines and no others
+-- the steps that hear `lines`, one step for each line, hear these lines and no others
 heard_lines : (lines : List (List ℕ)) → heard_in (map part.Hears lines) ≡ lines
 heard_lines [] = refl
 heard_lines (line ∷ lines) = ap (λ l. line ∷ l) (heard_lines lines)
@@ -51,14 +51,14 @@ pub word_empty : (w : List ℕ) → is_none_left w ≡ true → w ≡ []
 word_empty [] e = refl
 word_empty (asked ∷ others) e = cc
 
--- the lines heard by the turns of a piece are its lines if it is heard, and none if it is discarded
+-- the lines heard by the steps of a piece are its lines if it is heard, and none if it is discarded
 heard_piece : (heard : Bool) (lines : List (List ℕ)) → heard_in (if heard then map part.Hears lines else []) ≡ (if heard then lines else [])
 heard_piece true lines = heard_lines lines
 heard_piece false lines = refl
 
--- if an act performs the action o, the lines in the turns of the act's part of a synchronization (`sync_part`) are those that the
+-- if an act performs the action o, the lines in the steps of the act's part of a synchronization (`sync_part`) are those that the
 -- station hears at the act
-heard_by : (commands : List Task) (s : Model) (o : Action) (act : Act) → Performs commands s o act → heard_in (sync_part s o act).turns ≡ lines_heard_at s act
+heard_by : (commands : List Task) (s : Model) (o : Action) (act : Act) → Performs commands s o act → heard_in (sync_part s o act).sync_steps ≡ lines_heard_at s act
 heard_by commands s action.Ask (Put bytes) obeys = refl
 heard_by commands s action.Ask (Cut bytes count) obeys = refl
 heard_by commands s (action.Read until) (Gave piece m) obeys = heard_piece (is_heard s.progress.phase) (lines_completed s.rest piece)
@@ -66,13 +66,13 @@ heard_by commands s (action.Close why) (Gave piece m) obeys = cc
 heard_by commands s o (Gave piece m) obeys = absurd obeys
 heard_by commands s o act obeys = refl
 
--- the turns of a read that gave `piece`, in its part of a synchronization (`sync_part`), are the lines of the piece if it is
+-- the steps of a read that gave `piece`, in its part of a synchronization (`sync_part`), are the lines of the piece if it is
 -- heard, and none if it is discarded
-pub turns_gave : (commands : List Task) (s : Model) (o : Action) (piece : List ℕ) (m : Moment) → Performs commands s o (Gave piece m)
-    → (sync_part s o (Gave piece m)).turns ≡ (if is_heard s.progress.phase then map part.Hears (lines_completed s.rest piece) else [])
-turns_gave commands s (action.Read until) piece m obeys = refl
-turns_gave commands s (action.Close why) piece m obeys = cc
-turns_gave commands s o piece m obeys = absurd obeys
+pub sync_steps_gave : (commands : List Task) (s : Model) (o : Action) (piece : List ℕ) (m : Moment) → Performs commands s o (Gave piece m)
+    → (sync_part s o (Gave piece m)).sync_steps ≡ (if is_heard s.progress.phase then map part.Hears (lines_completed s.rest piece) else [])
+sync_steps_gave commands s (action.Read until) piece m obeys = refl
+sync_steps_gave commands s (action.Close why) piece m obeys = cc
+sync_steps_gave commands s o piece m obeys = absurd obeys
 
 -- the act puts no bytes, and gives none
 abbrev pub CarriesNoBytes : Act → Type 0
@@ -81,91 +81,91 @@ CarriesNoBytes (Cut bytes count) = ⊥
 CarriesNoBytes (Gave piece m) = ⊥
 CarriesNoBytes act = Unit {0}
 
--- an act that puts and gives no bytes makes no turn
-pub turns_none : (s : Model) (o : Action) (act : Act) → CarriesNoBytes act → (sync_part s o act).turns ≡ []
-turns_none s action.Ask (Put bytes) h = absurd h
-turns_none s action.Ask (Cut bytes count) h = absurd h
-turns_none s (action.Read until) (Gave piece m) h = absurd h
-turns_none s o act h = refl
+-- an act that puts and gives no bytes makes no step of a synchronization
+pub sync_steps_none : (s : Model) (o : Action) (act : Act) → CarriesNoBytes act → (sync_part s o act).sync_steps ≡ []
+sync_steps_none s action.Ask (Put bytes) h = absurd h
+sync_steps_none s action.Ask (Cut bytes count) h = absurd h
+sync_steps_none s (action.Read until) (Gave piece m) h = absurd h
+sync_steps_none s o act h = refl
 
 module _ (plan : Plan) (commands : List Task) where
   -- after an act while the station synchronizes, the ids that are left are those that the lines of the act leave
-  pub word_after_turns : (s : Model) (act : Act) → Performs commands s (action_at plan s) act → has_begun s.progress ≡ false
-      → (after plan commands s act).progress.word ≡ unanswered_after s.progress.word (heard_in (sync_part s (action_at plan s) act).turns)
-  word_after_turns s act obeys begins = word_after plan commands s act obeys begins ∙ ap (λ l. unanswered_after s.progress.word l) (sym (heard_by commands s (action_at plan s) act obeys))
+  pub word_after_sync_steps : (s : Model) (act : Act) → Performs commands s (action_at plan s) act → has_begun s.progress ≡ false
+      → (after plan commands s act).progress.word ≡ unanswered_after s.progress.word (heard_in (sync_part s (action_at plan s) act).sync_steps)
+  word_after_sync_steps s act obeys begins = word_after plan commands s act obeys begins ∙ ap (λ l. unanswered_after s.progress.word l) (sym (heard_by commands s (action_at plan s) act obeys))
 
 -- Each part synchronizes first.
 
--- the part of an act while the station synchronizes has only turns
-pub sync_part_only_turns : (s : Model) (o : Action) (act : Act) → sync_part s o act ≡ only_turns (sync_part s o act).turns
-sync_part_only_turns s action.Ask (Put bytes) = refl
-sync_part_only_turns s action.Ask (Cut bytes count) = refl
-sync_part_only_turns s action.Ask act = refl
-sync_part_only_turns s (action.Read until) (Gave piece m) = refl
-sync_part_only_turns s (action.Read until) act = refl
-sync_part_only_turns s o act = refl
+-- the part of an act while the station synchronizes has only steps of the synchronization
+pub sync_part_only_sync_steps : (s : Model) (o : Action) (act : Act) → sync_part s o act ≡ only_sync_steps (sync_part s o act).sync_steps
+sync_part_only_sync_steps s action.Ask (Put bytes) = refl
+sync_part_only_sync_steps s action.Ask (Cut bytes count) = refl
+sync_part_only_sync_steps s action.Ask act = refl
+sync_part_only_sync_steps s (action.Read until) (Gave piece m) = refl
+sync_part_only_sync_steps s (action.Read until) act = refl
+sync_part_only_sync_steps s o act = refl
 
 -- the part of an act while the station synchronizes has no steps of the client
 pub steps_none : (s : Model) (o : Action) (act : Act) → (sync_part s o act).steps ≡ []
-steps_none s o act = ap (λ (p : Part). p.steps) (sync_part_only_turns s o act)
+steps_none s o act = ap (λ (p : Part). p.steps) (sync_part_only_sync_steps s o act)
 
 -- the part of an act while the station synchronizes has no marks
 pub marks_none : (s : Model) (o : Action) (act : Act) → (sync_part s o act).marks ≡ []
-marks_none s o act = ap (λ (p : Part). p.marks) (sync_part_only_turns s o act)
+marks_none s o act = ap (λ (p : Part). p.marks) (sync_part_only_sync_steps s o act)
 
 -- where two lists are empty, they are empty joined
 pub nil_both : {A : Type 0} (xs ys : List A) → xs ≡ [] → ys ≡ [] → xs ++ ys ≡ []
 nil_both [] ys e f = f
 nil_both (x ∷ xs) ys e f = cc
 
--- the first of these parts has no turns
-abbrev pub FirstHasNoTurns : List Part → Type 0
-FirstHasNoTurns [] = Unit {0}
-FirstHasNoTurns (p ∷ ps) = p.turns ≡ []
+-- the first of these parts has no steps of a synchronization
+abbrev pub FirstHasNoSyncSteps : List Part → Type 0
+FirstHasNoSyncSteps [] = Unit {0}
+FirstHasNoSyncSteps (p ∷ ps) = p.sync_steps ≡ []
 
--- what two lists of turns leave of a word is what the second leaves of what the first left
-left_both : (word : List ℕ) (xs ys : List part.Turn) → unanswered_after word (heard_in (xs ++ ys)) ≡ unanswered_after (unanswered_after word (heard_in xs)) (heard_in ys)
+-- what two lists of steps leave of a word is what the second leaves of what the first left
+left_both : (word : List ℕ) (xs ys : List part.SyncStep) → unanswered_after word (heard_in (xs ++ ys)) ≡ unanswered_after (unanswered_after word (heard_in xs)) (heard_in ys)
 left_both word xs ys = ap (λ l. unanswered_after word l) (heard_append xs ys) ∙ left_append word (heard_in xs) (heard_in ys)
 
 -- parts with p, which has no step of the client, joined to the front of the first one (or p alone, if there are none) have
 -- synchronized from `word` (`AreBegun`), if without p they have synchronized from the ids that the lines of p leave of `word`
-begun_in_front : (word : List ℕ) (p : Part) (ps : List Part) → p.steps ≡ [] → AreBegun (unanswered_after word (heard_in p.turns)) ps → AreBegun word (in_front p false ps)
+begun_in_front : (word : List ℕ) (p : Part) (ps : List Part) → p.steps ≡ [] → AreBegun (unanswered_after word (heard_in p.sync_steps)) ps → AreBegun word (in_front p false ps)
 begun_in_front word p [] e h = inl e
 begun_in_front word p (q ∷ []) e (inl f) = inl (nil_both p.steps q.steps e f)
-begun_in_front word p (q ∷ []) e (inr f) = inr (left_both word p.turns q.turns ∙ f)
-begun_in_front word p (q ∷ r ∷ ps) e h = (left_both word p.turns q.turns ∙ h.0, h.1)
+begun_in_front word p (q ∷ []) e (inr f) = inr (left_both word p.sync_steps q.sync_steps ∙ f)
+begun_in_front word p (q ∷ r ∷ ps) e h = (left_both word p.sync_steps q.sync_steps ∙ h.0, h.1)
 
 -- if the parts have synchronized with no id left (`AreBegun []`), they still have with p joined to the front of the first one;
 -- and so has p alone, if there are none
 begun_joined : (p : Part) (ps : List Part) → AreBegun [] ps → AreBegun [] (in_front p false ps)
-begun_joined p [] h = inr (left_none (heard_in p.turns))
-begun_joined p (q ∷ []) h = inr (left_none (heard_in (p.turns ++ q.turns)))
-begun_joined p (q ∷ r ∷ ps) h = (left_none (heard_in (p.turns ++ q.turns)), h.1)
+begun_joined p [] h = inr (left_none (heard_in p.sync_steps))
+begun_joined p (q ∷ []) h = inr (left_none (heard_in (p.sync_steps ++ q.sync_steps)))
+begun_joined p (q ∷ r ∷ ps) h = (left_none (heard_in (p.sync_steps ++ q.sync_steps)), h.1)
 
 -- where parts have synchronized from all eight ids, p and these parts after it have synchronized with no id left: p had
 -- synchronized already
 begun_with_more : (p : Part) (ps : List Part) → AreBegun the_word ps → AreBegun [] (p ∷ ps)
-begun_with_more p [] h = inr (left_none (heard_in p.turns))
-begun_with_more p (q ∷ ps) h = (left_none (heard_in p.turns), h)
+begun_with_more p [] h = inr (left_none (heard_in p.sync_steps))
+begun_with_more p (q ∷ ps) h = (left_none (heard_in p.sync_steps), h)
 
 -- if `loses_all` says that nothing is lost, the station has synchronized
 pub goes_begun : (t : Model) → loses_all t.progress ≡ false → has_begun t.progress ≡ true
 goes_begun t e = (none_lost_parts (has_begun t.progress) (is_over t.progress) e).0
 
--- with a part p without turns before the parts `ps` (`in_front`), the first part has no turns; if p is joined to the first of
+-- with a part p without steps of a synchronization before the parts `ps` (`in_front`), the first part has none; if p is joined to the first of
 -- `ps` (`ends` is false), that one has to have none either
-none_in_front : (p : Part) (ends : Bool) (ps : List Part) → p.turns ≡ [] → (ends ≡ false → FirstHasNoTurns ps) → FirstHasNoTurns (in_front p ends ps)
+none_in_front : (p : Part) (ends : Bool) (ps : List Part) → p.sync_steps ≡ [] → (ends ≡ false → FirstHasNoSyncSteps ps) → FirstHasNoSyncSteps (in_front p ends ps)
 none_in_front p true ps e h = e
 none_in_front p false [] e h = e
-none_in_front p false (q ∷ ps) e h = nil_both p.turns q.turns e (h refl)
+none_in_front p false (q ∷ ps) e h = nil_both p.sync_steps q.sync_steps e (h refl)
 
--- the part that sends the first of these commands has no turns; nor does it have any if there is no command
-none_asking : (now : ℕ) (mark : Mark) (tasks : List Task) → (part.first_request_part now mark tasks).turns ≡ []
+-- the part that sends the first of these commands has no steps of a synchronization; nor does it have any if there is no command
+none_asking : (now : ℕ) (mark : Mark) (tasks : List Task) → (part.first_request_part now mark tasks).sync_steps ≡ []
 none_asking now mark [] = refl
 none_asking now mark (task ∷ others) = refl
 
--- the part that sends the first of these commands of the setup, or a null procedure if there is none, has no turns
-none_setup : (plan : Plan) (now : ℕ) (mark : Mark) (tasks : List Task) → (part.request_or_null_part plan now mark tasks).turns ≡ []
+-- the part that sends the first of these commands of the setup, or a null procedure if there is none, has no steps of a synchronization
+none_setup : (plan : Plan) (now : ℕ) (mark : Mark) (tasks : List Task) → (part.request_or_null_part plan now mark tasks).sync_steps ≡ []
 none_setup plan now mark [] = refl
 none_setup plan now mark (task ∷ others) = refl
 
@@ -204,7 +204,7 @@ module _ (plan : Plan) (commands : List Task) where
         → AreBegun s.progress.word (in_front (if begun then client_part plan commands s (action_at plan s) act else sync_part s (action_at plan s) act) (begun && lost) ps)
     parts_begun_with false lost e f obeys runs h =
         begun_in_front s.progress.word (sync_part s (action_at plan s) act) ps (steps_none s (action_at plan s) act)
-        (subst (λ w. AreBegun w ps) (word_after_turns plan commands s act obeys e) h)
+        (subst (λ w. AreBegun w ps) (word_after_sync_steps plan commands s act obeys e) h)
     parts_begun_with true false e f obeys runs h =
         let p = client_part plan commands s (action_at plan s) act in
         let goes : has_begun t.progress ≡ true = goes_begun t f in
@@ -221,28 +221,28 @@ module _ (plan : Plan) (commands : List Task) where
   parts_begun s (act ∷ acts) runs =
       parts_begun_with s act acts (has_begun s.progress) (loses_all (after plan commands s act).progress) refl refl runs.0 runs.1 (parts_begun (after plan commands s act) acts runs.1)
 
-  -- Once the station has synchronized there are no turns.
+  -- Once the station has synchronized there are no steps of a synchronization.
 
-  -- the part of an action that puts bytes has no turns
-  none_putting : (s : Model) (o : Action) → (part.put_part plan commands s o).turns ≡ []
+  -- the part of an action that puts bytes has none
+  none_putting : (s : Model) (o : Action) → (part.put_part plan commands s o).sync_steps ≡ []
   none_putting s action.Flush = refl
   none_putting s action.Prepare = none_setup plan s.progress.moment.elapsed (mark_setup commands s.progress) (drop s.progress.prepared commands)
   none_putting s action.Send = none_asking s.progress.moment.elapsed (mark_next plan commands s.progress) (drop (place_next commands s.progress) commands)
   none_putting s o = refl
 
-  -- the part of an act once the station has synchronized has no turns
-  pub none_doing : (s : Model) (o : Action) (act : Act) → (client_part plan commands s o act).turns ≡ []
+  -- the part of an act once the station has synchronized has none
+  pub none_doing : (s : Model) (o : Action) (act : Act) → (client_part plan commands s o act).sync_steps ≡ []
   none_doing s o (Put bytes) = none_putting s o
   none_doing s o (Cut bytes count) = none_putting s o
   none_doing s o (Told m) = refl
   none_doing s o (Gave piece m) = refl
   none_doing s o act = refl
 
-  -- the first part of acts, once the station has synchronized, has no turns
-  pub no_turns : (s : Model) (acts : List Act) → has_begun s.progress ≡ true → FirstHasNoTurns (parts_of plan commands s acts)
-  no_turns s [] e = refl
-  no_turns s (act ∷ acts) e =
+  -- the first part of acts, once the station has synchronized, has none
+  pub no_sync_steps : (s : Model) (acts : List Act) → has_begun s.progress ≡ true → FirstHasNoSyncSteps (parts_of plan commands s acts)
+  no_sync_steps s [] e = refl
+  no_sync_steps s (act ∷ acts) e =
       let t = after plan commands s act in
       let o = action_at plan s in
-      subst (λ b. FirstHasNoTurns (in_front (if b then client_part plan commands s o act else sync_part s o act) (b && loses_all t.progress) (parts_of plan commands t acts))) (sym e)
-      (none_in_front (client_part plan commands s o act) (loses_all t.progress) (parts_of plan commands t acts) (none_doing s o act) (λ f. no_turns t acts (goes_begun t f)))
+      subst (λ b. FirstHasNoSyncSteps (in_front (if b then client_part plan commands s o act else sync_part s o act) (b && loses_all t.progress) (parts_of plan commands t acts))) (sym e)
+      (none_in_front (client_part plan commands s o act) (loses_all t.progress) (parts_of plan commands t acts) (none_doing s o act) (λ f. no_sync_steps t acts (goes_begun t f)))

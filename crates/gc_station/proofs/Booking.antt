@@ -21,7 +21,7 @@ use Rattle.gc_station.specs.declared.mark.Mark.{Mark}
 use Rattle.gc_station.specs.Marks.{end_of, record_of, records_of}
 use Rattle.gc_station.specs.Records.{Record}
 use Rattle.gc_station.specs.Model.{client_sent}
-use Rattle.gc_station.specs.Parts.{Turn, Part, only_turns, only_steps, nothing, joined, request_part, MarkAsks, MarksAsk, went_out, sent_of, timeless, course_at, client_stepped, client_after}
+use Rattle.gc_station.specs.Parts.{SyncStep, Part, only_sync_steps, only_steps, nothing, joined, request_part, MarkAsks, MarksAsk, went_out, sent_of, timeless, course_at, client_stepped, client_after}
 use Rattle.gc_station.proofs.Lists.{all_append, all_at}
 use Rattle.gc_station.proofs.Records.{answer_along, records-none, records-append}
 use Rattle.std.proofs.lemmas.List.Elements.{filter-append}
@@ -262,10 +262,10 @@ wrote_none reads commands ms rs = record {
 pub books_nothing : (reads : Asked → List ℕ → Reading) (commands : List Task) (c : ById Asked) (ms : List (Option Mark)) (rs : List Record) → Books reads commands c ms rs nothing c ms rs
 books_nothing reads commands c ms rs = record { client = refl; wrote = wrote_none reads commands ms rs }
 
--- turns of a synchronization leave the client, the marks and the records
-pub books_turns : (reads : Asked → List ℕ → Reading) (commands : List Task) (c : ById Asked) (ms : List (Option Mark)) (rs : List Record) (turns : List Turn)
-    → Books reads commands c ms rs (only_turns turns) c ms rs
-books_turns reads commands c ms rs turns = record { client = refl; wrote = wrote_none reads commands ms rs }
+-- steps of a synchronization leave the client, the marks and the records
+pub books_sync_steps : (reads : Asked → List ℕ → Reading) (commands : List Task) (c : ById Asked) (ms : List (Option Mark)) (rs : List Record) (sync_steps : List SyncStep)
+    → Books reads commands c ms rs (only_sync_steps sync_steps) c ms rs
+books_sync_steps reads commands c ms rs sync_steps = record { client = refl; wrote = wrote_none reads commands ms rs }
 
 -- a moment, at which requests may time out, leaves the marks and the records
 pub books_moment : (reads : Asked → List ℕ → Reading) (commands : List Task) (c : ById Asked) (ms : List (Option Mark)) (rs : List Record) (now : ℕ)

@@ -13,7 +13,7 @@ use Rattle.gc_links.specs.Acts.{Act, Told, Cut, Opened}
 use Rattle.gc_station.specs.Quiet.{KeepsOpen}
 use Rattle.gc_station.specs.Progressing.{failing}
 use Rattle.gc_station.specs.Model.{Model, Performs, waiting_of, with_rest, moved, cycle_length}
-use Rattle.gc_station.specs.NextCommand.{commands_before, is_chained_after_next, is_chained_after}
+use Rattle.gc_station.specs.NextCommand.{commands_before, is_chained_after}
 use Rattle.gc_station.proofs.Walk.{closed_along, is_prepared, is_sent, moved_changed, walk}
 
 -- What an act does to the place in a cycle, and to the chain that is there.
@@ -53,8 +53,8 @@ pub record Past (commands : List Task) (p q : Progress) : Type 0 where
 abbrev pub ChangesChain : Plan → List Task → Action → (p q : Progress) → Type 0
 ChangesChain plan commands Begin p q = Still p q ⊎ AtCycleStart (cycle_length plan commands) q
 ChangesChain plan commands Renew p q = Still p q ⊎ (Still p q × (q.chain_unbroken ≡ false))
-ChangesChain plan commands Send p q = Next (is_chained_after_next commands p) p q
-ChangesChain plan commands Skip p q = Still p q ⊎ (Next (is_chained_after_next commands p) p q × (q.chain_unbroken ≡ false))
+ChangesChain plan commands Send p q = Next (is_chained_after 1 commands p) p q
+ChangesChain plan commands Skip p q = Still p q ⊎ (Next (is_chained_after 1 commands p) p q × (q.chain_unbroken ≡ false))
 ChangesChain plan commands Pass p q = Still p q ⊎ Past commands p q
 ChangesChain plan commands Prepare p q = Still p q × (q.chain_unbroken ≡ false)
 ChangesChain plan commands (Close why) p q = Still p q × (q.chain_unbroken ≡ false)
@@ -95,10 +95,10 @@ moved_steps plan commands Prepare s (Cut bytes n) =
 moved_steps plan commands Prepare s act =
     subst (λ (x : Model). Still s.progress x.progress × (x.progress.chain_unbroken ≡ false)) (is_prepared plan commands s) (broken s.progress _ refl refl refl refl refl)
 moved_steps plan commands Send s (Cut bytes n) =
-    subst (λ (x : Model). Next (is_chained_after_next commands s.progress) s.progress (failing (cause.Write (commands_before plan commands s.progress) n) x.progress)) (is_sent plan commands s)
+    subst (λ (x : Model). Next (is_chained_after 1 commands s.progress) s.progress (failing (cause.Write (commands_before plan commands s.progress) n) x.progress)) (is_sent plan commands s)
     (record { left = refl; unsent = refl; missed = refl; chained = refl })
 moved_steps plan commands Send s act =
-    subst (λ (x : Model). Next (is_chained_after_next commands s.progress) s.progress x.progress) (is_sent plan commands s) (record { left = refl; unsent = refl; missed = refl; chained = refl })
+    subst (λ (x : Model). Next (is_chained_after 1 commands s.progress) s.progress x.progress) (is_sent plan commands s) (record { left = refl; unsent = refl; missed = refl; chained = refl })
 moved_steps plan commands Skip s (Told m) = inr (record { left = refl; unsent = refl; missed = refl; chained = refl }, refl)
 moved_steps plan commands Skip s act = inl (still s.progress _ refl refl refl refl refl)
 moved_steps plan commands Pass s (Told m) = inr (record { left = refl; unsent = refl; missed = refl; chained = refl; chain_unbroken = refl })

@@ -31,7 +31,7 @@ use Rattle.gc_station.specs.Records.{Record}
 use Rattle.gc_station.specs.Runs.{state_after}
 use Rattle.gc_station.specs.Scopes.{Scope}
 use Rattle.gc_station.specs.Model.{Model, Performs, Runs, opening, action_at, waiting_of, ended, with_progress, moved, after, after_all, cycle_length}
-use Rattle.gc_station.specs.NextCommand.{place_next, cycles_begun, is_chained, is_chained_after_next}
+use Rattle.gc_station.specs.NextCommand.{place_next, cycles_begun, is_chained, is_chained_after}
 use Rattle.gc_station.proofs.Answers.{answers_true}
 use Rattle.gc_station.proofs.Counts.{ended_progress, ended_passes}
 use Rattle.gc_station.proofs.Each.{row_settled, sent_next, row}
@@ -117,7 +117,7 @@ next_place commands p q less some within = omega (arith, less, some, within)
 
 -- after a command that was sent, or recorded without being sent, `next_is_chained` is what the text says of the next command, or
 -- true in a missed cycle
-next_chained : (commands : List Task) (p q : Progress) → Next (is_chained_after_next commands p) p q → place_next commands q ≡ place_next commands p + 1
+next_chained : (commands : List Task) (p q : Progress) → Next (is_chained_after 1 commands p) p q → place_next commands q ≡ place_next commands p + 1
     → q.next_is_chained ≡ (q.missed || is_chained (drop (place_next commands q) commands))
 next_chained commands p q n at =
     n.chained ∙ ap (λ (b : Bool). b || is_chained (drop (place_next commands p + 1) commands)) (sym n.missed) ∙ ap (λ (k : ℕ). q.missed || is_chained (drop k commands)) (sym at)
@@ -267,7 +267,7 @@ module _ (plan : Plan) (commands : List Task) (scope : Scope) where
 
   -- `ChainIsRight` holds after a command is recorded without being sent (`Next`, with the chain broken), if one was unsent, and
   -- no more were than `commands` has
-  chain_skipped : (acts : List Act) (p q : Progress) → Next (is_chained_after_next commands p) p q → q.chain_unbroken ≡ false → 0 < p.unsent
+  chain_skipped : (acts : List Act) (p q : Progress) → Next (is_chained_after 1 commands p) p q → q.chain_unbroken ≡ false → 0 < p.unsent
       → p.unsent ≤ length commands → ChainIsRight acts q
   chain_skipped acts p q n broken some within =
       let place_is = next_place commands p q n.unsent some within in
@@ -289,7 +289,7 @@ module _ (plan : Plan) (commands : List Task) (scope : Scope) where
   -- that, if a chain goes on after the act, the station has synchronized
   chain_sent : (acts : List Act) (act : Act) (p q : Progress) → (here : p ≡ turned (at acts).progress) → (there : (at (acts ++ act ∷ [])).progress ≡ q)
       → (sends : action_at plan (at acts) ≡ Send) → (begins : q.chain_unbroken ≡ true → has_begun q ≡ true)
-      → (goes_on : Next (is_chained_after_next commands p) p q) → (some : 0 < p.unsent) → (within : p.unsent ≤ length commands) → ChainIsRight (acts ++ act ∷ []) q
+      → (goes_on : Next (is_chained_after 1 commands p) p q) → (some : 0 < p.unsent) → (within : p.unsent ≤ length commands) → ChainIsRight (acts ++ act ∷ []) q
   chain_sent acts act p q here there is begins n some within =
       let place_is = next_place commands p q n.unsent some within in
       record {

@@ -19,6 +19,7 @@ use Rattle.gc_station.specs.declared.progress.Phase.TheVariants.{Clearing, Drain
 use Rattle.gc_station.specs.declared.progress.Action.{Action}
 use Rattle.gc_station.specs.declared.progress.Action.TheVariants as action
 use Rattle.gc_station.specs.declared.progress.Progress.{Progress}
+use Rattle.gc_station.specs.declared.progress.Upcoming.{Upcoming}
 use Rattle.gc_station.specs.declared.progress.Waiting.{Waiting}
 use Rattle.gc_links.specs.Acts.{Act, Told}
 use Rattle.gc_station.specs.Deciding.{later, has_begun, is_up}
@@ -31,7 +32,7 @@ use Rattle.gc_station.specs.Runs.{state_after}
 use Rattle.gc_station.specs.Tasked.{EachRecordIsOfItsTask}
 use Rattle.gc_texts.specs.Endings.{Skipped, Missed}
 use Rattle.gc_station.specs.Model.{Model, opening, action_at, waiting_of, with_progress, asks_null, asks_first, asks_next, next_left_out, with_more_passes, with_listed, listed_after_skip, after_pass, with_more_records, unsent_record, first_unsent_record, after_clock, moved, after, after_all, cycle_length, asks_or_null, asks_setup}
-use Rattle.gc_station.specs.NextCommand.{place_next, expected_first, mark_next, is_chained_after_next, others_after_next, is_chained_after, others_after, mark_setup, cycles_begun}
+use Rattle.gc_station.specs.NextCommand.{place_next, expected_first, mark_next, upcoming_after, mark_setup, cycles_begun}
 use Rattle.gc_station.proofs.Acting.{mid_fail, mid_moment, mid_clock, mid_put, mid_open, mid_close, mid_read}
 use Rattle.gc_station.proofs.Each.{row_empty, sent_whole}
 use Rattle.gc_station.proofs.Facts.{action_for}
@@ -90,14 +91,13 @@ mid_prepares plan commands s (task ∷ others) at is room mid =
       ready_placed p.phase p.left p.unsent s.rest t.marks is,
     )
 
--- the next command of a cycle has its turn: `next_is_chained` and `next_others` are what the progress then says of the one
--- after it
-module _ (plan : Plan) (commands : List Task) (next_is_chained : Bool) (next_others : ℕ) (s : Model) where
+-- the next command of a cycle has its turn: `next` is noted of the one after it
+module _ (plan : Plan) (commands : List Task) (next : Upcoming) (s : Model) where
   -- `left` are the commands from the cycle's next one on. To send the first of them preserves `Mid`, in the phase `Ready`, if a
   -- command is unsent and there is room for a request
   mid_first : (left : List Task) → (there : drop (place_next commands s.progress) commands ≡ left)
       → (is_ready : s.progress.phase ≡ Ready) → (some : 0 < s.progress.unsent) → (room : length s.client.waiting < 7) → Mid plan commands s
-      → Mid plan commands (with_progress (sent next_is_chained next_others) (asks_first (mark_next plan commands s.progress) left s))
+      → Mid plan commands (with_progress (sent next) (asks_first (mark_next plan commands s.progress) left s))
   mid_first [] at is some room mid =
       let sound = mid.0 in
       let n : length commands - place_next commands s.progress ≡ 0 = sym (length-drop (place_next commands s.progress) commands) ∙ ap length at in
@@ -115,7 +115,7 @@ module _ (plan : Plan) (commands : List Task) (next_is_chained : Bool) (next_oth
   mid_skips : (m : Moment) (left : List Task)
       → (there : drop (place_next commands s.progress) commands ≡ left)
       → (is_ready : s.progress.phase ≡ Ready) → (some : 0 < s.progress.unsent) → (settled : commands_in s.marks ≡ 0) → Mid plan commands s
-      → Mid plan commands (with_progress (λ p. early_noted plan (commands_in s.marks) (skipped next_is_chained next_others m p))
+      → Mid plan commands (with_progress (λ p. early_noted plan (commands_in s.marks) (skipped next m p))
       (with_more_records (first_unsent_record s.progress m (mark_next plan commands s.progress) left) s))
   mid_skips m [] at is some none mid =
       let sound = mid.0 in
@@ -132,10 +132,10 @@ module _ (plan : Plan) (commands : List Task) (next_is_chained : Bool) (next_oth
   -- unsent and none outstanding
   mid_skip : (act : Act) → s.progress.phase ≡ Ready → 0 < s.progress.unsent
       → commands_in s.marks ≡ 0 → Mid plan commands s
-      → Mid plan commands (after_clock (λ m p. early_noted plan (commands_in s.marks) (skipped next_is_chained next_others m p))
+      → Mid plan commands (after_clock (λ m p. early_noted plan (commands_in s.marks) (skipped next m p))
       (with_listed (listed_after_skip plan commands s act) (with_more_records (unsent_record plan commands s.progress act) s)) act)
   mid_skip (Told m) is some none mid =
-      mid_moment plan commands (with_progress (λ p. early_noted plan (commands_in s.marks) (skipped next_is_chained next_others m p))
+      mid_moment plan commands (with_progress (λ p. early_noted plan (commands_in s.marks) (skipped next m p))
       (with_listed (listed_after_skip plan commands s (Told m)) (with_more_records (unsent_record plan commands s.progress (Told m)) s))) m
       (mid_skips m (drop (place_next commands s.progress) commands) refl is some none mid)
   mid_skip act is some none mid = mid_fail plan commands (with_more_records [] s) cause.Clock refl (mid_nothing plan commands s mid)
@@ -145,7 +145,7 @@ mid_pass : (plan : Plan) (commands : List Task) (s : Model) (act : Act) → s.pr
 mid_pass plan commands s (Told m) is some mid =
     let p = s.progress in
     let n = p.next_others in
-    mid_moment plan commands (with_progress (λ q. early_noted plan (commands_in s.marks) (attempts_left_out (is_chained_after n commands p) (others_after n commands p) m q))
+    mid_moment plan commands (with_progress (λ q. early_noted plan (commands_in s.marks) (attempts_left_out (upcoming_after n commands p) m q))
     (with_more_passes (next_left_out plan commands p) s)) m (
       sound_passed plan commands (ledger_at s p) n some mid.0,
       ready_placed p.phase p.left (p.unsent - n) s.rest s.marks is,
@@ -182,13 +182,12 @@ mid_moved plan commands s action.Prepare act fine is =
     (mid_prepares plan commands t (drop t.progress.prepared commands) refl is.0 is.3.1 (mid_of plan commands s fine))
 mid_moved plan commands s action.Send act fine is =
     let t = with_progress turned s in
-    mid_put plan commands _ (λ (x : Model). with_progress (sent (is_chained_after_next commands x.progress) (others_after_next commands x.progress)) (asks_next plan commands x)) t act
-    (mid_first plan commands (is_chained_after_next commands t.progress) (others_after_next commands t.progress) t (drop (place_next commands t.progress) commands) refl
+    mid_put plan commands _ (λ (x : Model). with_progress (sent (upcoming_after 1 commands x.progress)) (asks_next plan commands x)) t act
+    (mid_first plan commands (upcoming_after 1 commands t.progress) t (drop (place_next commands t.progress) commands) refl
     is.0 is.2 is.3.1 (mid_of plan commands s fine))
 mid_moved plan commands s action.Skip act fine is =
     let t = with_progress turned s in
-    let next_is_chained = is_chained_after_next commands t.progress in
-    mid_skip plan commands next_is_chained (others_after_next commands t.progress) t act is.0 is.2 is.3 (mid_of plan commands s fine)
+    mid_skip plan commands (upcoming_after 1 commands t.progress) t act is.0 is.2 is.3 (mid_of plan commands s fine)
 mid_moved plan commands s action.Pass act fine is = mid_pass plan commands (with_progress turned s) act is.0 is.2 (mid_of plan commands s fine)
 mid_moved plan commands s action.Flush act fine is =
     let t = with_progress turned s in

@@ -13,7 +13,7 @@ use Rattle.gc_station.specs.declared.plan.Plan.{Plan}
 use Rattle.gc_links.specs.Acts.{Act}
 use Rattle.gc_station.specs.Deciding.{has_begun}
 use Rattle.gc_station.specs.Marks.{records_of}
-use Rattle.gc_station.specs.Parts.{Turn, Part, nothing, joined, part_of_act, in_front, parts_of, sent_of}
+use Rattle.gc_station.specs.Parts.{SyncStep, Part, nothing, joined, part_of_act, in_front, parts_of, sent_of}
 use Rattle.gc_station.specs.Progressing.{turned, loses_all}
 use Rattle.gc_station.specs.Records.{Record}
 use Rattle.gc_station.specs.Model.{Model, action_at, waiting_of, with_progress, moved, losing, after, after_all, Runs, ended}
@@ -37,9 +37,9 @@ BooksInParts reads commands c ms rs (p ∷ q ∷ ps) end =
 -- three parts joined are the same, whether the first two are joined first or the last two
 pub joined_assoc : (p q r : Part) → joined (joined p q) r ≡ joined p (joined q r)
 joined_assoc p q r =
-    ap (λ (turns : List Turn). record { turns = turns; steps = (p.steps ++ q.steps) ++ r.steps; marks = (p.marks ++ q.marks) ++ r.marks }) (append_assoc p.turns q.turns r.turns)
-    ∙ ap (λ (steps : List (Step Asked)). record { turns = p.turns ++ (q.turns ++ r.turns); steps = steps; marks = (p.marks ++ q.marks) ++ r.marks }) (append_assoc p.steps q.steps r.steps)
-    ∙ ap (λ (marks : List (Option Mark)). record { turns = p.turns ++ (q.turns ++ r.turns); steps = p.steps ++ (q.steps ++ r.steps); marks = marks }) (append_assoc p.marks q.marks r.marks)
+    ap (λ (sync_steps : List SyncStep). record { sync_steps = sync_steps; steps = (p.steps ++ q.steps) ++ r.steps; marks = (p.marks ++ q.marks) ++ r.marks }) (append_assoc p.sync_steps q.sync_steps r.sync_steps)
+    ∙ ap (λ (steps : List (Step Asked)). record { sync_steps = p.sync_steps ++ (q.sync_steps ++ r.sync_steps); steps = steps; marks = (p.marks ++ q.marks) ++ r.marks }) (append_assoc p.steps q.steps r.steps)
+    ∙ ap (λ (marks : List (Option Mark)). record { sync_steps = p.sync_steps ++ (q.sync_steps ++ r.sync_steps); steps = p.steps ++ (q.steps ++ r.steps); marks = marks }) (append_assoc p.marks q.marks r.marks)
 
 -- if the part p and a restart lead to a new client, no marks and the records `mid` (`Books`), and `BooksInParts` holds of the
 -- parts `ps` from there on, it holds of p and the parts after it
@@ -95,9 +95,9 @@ idle_lost commands t false is = books_nothing t.reads commands t.client t.marks 
 -- a part with nothing after it is that part
 joined_nothing : (p : Part) → joined p nothing ≡ p
 joined_nothing p =
-    ap (λ (turns : List Turn). record { turns = turns; steps = p.steps ++ []; marks = p.marks ++ [] }) (append-nil p.turns)
-    ∙ ap (λ (steps : List (Step Asked)). record { turns = p.turns; steps = steps; marks = p.marks ++ [] }) (append-nil p.steps)
-    ∙ ap (λ (marks : List (Option Mark)). record { turns = p.turns; steps = p.steps; marks = marks }) (append-nil p.marks)
+    ap (λ (sync_steps : List SyncStep). record { sync_steps = sync_steps; steps = p.steps ++ []; marks = p.marks ++ [] }) (append-nil p.sync_steps)
+    ∙ ap (λ (steps : List (Step Asked)). record { sync_steps = p.sync_steps; steps = steps; marks = p.marks ++ [] }) (append-nil p.steps)
+    ∙ ap (λ (marks : List (Option Mark)). record { sync_steps = p.sync_steps; steps = p.steps; marks = marks }) (append-nil p.marks)
 
 -- `Leads` gives `LeadsBy` with the model's own readings
 leads_by : (reads : Asked → List ℕ → Reading) (commands : List Task) (s : Model) (p : Part) (t : Model) → s.reads ≡ reads → Leads commands s p t → LeadsBy reads commands s p t

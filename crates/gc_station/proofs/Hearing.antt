@@ -2,8 +2,8 @@
 -- piece. And what a station records of the settlements of a line. An act is one call on the link, with its result. A book had
 -- taken `start` before the records of the model, and has taken `taken` (and later `taken'`) with them; `text` is how a record is
 -- written. `left` is what is not heard yet of the piece, `rest` the bytes since the last line feed. A piece is the bytes that one
--- read gave, and a frame what a line feed ends. `Refines station s`: the station stands for the model s. `Hearing` and `Asking`
--- say how far a piece was heard, once the station has synchronized and while it synchronizes.
+-- read gave, and a frame what a line feed ends. `Refines station s`: the station stands for the model s. `Hearing` says how far a
+-- piece was heard; `begun`: whether the station had synchronized before the piece.
 use Rattle.std.proofs.Common.{◌≡◌, ℕ, zero, suc, ◌+◌, ◌-◌, min, List, [], ◌∷◌, ◌++◌, Bool, true, false, length, drop, map, Option, Some, None, Result, Ok, Err, OnOk, refl, sym, ap, ◌∙◌, subst, append_assoc, length-drop, arith}
 use Rattle.std.specs.List.{filter_map}
 use Rattle.std.specs.Option.{option_to_list}
@@ -35,17 +35,16 @@ use Rattle.gc_station.specs.declared.progress.Waiting.{Waiting}
 use Rattle.gc_station.specs.declared.station.Station.{Station}
 use Rattle.gc_station.specs.Attempts.{listed_by}
 use Rattle.gc_station.specs.Marks.{commands_in, records_of, last_well, fresh_after}
-use Rattle.gc_station.specs.Deciding.{is_none_left}
 use Rattle.gc_station.specs.Progressing.{behind_noted, line_noted, bytes_noted, early_noted, after_failure, closed, failing, lines_synchronizing, line_synchronizing}
 use Rattle.gc_station.specs.Records.{Record, Grew, texts_of, WritesPart, WritesAll}
-use Rattle.gc_station.specs.Model.{Model, Performs, line_came, lines_came, lines_completed, with_rest, with_progress, with_moment, waiting_of, settles, piece_came, piece_synchronizing, after_piece}
+use Rattle.gc_station.specs.Model.{Model, Performs, line_came, lines_came, lines_completed, lines_taken, with_rest, with_progress, with_moment, waiting_of, settles, piece_came}
 use Rattle.gc_station.specs.Stations.{waiting_in, Refines, Took, TookPart, ComesTo, Makes, ReadsMoment, seen, station_expiring}
 use Rattle.gc_station.specs.Scopes.{AreReadings, ForEachReadings}
 use Rattle.gc_station.specs.Tallies.{nothing_yet, tallied}
 use Rattle.gc_station.proofs.Growing.{lines_records}
 use Rattle.gc_station.proofs.Making.{refines_with}
 use Rattle.gc_station.proofs.Readings.{lines_reads, same_readings}
-use Rattle.gc_station.proofs.Records.{grew_then, part_grew, part_grows, tallied-append, last-append}
+use Rattle.gc_station.proofs.Records.{grew_none, grew_then, part_grew, part_grows, tallied-append, last-append}
 
 -- the lines of a frame and of the frames after it: first its line, if it has one
 pub lines_split : (frame : Frame) (later : List Frame) → filter_map line_in (completed frame ++ later) ≡ option_to_list (line_in frame) ++ filter_map line_in later
@@ -66,30 +65,49 @@ pub lines_came-append : (s : Model) (xs ys : List (List ℕ)) → lines_came s (
 lines_came-append s [] ys = refl
 lines_came-append s (x ∷ xs) ys = lines_came-append (line_came s x) xs ys
 
+-- the progress after two lists of lines is the one after the second, from the one after the first on
+pub lines_synchronizing-append : (p : Progress) (xs ys : List (List ℕ)) → lines_synchronizing p (xs ++ ys) ≡ lines_synchronizing (lines_synchronizing p xs) ys
+lines_synchronizing-append p [] ys = refl
+lines_synchronizing-append p (x ∷ xs) ys = lines_synchronizing-append (line_synchronizing p x) xs ys
+
 -- to set the bytes since the last line feed before lines are heard, or after, comes to the same
 pub lines_rest : (s : Model) (rest : List ℕ) (lines : List (List ℕ)) → lines_came (with_rest rest s) lines ≡ with_rest rest (lines_came s lines)
 lines_rest s rest [] = refl
 lines_rest s rest (line ∷ others) = lines_rest (line_came s line) rest others
 
+-- no lines leave the model as it is
+pub taken_none : (begun : Bool) (s : Model) → lines_taken begun [] s ≡ s
+taken_none true s = refl
+taken_none false s = refl
+
+-- lines only add records
+taken_records : (begun : Bool) (s : Model) (lines : List (List ℕ)) → Grew s.records (lines_taken begun lines s).records
+taken_records true s lines = lines_records s lines
+taken_records false s lines = grew_none s.records
+
+-- lines don't change what replies say
+taken_reads : (begun : Bool) (s : Model) (lines : List (List ℕ)) → (lines_taken begun lines s).reads ≡ s.reads
+taken_reads true s lines = lines_reads s lines
+taken_reads false s lines = refl
+
 -- a station that has heard a piece but for `left`, and is as the model `now`: hearing what is left comes to what hearing the
 -- whole piece from the model s comes to
-pub record Hearing (text : Record → List ℕ) (start taken : Option (List ℕ)) (station : Station) (s : Model) (piece left : List ℕ) : Type 0 where
+pub record Hearing (begun : Bool) (text : Record → List ℕ) (start taken : Option (List ℕ)) (station : Station) (s : Model) (piece left : List ℕ) : Type 0 where
   pub now : Model
   pub stands : Refines station now
   pub wrote : Took text start taken now
   pub grown : Grew s.records now.records
-  pub goes : piece_came left now ≡ piece_came piece s
+  pub goes : piece_came begun left now ≡ piece_came begun piece s
 
--- the model s after a frame: it has heard the line of the frame, if that is a line, and keeps the bytes `rest` of the next one
-abbrev pub after_frame : (rest : List ℕ) → Frame → Model → Model
-after_frame rest frame s = lines_came (with_rest rest s) (option_to_list (line_in frame))
+-- the model s after a frame: the line of the frame was heard, if it is a line, and the bytes `rest` of the next one are kept
+abbrev pub after_frame : (begun : Bool) (rest : List ℕ) → Frame → Model → Model
+after_frame begun rest frame s = lines_taken begun (option_to_list (line_in frame)) (with_rest rest s)
 
--- hearing what is left of a piece is hearing the line of its first frame, if that is a line, and then what comes after that frame
--- (`later`)
-pub frame_first : (s : Model) (left later rest : List ℕ) (frame : Frame)
+-- the lemma `frame_first`, once the station has synchronized
+came_first : (s : Model) (left later rest : List ℕ) (frame : Frame)
     → frames_behind s.rest left ≡ completed frame ++ frames_behind rest later → rest_behind s.rest left ≡ rest_behind rest later
-    → piece_came left s ≡ piece_came later (after_frame rest frame s)
-frame_first s left later rest frame seen rests =
+    → piece_came true left s ≡ piece_came true later (after_frame true rest frame s)
+came_first s left later rest frame seen rests =
     let line = option_to_list (line_in frame) in
     let lines : lines_completed s.rest left ≡ line ++ lines_completed rest later = ap (filter_map line_in) seen ∙ lines_split frame (frames_behind rest later) in
     let end = rest_behind rest later in
@@ -102,42 +120,68 @@ frame_first s left later rest frame seen rests =
       rest_kept : (rest : List ℕ) (line : List (List ℕ)) → (lines_came (with_rest rest s) line).rest ≡ rest
       rest_kept rest line = ap (λ (x : Model). x.rest) (lines_rest s rest line)
 
+-- the lemma `frame_first`, while the station synchronizes
+asked_first : (s : Model) (left later rest : List ℕ) (frame : Frame)
+    → frames_behind s.rest left ≡ completed frame ++ frames_behind rest later → rest_behind s.rest left ≡ rest_behind rest later
+    → piece_came false left s ≡ piece_came false later (after_frame false rest frame s)
+asked_first s left later rest frame seen rests =
+    let line = option_to_list (line_in frame) in
+    let lines : lines_completed s.rest left ≡ line ++ lines_completed rest later = ap (filter_map line_in) seen ∙ lines_split frame (frames_behind rest later) in
+    ap (λ r. shown r (lines_synchronizing s.progress (lines_completed s.rest left))) rests
+    ∙ ap (λ xs. shown (rest_behind rest later) (lines_synchronizing s.progress xs)) lines
+    ∙ ap (shown (rest_behind rest later)) (lines_synchronizing-append s.progress line (lines_completed rest later)) where
+      -- the model s with these bytes kept of a line, and this progress
+      shown : List ℕ → Progress → Model
+      shown r p = record s { rest = r; progress = p }
+
+-- hearing what is left of a piece is hearing the line of its first frame, if that is a line, and then what comes after that frame
+-- (`later`)
+pub frame_first : (begun : Bool) (s : Model) (left later rest : List ℕ) (frame : Frame)
+    → frames_behind s.rest left ≡ completed frame ++ frames_behind rest later → rest_behind s.rest left ≡ rest_behind rest later
+    → piece_came begun left s ≡ piece_came begun later (after_frame begun rest frame s)
+frame_first true s left later rest frame seen rests = came_first s left later rest frame seen rests
+frame_first false s left later rest frame seen rests = asked_first s left later rest frame seen rests
+
 -- `Hearing` is preserved by one frame more, if the station is as the model after the frame, and the book has taken the records of
 -- that model
-pub hearing_on : (text : Record → List ℕ) (start taken taken' : Option (List ℕ)) (station station' : Station) (s : Model) (piece left : List ℕ) (used : ℕ) (frame : Frame) (kept : Kept)
-    → (h : Hearing text start taken station s piece left) → (t : Takes h.now.rest left used frame kept)
-    → Refines station' (after_frame t.now frame h.now) × Took text start taken' (after_frame t.now frame h.now) → Hearing text start taken' station' s piece (drop used left)
-hearing_on text start taken taken' station station' s piece left used frame kept h t more = record {
-  now = lines_came (with_rest t.now h.now) (option_to_list (line_in frame));
+pub hearing_on : (begun : Bool) (text : Record → List ℕ) (start taken taken' : Option (List ℕ)) (station station' : Station) (s : Model) (piece left : List ℕ) (used : ℕ) (frame : Frame)
+    (kept : Kept) → (h : Hearing begun text start taken station s piece left) → (t : Takes h.now.rest left used frame kept)
+    → Refines station' (after_frame begun t.now frame h.now) × Took text start taken' (after_frame begun t.now frame h.now)
+    → Hearing begun text start taken' station' s piece (drop used left)
+hearing_on begun text start taken taken' station station' s piece left used frame kept h t more = record {
+  now = after_frame begun t.now frame h.now;
   stands = more.0;
   wrote = more.1;
-  grown = grew_then s.records h.now.records _ h.grown (lines_records (with_rest t.now h.now) (option_to_list (line_in frame)));
-  goes = sym (frame_first h.now left (drop used left) t.now frame t.seen t.rests) ∙ h.goes;
+  grown = grew_then s.records h.now.records _ h.grown (taken_records begun (with_rest t.now h.now) (option_to_list (line_in frame)));
+  goes = sym (frame_first begun h.now left (drop used left) t.now frame t.seen t.rests) ∙ h.goes;
 }
 
 -- if the book failed at a frame's line, it failed at a record of the whole piece
-pub hearing_part : (text : Record → List ℕ) (start taken taken' : Option (List ℕ)) (station : Station) (s : Model) (piece left : List ℕ) (used : ℕ) (frame : Frame) (kept : Kept)
-    → (h : Hearing text start taken station s piece left) → (t : Takes h.now.rest left used frame kept)
-    → TookPart text h.now.records start taken' (after_frame t.now frame h.now) → TookPart text s.records start taken' (piece_came piece s)
-hearing_part text start taken taken' station s piece left used frame kept h t part are =
-    let mid = lines_came (with_rest t.now h.now) (option_to_list (line_in frame)) in
+pub hearing_part : (begun : Bool) (text : Record → List ℕ) (start taken taken' : Option (List ℕ)) (station : Station) (s : Model) (piece left : List ℕ) (used : ℕ) (frame : Frame)
+    (kept : Kept) → (h : Hearing begun text start taken station s piece left) → (t : Takes h.now.rest left used frame kept)
+    → TookPart text h.now.records start taken' (after_frame begun t.now frame h.now) → TookPart text s.records start taken' (piece_came begun piece s)
+hearing_part begun text start taken taken' station s piece left used frame kept h t part are =
+    let mid : Model = after_frame begun t.now frame h.now in
     let later = drop used left in
-    let whole : piece_came later mid ≡ piece_came piece s = sym (frame_first h.now left later t.now frame t.seen t.rests) ∙ h.goes in
-    let more = lines_records (with_rest (rest_behind mid.rest later) mid) (lines_completed mid.rest later) in
-    let same : mid.reads ≡ (piece_came piece s).reads = sym (lines_reads (with_rest (rest_behind mid.rest later) mid) (lines_completed mid.rest later)) ∙ ap (λ (x : Model). x.reads) whole in
-    let all = part_grows text h.now.records mid.records (piece_came later mid).records start taken' more (part (same_readings mid.reads (piece_came piece s).reads same are)) in
-    part_grew text s.records h.now.records (piece_came piece s).records start taken' h.grown
+    let whole : piece_came begun later mid ≡ piece_came begun piece s = sym (frame_first begun h.now left later t.now frame t.seen t.rests) ∙ h.goes in
+    let more = taken_records begun (with_rest (rest_behind mid.rest later) mid) (lines_completed mid.rest later) in
+    let same : mid.reads ≡ (piece_came begun piece s).reads =
+    sym (taken_reads begun (with_rest (rest_behind mid.rest later) mid) (lines_completed mid.rest later)) ∙ ap (λ (x : Model). x.reads) whole in
+    let all = part_grows text h.now.records mid.records (piece_came begun later mid).records start taken' more
+    (part (same_readings mid.reads (piece_came begun piece s).reads same are)) in
+    part_grew text s.records h.now.records (piece_came begun piece s).records start taken' h.grown
     (subst (λ (x : Model). WritesPart text h.now.records x.records start taken') whole all)
 
 -- if nothing is left of the piece, the station is as the model after the whole piece, and the book has taken the records of that
 -- model
-pub hearing_end : (text : Record → List ℕ) (start taken : Option (List ℕ)) (station : Station) (s : Model) (piece : List ℕ)
-    → Hearing text start taken station s piece []
-    → Refines station (piece_came piece s) × Took text start taken (piece_came piece s)
-hearing_end text start taken station s piece h = (
-  subst (λ (x : Model). Refines station x) h.goes h.stands,
-  subst (λ (x : Model). Took text start taken x) h.goes h.wrote,
-)
+pub hearing_end : (begun : Bool) (text : Record → List ℕ) (start taken : Option (List ℕ)) (station : Station) (s : Model) (piece : List ℕ)
+    → Hearing begun text start taken station s piece []
+    → Refines station (piece_came begun piece s) × Took text start taken (piece_came begun piece s)
+hearing_end begun text start taken station s piece h =
+    let goes : h.now ≡ piece_came begun piece s = sym (taken_none begun h.now) ∙ h.goes in (
+      subst (λ (x : Model). Refines station x) goes h.stands,
+      subst (λ (x : Model). Took text start taken x) goes h.wrote,
+    )
 
 -- a station with this assembler in place of its own is as the model with the bytes that this assembler keeps
 pub with_kept : (station : Station) (kept : Kept) (rest : List ℕ) (s : Model) → Refines station s → StandsFor kept rest → Refines (record station { assembler = kept }) (with_rest rest s)
@@ -372,70 +416,3 @@ closed_same plan w w' why p p' ec ep = kept why ∙ ap (closed plan w' why) ep w
   kept cause.Stale = refl
   kept cause.Stopped = refl
   kept why = ap (λ n. after_failure plan n why p) ec
-
--- While the station synchronizes.
-
--- the progress after two lists of lines is the one after the second, from the one after the first on
-pub lines_synchronizing-append : (p : Progress) (xs ys : List (List ℕ)) → lines_synchronizing p (xs ++ ys) ≡ lines_synchronizing (lines_synchronizing p xs) ys
-lines_synchronizing-append p [] ys = refl
-lines_synchronizing-append p (x ∷ xs) ys = lines_synchronizing-append (line_synchronizing p x) xs ys
-
--- a station that has heard a piece but for `left` while it synchronizes, and is as the model `now`: hearing what is left comes
--- to what hearing the whole piece from the model s comes to
-pub record Asking (station : Station) (s : Model) (piece left : List ℕ) : Type 0 where
-  pub now : Model
-  pub stands : Refines station now
-  pub goes : piece_synchronizing left now ≡ piece_synchronizing piece s
-
--- while the station synchronizes, hearing what is left of a piece is hearing the line of its first frame, if that is a line, and
--- then what comes after that frame (`later`)
-pub asked_first : (s : Model) (left later rest : List ℕ) (frame : Frame)
-    → frames_behind s.rest left ≡ completed frame ++ frames_behind rest later → rest_behind s.rest left ≡ rest_behind rest later
-    → piece_synchronizing left s ≡ piece_synchronizing later (with_progress (λ p. lines_synchronizing p (option_to_list (line_in frame))) (with_rest rest s))
-asked_first s left later rest frame seen rests =
-    let line = option_to_list (line_in frame) in
-    let lines : lines_completed s.rest left ≡ line ++ lines_completed rest later = ap (filter_map line_in) seen ∙ lines_split frame (frames_behind rest later) in
-    ap (λ r. shown r (lines_synchronizing s.progress (lines_completed s.rest left))) rests
-    ∙ ap (λ xs. shown (rest_behind rest later) (lines_synchronizing s.progress xs)) lines
-    ∙ ap (shown (rest_behind rest later)) (lines_synchronizing-append s.progress line (lines_completed rest later)) where
-      -- the model s with these bytes kept of a line, and this progress
-      shown : List ℕ → Progress → Model
-      shown r p = record s { rest = r; progress = p }
-
--- `Asking` is preserved by one frame more, if the station has kept the bytes after the frame, and noted the line of the frame,
--- where the frame is a line
-pub asking_on : (station station' : Station) (s : Model) (piece left : List ℕ) (used : ℕ) (frame : Frame) (kept : Kept)
-    → (h : Asking station s piece left) → (t : Takes h.now.rest left used frame kept)
-    → station' ≡ record station { assembler = kept; progress = lines_synchronizing station.progress (option_to_list (line_in frame)) }
-    → Asking station' s piece (drop used left)
-asking_on station station' s piece left used frame kept h t is =
-    let line = option_to_list (line_in frame) in
-    let mid : Model = with_rest t.now h.now in
-    let taken : Station = record station { assembler = kept } in
-    let there = with_kept station kept t.now h.now h.stands t.stands in
-    record {
-      now = with_progress (λ p. lines_synchronizing p line) mid;
-      stands = subst (λ (x : Station). Refines x (with_progress (λ p. lines_synchronizing p line) mid)) (sym is) (record {
-        progress = ap (λ p. lines_synchronizing p line) there.progress;
-        ids = there.ids;
-        width = there.width;
-        marks = there.marks;
-        paired = there.paired;
-        assembles = there.assembles;
-        tally = there.tally;
-        well = there.well;
-        listed = there.listed;
-        fresh = there.fresh;
-      });
-      goes = sym (asked_first h.now left (drop used left) t.now frame t.seen t.rests) ∙ h.goes;
-    }
-
--- where null procedures of the synchronization are left unanswered, the synchronization hears a piece that is heard
-pub came_asked : (word piece : List ℕ) (s : Model) → is_none_left word ≡ false → after_piece true word piece s ≡ piece_synchronizing piece s
-came_asked [] piece s e = cc
-came_asked (asked ∷ others) piece s e = refl
-
--- if none is left unanswered, the client hears a piece that is heard
-pub came_begun : (word piece : List ℕ) (s : Model) → is_none_left word ≡ true → after_piece true word piece s ≡ piece_came piece s
-came_begun [] piece s e = refl
-came_begun (asked ∷ others) piece s e = cc

@@ -32,7 +32,7 @@ use Rattle.gc_station.specs.Records.{Record}
 use Rattle.gc_station.specs.Runs.{state_after}
 use Rattle.gc_station.specs.ActKinds.{Puts}
 use Rattle.gc_station.specs.Model.{Model, opening, action_at, waiting_of, request_text, Performs, with_progress, asks_next, after_put, moved, losing, ended, after, SendsCommand, IsSending, asks_setup}
-use Rattle.gc_station.specs.NextCommand.{is_chained_after_next, others_after_next}
+use Rattle.gc_station.specs.NextCommand.{upcoming_after}
 use Rattle.gc_station.proofs.Counts.{ended_progress}
 use Rattle.gc_station.proofs.Facts.{action_for, or_first}
 use Rattle.gc_station.proofs.Invariant.{Invariant}
@@ -97,7 +97,7 @@ sending_loses_none plan commands s act sends = by_action (action_at plan s) send
       → loses_all (moved plan commands next (with_progress turned s) act).progress ≡ false
   by_action actions.Send is needs =
       let t = with_progress turned s in
-      let f = λ (x : Model). with_progress (sent (is_chained_after_next commands x.progress) (others_after_next commands x.progress)) (asks_next plan commands x) in
+      let f = λ (x : Model). with_progress (sent (upcoming_after 1 commands x.progress)) (asks_next plan commands x) in
       loses_nothing (has_begun (moved plan commands actions.Send t act).progress) _ (ap (λ (x : Model). has_begun x.progress) (moved_changed plan commands actions.Send t act) ∙ needs.1)
       (put_goes _ f t act (sym (ap (λ (x : Model). x.progress.phase) (is_sent plan commands t)) ∙ needs.0))
   by_action actions.Prepare is needs =

@@ -13,7 +13,7 @@ use Rattle.gc_station.specs.declared.progress.Action.{Action}
 use Rattle.gc_station.specs.declared.progress.Action.TheVariants as action
 use Rattle.gc_links.specs.Acts.{Act, Put, Cut, Closed}
 use Rattle.gc_station.specs.Deciding.{later, has_begun}
-use Rattle.gc_station.specs.Parts.{Asks, Part, only_turns, nothing, request_part, first_request_part, put_part, sync_part, request_or_null_part, null_part}
+use Rattle.gc_station.specs.Parts.{Asks, Part, only_sync_steps, nothing, request_part, first_request_part, put_part, sync_part, request_or_null_part, null_part}
 use Rattle.gc_station.specs.Reasons.{HoldsBefore}
 use Rattle.gc_station.specs.ActKinds.{Puts, ReadsClock, IsOpening, IsReading}
 use Rattle.gc_station.specs.Model.{Model, action_at, waiting_of, request_text, null_text, first_text, Performs, text_or_null}
@@ -54,15 +54,15 @@ never_puts (Cut out count) bytes e h = elim h [ inl a ↦ a | inr b ↦ elim b [
 never_puts act bytes e h = cc
 
 -- while the station synchronizes: these bytes are a line feed, and nothing happens in the part p; or they are the null
--- procedure of the first id that isn't answered, and p is one turn, `Asks`
+-- procedure of the first id that isn't answered, and p is one step, `Asks`
 abbrev pub IsPutSynchronizing : Model → List ℕ → Part → Type 0
-IsPutSynchronizing s bytes p = ((bytes ≡ 10 ∷ []) × (p ≡ nothing)) ⊎ ((bytes ≡ null_text s.progress.word) × (p ≡ only_turns (Asks ∷ [])))
+IsPutSynchronizing s bytes p = ((bytes ≡ 10 ∷ []) × (p ≡ nothing)) ⊎ ((bytes ≡ null_text s.progress.word) × (p ≡ only_sync_steps (Asks ∷ [])))
 
--- the part of an act of the action `Ask` that puts bytes is one turn, `Asks`
-asked_turn : (s : Model) (act : Act) (bytes : List ℕ) → put_by act ≡ Some bytes → sync_part s action.Ask act ≡ only_turns (Asks ∷ [])
-asked_turn s (Put out) bytes e = refl
-asked_turn s (Cut out count) bytes e = refl
-asked_turn s act bytes e = cc
+-- the part of an act of the action `Ask` that puts bytes is one step, `Asks`
+asked_step : (s : Model) (act : Act) (bytes : List ℕ) → put_by act ≡ Some bytes → sync_part s action.Ask act ≡ only_sync_steps (Asks ∷ [])
+asked_step s (Put out) bytes e = refl
+asked_step s (Cut out count) bytes e = refl
+asked_step s act bytes e = cc
 
 module _ (plan : Plan) (commands : List Task) where
   -- if fewer than seven requests wait, and there is a command, the bytes of the first of these commands with this mark are the
@@ -124,7 +124,7 @@ module _ (plan : Plan) (commands : List Task) where
   asked_by_action : (s : Model) (o : Action) (act : Act) (bytes : List ℕ) → HoldsBefore plan s.progress (waiting_of s) o → Performs commands s o act
       → put_by act ≡ Some bytes → has_begun s.progress ≡ false → IsPutSynchronizing s bytes (sync_part s o act)
   asked_by_action s action.Clear act bytes is obeys e begins = inl (puts_same (10 ∷ []) bytes act e obeys, refl)
-  asked_by_action s action.Ask act bytes is obeys e begins = inr (puts_same (null_text s.progress.word) bytes act e obeys, asked_turn s act bytes e)
+  asked_by_action s action.Ask act bytes is obeys e begins = inr (puts_same (null_text s.progress.word) bytes act e obeys, asked_step s act bytes e)
   asked_by_action s action.Flush act bytes is obeys e begins = absurd (both_ways (has_begun s.progress) begins is.1)
   asked_by_action s action.Prepare act bytes is obeys e begins = absurd (both_ways (has_begun s.progress) begins is.1)
   asked_by_action s action.Send act bytes is obeys e begins = absurd (both_ways (has_begun s.progress) begins is.1)

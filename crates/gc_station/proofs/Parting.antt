@@ -1,6 +1,6 @@
 -- What each act is to the client (its part, `Parts`), and what is recorded at it. An act is one call on the link, with its
--- result. Steps of the client are to send, to hear a line, to read the clock and to restart; a turn is a null procedure that is
--- put, or a line heard, while the station synchronizes. `Leads` says that the steps of a part take the client, the marks and
+-- result. Steps of the client are to send, to hear a line, to read the clock and to restart; one of a synchronization is a null
+-- procedure that is put, or a line heard, while the station synchronizes. `Leads` says that the steps of a part take the client, the marks and
 -- the records of one model to those of another.
 use Rattle.std.proofs.Common.{◌≡◌, ℕ, ◌-◌, ◌<◌, Bool, true, false, List, [], ◌∷◌, length, map, drop, Option, Some, None, if◌then◌else◌, refl, sym, ap, ◌∙◌, ◌++◌, subst, arith, append-nil, if◌then◌else◌, length-drop}
 use Rattle.std.proofs.lemmas.List.{length-map}
@@ -23,15 +23,15 @@ use Rattle.gc_station.specs.declared.progress.Progress.{Progress}
 use Rattle.gc_station.specs.declared.progress.Until.{Until}
 use Rattle.gc_links.specs.Acts.{Act, Told, Gave}
 use Rattle.gc_station.specs.Deciding.{later, has_begun, is_none_left}
-use Rattle.gc_station.specs.Parts.{Turn, Part, only_turns, only_steps, nothing, put_part, first_request_part, heard_steps, client_part, sync_part, part_of_act, sent_of, request_or_null_part, null_part}
+use Rattle.gc_station.specs.Parts.{SyncStep, Part, only_sync_steps, only_steps, nothing, put_part, first_request_part, heard_steps, client_part, sync_part, part_of_act, sent_of, request_or_null_part, null_part}
 use Rattle.gc_station.specs.Progressing.{turned}
 use Rattle.gc_station.specs.Reasons.{HoldsBefore}
 use Rattle.gc_station.specs.Records.{Record}
 use Rattle.gc_station.specs.declared.mark.Mark.{Mark}
 use Rattle.gc_station.specs.Model.{Model, waiting_of, Performs, with_progress, with_moment, with_rest, asks_null, asks_first, unsent_record, first_unsent_record, line_came, lines_came, lines_completed, is_heard, after_piece, after_read, moved, asks_or_null}
 use Rattle.gc_station.specs.NextCommand.{place_next, mark_next, mark_setup}
-use Rattle.gc_station.proofs.Asked.{sync_part_only_turns}
-use Rattle.gc_station.proofs.Booking.{Books, books_turns, sent_of-append_records, books_both, books_nothing, books_moment, books_line, books_send}
+use Rattle.gc_station.proofs.Asked.{sync_part_only_sync_steps}
+use Rattle.gc_station.proofs.Booking.{Books, books_sync_steps, sent_of-append_records, books_both, books_nothing, books_moment, books_line, books_send}
 use Rattle.gc_station.proofs.Invariant.{Paired, Invariant}
 use Rattle.gc_station.proofs.Hearing.{hears_paired}
 use Rattle.gc_station.proofs.Tasked.{unsent_end}
@@ -208,13 +208,13 @@ module _ (plan : Plan) (commands : List Task) where
   keeps_action s (action.Stop why) act is obeys begins new = absurd obeys
   keeps_action s o act is obeys begins new = walk plan commands (λ a. KeepsNewClient s) o (with_progress turned s) act obeys (λ m. (new, refl, refl), λ n. (new, refl, refl))
 
-  -- turns lead on to a model with the same client, marks and records
-  same_led : (s : Model) (turns : List Turn) (t : Model) → s.client ≡ t.client → s.marks ≡ t.marks → s.records ≡ t.records → Leads commands s (only_turns turns) t
-  same_led s turns t c ms rs =
-      let books = Books s.reads commands s.client s.marks (sent_of s.records) (only_turns turns) in
+  -- steps of a synchronization lead on to a model with the same client, marks and records
+  same_led : (s : Model) (sync_steps : List SyncStep) (t : Model) → s.client ≡ t.client → s.marks ≡ t.marks → s.records ≡ t.records → Leads commands s (only_sync_steps sync_steps) t
+  same_led s sync_steps t c ms rs =
+      let books = Books s.reads commands s.client s.marks (sent_of s.records) (only_sync_steps sync_steps) in
       subst (λ (x : ById Asked). books x t.marks (sent_of t.records)) c
       (subst (λ (x : List (Option Mark)). books s.client x (sent_of t.records)) ms
-      (subst (λ (x : List Record). books s.client s.marks (sent_of x)) rs (books_turns s.reads commands s.client s.marks (sent_of s.records) turns)))
+      (subst (λ (x : List Record). books s.client s.marks (sent_of x)) rs (books_sync_steps s.reads commands s.client s.marks (sent_of s.records) sync_steps)))
 
   -- while the station synchronizes, an act of each action leads on by its part, if `Invariant` holds before it, and `HoldsBefore`
   -- of the action
@@ -224,7 +224,7 @@ module _ (plan : Plan) (commands : List Task) where
       let t = moved plan commands o (with_progress turned s) act in
       let new = fine.begins begins in
       let k = keeps_action s o act is obeys begins new in
-      subst (λ (p : Part). Leads commands s p t) (sym (sync_part_only_turns s o act)) (same_led s (sync_part s o act).turns t (new ∙ sym k.0) (sym k.1) (sym k.2))
+      subst (λ (p : Part). Leads commands s p t) (sym (sync_part_only_sync_steps s o act)) (same_led s (sync_part s o act).sync_steps t (new ∙ sym k.0) (sym k.1) (sym k.2))
 
   -- an act of each action leads on by its part, if `Invariant` holds before it, and `HoldsBefore` of the action
   pub leads : (s : Model) (o : Action) (act : Act) → Invariant plan commands s → HoldsBefore plan s.progress (waiting_of s) o → Performs commands s o act

@@ -5,7 +5,7 @@ use Rattle.gc_texts.specs.declared.tasks.Task.{Task}
 use Rattle.gc_links.specs.Acts.{Act, Told, Cut}
 use Rattle.gc_station.specs.Marks.{commands_in}
 use Rattle.gc_station.specs.Model.{Model, opening, action_at, with_progress, moved, Runs, waiting_of, cycle_length}
-use Rattle.gc_station.specs.NextCommand.{place_next, is_chained, others_in, others_after_next, others_after, commands_before}
+use Rattle.gc_station.specs.NextCommand.{place_next, is_chained, others_in, others_after, commands_before}
 use Rattle.gc_station.specs.Progressing.{turned, failing}
 use Rattle.gc_station.specs.Runs.{state_after}
 use Rattle.gc_station.specs.Scopes.{Scope}
@@ -47,7 +47,7 @@ module _ (plan : Plan) (commands : List Task) (scope : Scope) where
       (λ above. others ∙ h.0 (subst (λ (n : ℕ). plan.setup < n) at above) ∙ ap (λ (n : ℕ). others_in (drop n commands)) (sym at), λ none. others ∙ h.1 (subst (λ (n : ℕ). n ≤ plan.setup) at none))
 
   -- `OthersFit` holds once the next command, of which there was one, had its turn, if no more were unsent than a cycle has
-  others_after_turn : (p q : Progress) → q.unsent ≡ p.unsent - 1 → q.next_others ≡ others_after_next commands p → 0 < p.unsent → p.unsent ≤ cycle_length plan commands → OthersFit q
+  others_after_turn : (p q : Progress) → q.unsent ≡ p.unsent - 1 → q.next_others ≡ others_after 1 commands p → 0 < p.unsent → p.unsent ≤ cycle_length plan commands → OthersFit q
   others_after_turn p q unsent others some within =
       let at : place_next commands p + 1 ≡ place_next commands q = omega (arith, unsent, some, within) in
       (λ above. others ∙ ap (λ (n : ℕ). others_in (drop n commands)) at, λ none. absurd (omega (arith, at, none, some, within)))

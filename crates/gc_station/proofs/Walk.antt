@@ -19,14 +19,15 @@ use Rattle.gc_station.specs.declared.progress.Action.{Action}
 use Rattle.gc_station.specs.declared.progress.Action.TheVariants.{ReadClock, Renew, Begin, Open, Clear, Ask, Send, Skip, Pass, Flush, Read, Close, Stop, Prepare}
 use Rattle.gc_station.specs.declared.progress.Progress.{Progress}
 use Rattle.gc_station.specs.declared.progress.Until.{Until}
+use Rattle.gc_station.specs.declared.progress.Upcoming.{Upcoming}
 use Rattle.gc_station.specs.declared.progress.Waiting.{Waiting}
 use Rattle.gc_links.specs.Acts.{Act, Told, Untold, Put, Cut, Gave, Silent, Ended, Broke, Closed, Opened, Unopened}
 use Rattle.gc_station.specs.Deciding.{is_quiet}
 use Rattle.gc_station.specs.Marks.{commands_in}
 use Rattle.gc_station.specs.Progressing.{turned, moment_noted, cycle_begun, skipped, failing, opened, after_failure, cleared, request_noted, null_sent, renewed, sent, line_synchronizing, lines_synchronizing, pause_ended, drained, quieted, time_passed, early_noted, ended_for, closed, setup_sent}
 use Rattle.gc_station.specs.ActKinds.{Puts}
-use Rattle.gc_station.specs.Model.{Model, waiting_of, request_text, null_text, first_text, listed_after_skip, with_listed, after_pass, Performs, is_heard, with_progress, with_moment, with_rest, with_more_records, asks, asks_null, asks_first, asks_next, unsent_record, line_came, lines_came, lines_completed, piece_synchronizing, after_piece, piece_noted, piece_at, after_read, after_put, after_close, moved, settles, losing, after, after_all, cycle_length, text_or_null, asks_or_null, asks_setup}
-use Rattle.gc_station.specs.NextCommand.{place_next, mark_next, commands_before, is_chained_after_next, others_after_next, mark_setup}
+use Rattle.gc_station.specs.Model.{Model, waiting_of, request_text, null_text, first_text, listed_after_skip, with_listed, after_pass, Performs, is_heard, with_progress, with_moment, with_rest, with_more_records, asks, asks_null, asks_first, asks_next, unsent_record, line_came, lines_came, lines_completed, piece_came, after_piece, piece_noted, piece_at, after_read, after_put, after_close, moved, settles, losing, after, after_all, cycle_length, text_or_null, asks_or_null, asks_setup}
+use Rattle.gc_station.specs.NextCommand.{place_next, mark_next, commands_before, upcoming_after, mark_setup}
 
 -- Parts of an act.
 
@@ -48,7 +49,7 @@ asked_along P step p (line ∷ others) h = asked_along P step (line_synchronizin
 -- a fact of models that each line keeps holds after a piece, if it holds in each of three cases: before its lines, if the client
 -- hears them; after it, if it is heard while the station synchronizes; and if it is discarded
 pub came_along : (P : Model → Type 0) → ((t : Model) (line : List ℕ) → P t → P (line_came t line)) → (heard : Bool) (word piece : List ℕ) (s : Model)
-    → P (with_rest (rest_behind s.rest piece) s) → P (piece_synchronizing piece s) → P s → P (after_piece heard word piece s)
+    → P (with_rest (rest_behind s.rest piece) s) → P (piece_came false piece s) → P s → P (after_piece heard word piece s)
 came_along P step true [] piece s hears begins drops = lines_along P step (with_rest (rest_behind s.rest piece) s) (lines_completed s.rest piece) hears
 came_along P step true (asked ∷ others) piece s hears begins drops = begins
 came_along P step false word piece s hears begins drops = drops
@@ -104,22 +105,22 @@ acts_along plan commands P step s (act ∷ acts) p = acts_along plan commands P 
 -- the model that sent the next command, by its fields
 abbrev pub sending : Plan → List Task → Model → Model
 sending plan commands s = record s {
-  progress = sent (is_chained_after_next commands s.progress) (others_after_next commands s.progress) s.progress;
+  progress = sent (upcoming_after 1 commands s.progress) s.progress;
   client = (asks_next plan commands s).client;
   marks = (asks_next plan commands s).marks;
 }
 
 -- the model that sent the first of these commands, by its fields, is that after the send
-first_sent : (next_is_chained : Bool) (next_others : ℕ) (mark : Mark) (left : List Task) (s : Model)
-    → record s { progress = sent next_is_chained next_others s.progress; client = (asks_first mark left s).client; marks = (asks_first mark left s).marks }
-    ≡ with_progress (sent next_is_chained next_others) (asks_first mark left s)
-first_sent next_is_chained next_others mark [] s = refl
-first_sent next_is_chained next_others mark (task ∷ others) s = refl
+first_sent : (next : Upcoming) (mark : Mark) (left : List Task) (s : Model)
+    → record s { progress = sent next s.progress; client = (asks_first mark left s).client; marks = (asks_first mark left s).marks }
+    ≡ with_progress (sent next) (asks_first mark left s)
+first_sent next mark [] s = refl
+first_sent next mark (task ∷ others) s = refl
 
 -- the model that sent the next command, by its fields (`sending`), is that after the act that sends
 pub is_sent : (plan : Plan) (commands : List Task) (s : Model)
-    → sending plan commands s ≡ with_progress (sent (is_chained_after_next commands s.progress) (others_after_next commands s.progress)) (asks_next plan commands s)
-is_sent plan commands s = first_sent (is_chained_after_next commands s.progress) (others_after_next commands s.progress) (mark_next plan commands s.progress)
+    → sending plan commands s ≡ with_progress (sent (upcoming_after 1 commands s.progress)) (asks_next plan commands s)
+is_sent plan commands s = first_sent (upcoming_after 1 commands s.progress) (mark_next plan commands s.progress)
     (drop (place_next commands s.progress) commands) s
 
 -- the model that sent the next command of the setup, by its fields
@@ -355,7 +356,7 @@ HoldsInEachCase plan commands P Send s =
     HoldsAfterPut P (commands_before plan commands s.progress) (first_text s.progress.moment.utc s.client (drop (place_next commands s.progress) commands)) (sending plan commands s)
 HoldsInEachCase plan commands P Skip s =
     ((m : Moment) → P (Told m) (with_moment m (with_progress (λ p. early_noted plan (commands_in s.marks)
-    (skipped (is_chained_after_next commands s.progress) (others_after_next commands s.progress) m p)) (with_listed (listed_after_skip plan commands s (Told m))
+    (skipped (upcoming_after 1 commands s.progress) m p)) (with_listed (listed_after_skip plan commands s (Told m))
     (with_more_records (unsent_record plan commands s.progress (Told m)) s)))))
     × ((n : ℕ) → P Untold (with_progress (failing cause.Clock) (with_more_records [] s)))
 HoldsInEachCase plan commands P Pass s = ((m : Moment) → P (Told m) (after_pass plan commands s (Told m))) × ((n : ℕ) → P Untold (with_progress (failing cause.Clock) s))
@@ -398,7 +399,7 @@ walk plan commands P Prepare s act o h =
 walk plan commands P Send s act o h =
     let requests = commands_before plan commands s.progress in
     let text = first_text s.progress.moment.utc s.client (drop (place_next commands s.progress) commands) in
-    put_walk P requests text (λ (x : Model). with_progress (sent (is_chained_after_next commands s.progress) (others_after_next commands s.progress)) (asks_next plan commands x)) s act o
+    put_walk P requests text (λ (x : Model). with_progress (sent (upcoming_after 1 commands s.progress)) (asks_next plan commands x)) s act o
     (subst (λ (u : Model). HoldsAfterPut P requests text u) (is_sent plan commands s) h)
 walk plan commands P Skip s (Told m) o h = h.0 m
 walk plan commands P Skip s Untold o h = h.1 0

@@ -30,11 +30,11 @@ use Rattle.gc_station.specs.declared.progress.Waiting.{Waiting}
 use Rattle.gc_station.specs.declared.mark.Mark.{Mark}
 use Rattle.gc_links.specs.Acts.{Act, Told, Cut, Gave, Silent, Ended, Broke, Closed, Opened}
 use Rattle.gc_station.specs.ActKinds.{Puts, ReadsClock, IsOpening, IsReading}
-use Rattle.gc_station.specs.Deciding.{later, is_preparing, action_of}
+use Rattle.gc_station.specs.Deciding.{later, is_none_left, is_preparing, action_of}
 pub use Rattle.gc_station.specs.Lines.{is_reply}
 use Rattle.gc_station.specs.Attempts.{listed_after, listed_by}
 use Rattle.gc_station.specs.Marks.{commands_in, records_of, last_well, fresh_after}
-use Rattle.gc_station.specs.NextCommand.{place_next, cycles_begun, mark_next, mark_setup, commands_before, is_chained_after, others_after, is_chained_after_next, others_after_next}
+use Rattle.gc_station.specs.NextCommand.{place_next, cycles_begun, mark_next, mark_setup, commands_before, upcoming_after}
 use Rattle.gc_station.specs.Progressing.{at_start, turned, moment_noted, cycle_begun, skipped, attempts_left_out, skipped_at, failing, opened, after_failure, cleared, request_noted, null_sent, renewed, sent, behind_noted, line_noted, lines_synchronizing, bytes_noted, silent, early_noted, closed, loses_all, setup_sent}
 use Rattle.gc_station.specs.Records.{Record}
 use Rattle.gc_station.specs.Requests.{Request, requests, of_task}
@@ -307,13 +307,15 @@ lines_came s (line ∷ others) = lines_came (line_came s line) others
 abbrev pub with_rest : List ℕ → Model → Model
 with_rest rest s = record s { rest = rest }
 
--- the model `s` after `piece`, whose lines the client hears, in order
-abbrev pub piece_came : List ℕ → Model → Model
-piece_came piece s = lines_came (with_rest (rest_behind s.rest piece) s) (lines_completed s.rest piece)
+-- the model `s` after these lines, in order: if the station had synchronized before them (`begun`), the client hears them;
+-- otherwise the synchronization does
+abbrev pub lines_taken : (begun : Bool) → List (List ℕ) → Model → Model
+lines_taken true lines s = lines_came s lines
+lines_taken false lines s = with_progress (λ p. lines_synchronizing p lines) s
 
--- the model `s` after `piece`, whose lines the synchronization hears, in order
-abbrev pub piece_synchronizing : List ℕ → Model → Model
-piece_synchronizing piece s = with_progress (λ p. lines_synchronizing p (lines_completed s.rest piece)) (with_rest (rest_behind s.rest piece) s)
+-- the model `s` after `piece`, whose lines are heard as `lines_taken` says
+abbrev pub piece_came : (begun : Bool) → List ℕ → Model → Model
+piece_came begun piece s = lines_taken begun (lines_completed s.rest piece) (with_rest (rest_behind s.rest piece) s)
 
 -- whether what comes in a phase is heard: in `Ready` alone. In each other phase it is discarded
 abbrev pub is_heard : Phase → Bool
@@ -324,8 +326,7 @@ is_heard _ = false
 -- `word`: the ids of the synchronization that aren't answered. If all are, the client hears the piece; otherwise the
 -- synchronization does, and the client doesn't hear what follows its last answer in the piece
 abbrev pub after_piece : (ready : Bool) (word piece : List ℕ) → Model → Model
-after_piece true [] piece s = piece_came piece s
-after_piece true (asked ∷ others) piece s = piece_synchronizing piece s
+after_piece true word piece s = piece_came (is_none_left word) piece s
 after_piece false word piece s = s
 
 -- the model `s` after `piece`, which is heard as `after_piece` says in the phase of `s` and with the ids that aren't answered
@@ -362,11 +363,9 @@ after_clock f s _ = with_progress (failing cause.Clock) s
 -- the model `s` after the clock was read to leave out the further attempts of a chain; if it couldn't be read, none is left out
 abbrev pub after_pass : Plan → List Task → Model → Act → Model
 after_pass plan commands s (Told m) =
-    let n = s.progress.next_others in
-    let next_is_chained = is_chained_after n commands s.progress in
-    let others = others_after n commands s.progress in
+    let next = upcoming_after s.progress.next_others commands s.progress in
     with_moment m
-    (with_progress (λ p. early_noted plan (commands_in s.marks) (attempts_left_out next_is_chained others m p)) (with_more_passes (next_left_out plan commands s.progress) s))
+    (with_progress (λ p. early_noted plan (commands_in s.marks) (attempts_left_out next m p)) (with_more_passes (next_left_out plan commands s.progress) s))
 after_pass plan commands s _ = with_progress (failing cause.Clock) s
 
 -- the model `s` after a write: `f` changes it. If the bytes were cut, the connection is to be closed besides, for a cause that
@@ -397,10 +396,10 @@ moved plan commands Ask s act = after_put (commands_before plan commands s.progr
 moved plan commands Prepare s act = after_put (commands_before plan commands s.progress)
     (λ (s : Model). with_progress (setup_sent plan) (asks_setup plan commands s)) s act
 moved plan commands Send s act = after_put (commands_before plan commands s.progress)
-    (λ (s : Model). with_progress (sent (is_chained_after_next commands s.progress) (others_after_next commands s.progress)) (asks_next plan commands s))
+    (λ (s : Model). with_progress (sent (upcoming_after 1 commands s.progress)) (asks_next plan commands s))
     s act
 moved plan commands Skip s act = after_clock
-    (λ m p. early_noted plan (commands_in s.marks) (skipped (is_chained_after_next commands s.progress) (others_after_next commands s.progress) m p))
+    (λ m p. early_noted plan (commands_in s.marks) (skipped (upcoming_after 1 commands s.progress) m p))
     (with_listed (listed_after_skip plan commands s act) (with_more_records (unsent_record plan commands s.progress act) s)) act
 moved plan commands Pass s act = after_pass plan commands s act
 moved plan commands Flush s act = after_put (commands_before plan commands s.progress)

@@ -92,11 +92,3 @@ upcoming_after count commands p = record {
   is_chained = is_chained_after count commands p;
   others = others_after count commands p;
 }
-
--- `is_chained_after` of the command after the cycle's next one
-abbrev pub is_chained_after_next : List Task → Progress → Bool
-is_chained_after_next commands p = is_chained_after 1 commands p
-
--- `others_after` of the command after the cycle's next one
-abbrev pub others_after_next : List Task → Progress → ℕ
-others_after_next commands p = others_after 1 commands p

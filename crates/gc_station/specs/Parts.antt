@@ -25,29 +25,29 @@ use Rattle.gc_station.specs.Requests.{asked_at}
 use Rattle.gc_station.specs.Model.{Model, action_at, lines_completed, is_heard, after}
 use Rattle.gc_station.specs.NextCommand.{place_next, mark_next, mark_setup}
 
--- one thing that happens while a station synchronizes. (It is no turn of a run, which is an act, and not the turn of a command.)
-pub data Turn : Type 0 where
+-- one step of a station while it synchronizes
+pub data SyncStep : Type 0 where
   -- the null procedure of the first id that isn't answered is sent, whole or in part
-  Asks : Turn
+  Asks : SyncStep
   -- a line is heard
-  Hears : (line : List ℕ) → Turn
+  Hears : (line : List ℕ) → SyncStep
 
 -- what happens from one synchronization to the next
 pub record Part : Type 0 where
-  -- what happens while the station synchronizes, in order
-  pub turns : List Turn
+  -- the station's steps while it synchronizes, in order
+  pub sync_steps : List SyncStep
   -- the client's steps after that, in order
   pub steps : List (Step Asked)
   -- one for each request that these steps send, in order: which command it is; `None` for a null procedure of the station's own
   pub marks : List (Option Mark)
 
--- the part that consists of these turns of a synchronization alone
-abbrev pub only_turns : List Turn → Part
-only_turns turns = record { turns = turns; steps = []; marks = [] }
+-- the part that consists of these steps of a synchronization alone
+abbrev pub only_sync_steps : List SyncStep → Part
+only_sync_steps sync_steps = record { sync_steps = sync_steps; steps = []; marks = [] }
 
 -- the part that consists of these steps of the client alone, which send nothing
 abbrev pub only_steps : List (Step Asked) → Part
-only_steps steps = record { turns = []; steps = steps; marks = [] }
+only_steps steps = record { sync_steps = []; steps = steps; marks = [] }
 
 -- the part in which nothing happens
 abbrev pub nothing : Part
@@ -64,11 +64,11 @@ client_after c (s ∷ ss) = client_after (client_stepped c s) ss
 
 -- one part from what happens in `p` and then in `q`
 abbrev pub joined : (p q : Part) → Part
-joined p q = record { turns = p.turns ++ q.turns; steps = p.steps ++ q.steps; marks = p.marks ++ q.marks }
+joined p q = record { sync_steps = p.sync_steps ++ q.sync_steps; steps = p.steps ++ q.steps; marks = p.marks ++ q.marks }
 
 -- the part that consists of one request: for `target`, with `call`, `deadline` and `mark` (`None` for a null procedure)
 abbrev pub request_part : (target : ℕ) (call : Asked) (deadline : ℕ) → Option Mark → Part
-request_part target call deadline mark = record { turns = []; steps = Send target call deadline ∷ []; marks = mark ∷ [] }
+request_part target call deadline mark = record { sync_steps = []; steps = Send target call deadline ∷ []; marks = mark ∷ [] }
 
 -- the part that consists of one null procedure of the station's own, sent at the moment `now`
 abbrev pub null_part : Plan → (now : ℕ) → Part
@@ -115,9 +115,9 @@ client_part plan commands s action _ = nothing
 -- the part of an act that performs `action` while the station synchronizes; it has the model `s` before the act. The null
 -- procedure of the first id that isn't answered is sent, whole or in part, or the lines of a piece are heard
 abbrev pub sync_part : Model → Action → Act → Part
-sync_part s action.Ask (Put bytes) = only_turns (Asks ∷ [])
-sync_part s action.Ask (Cut bytes count) = only_turns (Asks ∷ [])
-sync_part s (action.Read until) (Gave piece m) = only_turns (if is_heard s.progress.phase then map Hears (lines_completed s.rest piece) else [])
+sync_part s action.Ask (Put bytes) = only_sync_steps (Asks ∷ [])
+sync_part s action.Ask (Cut bytes count) = only_sync_steps (Asks ∷ [])
+sync_part s (action.Read until) (Gave piece m) = only_sync_steps (if is_heard s.progress.phase then map Hears (lines_completed s.rest piece) else [])
 sync_part s action act = nothing
 
 -- the part of an act that performs `action`, if the station has the model `s` before it

@@ -14,6 +14,7 @@ use Rattle.gc_station.specs.declared.progress.Phase.TheVariants as phase
 use Rattle.gc_station.specs.declared.progress.Progress.{Progress}
 use Rattle.gc_station.specs.declared.progress.Until.{Until}
 use Rattle.gc_station.specs.declared.progress.Until.TheVariants.{Limit, Due}
+use Rattle.gc_station.specs.declared.progress.Upcoming.{Upcoming}
 use Rattle.gc_station.specs.declared.progress.Waiting.{Waiting}
 use Rattle.gc_station.specs.Deciding.{later, is_up, is_past, is_quiet, is_due, goes_on, has_begun}
 pub use Rattle.gc_station.specs.Deciding.{is_idle, is_finished}
@@ -106,27 +107,25 @@ abbrev pub skipped_at : Moment → Progress → ℕ
 skipped_at m p = if p.missed then p.due else m.utc
 
 -- the progress once the next `count` commands of the cycle had their turn: they were sent, recorded without being sent, or left
--- out. `next_is_chained`: whether the command after them is sent only once the one before it was answered well. `others`: if the
--- command after them begins a further attempt of its chain, how many commands this and the chain's later attempts have together;
--- otherwise 0. `were_sent`: whether they were sent, so that their chain is unbroken (`chain_unbroken`)
-abbrev pub advanced : (count : ℕ) (next_is_chained : Bool) (others : ℕ) (were_sent : Bool) → Progress → Progress
-advanced count next_is_chained others were_sent p = record p {
+-- out. `next` is noted of the command after them. `were_sent`: whether they were sent, so that their chain is unbroken
+-- (`chain_unbroken`)
+abbrev pub advanced : (count : ℕ) (next : Upcoming) (were_sent : Bool) → Progress → Progress
+advanced count next were_sent p = record p {
   unsent = p.unsent - count;
-  next_is_chained = next_is_chained;
-  next_others = others;
+  next_is_chained = next.is_chained;
+  next_others = next.others;
   chain_unbroken = were_sent;
   preparing = false;
 }
 
--- the progress once the next command was recorded at the moment `m` without being sent. `next_is_chained` and `others` are of the
--- command after it, as in `advanced`
-abbrev pub skipped : (next_is_chained : Bool) (others : ℕ) → Moment → Progress → Progress
-skipped next_is_chained others m p = advanced 1 next_is_chained others false (moment_noted m p)
+-- the progress once the next command was recorded at the moment `m` without being sent. `next` is noted of the command after it
+abbrev pub skipped : (next : Upcoming) → Moment → Progress → Progress
+skipped next m p = advanced 1 next false (moment_noted m p)
 
 -- the progress after the further attempt that the next command begins, and those of its chain after it, were left out at the
--- moment `m`. `next_is_chained` and `others` are of the command after all these attempts, as in `advanced`
-abbrev pub attempts_left_out : (next_is_chained : Bool) (others : ℕ) → Moment → Progress → Progress
-attempts_left_out next_is_chained others m p = advanced p.next_others next_is_chained others false (moment_noted m p)
+-- moment `m`. `next` is noted of the command after all these attempts
+abbrev pub attempts_left_out : (next : Upcoming) → Moment → Progress → Progress
+attempts_left_out next m p = advanced p.next_others next false (moment_noted m p)
 
 -- the progress after a call that failed for `cause`: the connection is to be closed, and without a connection the run is over
 abbrev pub failing : Cause → Progress → Progress
@@ -211,9 +210,9 @@ renewed plan m p =
     let q = moment_noted m p in
     setup_restarted plan (record q { word = the_word; again = 0; asked = p.asked && goes_on plan q; chain_unbroken = false; behind = 0 })
 
--- the progress after the cycle's next command was sent. `next_is_chained` and `others` are of the one after it, as in `advanced`
-abbrev pub sent : (next_is_chained : Bool) (others : ℕ) → Progress → Progress
-sent next_is_chained others p = advanced 1 next_is_chained others true (request_noted p)
+-- the progress after the cycle's next command was sent. `next` is noted of the one after it
+abbrev pub sent : (next : Upcoming) → Progress → Progress
+sent next p = advanced 1 next true (request_noted p)
 
 -- the progress after the setup's next command was sent
 abbrev pub setup_sent : Plan → Progress → Progress

@@ -1,6 +1,6 @@
 -- No part of a promise: what the functions of a station do to it, in terms of its model. An act is one call on the link, with
 -- its result.
-use Rattle.std.specs.Prelude.{◌≡◌, ℕ, ◌<◌, false, min, List, [], ◌∷◌, ◌++◌, length, drop, Option, Some, None, Result, Ok, Err}
+use Rattle.std.specs.Prelude.{◌≡◌, ℕ, ◌<◌, Bool, false, min, List, [], ◌∷◌, ◌++◌, length, drop, Option, Some, None, Result, Ok, Err}
 use Rattle.std.specs.Io.KnownBytes.{Appends}
 use Rattle.std.specs.Option.{option_to_list}
 use Rattle.gc_lines.specs.Assembler.{StandsFor}
@@ -27,12 +27,12 @@ use Rattle.gc_links.specs.Acts.{Act, Told, Untold, Tells}
 use Rattle.gc_links.specs.declared.link.Moment.{Moment}
 use Rattle.gc_station.specs.Deciding.{has_begun}
 use Rattle.gc_station.specs.Marks.{commands_in, last_well}
-use Rattle.gc_station.specs.NextCommand.{is_chained_after, others_after}
+use Rattle.gc_station.specs.NextCommand.{upcoming_after}
 use Rattle.gc_station.specs.Scopes.{AreReadings}
 use Rattle.gc_station.specs.Progressing.{failing, moment_noted, advanced, early_noted}
 use Rattle.gc_station.specs.Records.{Record, texts_of, WritesPart}
 use Rattle.gc_station.specs.Requests.{command_at}
-use Rattle.gc_station.specs.Model.{Model, Performs, moved, stepped, waiting_by, lines_came, sent_to, unsent_record, listed_unsent}
+use Rattle.gc_station.specs.Model.{Model, Performs, moved, stepped, waiting_by, lines_taken, sent_to, unsent_record, listed_unsent}
 use Rattle.gc_station.specs.Tallies.{nothing_yet, tallied}
 
 -- what a decision looks at besides the progress, of a station
@@ -167,13 +167,9 @@ abbrev pub Becomes : {X E : Type 0} → (next : Model → Model) → (Record →
 Becomes next text taken taken' old new result =
     (s : Model) (start : Option (List ℕ)) → Refines old s → Took text start taken s → ComesTo text s.records new start taken' (next s) result
 
--- the line of a lent frame, if it is a line; otherwise no line
-abbrev pub lines_of_frame : Lent → List (List ℕ)
-lines_of_frame frame = option_to_list (line_in (lent_seen frame))
-
--- the model `s` after the client heard the line of this frame, if it is a line
-abbrev pub frame_came : Lent → Model → Model
-frame_came frame s = lines_came s (lines_of_frame frame)
+-- the model `s` after the line of this frame, if it is a line, was heard as `lines_taken` says
+abbrev pub frame_came : (begun : Bool) → Lent → Model → Model
+frame_came begun frame s = lines_taken begun (option_to_list (line_in (lent_seen frame))) s
 
 -- the station once it sent the request for `command` with `mark`, which waits for `wait` milliseconds
 abbrev pub station_asking : Wish → (wait : ℕ) → Option Mark → Station → Station
@@ -200,9 +196,7 @@ ReadsMoment told told' old new None = Tells told told' (Untold ∷ []) × (new �
 abbrev pub station_advancing : Plan → List Task → (count : ℕ) → Moment → Station → Station
 station_advancing plan commands count moment station =
     let p = station.progress in
-    let next_is_chained = is_chained_after count commands p in
-    let others = others_after count commands p in
-    let past = advanced count next_is_chained others false (moment_noted moment p) in
+    let past = advanced count (upcoming_after count commands p) false (moment_noted moment p) in
     record station { progress = early_noted plan (commands_in station.marks.items) past }
 
 -- the station once the record of its next command, which isn't sent, is written at the moment `moment`, counted and noted

@@ -10,7 +10,7 @@ use gc_links::Moment;
 use gc_texts::{Ending, Stamp, Wish};
 
 /// The health of the link before an act, for whoever watches the station. Where two of these fit, it is the one listed later.
-#[derive(Clone, Copy, Debug, PartialEq, Eq)]
+#[derive(Clone, Copy)]
 pub enum LinkHealth {
     /// None of the others: no request was sent since the last reply line, since the connection was made, or since the station
     /// resynchronized between two cycles.

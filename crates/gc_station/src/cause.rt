@@ -6,7 +6,7 @@ ghost use Rattle.gc_station.specs.Causes.{fault_of};
 use gc_texts::RunFault;
 
 /// Why a connection is closed, or a run ends.
-#[derive(Clone, Copy, Debug, PartialEq, Eq)]
+#[derive(Clone, Copy)]
 pub enum Cause {
     /// No command of any cycle is left to be sent, and none is outstanding.
     Done,

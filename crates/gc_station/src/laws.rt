@@ -164,10 +164,10 @@ pub fn stops_for_a_cause()
         → action_at plan (state_after plan commands scope acts) ≡ Stop why → StopsForACause plan commands scope acts why }
 {}
 
-/// If a run stops at a connection that ended or couldn't be made, and not because it is done or stale, for the clock, for its
-/// turns, or because its end was asked for, its tries are used up. Take the acts after the last read that settled a command
-/// once the setup was done, or all acts if none did. Among them more than the plan's `retries` connections ended or couldn't be
-/// made, and at least `retries` attempts were made to connect; more than `retries`, if there was no such read.
+/// If a run stops at a connection that ended or couldn't be made, its tries are used up, unless the cause is `Done`, `Clock`,
+/// `Turns`, `Stale` or `Stopped`. Take the acts after the last read that settled a command once the setup was done, or all acts
+/// if none did. Among them more than the plan's `retries` connections ended or couldn't be made, and at least `retries` attempts
+/// were made to connect; more than `retries`, if there was no such read.
 pub fn stops_only_after_all_tries()
     ensures { StopsOnlyAfterAllTries }
 {}
@@ -331,20 +331,21 @@ pub fn the_table_is_never_held_up()
     ensures { TheTableIsNeverHeldUp }
 {}
 
-/// A run ends because it is stale only if it is. Take the acts after the last one that recorded an answer of a good quality, or
-/// all acts if none did: none of their records is of such an answer, and the time read last is as long as the plan allows, or
-/// longer, after that one, or after 0 if none did; if the clock went back since, after the least time read since. And the first
-/// time read at which a run with turns left is stale ends it: no act follows but at most one close.
+/// A run ends as stale only if no answer of a good quality was recorded for as long as the plan allows. This time ends at the
+/// moment read last. It begins at the moment of the act that recorded such an answer last, or at 0 if none did; or if the clock
+/// went back since, at the least moment read since. And a run with turns left ends at the first moment read at which it is stale:
+/// after that at most one act is made, a close.
 pub fn ends_stale_only_without_a_good_answer()
     ensures closes { ClosesStale }
     ensures stops { StopsAtItsClose cause.Stale }
     ensures ends { EndsOnceStale }
 {}
 
-/// Once a time was read at which the end of the run was asked for, no cycle begins, no command of the setup is sent, and each
-/// command sent continues a chain, and an attempt of it, that has begun. The run ends for that only if there is no connection, or the
-/// station synchronizes, so that nothing is outstanding, or it is between two chains, or two attempts of one, and nothing is in flight
-/// that hasn't timed out; no command of an attempt that has begun is left that may be sent. The close for it is the last act.
+/// Once a moment was read at which the end of the run was asked for, no cycle, no chain and no further attempt of one begins, and
+/// no command of the setup is sent. The run ends for that by a close, which is its last act. It does so only where no command of
+/// an attempt that has begun is left that may be sent, and where one of these holds: there is no connection; the station
+/// synchronizes, so that nothing is outstanding; or it is between two chains, or two attempts of one, and nothing is in flight
+/// that hasn't timed out.
 pub fn stops_between_chains()
     ensures goes { GoesOnInItsChain }
     ensures closes { ClosesBetweenChains }

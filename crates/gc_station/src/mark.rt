@@ -6,7 +6,7 @@ ghost use Rattle.gc_station.specs.Marks.{commands_in};
 use gc_texts::Expected;
 
 /// Which command of which cycle was sent, when, and what is expected of its answer.
-#[derive(Clone, Copy, Debug, PartialEq, Eq)]
+#[derive(Clone, Copy)]
 pub(crate) struct Mark {
     /// The cycle, counted from 1; 0 for a command of the setup.
     pub cycle: u64,

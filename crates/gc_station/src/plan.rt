@@ -1,7 +1,7 @@
 //! The plan: how a station measures, and when it times out.
 
 /// What an operator chooses. Times are in milliseconds.
-#[derive(Clone, Copy, Debug, PartialEq, Eq)]
+#[derive(Clone, Copy)]
 pub struct Plan {
     /// How many requests that haven't timed out may be in flight: 1 to 7. A number outside counts as the nearest of these.
     pub width: u8,

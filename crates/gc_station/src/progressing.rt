@@ -148,7 +148,7 @@ impl Progress {
     // Notes that the next `count` commands of the cycle had their turn; `next` is of the command after them. `were_sent`: whether
     // they were sent; otherwise they were recorded without being sent, or left out.
     pub(crate) fn advance(&mut self, count: usize, next: Upcoming, were_sent: bool)
-        ensures { self.new ≡ advanced count next.is_chained next.others were_sent self.old }
+        ensures { self.new ≡ advanced count next were_sent self.old }
     {
         self.unsent = self.unsent.saturating_sub(count);
         self.next_is_chained = next.is_chained;
@@ -324,7 +324,7 @@ impl Progress {
 
     // Notes that the cycle's next command was sent; `next` is of the command after it.
     pub(crate) fn note_sent(&mut self, next: Upcoming)
-        ensures { self.new ≡ sent next.is_chained next.others self.old }
+        ensures { self.new ≡ sent next self.old }
     {
         self.note_request();
         self.advance(1, next, true);

@@ -7,7 +7,7 @@ ghost use Rattle.gc_texts.specs.Endings.{ending_seen};
 use gc_texts::{Ending, Turn};
 
 /// How many commands ended how, of the last attempt of each chain. A count stops at 2^64 - 1.
-#[derive(Clone, Copy, Debug, PartialEq, Eq)]
+#[derive(Clone, Copy)]
 pub struct Tally {
     /// A reply came in time, and it is neither `unreadable` nor `elsewhere`.
     pub answered: u64,
@@ -78,7 +78,7 @@ impl Tally {
 }
 
 /// The tallies of a run: of the chains that are over, and of the current attempt, which a further one may replace.
-#[derive(Clone, Copy, Debug, PartialEq, Eq)]
+#[derive(Clone, Copy)]
 pub(crate) struct Counts {
     /// Of the last attempts of the chains that are over. Only `again` has how many times the current chain was sent again, too.
     pub settled: Tally,

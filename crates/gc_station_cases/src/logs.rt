@@ -1,82 +1,63 @@
 //! A case's run over a link with a log; and, for a case without tasks, the log of a link that is only read, without a station.
 
 use crate::ends::WordBook;
-use crate::running::Outcome;
-use crate::script::{START, Script, Step};
-use crate::setting::Setting;
+use crate::running::{Outcome, Scene};
+use crate::script::{START, Script};
 use crate::telling::run_telling;
 use gc_links::{Link, Telling};
 use gc_logs::Logged;
 use gc_probes::PieceSink;
-use gc_texts::Task;
 use std::alloc::Global;
 
 // The link of a case, with a log whose sink takes each line in one write, and fails after `writes` writes, or once memory runs
 // out. Until the link reads a moment, the log's lines have the moment `START`, also where the link's time of day is ahead of its
 // clock (`ahead`).
-fn logged_link<'a>(
-    alloc: Global,
-    steps: &'a [Step<'a>],
-    setting: &Setting,
-    writes: u64,
-) -> Logged<Script<'a>, PieceSink> {
+fn logged_link<'a>(alloc: Global, scene: Scene<'a>, writes: u64) -> Logged<Script<'a>, PieceSink> {
     // More bytes for each write than a line of the log has.
     let sink = PieceSink::new(alloc, 10_000, writes);
-    Logged::new(Script::new(steps, setting), sink, START)
+    Logged::new(Script::new(scene.steps, scene.setting), sink, START)
 }
 
 /// Runs a station over a link with a log, and takes what came of it into `outcome`. A log whose sink failed is reported as
 /// `lost`, provided that it is the first part of the log of the same run over a sink that takes all for which there is memory.
-pub fn play_logged(
-    alloc: Global,
-    tasks: &[Task],
-    steps: &[Step<'_>],
-    setting: &Setting,
-    outcome: &mut Outcome,
-) {
-    play_over_sink(alloc, tasks, steps, setting, setting.writes, outcome);
+pub fn play_logged(alloc: Global, scene: Scene<'_>, outcome: &mut Outcome) {
+    play_over_sink(alloc, scene, scene.setting.writes, outcome);
     if outcome.is_log_lost() {
-        compare_with_whole_log(alloc, tasks, steps, setting, outcome);
+        compare_with_whole_log(alloc, scene, outcome);
     }
 }
 
 // Runs the station once more, over a sink that takes all for which there is memory, and has `outcome` report its own log as
 // `lost`, if that is the first part of the log of this run.
-fn compare_with_whole_log(
-    alloc: Global,
-    tasks: &[Task],
-    steps: &[Step<'_>],
-    setting: &Setting,
-    outcome: &mut Outcome,
-) {
+fn compare_with_whole_log(alloc: Global, scene: Scene<'_>, outcome: &mut Outcome) {
     let mut whole = Outcome::new(alloc);
-    play_over_sink(alloc, tasks, steps, setting, u64::MAX, &mut whole);
+    play_over_sink(alloc, scene, u64::MAX, &mut whole);
     outcome.tell_lost_log(&whole);
 }
 
 // Runs the station once, with a log whose sink fails after `writes` writes, and takes what came of it into `outcome`.
-fn play_over_sink(
-    alloc: Global,
-    tasks: &[Task],
-    steps: &[Step<'_>],
-    setting: &Setting,
-    writes: u64,
-    outcome: &mut Outcome,
-) {
-    let mut link = Telling::new(logged_link(alloc, steps, setting, writes));
+fn play_over_sink(alloc: Global, scene: Scene<'_>, writes: u64, outcome: &mut Outcome) {
+    let setting = scene.setting;
+    let mut link = Telling::new(logged_link(alloc, scene, writes));
     let mut book = WordBook::new(setting);
-    let result = run_telling(&mut link, &mut book, tasks, &setting.plan, setting.turns);
+    let result = run_telling(
+        &mut link,
+        &mut book,
+        scene.tasks,
+        &setting.plan,
+        setting.turns,
+    );
     outcome.take(&link.link.link, &book, result.err());
     outcome.take_log(link.link.sink().taken(), link.link.has_lost_its_log());
 }
 
-/// Without a station: reads once for each of `steps` over a link with a log, closes the link, and takes the log into `outcome`.
-/// Where a write of the log failed, `outcome` takes what was written before.
-pub fn read_logged(alloc: Global, steps: &[Step<'_>], setting: &Setting, outcome: &mut Outcome) {
-    let mut link = logged_link(alloc, steps, setting, setting.writes);
+/// Without a station: reads once for each step over a link with a log, closes the link, and takes the log into `outcome`. Where a
+/// write of the log failed, `outcome` takes what was written before.
+pub fn read_logged(alloc: Global, scene: Scene<'_>, outcome: &mut Outcome) {
+    let mut link = logged_link(alloc, scene, scene.setting.writes);
     // Room for more than the longest line: 512 bytes, CR and LF.
     let mut buf = [0u8; 600];
-    for _ in steps {
+    for _ in scene.steps {
         let _ = link.read(&mut buf, 1);
     }
     link.close();

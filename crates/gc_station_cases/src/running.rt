@@ -29,6 +29,17 @@ pub struct Run<'a> {
     pub is_logged: bool,
 }
 
+/// What one run of a station is played with.
+#[derive(Clone, Copy)]
+pub struct Scene<'a> {
+    /// The tasks of the station's text.
+    pub tasks: &'a [Task],
+    /// What the reads of its link come to.
+    pub steps: &'a [Step<'a>],
+    /// How the run is set.
+    pub setting: &'a Setting,
+}
+
 /// What a run came to, as a case has it.
 #[derive(Drop)]
 pub struct Outcome {
@@ -122,8 +133,8 @@ impl Outcome {
 }
 
 impl<'a> Run<'a> {
-    /// Runs the station as the case sets it, with the setting words of `word` more, which may be empty. If a word isn't known, nothing is
-    /// run, and the outcome says so.
+    /// Runs the station as the case sets it, with the setting words of `word` more, which may be empty. If a word isn't known,
+    /// nothing is run, and the outcome says so.
     pub fn play(&self, alloc: Global, word: &str, outcome: &mut Outcome) {
         let mut setting = self.setting;
         if setting.set_all(word) && self.is_known {
@@ -162,28 +173,29 @@ impl<'a> Run<'a> {
         outcome: &mut Outcome,
     ) {
         match read_tasks(alloc, self.tasks, setting.plan.deadline, false) {
-            Ok(all) => self.play_tasks(alloc, all.tasks.as_slice(), steps, setting, outcome),
+            Ok(all) => {
+                let tasks = all.tasks.as_slice();
+                let scene = Scene {
+                    tasks,
+                    steps,
+                    setting,
+                };
+                self.play_scene(alloc, scene, outcome);
+            }
             Err(_) => outcome.tell_unknown("tasks"),
         }
     }
 
-    // Runs a station with these tasks, over a link with a log if the case has one. Without a task, a link with a log is only read,
-    // so that its log has what comes.
-    fn play_tasks(
-        &self,
-        alloc: Global,
-        tasks: &[Task],
-        steps: &[Step<'_>],
-        setting: &Setting,
-        outcome: &mut Outcome,
-    ) {
+    // Runs the station over a link with a log if the case has one, else over one without. If there is no task, a link with a log
+    // is only read, so that its log has what comes.
+    fn play_scene(&self, alloc: Global, scene: Scene<'_>, outcome: &mut Outcome) {
         if !self.is_logged {
-            return play_unlogged(tasks, steps, setting, outcome);
+            return play_unlogged(scene, outcome);
         }
-        if tasks.is_empty() {
-            return read_logged(alloc, steps, setting, outcome);
+        if scene.tasks.is_empty() {
+            return read_logged(alloc, scene, outcome);
         }
-        play_logged(alloc, tasks, steps, setting, outcome)
+        play_logged(alloc, scene, outcome)
     }
 }
 
@@ -192,12 +204,19 @@ pub fn text_of(bytes: &[u8]) -> &str {
     str::from_utf8(bytes).unwrap_or("?")
 }
 
-// Runs a station over a link without a log, and takes what came of it into `outcome`; with its counts if the setting asks for
+// Runs the station over a link without a log, and takes what came of it into `outcome`; with its counts if the setting asks for
 // them, and the run ended without a fault.
-fn play_unlogged(tasks: &[Task], steps: &[Step<'_>], setting: &Setting, outcome: &mut Outcome) {
-    let mut link = Telling::new(Script::new(steps, setting));
+fn play_unlogged(scene: Scene<'_>, outcome: &mut Outcome) {
+    let setting = scene.setting;
+    let mut link = Telling::new(Script::new(scene.steps, setting));
     let mut book = WordBook::new(setting);
-    let result = run_telling(&mut link, &mut book, tasks, &setting.plan, setting.turns);
+    let result = run_telling(
+        &mut link,
+        &mut book,
+        scene.tasks,
+        &setting.plan,
+        setting.turns,
+    );
     if setting.counted {
         outcome.take_counts(&result);
     }

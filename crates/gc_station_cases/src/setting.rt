@@ -90,36 +90,35 @@ impl Setting {
         are_known
     }
 
-    // Sets what one word says, `KEY=NUMBER`, or a key alone, which stands for `KEY=1`. Returns whether the key is known and the number
-    // can be read.
+    // Sets what one word says, `KEY=NUMBER`, or a key alone, which stands for `KEY=1`. Returns whether the key is known, and the
+    // number can be read and fits it.
     fn set_word(&mut self, word: &str) -> bool {
         let (key, digits) = word.split_once('=').unwrap_or((word, "1"));
         let Some(value) = number(digits) else {
             return false;
         };
-        self.set_plan(key, value) || self.set_other(key, value)
+        self.set_plan(key, value).is_some() || self.set_other(key, value)
     }
 
-    // Sets a value of the plan, and returns whether the key is one of the plan's. A number that is too great for the value counts
-    // as the greatest that it can have.
-    fn set_plan(&mut self, key: &str, value: u64) -> bool {
+    // Sets a value of the plan. `None`: the key isn't one of the plan's, or the number is too great for the value, and nothing is
+    // set.
+    fn set_plan(&mut self, key: &str, value: u64) -> Option<()> {
         match key {
-            "width" => self.plan.width = u8::try_from(value).unwrap_or(u8::MAX),
+            "width" => self.plan.width = u8::try_from(value).ok()?,
             "deadline" => self.plan.deadline = value,
             "every" => self.plan.every = value,
             "cycles" => self.plan.cycles = value,
             "quiet" => self.plan.quiet = value,
             "stale" => self.plan.stale = value,
             "watched" => self.plan.watched = value > 0,
-            "retries" => self.plan.retries = u32::try_from(value).unwrap_or(u32::MAX),
-            "setup" => self.plan.setup = usize::try_from(value).unwrap_or(usize::MAX),
-            _ => return false,
+            "retries" => self.plan.retries = u32::try_from(value).ok()?,
+            "setup" => self.plan.setup = usize::try_from(value).ok()?,
+            _ => return None,
         }
-        true
+        Some(())
     }
 
-    // Sets a value of the link, the book, the log, the steps or the report, and returns whether the key is one of theirs. `stamped`,
-    // `blind`, `timed` and `counted` are set to true, whatever the value.
+    // Sets a value of the link, the book, the log, the steps or the report, and returns whether the key is one of theirs.
     fn set_other(&mut self, key: &str, value: u64) -> bool {
         match key {
             "turns" => self.turns = value,
@@ -134,10 +133,10 @@ impl Setting {
             "split" => self.split = value,
             "until" => self.until = value,
             "ahead" => self.ahead = value,
-            "stamped" => self.stamped = true,
-            "blind" => self.blind = true,
-            "timed" => self.timed = true,
-            "counted" => self.counted = true,
+            "stamped" => self.stamped = value > 0,
+            "blind" => self.blind = value > 0,
+            "timed" => self.timed = value > 0,
+            "counted" => self.counted = value > 0,
             _ => return false,
         }
         true

@@ -98,86 +98,97 @@ fn play_case(alloc: Global, case: &Case<'_>, wrong: &mut Told) {
     if values.take(case).is_err() {
         wrong.lack();
     }
-    play_run(alloc, case, &values.run(case), wrong);
-}
-
-// Plays the rows of a case, or its run if it has no rows. Beside rows a case has no value under `put`, `ends`, `end`, `log` or `counts`:
-// each that it has there is reported as wrong; and a line `each` has no effect.
-fn play_run(alloc: Global, case: &Case<'_>, run: &Run<'_>, wrong: &mut Told) {
-    if case.value("row").is_empty() {
-        return play_each(alloc, case, run, wrong);
-    }
-    play_rows(alloc, case, run, wrong);
-    Outcome::new(alloc).tell(case, wrong);
-}
-
-// Plays the rows of a case, at most `MOST_ROWS`. Each that came to something else is reported, as it came.
-fn play_rows(alloc: Global, case: &Case<'_>, run: &Run<'_>, wrong: &mut Told) {
-    for place in 0..MOST_ROWS {
-        match case.value_at("row", place) {
-            Some(row) => play_row(alloc, case, row, run, wrong),
-            None => break,
-        }
-    }
-}
-
-// Plays a row: the run with the row's word more, which is what stands before the first `: `. Reports the row as it came, if that is
-// something else than `row`.
-fn play_row(alloc: Global, case: &Case<'_>, row: &str, run: &Run<'_>, wrong: &mut Told) {
-    let mut came = Told::new(alloc);
-    let word = row.split_once(": ").map_or(row, |cut| cut.0);
-    play_into_row(alloc, word, run, &mut came);
-    if came.as_bytes() != row.as_bytes() || came.is_lacking() {
-        case.tell_wrong("rows", came.as_bytes(), wrong);
-    }
-}
-
-// Plays the run with the setting words of `word` more, and appends the row to `came`: `word`, and what the run came to.
-fn play_into_row(alloc: Global, word: &str, run: &Run<'_>, came: &mut Told) {
-    let mut outcome = Outcome::new(alloc);
-    run.play(alloc, word, &mut outcome);
-    came.text(word);
-    outcome.tell_row(came);
-}
-
-// Plays the run. Where the case has a line `each KEY=COUNT`, it is played once for each number N below COUNT, with the setting
-// word `KEY=N` more, up to the first that `wrong` reports; a COUNT that is 0 or no number is reported as wrong. Without such a
-// line the run is played once, as it is set.
-fn play_each(alloc: Global, case: &Case<'_>, run: &Run<'_>, wrong: &mut Told) {
-    let Some((key, count)) = case.value("each").split_once('=') else {
-        return play_once(alloc, case, "", run, wrong);
+    let run = values.run(case);
+    let played = CaseRun {
+        alloc,
+        case: *case,
+        run: &run,
     };
-    let count = number(count).unwrap_or(0);
-    if count == 0 {
-        return case.tell_wrong("each", b"no number", wrong);
+    played.play(wrong);
+}
+
+// A case, and the run that it sets.
+#[derive(Clone, Copy)]
+struct CaseRun<'a> {
+    alloc: Global,
+    case: Case<'a>,
+    run: &'a Run<'a>,
+}
+
+impl CaseRun<'_> {
+    // Plays the rows of the case, or its run if it has no rows. Beside rows a case has no value under `put`, `ends`, `end`, `log` or
+    // `counts`: each that it has there is reported as wrong; and a line `each` has no effect.
+    fn play(&self, wrong: &mut Told) {
+        if self.case.value("row").is_empty() {
+            return self.play_each(wrong);
+        }
+        self.play_rows(wrong);
+        Outcome::new(self.alloc).tell(&self.case, wrong);
     }
-    let before = wrong.as_bytes().len();
-    for n in 0..count {
-        play_with_value(alloc, case, key, n, run, wrong);
-        if wrong.as_bytes().len() > before {
-            break;
+
+    // Plays the rows of the case, at most `MOST_ROWS`. Each that came to something else is reported, as it came.
+    fn play_rows(&self, wrong: &mut Told) {
+        for place in 0..MOST_ROWS {
+            match self.case.value_at("row", place) {
+                Some(row) => self.play_row(row, wrong),
+                None => break,
+            }
         }
     }
-}
 
-// Plays the run with one setting word more, which sets `key` to the number `n`; with a part of that word if memory runs out for it.
-fn play_with_value(
-    alloc: Global,
-    case: &Case<'_>,
-    key: &str,
-    n: u64,
-    run: &Run<'_>,
-    wrong: &mut Told,
-) {
-    let mut word = Told::new(alloc);
-    word.text(key);
-    word.titled("=", &n);
-    play_once(alloc, case, text_of(word.as_bytes()), run, wrong);
-}
+    // Plays a row: the run with the row's word more, which is what stands before the first `: `. Reports the row as it came, if that
+    // is something else than `row`.
+    fn play_row(&self, row: &str, wrong: &mut Told) {
+        let mut came = Told::new(self.alloc);
+        let word = row.split_once(": ").map_or(row, |cut| cut.0);
+        self.play_into_row(word, &mut came);
+        if came.as_bytes() != row.as_bytes() || came.is_lacking() {
+            self.case.tell_wrong("rows", came.as_bytes(), wrong);
+        }
+    }
 
-// Plays the run once, with the setting words of `word` more, which may be empty. Reports what came otherwise than the case has it.
-fn play_once(alloc: Global, case: &Case<'_>, word: &str, run: &Run<'_>, wrong: &mut Told) {
-    let mut outcome = Outcome::new(alloc);
-    run.play(alloc, word, &mut outcome);
-    outcome.tell(case, wrong);
+    // Plays the run with the setting words of `word` more, and appends the row to `came`: `word`, and what the run came to.
+    fn play_into_row(&self, word: &str, came: &mut Told) {
+        let mut outcome = Outcome::new(self.alloc);
+        self.run.play(self.alloc, word, &mut outcome);
+        came.text(word);
+        outcome.tell_row(came);
+    }
+
+    // Plays the run. Where the case has a line `each KEY=COUNT`, it is played once for each number N below COUNT, with the setting
+    // word `KEY=N` more, up to the first that `wrong` reports; a COUNT that is 0 or no number is reported as wrong. Without such a
+    // line the run is played once, as it is set.
+    fn play_each(&self, wrong: &mut Told) {
+        let Some((key, count)) = self.case.value("each").split_once('=') else {
+            return self.play_once("", wrong);
+        };
+        let count = number(count).unwrap_or(0);
+        if count == 0 {
+            return self.case.tell_wrong("each", b"no number", wrong);
+        }
+        let before = wrong.as_bytes().len();
+        for n in 0..count {
+            self.play_with_value(key, n, wrong);
+            if wrong.as_bytes().len() > before {
+                break;
+            }
+        }
+    }
+
+    // Plays the run with one setting word more, which sets `key` to the number `n`; with a part of that word if memory runs out for
+    // it.
+    fn play_with_value(&self, key: &str, n: u64, wrong: &mut Told) {
+        let mut word = Told::new(self.alloc);
+        word.text(key);
+        word.titled("=", &n);
+        self.play_once(text_of(word.as_bytes()), wrong);
+    }
+
+    // Plays the run once, with the setting words of `word` more, which may be empty. Reports what came otherwise than the case has
+    // it.
+    fn play_once(&self, word: &str, wrong: &mut Told) {
+        let mut outcome = Outcome::new(self.alloc);
+        self.run.play(self.alloc, word, &mut outcome);
+        outcome.tell(&self.case, wrong);
+    }
 }

@@ -1,5 +1,4 @@
-//! The words of steps. Milliseconds come after `@`, and are 5 if none do. `dead` and the words after it in this list have none: a
-//! number after their `@` has no effect.
+//! The words of steps. Milliseconds come after `@`, and are 5 if none do. `dead` and the words after it in this list have none.
 //!
 //!     BEGUN              the synchronization is answered: the replies of its eight null procedures come, the last of them after 15
 //!                        milliseconds
@@ -19,13 +18,13 @@
 use crate::script::Step;
 use gc_texts::number_of;
 
-// The words of the steps that a name in capitals stands for. `None`: the word is no such name.
-fn meaning_of(word: &str) -> Option<&'static str> {
+// The words of the steps that a name in capitals stands for. Any other word stands for itself.
+fn meaning_of(word: &str) -> &str {
     match word {
-        "BEGUN" => Some("#6@0 #5@0 #4@0 #3@0 #2@0 #1@0 #0@0 #7@15"),
-        "QUIET" => Some("silence@10"),
-        "TIMED_OUT" => Some("silence@100"),
-        _ => None,
+        "BEGUN" => "#6@0 #5@0 #4@0 #3@0 #2@0 #1@0 #0@0 #7@15",
+        "QUIET" => "silence@10",
+        "TIMED_OUT" => "silence@100",
+        _ => word,
     }
 }
 
@@ -33,29 +32,19 @@ fn meaning_of(word: &str) -> Option<&'static str> {
 /// word `<<` is cut in two.
 pub fn push_words<'a>(steps: &mut Vec<Step<'a>>, words: &'a str, split: u64) -> bool {
     let mut are_known = true;
-    for word in words.split(' ') {
-        if word.is_empty() {
-            continue;
+    for name in words.split(' ') {
+        for word in meaning_of(name).split(' ') {
+            are_known &= word.is_empty() || push_word(steps, word, split);
         }
-        are_known &= match meaning_of(word) {
-            Some(meaning) => push_named(steps, meaning),
-            None => push_word(steps, word, split),
-        };
     }
     are_known
 }
 
-// Adds the steps of `meaning`, the words that a name stands for, and returns whether there was room for each.
-fn push_named(steps: &mut Vec<Step<'_>>, meaning: &'static str) -> bool {
-    let mut are_pushed = true;
-    for word in meaning.split(' ') {
-        are_pushed &= push_word(steps, word, 0);
-    }
-    are_pushed
-}
-
 // Adds the step of a word, or the two of a cut line, and returns whether the word is known and there was room.
 fn push_word<'a>(steps: &mut Vec<Step<'a>>, word: &'a str, split: u64) -> bool {
+    if let Some(step) = untimed_step(word) {
+        return push(steps, step);
+    }
     let (what, digits) = word.split_once('@').unwrap_or((word, "5"));
     let Some(millis) = number(digits) else {
         return false;
@@ -64,7 +53,7 @@ fn push_word<'a>(steps: &mut Vec<Step<'a>>, word: &'a str, split: u64) -> bool {
         let (front, back) = cut_line(line.as_bytes(), split);
         return push(steps, Step::Line(front, millis)) && push(steps, Step::Line(back, millis));
     }
-    match step_of(what, millis) {
+    match timed_step(what, millis) {
         Some(step) => push(steps, step),
         None => false,
     }
@@ -81,9 +70,22 @@ fn cut_line(line: &[u8], split: u64) -> (&[u8], &[u8]) {
     line.split_at(at)
 }
 
-// The step that `what` names, the part of a word before `@`, with the milliseconds after it. `None`: no step has that name, or an id
-// after `#` isn't one byte.
-fn step_of<'a>(what: &'a str, millis: u64) -> Option<Step<'a>> {
+// The step of a word that has no milliseconds. `None`: the word is none of these.
+fn untimed_step<'a>(word: &str) -> Option<Step<'a>> {
+    match word {
+        "dead" => Some(Step::Dead),
+        "noise" => Some(Step::Noise),
+        "answers" => Some(Step::Answers),
+        "end" => Some(Step::End),
+        "failure" => Some(Step::Failure),
+        "no_moment" => Some(Step::NoMoment),
+        _ => None,
+    }
+}
+
+// The step that `what` names, the part of a word before `@`, with the milliseconds after it. `None`: no step with milliseconds has
+// that name, or an id after `#` isn't one byte.
+fn timed_step<'a>(what: &'a str, millis: u64) -> Option<Step<'a>> {
     if let Some(line) = what.strip_prefix('<') {
         return Some(Step::Line(line.as_bytes(), millis));
     }
@@ -94,12 +96,6 @@ fn step_of<'a>(what: &'a str, millis: u64) -> Option<Step<'a>> {
         "silence" => Some(Step::Silence(millis)),
         "reply" => Some(Step::Reply(millis)),
         "back" => Some(Step::Back(millis)),
-        "dead" => Some(Step::Dead),
-        "noise" => Some(Step::Noise),
-        "answers" => Some(Step::Answers),
-        "end" => Some(Step::End),
-        "failure" => Some(Step::Failure),
-        "no_moment" => Some(Step::NoMoment),
         _ => None,
     }
 }

@@ -28,10 +28,10 @@ pub plays_at_0 : (text_of : List Event → Bool → List ℕ) (totals : Bool) (o
     → TellsWithin text_of totals old new status told told' → status ≡ 0 → PlaysWhole text_of totals old new
 plays_at_0 text_of totals old new status told told' (inl refused) zero = absurd (omega (arith, refused.is, zero))
 plays_at_0 text_of totals old new status told told' (inr s) zero =
-    (s.given, s.gave, played_at_0 text_of s.given totals old.taken new.taken s.end status told told' s.drills s.tells zero)
+    let w = s.drills.writes in (w.0, w.1, played_at_0 text_of w.0 totals old.taken new.taken s.end status told told' w.3 s.tells zero)
 
 -- if the status is 0, the source was read to its end (`ReadsWholeSource`)
 pub reads_at_0 : (text_of : List Event → Bool → List ℕ) (totals : Bool) (old new : Ports) (status : ℕ) (told told' : Option (List ℕ))
     → TellsWithin text_of totals old new status told told' → status ≡ 0 → ReadsWholeSource old new
 reads_at_0 text_of totals old new status told told' (inl refused) zero = absurd (omega (arith, refused.is, zero))
-reads_at_0 text_of totals old new status told told' (inr s) zero = s.whole (read_at_0 s.end status told told' s.tells zero)
+reads_at_0 text_of totals old new status told told' (inr s) zero = s.drills.whole (read_at_0 s.end status told told' s.tells zero)

@@ -3,31 +3,24 @@
 -- instrument, through a window of some width, with or without the line of totals.
 use Rattle.std.specs.Prelude.{◌≡◌, ℕ, ◌⊎◌, Bool, List, Option, Result}
 use Rattle.std.specs.Io.KnownBytes.{Consumes, Appends}
-use Rattle.gc_ask.specs.Links.{source_of}
 use Rattle.gc_messages.specs.Refusals.{range_line}
 use Rattle.gc_subcommands.specs.Scenes.{AreUnused, HoldsOfInstrument, RefusesScene}
 use Rattle.gc_subcommands.specs.declared.drill.Drilling.{Drilling}
-use Rattle.gc_engines.specs.Drill.{drill_text_on, DrillsAs, HasEndedIfWhole, source_failed, sink_failed}
+use Rattle.gc_engines.specs.Drill.{IsDrill, drill_text_on}
 use Rattle.gc_engines.specs.SceneDrill.{scene_drill_text}
 use Rattle.gc_engines.specs.Schedule.{IsSchedule}
 use Rattle.gc_lines.specs.Answering.{Ports}
 use Rattle.gc_texts.specs.Faults.{run_fault_text, Tells}
-use Rattle.gc_texts.specs.WholeTexts.{IsReadToEnd}
+use Rattle.gc_texts.specs.WholeTexts.{IsReadToEnd, source_of}
 use Rattle.gc_texts.specs.declared.fault.RunFault.{RunFault}
 use Rattle.gc_world.specs.declared.event.Event.{Event}
 
--- a source gave bytes, which were played as a schedule or refused; whether the source was read to its end is as `HasEndedIfWhole`
--- says, and whether source and sink have failed then as `source_failed` and `sink_failed` say; and the status and the messages
--- report how that ended
+-- the bytes that a source gave were played as a schedule or refused (`IsDrill`), and the status and the messages report how that
+-- ended
 pub record TellsSchedule (text_of : List Event → (totals : Bool) → List ℕ) (totals : Bool) (old new : Ports) (status : ℕ)
     (told told' : Option (List ℕ)) : Type 0 where
   pub end : Result (Unit {0}) RunFault
-  pub given : List ℕ
-  pub gave : Consumes old.remaining new.remaining given
-  pub drills : DrillsAs text_of given totals old.taken new.taken end
-  pub whole : HasEndedIfWhole (source_of old) (source_of new) end
-  pub source : new.source_failed ≡ source_failed end old.source_failed
-  pub sink : new.sink_failed ≡ sink_failed end old.sink_failed
+  pub drills : IsDrill text_of totals old new end
   pub tells : Tells run_fault_text end status told told'
 
 -- the width was out of its range, which is reported with status 2, and source and sink weren't used (`AreUnused`)

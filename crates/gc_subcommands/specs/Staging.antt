@@ -2,7 +2,7 @@
 use Rattle.std.specs.Prelude.{◌⊎◌, ℕ, List, Option}
 use Rattle.std.specs.Io.KnownBytes.{Consumes, IsAtEnd}
 use Rattle.gc_engines.specs.Scenes.{IsScene, SceneFault}
-use Rattle.gc_engines.specs.RuleScenes.{IsStillLine, IsStillScene, SceneFaultOf}
+use Rattle.gc_engines.specs.RuleScenes.{IsSceneOf, IsStillLine, SceneFaultOf}
 use Rattle.gc_engines.specs.TimedScenes.{IsTimedScene, TimedFault}
 use Rattle.gc_texts.specs.Texts.{IsReadFault}
 use Rattle.gc_texts.specs.declared.fault.RunFault.{RunFault}
@@ -16,7 +16,7 @@ use Rattle.gc_subcommands.specs.declared.scene.Timed.TheVariants.{Still, Slow}
 -- the text is a scene, and this is the opening state of its instrument
 abbrev pub IsStaged : List ℕ → Staged → Type 0
 IsStaged text (Plain state) = IsScene text state
-IsStaged text (Ruled state) = IsStillScene text state
+IsStaged text (Ruled state) = IsSceneOf IsStillLine text state
 
 -- the text is a scene, maybe one that needs a clock, as with delays, and this is the opening state of its instrument for `serve`,
 -- which has a clock

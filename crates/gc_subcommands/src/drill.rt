@@ -2,13 +2,13 @@
 
 ghost use Rattle.std.specs.Prelude.{◌≡◌, ◌≤◌, IfOk};
 ghost use Rattle.std.specs.Process.{exit_status};
-ghost use Rattle.gc_subcommands.specs.Drills.{TellsSchedule, TellsWithin, TellsDrill, PlaysScene, ReadsWholeSource};
+ghost use Rattle.gc_subcommands.specs.Drills.{TellsWithin, TellsDrill, PlaysScene, ReadsWholeSource};
 ghost use Rattle.gc_lines.specs.Answering.{ports_of};
 
-use crate::drilled::Drilled;
-use crate::scene::{Staged, staged_of};
+use crate::scene::{Staged, instrument_of};
 use clap::{ArgMatches, Command};
 use gc_client::WINDOW;
+use gc_engines::{Playable, run_drill_on};
 use gc_lines::{Sink, Source};
 use gc_messages::{refuse_numbers, report_end};
 use gc_words::help::EVENTS;
@@ -98,7 +98,7 @@ pub fn drill_scene<R: Files, S: Source, K: Sink, E: Write>(
         (ports_of S.Source source.new K.Sink sink.new)) }
     ensures bound { IfOk result (λ status. exit_status status ≤ 2) }
 {
-    match staged_of(rt, alloc, drilling.scene) {
+    match instrument_of::<Staged, R>(rt, alloc, drilling.scene) {
         Ok(Staged::Plain(instrument)) => {
             drill_within(alloc, instrument, drilling, source, sink, messages)
         }
@@ -111,7 +111,7 @@ pub fn drill_scene<R: Files, S: Source, K: Sink, E: Write>(
 
 // Plays the schedule of the source on an instrument, and reports how that ended, with status 0 or 1; with status 2 it refuses a
 // width that isn't 1 to 7, before anything of the source is read. clap refuses it first, though no clause of clap's says so.
-fn drill_within<I: Drilled, S: Source, K: Sink, E: Write>(
+fn drill_within<I: Playable, S: Source, K: Sink, E: Write>(
     alloc: Global,
     instrument: I,
     drilling: Drilling<'_>,
@@ -126,34 +126,18 @@ fn drill_within<I: Drilled, S: Source, K: Sink, E: Write>(
     ensures width { 1 ≤ drilling.entry.width → drilling.entry.width ≤ WINDOW → IfOk result (λ status. exit_status status ≤ 1) }
     ensures bound { IfOk result (λ status. exit_status status ≤ 2) }
 {
-    if drilling.width == 0 {
+    if drilling.width == 0 || usize::from(drilling.width) > WINDOW {
         return refuse_numbers(messages);
     }
-    if usize::from(drilling.width) > WINDOW {
-        return refuse_numbers(messages);
-    }
-    play_and_report(alloc, instrument, drilling, source, sink, messages)
-}
-
-// Plays the schedule of the source on an instrument, with a width from 1 to 7, and reports how that ended, with status 0 or 1.
-fn play_and_report<I: Drilled, S: Source, K: Sink, E: Write>(
-    alloc: Global,
-    instrument: I,
-    drilling: Drilling<'_>,
-    source: &mut S,
-    sink: &mut K,
-    messages: &mut E,
-) -> io::Result<ExitCode>
-    requires least { 1 ≤ drilling.width }
-    requires most { drilling.width ≤ WINDOW }
-    ensures told { IfOk result (λ status. TellsSchedule (I.text instrument drilling.entry.width) drilling.entry.totals
-        (ports_of S.Source source.old K.Sink sink.old)
-        (ports_of S.Source source.new K.Sink sink.new)
-        (exit_status status) (E.contents messages.old) (E.contents messages.new)) }
-    ensures bound { IfOk result (λ status. exit_status status ≤ 1) }
-{
     report_end(
-        instrument.play(alloc, source, sink, drilling.totals, drilling.width),
+        run_drill_on(
+            alloc,
+            instrument,
+            source,
+            sink,
+            drilling.totals,
+            drilling.width,
+        ),
         messages,
     )
 }

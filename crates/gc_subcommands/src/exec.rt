@@ -6,7 +6,7 @@ ghost use Rattle.gc_subcommands.specs.Serves.{TellsServing, TellsExec, IsDoneAtE
 ghost use Rattle.gc_lines.specs.Answering.{ports_of};
 
 use crate::answerer::Answerer;
-use crate::scene::{Staged, staged_of};
+use crate::scene::{Staged, instrument_of};
 use clap::Command;
 use gc_lines::{Sink, Source};
 use gc_messages::report_served;
@@ -63,7 +63,7 @@ pub fn exec_scene<R: Files, S: Source, K: Sink, E: Write>(
         (exit_status status)) }
     ensures bound { IfOk result (λ status. exit_status status ≤ 1) }
 {
-    match staged_of(rt, alloc, scene) {
+    match instrument_of::<Staged, R>(rt, alloc, scene) {
         Ok(Staged::Plain(instrument)) => exec(instrument, source, sink, messages),
         Ok(Staged::Ruled(instrument)) => exec(instrument, source, sink, messages),
         Err(refusal) => refusal.tell(messages),

@@ -6,7 +6,6 @@ mod answerer;
 pub mod ask;
 pub mod check;
 pub mod drill;
-mod drilled;
 pub mod exec;
 pub mod looped;
 mod refusal;

@@ -3,7 +3,7 @@
 ghost use Rattle.std.specs.Prelude.{◌≤◌, IfOk};
 ghost use Rattle.std.specs.Process.{exit_status};
 
-use crate::scene::{Staged, staged_of};
+use crate::scene::{Staged, instrument_of};
 use clap::Command;
 use gc_ask::loop_tcp_on;
 use gc_lines::{Sink, Source};
@@ -52,7 +52,7 @@ pub fn loop_scene<
 ) -> io::Result<ExitCode>
     ensures { IfOk result (λ status. exit_status status ≤ 1) }
 {
-    let end = match staged_of(rt, alloc, scene) {
+    let end = match instrument_of::<Staged, R>(rt, alloc, scene) {
         Ok(Staged::Plain(instrument)) => {
             loop_tcp_on(rt, alloc, instrument, source, sink, u32::MAX)
         }

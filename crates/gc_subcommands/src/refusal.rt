@@ -12,7 +12,7 @@ use std::io::{self, Write};
 use std::process::ExitCode;
 
 /// Why a scene was refused.
-#[derive(Clone, Copy, Debug, PartialEq, Eq)]
+#[derive(Clone, Copy)]
 pub(crate) enum Refusal {
     /// Its file couldn't be read whole, or its text sets up no instrument, with this fault: also `Memory`, where memory was
     /// refused.

@@ -3,15 +3,12 @@
 //! with a clock.
 
 ghost use Rattle.std.specs.Prelude.{◌≡◌, None, Ok, IfErr, IfOk};
-ghost use Rattle.gc_instrument.specs.State.{simulator_opening};
 ghost use Rattle.gc_engines.specs.RuleScenes.{IsStillLine, SceneFaultOf};
 ghost use Rattle.gc_engines.specs.TimedScenes.{TimedFault};
-ghost use Rattle.gc_subcommands.specs.Staging.{GivesInstrument, GivesNoInstrument, IsStaged, IsTimed, StagedFault, TimedStagedFault};
-ghost use Rattle.gc_subcommands.specs.declared.scene.Staged.TheVariants.{Plain};
-ghost use Rattle.gc_subcommands.specs.declared.scene.Timed.TheVariants.{Still};
+ghost use Rattle.gc_subcommands.specs.Staging.{GivesInstrument, GivesNoInstrument, IsStaged, IsTimed};
 
 use crate::refusal::Refusal;
-use gc_engines::{read_scene, read_still_scene, read_timed_scene};
+use gc_engines::{StillForm, read_rule_scene, read_scene, read_timed_scene};
 use gc_instrument::Instrument;
 use gc_lines::{FromReader, Source};
 use gc_scenes::{SceneInstrument, SlowInstrument};
@@ -38,122 +35,100 @@ pub(crate) enum Timed {
     Slow(SlowInstrument),
 }
 
-/// The instrument of the scene in a file, with rules or without them, or the simulator if no file is named. The file is read to its
-/// end, or until it is found too long, a read fails or memory is refused, and closed.
-///
-/// `Read` comes where the file can't be opened. The faults of its reading are those of `read_text`; those of a scene's text are those of
-/// `read_scene`, and of one with rules those of `read_still_scene`. The clause speaks only of the simulator: what a file holds isn't known.
-pub(crate) fn staged_of<R: Files>(
-    rt: &R,
-    alloc: Global,
-    scene: Option<&str>,
-) -> Result<Staged, Refusal>
-    ensures simulator { scene.entry ≡ None → result ≡ Ok (Plain simulator_opening) }
-{
-    let Some(path) = scene else {
-        return Ok(Staged::Plain(Instrument::simulator()));
-    };
-    let mut source = source_at(rt, path)?;
-    staged_in(alloc, &mut source)
+/// An instrument that a scene sets up: `Staged`, or for `serve` `Timed`.
+pub(crate) trait SetUp: Drop {
+    ghost use Rattle.std.specs.Prelude.{ℕ, List};
+    ghost use Rattle.gc_texts.specs.declared.fault.RunFault.{RunFault};
+
+    /// The text is a scene, and this is the opening state of its instrument.
+    ghost is: { List ℕ → Self → Type 0 };
+
+    /// The text sets up no instrument, for this fault.
+    ghost fails: { List ℕ → RunFault → Type 0 };
+
+    /// The simulator.
+    ghost simulator: { Self };
+
+    /// The simulator.
+    fn simulator() -> Self
+        ensures { result ≡ simulator };
+
+    /// Whether a line of the scene may need a clock.
+    fn has_clock() -> bool;
+
+    /// The instrument of a scene's text. `Schedule` names the first line that no such scene may have.
+    fn of_text(alloc: Global, text: &[u8]) -> Result<Self, RunFault>
+        ensures found { IfOk result (λ instrument. is text.now instrument) }
+        ensures fault { IfErr result (λ e. fails text.now e) };
 }
 
-// Opens the file at this path as a source. `Read` comes where it can't be opened.
-fn source_at<R: Files>(rt: &R, path: &str) -> Result<FromReader<R::File>, Refusal> {
-    match File::open(rt, path) {
-        Ok(file) => Ok(FromReader::new(file)),
-        Err(_) => Err(Refusal::Fault(RunFault::Read)),
+impl SetUp for Staged {
+    ghost use Rattle.gc_instrument.specs.State.{simulator_opening};
+    ghost use Rattle.gc_subcommands.specs.Staging.{IsStaged, StagedFault};
+    ghost use Rattle.gc_subcommands.specs.declared.scene.Staged.TheVariants.{Plain};
+
+    ghost is = { IsStaged };
+
+    ghost fails = { StagedFault };
+
+    ghost simulator = { Plain simulator_opening };
+
+    fn simulator() -> Staged {
+        Staged::Plain(Instrument::simulator())
+    }
+
+    fn has_clock() -> bool {
+        false
+    }
+
+    // Without rules, where each line is one of a scene without rules; else with rules.
+    fn of_text(alloc: Global, text: &[u8]) -> Result<Staged, RunFault> {
+        match read_scene(alloc, text) {
+            Ok(instrument) => Ok(Staged::Plain(instrument)),
+            Err(RunFault::Schedule { .. }) => ruled_of_text(alloc, text),
+            Err(fault) => Err(fault),
+        }
     }
 }
 
-// The instrument of the scene that a source gives, with rules or without them. The faults are those of `staged_of`.
-fn staged_in<S: Source>(alloc: Global, source: &mut S) -> Result<Staged, Refusal>
-    // The whole of what the source gave is its text.
-    ensures found { IfOk result (λ staged. GivesInstrument IsStaged (S.remaining source.old) (S.remaining source.new) staged) }
-
-    // Either the source wasn't read to its end, or what it gave sets up no instrument, also for want of memory.
-    ensures fault { IfErr result (λ r. GivesNoInstrument StagedFault (S.remaining source.old) (S.remaining source.new) r) }
-{
-    let text = match read_text(alloc, source) {
-        Ok(text) => text,
-        Err(fault) => return Err(Refusal::Fault(fault)),
-    };
-    match staged_of_text(alloc, text.as_slice()) {
-        Ok(staged) => Ok(staged),
-        Err(fault) => Err(Refusal::of(fault, text.as_slice(), false)),
-    }
-}
-
-// The instrument of a scene's text: without rules, where each line is one of a scene without rules; else one with rules. `Schedule`
-// names the first line that is faulty in a scene with rules, too.
-fn staged_of_text(alloc: Global, text: &[u8]) -> Result<Staged, RunFault>
-    ensures found { IfOk result (λ staged. IsStaged text.now staged) }
-    ensures fault { IfErr result (λ e. StagedFault text.now e) }
-{
-    match read_scene(alloc, text) {
-        Ok(instrument) => Ok(Staged::Plain(instrument)),
-        Err(RunFault::Schedule { .. }) => ruled_of_text(alloc, text),
-        Err(fault) => Err(fault),
-    }
-}
-
-// The instrument of the text of a scene with rules. The faults are those of `read_still_scene`.
+// The instrument of the text of a scene with rules. The faults are those of `read_rule_scene`.
 fn ruled_of_text(alloc: Global, text: &[u8]) -> Result<Staged, RunFault>
     ensures found { IfOk result (λ staged. IsStaged text.now staged) }
     ensures fault { IfErr result (λ e. SceneFaultOf IsStillLine text.now e) }
 {
-    match read_still_scene(alloc, text) {
+    match read_rule_scene::<StillForm>(alloc, text) {
         Ok(instrument) => Ok(Staged::Ruled(instrument)),
         Err(fault) => Err(fault),
     }
 }
 
-/// The instrument of the scene in a file for `serve`, which has a clock, or the simulator if no file is named. The file is read and closed
-/// as `staged_of` does.
-///
-/// The faults are those of `staged_of`, and of a scene that needs the clock those of `read_timed_scene`. The clause speaks only of the
-/// simulator, as that of `staged_of`.
-pub(crate) fn timed_of<R: Files>(
-    rt: &R,
-    alloc: Global,
-    scene: Option<&str>,
-) -> Result<Timed, Refusal>
-    ensures simulator { scene.entry ≡ None → result ≡ Ok (Still (Plain simulator_opening)) }
-{
-    let Some(path) = scene else {
-        return Ok(Timed::Still(Staged::Plain(Instrument::simulator())));
-    };
-    let mut source = source_at(rt, path)?;
-    timed_in(alloc, &mut source)
-}
+impl SetUp for Timed {
+    ghost use Rattle.gc_instrument.specs.State.{simulator_opening};
+    ghost use Rattle.gc_subcommands.specs.Staging.{IsTimed, TimedStagedFault};
+    ghost use Rattle.gc_subcommands.specs.declared.scene.Staged.TheVariants.{Plain};
+    ghost use Rattle.gc_subcommands.specs.declared.scene.Timed.TheVariants.{Still};
 
-// The instrument of the scene that a source gives, for `serve`, which has a clock. The faults are those of `timed_of`.
-fn timed_in<S: Source>(alloc: Global, source: &mut S) -> Result<Timed, Refusal>
-    // The whole of what the source gave is its text.
-    ensures found { IfOk result (λ timed. GivesInstrument IsTimed (S.remaining source.old) (S.remaining source.new) timed) }
+    ghost is = { IsTimed };
 
-    // Either the source wasn't read to its end, or what it gave sets up no instrument, also for want of memory.
-    ensures fault { IfErr result (λ r. GivesNoInstrument TimedStagedFault (S.remaining source.old) (S.remaining source.new) r) }
-{
-    let text = match read_text(alloc, source) {
-        Ok(text) => text,
-        Err(fault) => return Err(Refusal::Fault(fault)),
-    };
-    match timed_of_text(alloc, text.as_slice()) {
-        Ok(timed) => Ok(timed),
-        Err(fault) => Err(Refusal::of(fault, text.as_slice(), true)),
+    ghost fails = { TimedStagedFault };
+
+    ghost simulator = { Still (Plain simulator_opening) };
+
+    fn simulator() -> Timed {
+        Timed::Still(Staged::simulator())
     }
-}
 
-// The instrument of a scene's text, for `serve`: one that needs no clock, where each line is one of a scene for such an instrument; else
-// one that needs the clock. `Schedule` names the first line that is faulty in a scene for `serve`.
-fn timed_of_text(alloc: Global, text: &[u8]) -> Result<Timed, RunFault>
-    ensures found { IfOk result (λ timed. IsTimed text.now timed) }
-    ensures fault { IfErr result (λ e. TimedStagedFault text.now e) }
-{
-    match staged_of_text(alloc, text) {
-        Ok(staged) => Ok(Timed::Still(staged)),
-        Err(RunFault::Schedule { .. }) => slow_of_text(alloc, text),
-        Err(fault) => Err(fault),
+    fn has_clock() -> bool {
+        true
+    }
+
+    // One that needs no clock, where each line is one of a scene for such an instrument; else one that needs the clock.
+    fn of_text(alloc: Global, text: &[u8]) -> Result<Timed, RunFault> {
+        match Staged::of_text(alloc, text) {
+            Ok(staged) => Ok(Timed::Still(staged)),
+            Err(RunFault::Schedule { .. }) => slow_of_text(alloc, text),
+            Err(fault) => Err(fault),
+        }
     }
 }
 
@@ -165,5 +140,50 @@ fn slow_of_text(alloc: Global, text: &[u8]) -> Result<Timed, RunFault>
     match read_timed_scene(alloc, text) {
         Ok(slow) => Ok(Timed::Slow(slow)),
         Err(fault) => Err(fault),
+    }
+}
+
+/// The instrument of the scene in a file, or the simulator if no file is named. The file is read to its end, or until it is found
+/// too long, a read fails or memory is refused, and closed.
+///
+/// `Read` comes where the file can't be opened. The faults of its reading are those of `read_text`; those of a scene's text are
+/// those of `of_text`. The clause speaks only of the simulator: what a file holds isn't known.
+pub(crate) fn instrument_of<I: SetUp, R: Files>(
+    rt: &R,
+    alloc: Global,
+    scene: Option<&str>,
+) -> Result<I, Refusal>
+    ensures simulator { scene.entry ≡ None → result ≡ Ok I.simulator }
+{
+    let Some(path) = scene else {
+        return Ok(I::simulator());
+    };
+    let mut source = source_at(rt, path)?;
+    instrument_in(alloc, &mut source)
+}
+
+// Opens the file at this path as a source. `Read` comes where it can't be opened.
+fn source_at<R: Files>(rt: &R, path: &str) -> Result<FromReader<R::File>, Refusal> {
+    match File::open(rt, path) {
+        Ok(file) => Ok(FromReader::new(file)),
+        Err(_) => Err(Refusal::Fault(RunFault::Read)),
+    }
+}
+
+// The instrument of the scene that a source gives. The faults are those of `instrument_of`.
+fn instrument_in<I: SetUp, S: Source>(alloc: Global, source: &mut S) -> Result<I, Refusal>
+    // The whole of what the source gave is its text.
+    ensures found { IfOk result (λ instrument. GivesInstrument I.is (S.remaining source.old) (S.remaining source.new) instrument) }
+
+    // Either the source wasn't read to its end, or what it gave sets up no instrument, also for want of memory.
+    ensures fault { IfErr result (λ r. GivesNoInstrument I.fails (S.remaining source.old) (S.remaining source.new) r) }
+{
+    let text = match read_text(alloc, source) {
+        Ok(text) => text,
+        Err(fault) => return Err(Refusal::Fault(fault)),
+    };
+    match I::of_text(alloc, text.as_slice()) {
+        Ok(instrument) => Ok(instrument),
+        Err(fault) => Err(Refusal::of(fault, text.as_slice(), I::has_clock())),
     }
 }

@@ -4,7 +4,7 @@
 ghost use Rattle.std.specs.Prelude.{◌≤◌, IfOk};
 ghost use Rattle.std.specs.Process.{exit_status};
 
-use crate::scene::{Staged, Timed, timed_of};
+use crate::scene::{Staged, Timed, instrument_of};
 use clap::{ArgMatches, Command};
 use gc_ask::{
     Address, BusyClock, Keeping, MOST_CONNECTIONS, Simulates, Slow, keep_device, keep_tcp,
@@ -143,7 +143,7 @@ fn serve_with_scene<
 >(rt: &R, alloc: Global, serving: Serving<'_>, messages: &mut E) -> io::Result<ExitCode>
     ensures { IfOk result (λ status. exit_status status ≤ 2) }
 {
-    match timed_of(rt, alloc, serving.scene) {
+    match instrument_of::<Timed, R>(rt, alloc, serving.scene) {
         Ok(Timed::Still(Staged::Plain(mut instrument))) => {
             serve_or_keep(rt, serving, &mut instrument, None, messages)
         }

@@ -105,12 +105,10 @@ impl Subcommand {
 
     /// The subcommand of this name, if there is one.
     pub fn named(name: &str) -> Option<Subcommand> {
-        for subcommand in SUBCOMMANDS {
-            if subcommand.name() == name {
-                return Some(subcommand);
-            }
-        }
-        None
+        SUBCOMMANDS
+            .iter()
+            .copied()
+            .find(|subcommand| subcommand.name() == name)
     }
 
     /// Whether the subcommand reads a text from standard input: a schedule, commands, or what a station measures. `exec` reads a

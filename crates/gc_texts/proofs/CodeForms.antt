@@ -9,7 +9,8 @@ use Rattle.gc_texts.specs.Codes.{IsCodeList, IsCode, AreCodes, padded_codes}
 use Rattle.gc_texts.specs.Cuts.{Cuts, Lacks}
 use Rattle.gc_texts.specs.TaskLines.{SetsAccepted}
 use Rattle.gc_texts.specs.declared.codes.Codes.{Codes}
-use Rattle.gc_texts.proofs.Cutting.{IsReadAs, read_alike, digits_lack_spaces}
+use Rattle.gc_texts.specs.LineForms.{IsReadAs}
+use Rattle.gc_texts.proofs.Cutting.{read_alike, digits_lack_spaces}
 use Rattle.gc_texts.proofs.Procedures.{one_number}
 use Rattle.gc_texts.proofs.WordForms.{IsWordForm, one_word_list, AreLeft, ReadsWords, all_read_are, next_item_of, one_more_read}
 

@@ -1,16 +1,13 @@
 -- Texts cut at the first mark, which is a byte, as LF between lines or a space between words; and what is read of a text, if
 -- anything.
-use Rattle.std.proofs.Common.{◌≡◌, ◌≢◌, ◌<◌, ◌+◌, ◌≤◌, ◌==◌, false, ℕ, zero, suc, List, [], ◌∷◌, ◌++◌, length, take, drop, get_or, Option, Some, None, MatchOption, arith, refl, ap, subst, sym, ◌∙◌}
+use Rattle.std.proofs.Common.{◌≡◌, ◌≢◌, ◌<◌, ◌+◌, ◌≤◌, ◌==◌, false, ℕ, zero, suc, List, [], ◌∷◌, ◌++◌, length, take, drop, get_or, Option, Some, None, arith, refl, ap, subst, sym, ◌∙◌}
 use Rattle.std.specs.List.{list_any}
 use Rattle.std.proofs.lemmas.Bool.{eqb-true, eqb-false, eq-eqb, or_parts}
 use Rattle.std.proofs.lemmas.List.{take_all, take-append-drop, drop_more}
 use Rattle.memchr.specs.Find.{IsFirstByte, is_byte}
 use Rattle.gc_values.specs.Digits.{AreDigits}
 use Rattle.gc_texts.specs.Cuts.{Lacks, Cuts}
-
--- `r` is a value of which `Says` holds, or `None` where it holds of none
-abbrev pub IsReadAs : {Value : Type 0} → (Says : Value → Type 0) → (r : Option Value) → Type 0
-IsReadAs {Value} Says r = MatchOption r ((v : Value) → Says v → ⊥) (λ v. Says v)
+use Rattle.gc_texts.specs.LineForms.{IsReadAs}
 
 -- where `Says` and `Sets` hold of the same values, what is read by the one (`IsReadAs`) is read by the other
 pub read_alike : {Value : Type 0} (Says Sets : Value → Type 0) (r : Option Value) → ((v : Value) → Says v → Sets v) → ((v : Value) → Sets v → Says v)

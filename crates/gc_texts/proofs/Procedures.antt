@@ -6,7 +6,8 @@ use Rattle.gc_catalogue.specs.declared.call.Call.{Call}
 use Rattle.gc_catalogue.specs.Calls.{IsCall}
 use Rattle.gc_texts.specs.Cuts.{Cuts, Lacks}
 use Rattle.gc_texts.specs.Procedures.{IsNumber, IsProcedure, HasBytes, params_text_of}
-use Rattle.gc_texts.proofs.Cutting.{IsReadAs, read_alike, cut_found, cut_none, digits_lack_spaces}
+use Rattle.gc_texts.specs.LineForms.{IsReadAs}
+use Rattle.gc_texts.proofs.Cutting.{read_alike, cut_found, cut_none, digits_lack_spaces}
 
 -- where a text is digits without a space, and then parameters after a space, or none, its cut at the first space gives the digits
 -- as the front and the parameters as the rest

@@ -14,7 +14,8 @@ use Rattle.gc_texts.specs.declared.retry.Reason.{Reason}
 use Rattle.gc_texts.specs.declared.retry.Reason.TheVariants as reason
 use Rattle.gc_texts.specs.declared.retry.Retry.{Retry}
 use Rattle.gc_values.specs.Digits.{AreDigits}
-use Rattle.gc_texts.proofs.Cutting.{IsReadAs, read_alike, lacks_by_test, digits_lack_spaces}
+use Rattle.gc_texts.specs.LineForms.{IsReadAs}
+use Rattle.gc_texts.proofs.Cutting.{read_alike, lacks_by_test, digits_lack_spaces}
 use Rattle.gc_texts.proofs.Procedures.{one_number}
 use Rattle.gc_texts.proofs.WordForms.{IsWordForm, one_word_list, AreLeft, ReadsWords, all_read_are, next_item_of, one_more_read}
 

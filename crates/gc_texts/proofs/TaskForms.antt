@@ -18,7 +18,8 @@ use Rattle.gc_texts.specs.declared.name.Name.{Name}
 use Rattle.gc_texts.specs.declared.near.Near.{Near}
 use Rattle.gc_texts.specs.declared.task_line.TaskLine.{TaskLine}
 use Rattle.gc_texts.specs.declared.task_line.TaskLine.TheVariants as says
-use Rattle.gc_texts.proofs.Cutting.{IsReadAs, read_alike, cut_found, one_front, digits_lack_spaces}
+use Rattle.gc_texts.specs.LineForms.{IsReadAs}
+use Rattle.gc_texts.proofs.Cutting.{read_alike, cut_found, one_front, digits_lack_spaces}
 use Rattle.gc_texts.proofs.ClockForms.{one_clock, wish_is_no_clock}
 use Rattle.gc_texts.proofs.CodeForms.{one_accepting}
 use Rattle.gc_texts.proofs.ReasonForms.{one_retrying}

@@ -10,7 +10,7 @@ use Rattle.std.specs.Prelude.{not, filter}
 use Rattle.gc_texts.specs.Cuts.{Cuts}
 use Rattle.gc_texts.specs.LineForms.{text_lines, is_skipped, is_kept, without_cr}
 use Rattle.gc_texts.specs.TaskLines.{IsTaskLine}
-use Rattle.gc_texts.specs.Tasks.{Gave, Grows, opening, mode_after, is_chained, place_in_chain, task_at, given_by, setup_at, setup_of, planned_at, planned_of, name_at, names_of, near_at, nears_of, may_follow, MayFollow, IsFirstFaultyTask, ReachesASoundTaskLine}
+use Rattle.gc_texts.specs.Tasks.{Gave, Grows, Counted, opening, mode_after, is_chained, place_in_chain, task_at, given_by, setup_at, setup_of, planned_at, planned_of, name_at, names_of, near_at, nears_of, may_follow, MayFollow, IsFirstFaultyTask, ReachesASoundTaskLine}
 use Rattle.gc_texts.specs.declared.name.Name.{Name}
 use Rattle.gc_texts.specs.declared.near.Near.{Near}
 use Rattle.gc_texts.specs.declared.task_line.TaskLine.{TaskLine}
@@ -44,12 +44,6 @@ given_more : {Item : Type 0} (given_at : Mode → TaskLine → List Item) (mode 
     → given_by given_at mode (lines ++ next ∷ []) ≡ given_by given_at mode lines ++ given_at (mode_after_lines mode lines) next
 given_more given_at mode lines next =
     given_both given_at mode lines (next ∷ []) ∙ ap (λ items. given_by given_at mode lines ++ items) (append-nil (given_at (mode_after_lines mode lines) next))
-
--- each count of a mode is at most n
-pub record Counted (mode : Mode) (n : ℕ) : Type 0 where
-  pub begun : mode.begun ≤ n
-  pub place : mode.place ≤ n
-  pub link : mode.link ≤ n
 
 -- where each count of a mode is at most n, each count of the mode after one more line is at most n + 1
 counted_line : (mode : Mode) (line : TaskLine) (n : ℕ) → Counted mode n → Counted (mode_after mode line) (n + 1)

@@ -1,5 +1,5 @@
 -- A text of lines, each of which is written for one item: this project's own.
-use Rattle.std.specs.Prelude.{◌≡◌, ℕ, ◌+◌, ◌-◌, ◌<◌, ◌≤◌, ◌↔◌, ◌==◌, Bool, true, List, [], ◌∷◌, ◌++◌, length, get_or, map, filter, not, if◌then◌else◌, Result, Err}
+use Rattle.std.specs.Prelude.{◌≡◌, ℕ, ◌+◌, ◌-◌, ◌<◌, ◌≤◌, ◌↔◌, ◌==◌, Bool, true, List, [], ◌∷◌, ◌++◌, length, get_or, map, filter, not, if◌then◌else◌, MatchOption, Option, Result, Err}
 use Rattle.std.specs.List.{AllZip}
 use Rattle.gc_texts.specs.declared.fault.RunFault.{RunFault}
 use Rattle.gc_texts.specs.declared.fault.RunFault.TheVariants.{Schedule, Memory, InputTooLong}
@@ -8,6 +8,10 @@ use Rattle.gc_texts.specs.declared.text.TheConstants.{TEXT_LIMIT}
 -- a form of lines: it says which lines are written for which item
 abbrev pub Form : Type 0 → Type 1
 Form Item = List ℕ → Item → Type 0
+
+-- what was read is a value of which `Says` holds, or `None` where it holds of none
+abbrev pub IsReadAs : {Value : Type 0} → (Says : Value → Type 0) → (read : Option Value) → Type 0
+IsReadAs {Value} Says read = MatchOption read ((v : Value) → Says v → ⊥) (λ v. Says v)
 
 -- the pieces of a text, cut at each LF; `before` is the beginning of the first
 abbrev pub text_pieces : (before bs : List ℕ) → List (List ℕ)

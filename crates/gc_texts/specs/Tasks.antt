@@ -46,6 +46,12 @@ opening deadline chained =
       link = 0;
     }
 
+-- each count of a mode is at most n
+pub record Counted (mode : Mode) (n : ℕ) : Type 0 where
+  pub begun : mode.begun ≤ n
+  pub place : mode.place ≤ n
+  pub link : mode.link ≤ n
+
 -- whether a command for `target` continues the group before it, where there is one: that group is for the target `before`
 abbrev pub continues_group : Option ℕ → ℕ → Bool
 continues_group (Some before) target = before == target

@@ -1,6 +1,7 @@
 -- Texts that are read whole from a source, what they give, and why they are refused: this project's own.
 use Rattle.std.specs.Prelude.{◌≡◌, ℕ, ◌+◌, ◌<◌, ◌≤◌, ◌⊎◌, Bool, true, false, List, length, Option}
 use Rattle.std.specs.Io.KnownBytes.{Consumes, IsAtEnd}
+use Rattle.gc_lines.specs.Answering.{Ports}
 use Rattle.gc_lines.specs.declared.ports.Source.{Ghosts as Source}
 use Rattle.gc_texts.specs.Commands.{IsCommand, IsCommands}
 use Rattle.gc_texts.specs.LineForms.{TextFault}
@@ -22,6 +23,10 @@ pub record Input : Type 0 where
 abbrev pub input_of : {S : Type 0} → Source S → S → Input
 input_of of_source source =
     record { remaining = of_source.remaining source; reads = of_source.reads source; ended = of_source.ended source; failed = of_source.failed source }
+
+-- what is seen of the source of these ports
+abbrev pub source_of : Ports → Input
+source_of ports = record { remaining = ports.remaining; reads = ports.reads; ended = ports.ended; failed = ports.source_failed }
 
 -- a source gave some bytes, with at most one read for each byte and one for its end, and `claim` holds of these bytes
 abbrev pub Gave : (old new : Input) → (claim : List ℕ → Type 0) → Type 0

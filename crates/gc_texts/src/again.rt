@@ -8,7 +8,7 @@ use crate::codes::Codes;
 use crate::ending::Ending;
 
 /// The return codes and outcomes after which a chain is repeated.
-#[derive(Clone, Copy, Debug, PartialEq, Eq)]
+#[derive(Clone, Copy)]
 pub struct Again {
     /// The return codes of an answered command after which the chain is repeated.
     pub codes: Codes,

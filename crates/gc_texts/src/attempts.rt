@@ -16,21 +16,32 @@ pub(crate) struct Planned {
     pub(crate) retry: Retry,
 }
 
-// The task of a command in this attempt of its chain. `again` says after which endings the chain is repeated, and `commands` how many
-// commands this attempt and those after it have together: only the first command of an attempt other than the first records that.
-fn in_attempt(attempt: u64, again: Again, commands: usize, planned: &Planned) -> Task
-    ensures { result ≡ in_attempt attempt again commands planned.now }
+// An attempt of a chain.
+#[derive(Clone, Copy)]
+struct Attempt {
+    // Which one it is, counted from 1.
+    number: u64,
+    // After which endings of its commands the chain is repeated.
+    again: Again,
+    // How many commands this attempt and those after it have together.
+    commands: usize,
+}
+
+// The task of a command in this attempt of its chain. Only the first command of an attempt other than the first records how many
+// commands are left.
+fn in_attempt(attempt: Attempt, planned: &Planned) -> Task
+    ensures { result ≡ in_attempt attempt.number attempt.again attempt.commands planned.now }
 {
     let task = planned.task;
-    let others = if attempt > 1 && task.turn.link == 0 {
-        commands
+    let others = if attempt.number > 1 && task.turn.link == 0 {
+        attempt.commands
     } else {
         0
     };
     Task {
-        again,
+        again: attempt.again,
         turn: Turn {
-            attempt,
+            attempt: attempt.number,
             ..task.turn
         },
         others,
@@ -38,21 +49,18 @@ fn in_attempt(attempt: u64, again: Again, commands: usize, planned: &Planned) ->
     }
 }
 
-// Appends the tasks of one attempt of a chain; `again` and `commands` as in `in_attempt`. Fails if memory was refused: then some of
-// them may have been appended.
+// Appends the tasks of this attempt of a chain. Fails if memory was refused: then some of them may have been appended.
 fn push_attempt(
     tasks: &mut Vec<Task>,
     chain: &[Planned],
-    attempt: u64,
-    again: Again,
-    commands: usize,
+    attempt: Attempt,
 ) -> Result<(), AllocError>
-    ensures appends { OnOk result (tasks.new.items ≡ tasks.old.items ++ map (in_attempt attempt again commands) chain.now) }
+    ensures appends { OnOk result (tasks.new.items ≡ tasks.old.items ++ map (in_attempt attempt.number attempt.again attempt.commands) chain.now) }
     ensures wants { OnErr result (0 < length chain.now) }
 {
     for planned in chain {
         tasks.reserve(1)?;
-        tasks.push_reserved(in_attempt(attempt, again, commands, planned));
+        tasks.push_reserved(in_attempt(attempt, planned));
     }
     Ok(())
 }
@@ -64,15 +72,24 @@ fn push_attempts(tasks: &mut Vec<Task>, chain: &[Planned], retry: Retry) -> Resu
     ensures appends { OnOk result (tasks.new.items ≡ tasks.old.items ++ attempts retry chain.now) }
     ensures wants { OnErr result (0 < length chain.now) }
 {
-    let mut attempt = 1u64;
+    let mut number = 1u64;
     let mut left = retry.times;
     while left > 0 {
-        let commands = chain.len() * (left as usize + 1);
-        push_attempt(tasks, chain, attempt, retry.again, commands)?;
-        attempt += 1;
+        let attempt = Attempt {
+            number,
+            again: retry.again,
+            commands: chain.len() * (left as usize + 1),
+        };
+        push_attempt(tasks, chain, attempt)?;
+        number += 1;
         left -= 1;
     }
-    push_attempt(tasks, chain, attempt, Again::none(), chain.len())
+    let last = Attempt {
+        number,
+        again: Again::none(),
+        commands: chain.len(),
+    };
+    push_attempt(tasks, chain, last)
 }
 
 // The commands of `cycle` at place `from` and after it, but before place `to`.

@@ -1,9 +1,9 @@
 //! Lists of return codes in a station's text: those that are accepted of an answer beside 0, and those after which a chain is repeated.
 
-ghost use Rattle.std.specs.Prelude.{◌≡◌, ◌==◌, ◌+◌, ◌<◌, ◌≤◌, ◌∷◌, ◌++◌, ℕ, List, [], length, slice_set, MatchOption};
+ghost use Rattle.std.specs.Prelude.{◌≡◌, ◌==◌, ◌<◌, slice_set};
 ghost use Rattle.std.specs.List.{list_any};
-ghost use Rattle.gc_texts.specs.Codes.{AreCodes, IsCodeList, IsCode, lists_code, padded_codes, no_codes};
-ghost use Rattle.gc_texts.specs.declared.codes.Codes.{Codes};
+ghost use Rattle.gc_texts.specs.LineForms.{IsReadAs};
+ghost use Rattle.gc_texts.specs.Codes.{IsCodeList, IsCode, lists_code, no_codes};
 
 use crate::cuts::cut_at;
 use crate::procedure::number_of;
@@ -15,7 +15,7 @@ pub const CODES_MAX: usize = 16;
 const CODE_MAX: u64 = 65535;
 
 /// At most 16 return codes, each from 1 to 65535, that a line of a station's text lists.
-#[derive(Clone, Copy, Debug, PartialEq, Eq)]
+#[derive(Clone, Copy)]
 pub struct Codes {
     /// The codes, in the order of their line, and 0 in the places after them.
     pub codes: [u16; CODES_MAX],
@@ -58,7 +58,7 @@ impl Codes {
 
 // Reads a return code, from 1 to 65535. `None`: the word is no number, or the number lies outside.
 pub(crate) fn code_of(word: &[u8]) -> Option<u16>
-    ensures { MatchOption result ((code : ℕ) → IsCode word.now code → ⊥) (λ code. IsCode word.now code) }
+    ensures { IsReadAs (IsCode word.now) result }
 {
     let Some(code) = number_of(word, CODE_MAX) else {
         return None
@@ -71,7 +71,7 @@ pub(crate) fn code_of(word: &[u8]) -> Option<u16>
 
 /// Reads return codes with one space between two. `None`: a word is no return code, or there are more than 16.
 pub(crate) fn read_codes(text: &[u8]) -> Option<Codes>
-    ensures { MatchOption result ((codes : Codes) → IsCodeList text.now codes → ⊥) (λ codes. IsCodeList text.now codes) }
+    ensures { IsReadAs (IsCodeList text.now) result }
 {
     let mut codes = Codes::none();
     let mut count = 0;

@@ -1,8 +1,8 @@
 //! Commands: what is asked of which target, and their text. A command has no deadline.
 
-ghost use Rattle.std.specs.Prelude.{◌≡◌, IfOk, IfErr, MatchOption};
+ghost use Rattle.std.specs.Prelude.{IfOk, IfErr};
 ghost use Rattle.gc_texts.specs.Commands.{IsCommand, IsCommands, NamesFaultyCommand, MemoryAtCommand};
-ghost use Rattle.gc_texts.specs.LineForms.{RefusesLong, TextFault};
+ghost use Rattle.gc_texts.specs.LineForms.{IsReadAs, RefusesLong, TextFault};
 
 use crate::cuts::cut_at;
 use crate::fault::RunFault;
@@ -12,7 +12,7 @@ use gc_catalogue::Call;
 use std::alloc::Global;
 
 /// What is to be asked of which target.
-#[derive(Clone, Copy, Debug, PartialEq, Eq)]
+#[derive(Clone, Copy)]
 pub struct Command {
     /// The target: a number that the caller chooses, and gets back with the settlement.
     pub target: u32,
@@ -51,7 +51,7 @@ impl LineForm for CommandForm {
 // Reads `T RPC` or `T RPC PARAMS`: a target's number, a procedure's number and its parameters. `None`: the line has no such form, the
 // target's number is above 4294967295, or the procedure is refused (`read_procedure`).
 pub(crate) fn read_command(line: &[u8]) -> Option<Command>
-    ensures { MatchOption result ((command : Command) → IsCommand line.now command → ⊥) (λ command. IsCommand line.now command) }
+    ensures { IsReadAs (IsCommand line.now) result }
 {
     let (target, procedure) = cut_at(b' ', line);
     let Some(procedure) = procedure else {

@@ -9,7 +9,7 @@ use gc_lines::Line;
 use gc_values::ValueFault;
 
 /// How a command of a station's setup or cycle ended.
-#[derive(Clone, Copy, Debug, PartialEq, Eq)]
+#[derive(Clone, Copy)]
 pub enum Ending<'a> {
     /// Its reply came in time, with this line, and has this quality. `Some`: its values read as this answer, with both codes 0,
     /// or with an accepted return code taken for 0. `None`: the quality is `Refused`, or it is `Warning` and the values don't

@@ -20,7 +20,7 @@ const LOG_ROOM: usize = STAMP_ROOM + 1 + 2 + 1 + ESCAPED_ROOM + 1;
 
 /// What the bytes of a log line are: bytes that went or came, as a line without its CR LF or as they are, or words about the connection or
 /// the log.
-#[derive(Clone, Copy, Debug, PartialEq, Eq)]
+#[derive(Clone, Copy)]
 pub enum LogMark {
     /// `>`: a line that went, without its CR LF.
     Went,

@@ -2,6 +2,7 @@
 //! any word of printable ASCII is accepted.
 
 ghost use Rattle.std.specs.Prelude.{◌≡◌, ◌+◌, ◌<◌, ◌≤◌, ◌∷◌, ◌++◌, ℕ, ◌↔◌, List, length, All, MatchOption, IsTrue};
+ghost use Rattle.gc_texts.specs.LineForms.{IsReadAs};
 ghost use Rattle.gc_texts.specs.Logs.{mark_text, hex_digit, escape, escaped, IsPrintable, IsLogLine};
 ghost use Rattle.gc_texts.specs.declared.log_line.LogMark.{LogMark};
 
@@ -9,7 +10,7 @@ use crate::cuts::cut_at;
 use crate::log_line::{LogBytes, LogMark, is_unescaped};
 
 /// A line of a log, in its parts.
-#[derive(Debug, PartialEq, Eq, Drop)]
+#[derive(Drop)]
 pub struct LogLine<'a> {
     /// The moment, as the line has it: one word of printable ASCII, which isn't read as a time, and may be empty.
     pub moment: &'a [u8],
@@ -59,7 +60,7 @@ fn is_printable(text: &[u8]) -> bool
 
 // Reads a mark. `None`: the text is no mark.
 fn read_mark(text: &[u8]) -> Option<LogMark>
-    ensures { MatchOption result ((mark : LogMark) → text.now ≡ mark_text mark → ⊥) (λ mark. text.now ≡ mark_text mark) }
+    ensures { IsReadAs (λ mark. text.now ≡ mark_text mark) result }
 {
     match text {
         [b'>'] => Some(LogMark::Went),

@@ -4,8 +4,8 @@
 //! between them. Where commands are chained, each command of a group but the first is chained to the one before it. All
 //! commands of the setup are one chain.
 
-ghost use Rattle.std.specs.Prelude.{◌≡◌, ◌<◌};
-ghost use Rattle.gc_texts.specs.Tasks.{opening, mode_after, mode_after_command, continues_group, is_chained, place_in_chain, task_at};
+ghost use Rattle.std.specs.Prelude.{◌≡◌};
+ghost use Rattle.gc_texts.specs.Tasks.{Counted, opening, mode_after, mode_after_command, continues_group, is_chained, place_in_chain, task_at};
 
 use crate::again::Again;
 use crate::codes::Codes;
@@ -83,9 +83,7 @@ fn is_chained(mode: Mode, target: u32) -> bool
 
 // The mode after a command for this target: the command is counted, and its target is that of the group.
 fn mode_after_command(mode: Mode, target: u32) -> Mode
-    requires begun { mode.begun < 4294967296 }
-    requires place { mode.place < 4294967296 }
-    requires link { mode.link < 4294967296 }
+    requires { Counted mode 4294967295 }
     ensures { result ≡ mode_after_command mode target }
 {
     let link = place_in_chain(mode, is_chained(mode, target)) + 1;
@@ -111,9 +109,7 @@ fn mode_after_command(mode: Mode, target: u32) -> Mode
 // are chained, `retry` how often chains are repeated, and `at start` and `each cycle` the section; these lines also end the group.
 // A name or a place changes nothing.
 pub(crate) fn mode_after(mode: Mode, said: &TaskLine) -> Mode
-    requires begun { mode.begun < 4294967296 }
-    requires place { mode.place < 4294967296 }
-    requires link { mode.link < 4294967296 }
+    requires { Counted mode 4294967295 }
     ensures { result ≡ mode_after mode said.now }
 {
     match said {

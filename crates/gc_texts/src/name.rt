@@ -11,7 +11,7 @@ use gc_lines::append;
 pub const NAME_ROOM: usize = 64;
 
 /// The name of a target.
-#[derive(Debug, Drop, PartialEq, Eq)]
+#[derive(Drop)]
 pub struct Name {
     /// The target that has this name.
     pub target: u32,

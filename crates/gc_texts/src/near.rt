@@ -1,9 +1,8 @@
 //! Where a target is, and whether an answer was measured there.
 
-ghost use Rattle.std.specs.Prelude.{◌≡◌, MatchOption};
+ghost use Rattle.std.specs.Prelude.{◌≡◌};
+ghost use Rattle.gc_texts.specs.LineForms.{IsReadAs};
 ghost use Rattle.gc_texts.specs.Nears.{IsDouble, AreNearWords, IsNearText, has_near, near_of, direction_of, call_gives_direction, asked_gives_direction, is_elsewhere};
-ghost use Rattle.gc_texts.specs.declared.near.Near.{Near};
-ghost use Rattle.gc_values.specs.declared.decimal.Decimal.{Decimal};
 
 use crate::again::Again;
 use crate::codes::Codes;
@@ -14,7 +13,7 @@ use gc_catalogue::{Answer, Asked, Call};
 use gc_values::{Decimal, Direction, is_tolerance};
 
 /// Where a target is, as a line `near` gives it. Angles are in radians.
-#[derive(Clone, Copy, Debug, PartialEq, Eq)]
+#[derive(Clone, Copy)]
 pub struct Near {
     /// The target whose place it is.
     pub target: u32,
@@ -26,7 +25,7 @@ pub struct Near {
 
 /// What a station's text says of a command beside its request and its deadline: what is expected of the answer, after what its chain is
 /// repeated, and which command of the text it is.
-#[derive(Clone, Copy, Debug, PartialEq, Eq)]
+#[derive(Clone, Copy)]
 pub struct Expected {
     /// Where the command's target is, if the text says so.
     pub near: Option<Near>,
@@ -41,7 +40,7 @@ pub struct Expected {
 /// Reads a number in the forms of `Decimal::read`, which rounds it to 24 places. `None`: the text has none of these forms, or the
 /// rounded number is more than 10^13 from zero.
 pub fn read_double(text: &[u8]) -> Option<Decimal>
-    ensures { MatchOption result ((d : Decimal) → IsDouble text.now d → ⊥) (λ d. IsDouble text.now d) }
+    ensures { IsReadAs (IsDouble text.now) result }
 {
     match Decimal::read(text) {
         Ok(d) => Some(d),
@@ -52,7 +51,7 @@ pub fn read_double(text: &[u8]) -> Option<Decimal>
 // Reads the words that say where a target is: its number, its horizontal and vertical angle, and the tolerance of both, in
 // radians. `None`: a word is no number, or a number lies outside its range.
 fn read_words(target: &[u8], hz: &[u8], v: &[u8], tolerance: &[u8]) -> Option<Near>
-    ensures { MatchOption result ((near : Near) → AreNearWords target.now hz.now v.now tolerance.now near → ⊥) (λ near. AreNearWords target.now hz.now v.now tolerance.now near) }
+    ensures { IsReadAs (AreNearWords target.now hz.now v.now tolerance.now) result }
 {
     let Some(target) = number_of(target, TARGET_MAX) else {
         return None
@@ -81,7 +80,7 @@ fn read_words(target: &[u8], hz: &[u8], v: &[u8], tolerance: &[u8]) -> Option<Ne
 /// Reads `T HZ V TOLERANCE`: a target, its horizontal and vertical angle, and the tolerance of both, in radians. `None`: the text
 /// has no such form, or a number lies outside its range.
 pub(crate) fn read_near(text: &[u8]) -> Option<Near>
-    ensures { MatchOption result ((near : Near) → IsNearText text.now near → ⊥) (λ near. IsNearText text.now near) }
+    ensures { IsReadAs (IsNearText text.now) result }
 {
     let angles = behind(b' ', text);
     let others = behind(b' ', angles);

@@ -1,6 +1,7 @@
 //! Reads a number of a text, and a procedure's number with its parameters: what the texts of commands, stations and schedules share.
 
-ghost use Rattle.std.specs.Prelude.{◌≡◌, ◌≤◌, ℕ, length, IsTrue, IsFalse, MatchOption};
+ghost use Rattle.std.specs.Prelude.{IsTrue, IsFalse};
+ghost use Rattle.gc_texts.specs.LineForms.{IsReadAs};
 ghost use Rattle.gc_texts.specs.Procedures.{IsNumber, IsProcedure};
 ghost use Rattle.gc_catalogue.specs.Calls.{IsCall};
 ghost use Rattle.gc_catalogue.specs.declared.call.Call.{Call};
@@ -18,7 +19,7 @@ pub const RPC_MAX: u64 = 65535;
 
 /// The number that a text of digits writes, without a sign. `None`: the text is no such number, or the number is above `max`.
 pub fn number_of(digits: &[u8], max: u64) -> Option<u64>
-    ensures { MatchOption result ((n : ℕ) → IsNumber digits.now n max → ⊥) (λ n. IsNumber digits.now n max) }
+    ensures { IsReadAs (λ n. IsNumber digits.now n max) result }
 {
     match read_whole(digits, max) {
         Ok(n) => Some(n),
@@ -29,7 +30,7 @@ pub fn number_of(digits: &[u8], max: u64) -> Option<u64>
 /// Reads the call of a procedure's number and its parameters: `RPC`, or `RPC PARAMS` with one byte of parameters at least.
 /// `None`: the text has no such form, no procedure has the number, or the parameters don't read as its own.
 pub fn read_procedure(text: &[u8]) -> Option<Call>
-    ensures { MatchOption result ((call : Call) → IsProcedure text.now call → ⊥) (λ call. IsProcedure text.now call) }
+    ensures { IsReadAs (IsProcedure text.now) result }
 {
     let mut call = Call::NullProc;
     if read_procedure_into(text, &mut call) {

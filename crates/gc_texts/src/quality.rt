@@ -4,7 +4,7 @@ ghost use Rattle.std.specs.Prelude.{◌≡◌, ◌≤◌, length};
 ghost use Rattle.gc_texts.specs.Qualities.{is_good, quality_word};
 
 /// How good an answer is, by its codes and by whether its values read.
-#[derive(Clone, Copy, Debug, PartialEq, Eq)]
+#[derive(Clone, Copy)]
 pub enum Quality {
     /// Both codes are 0, and its values read.
     Fine,

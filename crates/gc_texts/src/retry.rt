@@ -1,10 +1,8 @@
 //! Lines `retry` of a station's text: how often a chain is repeated, and after which endings of its commands.
 
-ghost use Rattle.std.specs.Prelude.{◌≡◌, ◌<◌, ℕ, true, MatchOption};
+ghost use Rattle.std.specs.Prelude.{◌≡◌, ◌<◌, true};
+ghost use Rattle.gc_texts.specs.LineForms.{IsReadAs};
 ghost use Rattle.gc_texts.specs.Retries.{IsReason, NamesRule, IsRetryRule, again_with, count_with, has_room, no_retry};
-ghost use Rattle.gc_texts.specs.declared.again.Again.{Again};
-ghost use Rattle.gc_texts.specs.declared.retry.Reason.{Reason};
-ghost use Rattle.gc_texts.specs.declared.retry.Retry.{Retry};
 
 use crate::again::Again;
 use crate::codes::{CODES_MAX, code_of};
@@ -48,7 +46,7 @@ enum Reason {
 
 // Reads a word after the number of a line `retry`. `None`: it is neither a return code nor one of the outcomes.
 fn reason_of(word: &[u8]) -> Option<Reason>
-    ensures { MatchOption result ((reason : Reason) → IsReason word.now reason → ⊥) (λ reason. IsReason word.now reason) }
+    ensures { IsReadAs (IsReason word.now) result }
 {
     if is_word(b"unreadable", word) {
         return Some(Reason::Unreadable);
@@ -128,7 +126,7 @@ fn again_with(again: Again, count: usize, reason: Reason) -> Again
 // Reads the words after the number of a line `retry`, with one space between two. `None`: a word is neither a code nor an outcome, or
 // there are more than 16 codes.
 fn read_again(text: &[u8]) -> Option<Again>
-    ensures { MatchOption result ((again : Again) → NamesRule text.now again → ⊥) (λ again. NamesRule text.now again) }
+    ensures { IsReadAs (NamesRule text.now) result }
 {
     let mut again = Again::none();
     let mut count = 0;
@@ -151,7 +149,7 @@ fn read_again(text: &[u8]) -> Option<Again>
 // Reads what follows `retry ` in a line, `N WORD WORD ..`: N is from 1 to 9, and there is at least one word, each a return code or an
 // outcome. `None`: the text has no such form, or more than 16 codes.
 pub(crate) fn read_rule(text: &[u8]) -> Option<Retry>
-    ensures { MatchOption result ((retry : Retry) → IsRetryRule text.now retry → ⊥) (λ retry. IsRetryRule text.now retry) }
+    ensures { IsReadAs (IsRetryRule text.now) result }
 {
     let Some(times) = number_of(before(b' ', text), TIMES_MAX) else {
         return None

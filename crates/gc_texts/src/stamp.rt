@@ -11,7 +11,7 @@ use gc_lines::append;
 use itoa::Buffer;
 
 /// When a command was sent and ended, in milliseconds since 1970-01-01, UTC, and which command of its run it was.
-#[derive(Clone, Copy, Debug, PartialEq, Eq)]
+#[derive(Clone, Copy)]
 pub struct Stamp {
     /// The last moment that the clock gave before its request went out. `None`: it was never sent.
     pub sent: Option<u64>,

@@ -1,13 +1,7 @@
 //! Reads one line of a station's text.
 
-ghost use Rattle.std.specs.Prelude.{◌≡◌, ◌++◌, ℕ, List, MatchOption};
+ghost use Rattle.gc_texts.specs.LineForms.{IsReadAs};
 ghost use Rattle.gc_texts.specs.TaskLines.{IsDeadline, IsNameLine, IsNearLine, SetsAccepted, SetsRetry, SetsClock, IsTaskLine};
-ghost use Rattle.gc_texts.specs.declared.codes.Codes.{Codes};
-ghost use Rattle.gc_texts.specs.declared.name.Name.{Name};
-ghost use Rattle.gc_texts.specs.declared.near.Near.{Near};
-ghost use Rattle.gc_texts.specs.declared.retry.Retry.{Retry};
-ghost use Rattle.gc_texts.specs.declared.wish.Wish.{Wish};
-ghost use Rattle.gc_texts.specs.declared.task_line.TaskLine.{TaskLine};
 
 use crate::codes::{Codes, read_codes};
 use crate::cuts::{after_word, before, behind, cut_at, is_word};
@@ -49,7 +43,7 @@ pub(crate) enum TaskLine {
 
 // Reads `deadline MS`: from 1 millisecond to a day. `None`: the line has no such form, or the number lies outside.
 fn read_deadline(line: &[u8]) -> Option<u64>
-    ensures { MatchOption result ((deadline : ℕ) → IsDeadline line.now deadline → ⊥) (λ deadline. IsDeadline line.now deadline) }
+    ensures { IsReadAs (IsDeadline line.now) result }
 {
     let Some(digits) = after_word(b"deadline ", line) else {
         return None
@@ -66,7 +60,7 @@ fn read_deadline(line: &[u8]) -> Option<u64>
 // Reads `name T TEXT`: a target and its name. `None`: the line has no such form, the target's number is above 4294967295, or TEXT is
 // no name (`is_name`).
 fn read_naming(line: &[u8]) -> Option<Name>
-    ensures { MatchOption result ((name : Name) → IsNameLine line.now name → ⊥) (λ name. IsNameLine line.now name) }
+    ensures { IsReadAs (IsNameLine line.now) result }
 {
     let Some(rest) = after_word(b"name ", line) else {
         return None
@@ -84,7 +78,7 @@ fn read_naming(line: &[u8]) -> Option<Name>
 
 // Reads `near T HZ V TOLERANCE`: where a target is. `None`: the line has no such form, or a number lies outside its range.
 fn read_locating(line: &[u8]) -> Option<Near>
-    ensures { MatchOption result ((near : Near) → IsNearLine line.now near → ⊥) (λ near. IsNearLine line.now near) }
+    ensures { IsReadAs (IsNearLine line.now) result }
 {
     match after_word(b"near ", line) {
         Some(rest) => read_near(rest),
@@ -95,7 +89,7 @@ fn read_locating(line: &[u8]) -> Option<Near>
 // Reads `accept C C ..`: the return codes that are accepted beside 0; no code where the line is `accept` alone. `None`: the
 // line has no such form, a word isn't a code from 1 to 65535, or there are more than 16.
 fn read_accepting(line: &[u8]) -> Option<Codes>
-    ensures { MatchOption result ((codes : Codes) → SetsAccepted line.now codes → ⊥) (λ codes. SetsAccepted line.now codes) }
+    ensures { IsReadAs (SetsAccepted line.now) result }
 {
     if is_word(b"accept", line) {
         return Some(Codes::none());
@@ -109,7 +103,7 @@ fn read_accepting(line: &[u8]) -> Option<Codes>
 // Reads `retry N WORD WORD ..`, which says how often chains are repeated, and after what (`read_rule`); or `retry 0`, which says
 // that they aren't repeated. `None`: the line has neither form, or more than 16 codes.
 fn read_retrying(line: &[u8]) -> Option<Retry>
-    ensures { MatchOption result ((retry : Retry) → SetsRetry line.now retry → ⊥) (λ retry. SetsRetry line.now retry) }
+    ensures { IsReadAs (SetsRetry line.now) result }
 {
     if is_word(b"retry 0", line) {
         return Some(Retry::none());
@@ -123,7 +117,7 @@ fn read_retrying(line: &[u8]) -> Option<Retry>
 // Reads `T 5007 now`: a command that sets the clock of target T to the moment at which it is sent. In place of that moment the
 // call of the wish has the first moment of 1970. `None`: the line has no such form, or the target's number is above 4294967295.
 fn read_clock_setting(line: &[u8]) -> Option<Wish>
-    ensures { MatchOption result ((wish : Wish) → SetsClock line.now wish → ⊥) (λ wish. SetsClock line.now wish) }
+    ensures { IsReadAs (SetsClock line.now) result }
 {
     if !is_word(b"5007 now", behind(b' ', line)) {
         return None;
@@ -139,7 +133,7 @@ fn read_clock_setting(line: &[u8]) -> Option<Wish>
 
 // Reads one line of a station's text. `None`: the line has none of the forms.
 pub(crate) fn read_task_line(line: &[u8]) -> Option<TaskLine>
-    ensures { MatchOption result ((said : TaskLine) → IsTaskLine line.now said → ⊥) (λ said. IsTaskLine line.now said) }
+    ensures { IsReadAs (IsTaskLine line.now) result }
 {
     if is_word(b"chained", line) {
         return Some(TaskLine::Chained);

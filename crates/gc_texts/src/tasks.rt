@@ -28,7 +28,7 @@ use gc_catalogue::{Asked, Call};
 use std::alloc::{AllocError, Global};
 
 /// A command of a station's setup or cycle, in one attempt of its chain, and how it is sent.
-#[derive(Clone, Copy, Debug, PartialEq, Eq)]
+#[derive(Clone, Copy)]
 pub struct Task {
     /// What is asked of which target.
     pub command: Wish,

@@ -15,7 +15,7 @@ use gc_values::ValueFault;
 use std::io::{self, Write};
 
 /// Which field of a faulty line is at fault. The texts are this project's own.
-#[derive(Clone, Copy, Debug, PartialEq, Eq)]
+#[derive(Clone, Copy)]
 pub enum Trouble {
     /// No procedure has this number.
     NoProcedure(u16),

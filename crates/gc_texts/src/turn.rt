@@ -1,7 +1,7 @@
 //! Turns: which command of a station's text a task is, and which attempt of its chain it belongs to.
 
 /// Which command of a station's text a task is, and which attempt of its chain it belongs to.
-#[derive(Clone, Copy, Debug, PartialEq, Eq)]
+#[derive(Clone, Copy)]
 pub struct Turn {
     /// The command's place among the commands of its section, setup or cycle, counted from 0.
     pub place: usize,

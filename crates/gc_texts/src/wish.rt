@@ -2,8 +2,8 @@
 
 ghost use Rattle.std.specs.Prelude.{◌≡◌, ℕ, MatchOption};
 ghost use Rattle.gc_catalogue.specs.declared.raw.RawCall.{RawCall};
+ghost use Rattle.gc_texts.specs.LineForms.{IsReadAs};
 ghost use Rattle.gc_texts.specs.Wishes.{IsRawWish, IsWish, wish_of};
-ghost use Rattle.gc_texts.specs.declared.wish.Wish.{Wish};
 
 use crate::commands::{Command, read_command};
 use crate::cuts::{before, behind, is_word};
@@ -11,7 +11,7 @@ use crate::procedure::{RPC_MAX, TARGET_MAX, number_of};
 use gc_catalogue::{Asked, RawCall, raw_call};
 
 /// What a station is to ask of a target: a call of the table, or a procedure that isn't in the table.
-#[derive(Clone, Copy, Debug, PartialEq, Eq)]
+#[derive(Clone, Copy)]
 pub struct Wish {
     /// The target: a number that the caller chooses, and gets back with the settlement.
     pub target: u32,
@@ -61,7 +61,7 @@ fn read_raw(line: &[u8]) -> Option<(u32, RawCall)>
 
 // Reads a wish: a line that has the form of a command, or asks for a procedure that isn't in the table. `None`: it has neither form.
 pub(crate) fn read_wish(line: &[u8]) -> Option<Wish>
-    ensures { MatchOption result ((wish : Wish) → IsWish line.now wish → ⊥) (λ wish. IsWish line.now wish) }
+    ensures { IsReadAs (IsWish line.now) result }
 {
     if let Some((target, raw)) = read_raw(line) {
         return Some(Wish {

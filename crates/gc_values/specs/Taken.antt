@@ -1,7 +1,8 @@
 -- No part of a promise: what the quick reader of parameters, `Quick`, says of a call that takes the next one. `old` is the reader
 -- before the call and `new` the one after it.
-use Rattle.std.specs.Prelude.{◌∷◌, List}
+use Rattle.std.specs.Prelude.{◌≡◌, ◌∷◌, ℕ, List, true, Result, Ok}
 use Rattle.std.specs.Option.{option_copied}
+use Rattle.gc_values.specs.Item.{IsItem}
 use Rattle.gc_values.specs.Plainly.{ReadsPlainly}
 use Rattle.gc_values.specs.declared.quick.Quick.{Quick}
 use Rattle.gc_values.specs.declared.value.Value.{Value}
@@ -10,3 +11,11 @@ use Rattle.gc_values.specs.declared.value.Value.{Value}
 abbrev pub TakesPlainly : Value → (old new : Quick) → Type 0
 TakesPlainly v old new =
     (vs : List Value) → ReadsPlainly new.good (option_copied new.rest) vs → ReadsPlainly old.good (option_copied old.rest) (v ∷ vs)
+
+-- the quick reader took the item: each value that the item is read as was taken with it
+abbrev pub TakesItem : (item : List ℕ) → (old new : Quick) → Type 0
+TakesItem item old new = (v : Value) → IsItem item v → TakesPlainly v old new
+
+-- where the quick reader is good in the end, the result is what was read, and the reader is as it was
+abbrev pub GivesRead : {T E : Type 0} → (read : Result T E) → (result : T) → (old new : Quick) → Type 0
+GivesRead read result old new = new.good ≡ true → (read ≡ Ok result) × (new ≡ old)

@@ -13,7 +13,7 @@ const HALF_TURN: i128 = 3_141_592_653_589_793_238_462_643;
 const TURN: i128 = 6_283_185_307_179_586_476_925_286;
 
 /// Where a telescope points, in radians.
-#[derive(Clone, Copy, Debug, PartialEq, Eq)]
+#[derive(Clone, Copy, PartialEq, Eq)]
 pub struct Direction {
     /// The horizontal direction.
     pub hz: Decimal,

@@ -7,7 +7,7 @@ ghost use Rattle.std.specs.Option.{option_copied};
 ghost use Rattle.gc_values.specs.Item.{IsItem};
 ghost use Rattle.gc_values.specs.Lists.{AreParams};
 ghost use Rattle.gc_values.specs.Plainly.{CutsPlain, ReadsPlainly};
-ghost use Rattle.gc_values.specs.Taken.{TakesPlainly};
+ghost use Rattle.gc_values.specs.Taken.{GivesRead, TakesItem, TakesPlainly};
 ghost use Rattle.gc_values.specs.Whole.{NamesWhole};
 ghost use Rattle.gc_values.specs.declared.value.Value.{Value};
 
@@ -67,11 +67,21 @@ impl<'a> Quick<'a> {
         value
     }
 
+    // The value that was read. If there is none, the list isn't good any more, and the call gives this zero in its place.
+    #[inline]
+    fn read_or<T: Drop, E: Drop>(&mut self, read: Result<T, E>, zero: T) -> T
+        ensures { GivesRead read result self.old self.new }
+    {
+        match read {
+            Ok(value) => value,
+            Err(_) => self.fail_with(zero),
+        }
+    }
+
     // Takes the next item. Where none in the common spelling follows, the result is empty, and the list isn't good any more.
     #[inline]
     fn item(&mut self) -> &'a [u8]
-        ensures { (v : Value) (vs : List Value) → ReadsPlainly self.new.good (option_copied self.new.rest) vs → IsItem result.now v
-            → ReadsPlainly self.old.good (option_copied self.old.rest) (v ∷ vs) }
+        ensures { TakesItem result.now self.old self.new }
     {
         if let Some(text) = self.rest {
             if let Some(cut) = cut_plain(text) {
@@ -105,10 +115,8 @@ impl<'a> Quick<'a> {
     fn take_as_double(&mut self) -> Decimal
         ensures { TakesPlainly (Value.Double result) self.old self.new }
     {
-        match Decimal::read(self.item()) {
-            Ok(d) => d,
-            Err(_) => self.fail_with(Decimal::zero()),
-        }
+        let read = Decimal::read(self.item());
+        self.read_or(read, Decimal::zero())
     }
 
     // As `take_as_double`, for a whole number of 32 bits.
@@ -116,10 +124,8 @@ impl<'a> Quick<'a> {
     fn take_as_long(&mut self) -> i32
         ensures { TakesPlainly (Value.Long result) self.old self.new }
     {
-        match read_long(self.item()) {
-            Ok(n) => n,
-            Err(_) => self.fail_with(0),
-        }
+        let read = read_long(self.item());
+        self.read_or(read, 0)
     }
 
     // As `take_as_double`, for a whole number of 16 bits.
@@ -127,10 +133,8 @@ impl<'a> Quick<'a> {
     fn take_as_short(&mut self) -> i16
         ensures { TakesPlainly (Value.Short result) self.old self.new }
     {
-        match read_short(self.item()) {
-            Ok(n) => n,
-            Err(_) => self.fail_with(0),
-        }
+        let read = read_short(self.item());
+        self.read_or(read, 0)
     }
 
     // As `take_as_double`, for a Boolean: false in place of zero.
@@ -138,10 +142,8 @@ impl<'a> Quick<'a> {
     fn take_as_boolean(&mut self) -> bool
         ensures { TakesPlainly (Value.Bool result) self.old self.new }
     {
-        match read_bool(self.item()) {
-            Ok(n) => n,
-            Err(_) => self.fail_with(false),
-        }
+        let read = read_bool(self.item());
+        self.read_or(read, false)
     }
 }
 
@@ -166,32 +168,24 @@ impl<'a> Parameters for Quick<'a> {
 
     #[inline]
     fn long(&mut self) -> i32 {
-        let Some(number) = self.number() else {
-            return self.take_as_long();
-        };
-        match i32::try_from(number) {
-            Ok(n) => n,
-            Err(_) => self.fail_with(0),
+        match self.number() {
+            Some(number) => self.read_or(i32::try_from(number), 0),
+            None => self.take_as_long(),
         }
     }
 
     #[inline]
     fn short(&mut self) -> i16 {
-        let Some(number) = self.number() else {
-            return self.take_as_short();
-        };
-        match i16::try_from(number) {
-            Ok(n) => n,
-            Err(_) => self.fail_with(0),
+        match self.number() {
+            Some(number) => self.read_or(i16::try_from(number), 0),
+            None => self.take_as_short(),
         }
     }
 
     #[inline]
     fn byte(&mut self) -> u8 {
-        match read_byte(self.item()) {
-            Ok(n) => n,
-            Err(_) => self.fail_with(0),
-        }
+        let read = read_byte(self.item());
+        self.read_or(read, 0)
     }
 
     #[inline]

@@ -1,12 +1,13 @@
 //! Strings of at most 64 bytes: what may come between the double quotes, and how an item is read as one. The form is the
 //! GeoCOM manual's; the limit, and that a backslash is a plain byte, are this project's own.
 
-ghost use Rattle.std.specs.Prelude.{◌≡◌, ◌↔◌, ◌+◌, ◌≤◌, ◌-◌, ◌++◌, length, replicate, List, [], ℕ, IfOk, IfErr, IfSome, IfNone, IsTrue};
+ghost use Rattle.std.specs.Prelude.{◌≡◌, ◌↔◌, ◌+◌, ◌≤◌, ◌++◌, List, [], ℕ, IfOk, IfErr, IfSome, IfNone, IsTrue};
 ghost use Rattle.arrayvec.specs.ArrayVec.{array_vec_len};
 ghost use Rattle.gc_values.specs.Text.{IsStringByte, AreStringBytes, AreTooLong, IsText, quoted, IsTextItem, IsNoString, IsLongString};
 ghost use Rattle.gc_values.specs.ValueFault.{IsEither};
 
 use crate::fault::ValueFault;
+use crate::filling::filled_up;
 use arrayvec::ArrayVec;
 use std::marker::Model;
 
@@ -55,16 +56,6 @@ fn are_string_bytes(bytes: &[u8]) -> bool
         }
     }
     true
-}
-
-/// The bytes, at most 64, with zeros after them up to 64.
-fn filled_up(bytes: &[u8]) -> [u8; TEXT_BYTES]
-    requires { length bytes.now ≤ 64 }
-    ensures { result ≡ bytes.now ++ replicate (64 - length bytes.now) 0 }
-{
-    let mut all = [0; TEXT_BYTES];
-    all[..bytes.len()].copy_from_slice(bytes);
-    all
 }
 
 impl Text {

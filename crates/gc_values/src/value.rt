@@ -29,7 +29,7 @@ pub enum Kind {
 }
 
 /// The value of a parameter.
-#[derive(Clone, Copy, Debug, PartialEq, Eq)]
+#[derive(Clone, Copy, PartialEq, Eq)]
 pub enum Value {
     Double(Decimal),
     Long(i32),

@@ -144,7 +144,7 @@ pub fn station_command<'a>(alloc: Global, name: &'a str) -> Result<Command<'a>, 
 }
 
 /// Who watches a station while it measures, and so which signs of life it prints.
-#[derive(Clone, Copy, Debug, PartialEq, Eq)]
+#[derive(Clone, Copy)]
 pub enum Watch {
     /// Nobody: it prints none.
     Nobody,
@@ -155,7 +155,7 @@ pub enum Watch {
 }
 
 /// What an operator chooses. Times are in milliseconds.
-#[derive(Clone, Copy, Debug, PartialEq, Eq)]
+#[derive(Clone, Copy)]
 pub struct Choice {
     /// How many requests may be in flight that haven't timed out: 1 to 7.
     pub width: u8,

@@ -3,7 +3,7 @@
 use gc_rows::Form;
 
 /// How records are laid out.
-#[derive(Clone, Copy, Debug, PartialEq, Eq)]
+#[derive(Clone, Copy)]
 pub struct Layout {
     /// In which form each is written.
     pub form: Form,

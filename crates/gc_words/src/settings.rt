@@ -9,7 +9,7 @@ use gc_links::Moment;
 use gc_rows::Form;
 
 /// The settings of a station, apart from its place: how its records are laid out, and what an operator chose.
-#[derive(Clone, Copy, Debug, PartialEq, Eq)]
+#[derive(Clone, Copy)]
 pub struct Settings {
     pub layout: Layout,
     pub choice: Choice,

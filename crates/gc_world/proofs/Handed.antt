@@ -15,7 +15,8 @@ use Rattle.gc_world.specs.Clients.{by_ids, ends}
 use Rattle.gc_world.specs.Directions.{deliver, delivery, bytes, texts, lines, gone, with_front_gone, after_cut, handed_over}
 use Rattle.gc_world.specs.Memory.{IsStray, AreStrays, TakesNoMemory}
 use Rattle.gc_world.specs.Sides.{IsPart}
-use Rattle.gc_world.specs.Stages.{Seen, after_step, after_event, AreStreamsOf, after_bytes}
+use Rattle.gc_world.specs.Stages.{Seen, after_step, AreStreamsOf}
+use Rattle.gc_world.specs.Staging.{after_event, after_bytes}
 use Rattle.gc_world.specs.Streams.{Streams, Cut, one_more, cut, down_lines, remaining, flows}
 use Rattle.gc_world.specs.World.{Numbered, Ends, Rule, Down_deliver, down_delivered, happens, run}
 use Rattle.gc_world.proofs.Directions.{gone_reached, reaches_again, unmoved, delivered, passing, bytes_pass, one_less, not_idle}
@@ -117,7 +118,7 @@ module _ (width : ℕ) (v : Streams (ById Call) State) where
   -- take none after it
   next_strays : (n used : ℕ) → IsNext ends (by_ids width ends) Down v n used → (q : List (Numbered (List ℕ))) → v.world.wire.down ≡ q
       → TakesNoMemory width v (bytes Down n)
-      → TakesNoMemory width v (delivery Down) × TakesNoMemory width (after_event width v (delivery Down)) (bytes Down (n - used))
+      → TakesNoMemory width v (delivery Down) × TakesNoMemory width (after_event ends width v (delivery Down)) (bytes Down (n - used))
   next_strays n used h [] e t = let wrong : [] ≡ h.text ∷ h.behind = sym (ap (map (λ x. x.line)) e) ∙ h.front in cc
   next_strays n used h (x ∷ xs) e t =
       let w = after_step width v.world Down_deliver in
@@ -135,7 +136,7 @@ module _ (width : ℕ) (v : Streams (ById Call) State) where
 -- in either direction: where the bytes of an event complete the front line and take no memory, the delivery of this line takes
 -- none, and the other bytes take none after it
 spared : (width : ℕ) (d : Direction) (v : Streams (ById Call) State) (n used : ℕ) → IsNext ends (by_ids width ends) d v n used → TakesNoMemory width v (bytes d n)
-    → TakesNoMemory width v (delivery d) × TakesNoMemory width (after_event width v (delivery d)) (bytes d (n - used))
+    → TakesNoMemory width v (delivery d) × TakesNoMemory width (after_event ends width v (delivery d)) (bytes d (n - used))
 spared width Up v n used h t = absurd (next_takes width v n used h t)
 spared width Down v n used h t = next_strays width v n used h v.world.wire.down refl t
 
@@ -145,7 +146,7 @@ spared width Down v n used h t = next_strays width v n used h v.world.wire.down 
 pub record IsReached (width : ℕ) (d : Direction) (s : Seen) (v : Streams (ById Call) State) (n left : ℕ) : Type 0 where
   pub now : Streams (ById Call) State
   pub shows : AreStreamsOf width s now
-  pub same : after_bytes width d now left ≡ after_bytes width d v n
+  pub same : after_bytes ends width d now left ≡ after_bytes ends width d v n
   pub spare : TakesNoMemory width v (bytes d n) → TakesNoMemory width now (bytes d left)
   pub idle : now.world.wire.idle ≡ v.world.wire.idle
 
@@ -157,11 +158,11 @@ module _ (width : ℕ) (d : Direction) (s : Seen) (v : Streams (ById Call) State
   -- `IsReached` holds also once one more line was delivered, which took `used` of the bytes that were left: `left - used` are
   -- left then
   pub reaches_next : (t : Seen) (used : ℕ) → used ≡ remaining (gone d h.now) (lines d h.now.world.wire) → 0 < used → used ≤ left
-      → AreStreamsOf width t (after_event width h.now (delivery d)) → IsReached width d t v n (left - used)
+      → AreStreamsOf width t (after_event ends width h.now (delivery d)) → IsReached width d t v n (left - used)
   reaches_next t used e some le shows =
       let one = next ends (by_ids width ends) d h.now left used e some le in
       record {
-        now = after_event width h.now (delivery d);
+        now = after_event ends width h.now (delivery d);
         shows = shows;
         same = sym (next_same ends (by_ids width ends) d h.now left used one) ∙ h.same;
         spare = λ t. (spared width d h.now left used one (h.spare t)).1;
@@ -175,11 +176,11 @@ module _ (width : ℕ) (d : Direction) (s : Seen) (v : Streams (ById Call) State
   next_spares used e some le t = (spared width d h.now left used (next ends (by_ids width ends) d h.now left used e some le) (h.spare t)).0
 
   -- where a stage shows the streams that handing over the bytes that are left leads to, it shows those that all n bytes lead to
-  pub reaches_end : (t : Seen) → AreStreamsOf width t (after_bytes width d h.now left) → AreStreamsOf width t (after_bytes width d v n)
+  pub reaches_end : (t : Seen) → AreStreamsOf width t (after_bytes ends width d h.now left) → AreStreamsOf width t (after_bytes ends width d v n)
   reaches_end t shows = subst (λ x. AreStreamsOf width t x) h.same shows
 
   -- where no byte is in flight any more, the stage shows the streams that all n bytes lead to
-  pub runs_dry : remaining (gone d h.now) (lines d h.now.world.wire) ≡ 0 → AreStreamsOf width s (after_bytes width d v n)
+  pub runs_dry : remaining (gone d h.now) (lines d h.now.world.wire) ≡ 0 → AreStreamsOf width s (after_bytes ends width d v n)
   runs_dry e = subst (λ x. AreStreamsOf width s x) (sym (ended ends (by_ids width ends) d h.now left (part width s h.now h.shows d) e) ∙ h.same) h.shows
 
 -- where the test `completes`, of a line with r bytes left and of l bytes, fails (b is false) though l is at least r, no byte of

@@ -25,8 +25,8 @@ use Rattle.gc_world.specs.Memory.{IsBusy}
 use Rattle.gc_world.specs.Order.{numbers}
 use Rattle.gc_world.specs.Reports.{made_seen}
 use Rattle.gc_world.specs.Sides.{written, IsPart, IsFlow, Carries, Changes}
-use Rattle.gc_world.specs.Stages
-use Rattle.gc_world.specs.Stages.{Seen, after_step, after_event, bytes_of, IsSentIn, named, AreOfWorld, AreStreamsOf}
+use Rattle.gc_world.specs.Stages.{Seen, after_step, bytes_of, IsSentIn, named, AreOfWorld, AreStreamsOf}
+use Rattle.gc_world.specs.Staging.{after_event, after_bytes}
 use Rattle.gc_world.specs.Streams.{Streams, up_texts, down_texts, is_begun, remaining}
 use Rattle.gc_world.specs.World.{Request, Numbered, Wire, World, Step, Send, Up_deliver, Up_lose, Up_repeat, Down_deliver, Down_lose, Down_repeat, Restart_client, Restart_instrument, Nothing, without, doubled, idle, up_delivered, with_up, with_down, on_wire, requested, down_delivered, client_restarted, instrument_restarted}
 use Rattle.gc_world.proofs.Directions.{bytes_pass, idle_bytes}
@@ -239,7 +239,7 @@ module _ (width : ℕ) (s : Seen) (v : Streams (ById Call) State) (h : AreStream
     -- once line k of the upward side was lost, or the event counted as idle where that isn't possible (`Changes`), the streams
     -- after that event are shown
     pub up_lost : Changes k (without k s.up.queue) s.up side s.report.idle_events count
-        → AreStreamsOf width (with_up_side side count) (after_event width v (event.UpLose k))
+        → AreStreamsOf width (with_up_side side count) (after_event ends width v (event.UpLose k))
     up_lost c =
         changes s.up v.up_gone with_up_side k (without k s.up.queue) (Up_lose k) side count h.up_is refl c
         (λ e b is. up_queue b (without k s.up.queue) (without k v.world.wire.up) k (shows_up_lose width s.report s.up.queue s.down.queue s.client v.world h.lines k b is)
@@ -248,7 +248,7 @@ module _ (width : ℕ) (s : Seen) (v : Streams (ById Call) State) (h : AreStream
     -- once line k of the upward side was repeated, or the event counted as idle where that isn't possible (`Changes`), the
     -- streams after that event are shown
     pub up_repeated : Changes k (doubled k s.up.queue) s.up side s.report.idle_events count
-        → AreStreamsOf width (with_up_side side count) (after_event width v (event.UpRepeat k))
+        → AreStreamsOf width (with_up_side side count) (after_event ends width v (event.UpRepeat k))
     up_repeated c =
         changes s.up v.up_gone with_up_side k (doubled k s.up.queue) (Up_repeat k) side count h.up_is refl c
         (λ e b is. up_queue b (doubled k s.up.queue) (doubled k v.world.wire.up) k (shows_up_repeat width s.report s.up.queue s.down.queue s.client v.world h.lines k b is)
@@ -257,7 +257,7 @@ module _ (width : ℕ) (s : Seen) (v : Streams (ById Call) State) (h : AreStream
     -- once line k of the downward side was lost, or the event counted as idle where that isn't possible (`Changes`), the streams
     -- after that event are shown
     pub down_lost : Changes k (without k s.down.queue) s.down side s.report.idle_events count
-        → AreStreamsOf width (with_down_side side count) (after_event width v (event.DownLose k))
+        → AreStreamsOf width (with_down_side side count) (after_event ends width v (event.DownLose k))
     down_lost c =
         changes s.down v.down_gone with_down_side k (without k s.down.queue) (Down_lose k) side count h.down_is refl c
         (λ e b is. down_queue b (without k s.down.queue) (without k v.world.wire.down) k (shows_down_lose width s.report s.up.queue s.down.queue s.client v.world h.lines k b is)
@@ -266,7 +266,7 @@ module _ (width : ℕ) (s : Seen) (v : Streams (ById Call) State) (h : AreStream
     -- once line k of the downward side was repeated, or the event counted as idle where that isn't possible (`Changes`), the
     -- streams after that event are shown
     pub down_repeated : Changes k (doubled k s.down.queue) s.down side s.report.idle_events count
-        → AreStreamsOf width (with_down_side side count) (after_event width v (event.DownRepeat k))
+        → AreStreamsOf width (with_down_side side count) (after_event ends width v (event.DownRepeat k))
     down_repeated c =
         changes s.down v.down_gone with_down_side k (doubled k s.down.queue) (Down_repeat k) side count h.down_is refl c
         (λ e b is. down_queue b (doubled k s.down.queue) (doubled k v.world.wire.down) k (shows_down_repeat width s.report s.up.queue s.down.queue s.client v.world h.lines k b is)
@@ -277,7 +277,7 @@ module _ (width : ℕ) (s : Seen) (v : Streams (ById Call) State) (h : AreStream
   -- once a request was sent, whose line is plain, the streams after that event are shown
   pub streams_send : (entry : Sent) (deadline : ℕ) (left : Sends s.report s.up.queue s.client entry deadline) → IsPlain entry.line.items
       → AreStreamsOf width (record s { report = record s.report { sent = left.sent }; up = record s.up { queue = left.queue }; client = left.client })
-      (after_event width v (event.Send entry.target entry.call deadline))
+      (after_event ends width v (event.Send entry.target entry.call deadline))
   streams_send entry deadline left plain =
       let c = s.client in
       let x : Sending (ById Call) = record { id = c.ids.next; client = left.client.ids } in
@@ -301,7 +301,7 @@ module _ (width : ℕ) (s : Seen) (v : Streams (ById Call) State) (h : AreStream
   -- once both ends were restarted, while no line is in flight, the streams after that event are shown
   pub streams_restart_client : (left : RestartsBoth s.report s.up.queue s.down.queue s.client)
       → AreStreamsOf width (record s { report = record s.report { settled = left.settled; starts = left.starts; instrument = left.state }; client = left.client })
-      (after_event width v event.RestartClient)
+      (after_event ends width v event.RestartClient)
   streams_restart_client left =
       kept (record s.report { settled = left.settled; starts = left.starts; instrument = left.state }) left.client (after_step width v.world Restart_client)
       (shows_restart_client width s.report s.up.queue s.down.queue s.client v.world h.lines left)
@@ -309,14 +309,14 @@ module _ (width : ℕ) (s : Seen) (v : Streams (ById Call) State) (h : AreStream
 
   -- while a line is in flight, a restart of the client is only counted
   pub streams_busy_client : IsBusy s.up.queue s.down.queue
-      → AreStreamsOf width (record s { report = counted false s.report }) (after_event width v event.RestartClient)
+      → AreStreamsOf width (record s { report = counted false s.report }) (after_event ends width v event.RestartClient)
   streams_busy_client b =
       kept (counted false s.report) s.client (after_step width v.world Restart_client) (busy_client width s.report s.up.queue s.down.queue s.client v.world h.lines b)
       (of_restart width v.world v.world.wire.up v.world.wire.down)
 
   -- while a line is in flight, a restart of the instrument is only counted
   pub streams_busy_instrument : IsBusy s.up.queue s.down.queue
-      → AreStreamsOf width (record s { report = counted false s.report }) (after_event width v event.RestartInstrument)
+      → AreStreamsOf width (record s { report = counted false s.report }) (after_event ends width v event.RestartInstrument)
   streams_busy_instrument b =
       kept (counted false s.report) s.client (after_step width v.world Restart_instrument) (busy_instrument width s.report s.up.queue s.down.queue s.client v.world h.lines b)
       (of_start v.world.wire v.world.wire.up v.world.wire.down)
@@ -326,7 +326,7 @@ module _ (width : ℕ) (s : Seen) (v : Streams (ById Call) State) (h : AreStream
   -- once the front request was delivered, and the upward side is at the start of a line, the streams after that event are shown
   pub streams_up_deliver : (side : Side) (left : HandsToInstrument s.report s.up.queue s.down.queue side.queue) → StandsFor side.assembler [] → side.gone ≡ 0
       → AreStreamsOf width (record s { report = record s.report { executed = left.executed; made = left.made; instrument = left.state }; up = side; down = record s.down { queue = left.queue } })
-      (after_event width v event.UpDeliver)
+      (after_event ends width v event.UpDeliver)
   streams_up_deliver side left stands none =
       let f = up_front width s.report s.up.queue s.down.queue s.client v.world h.lines left.number side.queue left.front in
       let x = f.0 in
@@ -352,7 +352,7 @@ module _ (width : ℕ) (s : Seen) (v : Streams (ById Call) State) (h : AreStream
 
   -- once the front reply was delivered, and the downward side is at the start of a line, the streams after that event are shown
   pub streams_down_deliver : (side : Side) (left : HandsToClient s.report s.down.queue side.queue s.client) → StandsFor side.assembler [] → side.gone ≡ 0
-      → AreStreamsOf width (record s { report = record s.report { settled = left.settled }; down = side; client = left.client }) (after_event width v event.DownDeliver)
+      → AreStreamsOf width (record s { report = record s.report { settled = left.settled }; down = side; client = left.client }) (after_event ends width v event.DownDeliver)
   streams_down_deliver side left stands none =
       let f = down_front width s.report s.up.queue s.down.queue s.client v.world h.lines left.place side.queue left.front in
       let whole : after_step width v.world Down_deliver ≡ down_delivered (by_ids width ends) v.world (f.0 ∷ f.1) = ap (λ q. down_delivered (by_ids width ends) v.world q) f.2 in
@@ -371,7 +371,7 @@ module _ (width : ℕ) (s : Seen) (v : Streams (ById Call) State) (h : AreStream
   -- once n bytes were handed over that don't complete the front line, the streams with n more gone are shown
   pub streams_begin : (d : Direction) (n : ℕ) (side : Side) → n < remaining (gone d v) (lines d v.world.wire)
       → IsFlow side.assembler side.gone (texts d v.world.wire) → side.gone ≡ (pick d s.up s.down).gone + n → side.queue ≡ (pick d s.up s.down).queue
-      → AreStreamsOf width (record s { up = pick d side s.up; down = pick d s.down side }) (Stages.after_bytes width d v n)
+      → AreStreamsOf width (record s { up = pick d side s.up; down = pick d s.down side }) (after_bytes ends width d v n)
   streams_begin d n side lt flow gone_of queue_is =
       subst (λ c. AreStreamsOf width (record s { up = pick d side s.up; down = pick d s.down side }) (after_cut ends (by_ids width ends) d v c))
       (sym (cut_short (lines d v.world.wire) (gone d v) n lt))
@@ -387,6 +387,6 @@ module _ (width : ℕ) (s : Seen) (v : Streams (ById Call) State) (h : AreStream
 
   -- an event of 0 bytes, or of bytes while none are in flight, is only counted
   pub streams_idle_bytes : (d : Direction) (n r : ℕ) → r ≡ remaining (gone d v) (lines d v.world.wire) → (n ≡ 0) ⊎ (r ≡ 0)
-      → AreStreamsOf width (record s { report = counted false s.report }) (after_event width v (bytes d n))
+      → AreStreamsOf width (record s { report = counted false s.report }) (after_event ends width v (bytes d n))
   streams_idle_bytes d n r e none = subst (λ x. AreStreamsOf width (record s { report = counted false s.report }) x)
       (sym (bytes_pass ends (by_ids width ends) d v n ∙ idle_bytes ends (by_ids width ends) d v (lines d v.world.wire) n e none (part d))) nothing

@@ -5,9 +5,10 @@ use Rattle.gc_lines.specs.Assembler.{Kept, StandsFor}
 use Rattle.gc_catalogue.specs.declared.call.Call.{Call}
 use Rattle.gc_client.specs.Rule.{ById, Windowed}
 use Rattle.gc_instrument.specs.State.{State, restarted}
+use Rattle.gc_world.specs.declared.direction.Direction.TheVariants.{Up, Down}
 use Rattle.gc_world.specs.declared.event.Event.{Event}
 use Rattle.gc_world.specs.declared.report.Report.{Report}
-use Rattle.gc_world.specs.Reports.{IsReport, StandsForUp, StandsForDown}
+use Rattle.gc_world.specs.Reports.{IsReport, StandsForGone}
 use Rattle.gc_world.specs.Clients.{by_ids, ids_open, streams_by_ids, ends, streamed, played}
 use Rattle.gc_world.specs.Stages.{Seen, AreOfWorld, AreStreamsOf}
 use Rattle.gc_world.specs.Streams.{untouched, gone_of, up_lines, down_lines}
@@ -56,13 +57,13 @@ at_end width opening events s i r all h is =
 -- the same of the two assemblers in r: they stand for the bytes of the front lines that have gone over
 pub stand_at_end : (width : ℕ) (opening : State) (events : List Event) (s : Seen) (i : ℕ) (r : Report) → length events ≤ i
     → AreStreamsOf width s (streamed width opening (take i events)) → r ≡ record s.report { up = s.up.assembler; down = s.down.assembler }
-    → StandsForUp width opening events r.up × StandsForDown width opening events r.down
+    → StandsForGone Up width opening events r.up × StandsForGone Down width opening events r.down
 stand_at_end width opening events s i r all h is =
     let v = streamed width opening events in
     let shows = subst (λ es. AreStreamsOf width s (streamed width opening es)) (take_all i events all) h in
     let up = subst (λ n. StandsFor s.up.assembler (gone_of n (up_lines v.world.wire))) shows.up_is shows.up_flow.stands in
     let down = subst (λ n. StandsFor s.down.assembler (gone_of n (down_lines v.world.wire))) shows.down_is shows.down_flow.stands in
-    (subst (λ (x : Report). StandsForUp width opening events x.up) (sym is) up, subst (λ (x : Report). StandsForDown width opening events x.down) (sym is) down)
+    (subst (λ (x : Report). StandsForGone Up width opening events x.up) (sym is) up, subst (λ (x : Report). StandsForGone Down width opening events x.down) (sym is) down)
 
 -- a report of the first i events has counted at most i refused sends and at most i idle events
 pub counts_at : (width : ℕ) (opening : State) (events : List Event) (i : ℕ) (report : Report) → IsReport report (played width opening (take i events)).wire

@@ -8,6 +8,7 @@ pub mod Exchange
 pub mod Record
 pub mod Reports
 pub mod Sides
+pub mod Staging
 pub mod Stages
 pub mod Faithful
 pub mod Memory

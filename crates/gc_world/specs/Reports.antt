@@ -5,12 +5,15 @@ use Rattle.gc_client.specs.Rule.{Windowed}
 use Rattle.gc_client.specs.Settlements.{AreSettlements}
 use Rattle.gc_instrument.specs.State.{State}
 use Rattle.gc_lines.specs.Assembler.{Kept, StandsFor}
+use Rattle.gc_world.specs.declared.direction.Direction.{Direction}
+use Rattle.gc_world.specs.declared.direction.Direction.TheVariants.{Up, Down}
 use Rattle.gc_world.specs.declared.event.Event.{Event}
 use Rattle.gc_world.specs.declared.report.Made.{Made}
 use Rattle.gc_world.specs.declared.report.Report.{Report}
 use Rattle.gc_world.specs.Clients.{played, streamed}
+use Rattle.gc_world.specs.Directions.{gone, lines}
 use Rattle.gc_world.specs.Faithful.{ActsOnce, Faithful, sent_seen}
-use Rattle.gc_world.specs.Streams.{up_lines, down_lines, gone_of}
+use Rattle.gc_world.specs.Streams.{gone_of}
 use Rattle.gc_world.specs.World.{Numbered, Wire}
 
 -- a reply of the report as the world speaks of it: its number and its line's bytes
@@ -46,13 +49,9 @@ IsReportOf width opening events r = IsReport r (played width opening events).wir
 abbrev pub IsClientOf : (width : ℕ) → (opening : State) → List Event → Windowed Call → Type 0
 IsClientOf width opening events c = c ≡ record { width = width; ids = (played width opening events).client }
 
--- the assembler stands for the bytes of the front request that have gone over
-abbrev pub StandsForUp : (width : ℕ) → (opening : State) → List Event → Kept → Type 0
-StandsForUp width opening events kept = StandsFor kept (gone_of (streamed width opening events).up_gone (up_lines (played width opening events).wire))
-
--- the assembler stands for the bytes of the front reply that have gone over
-abbrev pub StandsForDown : (width : ℕ) → (opening : State) → List Event → Kept → Type 0
-StandsForDown width opening events kept = StandsFor kept (gone_of (streamed width opening events).down_gone (down_lines (played width opening events).wire))
+-- the assembler stands for the bytes of the front line of this direction that have gone over
+abbrev pub StandsForGone : Direction → (width : ℕ) → (opening : State) → List Event → Kept → Type 0
+StandsForGone d width opening events kept = let v = streamed width opening events in StandsFor kept (gone_of (gone d v) (lines d v.world.wire))
 
 -- the report and the client are what playing these events gives. Both are those of the run by ids, and each of the two assemblers
 -- in the report stands for what has gone over of the front line of its direction. The report is faithful, by it each request acts
@@ -60,8 +59,8 @@ StandsForDown width opening events kept = StandsFor kept (gone_of (streamed widt
 pub record IsPlayed (width : ℕ) (opening : State) (events : List Event) (r : Report) (c : Windowed Call) : Type 0 where
   pub report : IsReportOf width opening events r
   pub client : IsClientOf width opening events c
-  pub up : StandsForUp width opening events r.up
-  pub down : StandsForDown width opening events r.down
+  pub up : StandsForGone Up width opening events r.up
+  pub down : StandsForGone Down width opening events r.down
   pub faithful : Faithful width opening events r
   pub once : ActsOnce opening r
   pub few : IsNoLongerThan (length events) r

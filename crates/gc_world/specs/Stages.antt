@@ -7,38 +7,25 @@ use Rattle.gc_catalogue.specs.Texts.{request_line}
 use Rattle.gc_catalogue.specs.declared.call.Call.{Call}
 use Rattle.gc_client.specs.declared.window.TheConstants.{IDS}
 use Rattle.gc_client.specs.Rule.{ById, Windowed}
-use Rattle.gc_instrument.specs.State.{State, restarted}
-use Rattle.gc_world.specs.declared.direction.Direction.{Direction}
+use Rattle.gc_instrument.specs.State.{State}
 use Rattle.gc_world.specs.declared.event.Event.{Event}
 use Rattle.gc_world.specs.declared.report.Made.{Made}
 use Rattle.gc_world.specs.declared.report.Report.{Report}
 use Rattle.gc_world.specs.declared.report.Sent.{Sent}
 use Rattle.gc_world.specs.declared.side.Side.{Side}
 use Rattle.gc_world.specs.declared.stage.Stage.{Stage}
-use Rattle.gc_world.specs.Clients.{by_ids, ids_open, ends}
-use Rattle.gc_world.specs.Directions.{lines, gone, handed_over}
+use Rattle.gc_world.specs.Clients.{by_ids, ends}
 use Rattle.gc_world.specs.Memory.{TakesNoMemory}
 use Rattle.gc_world.specs.Order.{numbers}
 use Rattle.gc_world.specs.Reports.{made_seen, IsReport}
 use Rattle.gc_world.specs.Sides.{IsFlow}
-use Rattle.gc_world.specs.Streams.{Streams, up_texts, down_texts, untouched, flows, remaining}
+use Rattle.gc_world.specs.Staging.{Staging}
+use Rattle.gc_world.specs.Streams.{Streams, up_texts, down_texts}
 use Rattle.gc_world.specs.World.{Request, Numbered, Step, World, happens}
-
--- the streams of the run by ids before the first event: the instrument is restarted from this state, and nothing is in flight
-abbrev pub streams_at_start : State → Streams (ById Call) State
-streams_at_start opening = untouched (ids_open (restarted opening))
 
 -- the world after one step of the run by ids, with a window of this width
 abbrev pub after_step : ℕ → World (ById Call) State → Step → World (ById Call) State
 after_step width w step = happens ends (by_ids width ends) w step
-
--- the streams after one more event e of the run by ids, with a window of this width
-abbrev pub after_event : ℕ → Streams (ById Call) State → Event → Streams (ById Call) State
-after_event width v e = flows ends (by_ids width ends) v e
-
--- the streams after the next n bytes of a direction were handed over, by the run by ids with a window of this width
-abbrev pub after_bytes : (width : ℕ) → Direction → Streams (ById Call) State → (n : ℕ) → Streams (ById Call) State
-after_bytes width d v n = handed_over ends (by_ids width ends) d v n
 
 -- the bytes of the line of a request in flight, without CR LF
 abbrev pub bytes_of : Request → List ℕ
@@ -93,23 +80,10 @@ pub record AreStreamsOf (width : ℕ) (s : Seen) (v : Streams (ById Call) State)
 abbrev pub Shows : {W : Type 0} → ℕ → Stage W → Streams (ById Call) State → Type 0
 Shows width s v = AreStreamsOf width (seen s) v
 
--- the stage shows some streams
-abbrev pub IsShown : {W : Type 0} → Stage W → Type 0
-IsShown s = (width : ℕ) × (v : Streams (ById Call) State) × Shows width s v
-
--- whatever streams the stage s shows, the stage t, whose client's window is as wide, shows the streams after this event
-abbrev pub Follows : {W : Type 0} → Stage W → Event → Stage W → Type 0
-Follows s e t = (width : ℕ) (v : Streams (ById Call) State) → Shows width s v → Shows width t (after_event width v e)
+-- the kind of this crate's stages: their runs are on the simulated instrument
+abbrev pub staging : {W : Type 0} → Staging (Stage W) State
+staging {W} = record { ends = ends; shows = Shows {W = W} }
 
 -- whatever streams the stage shows: if the event takes no memory on them, the result is `Ok`
 abbrev pub IsOkWithoutMemory : {W A E : Type 0} → Stage W → Event → Result A E → Type 0
 IsOkWithoutMemory s e result = (width : ℕ) (v : Streams (ById Call) State) → Shows width s v → TakesNoMemory width v e → IsOk result
-
--- on whatever streams the stage shows, more than n bytes of the front line of the direction are still to go
-abbrev pub HasMoreThan : {W : Type 0} → Stage W → Direction → ℕ → Type 0
-HasMoreThan s d n = (width : ℕ) (v : Streams (ById Call) State) → Shows width s v → n < remaining (gone d v) (lines d v.world.wire)
-
--- whatever streams the stage s shows, the stage t, whose client's window is as wide, shows the streams after the next n bytes of the
--- direction
-abbrev pub FollowsBytes : {W : Type 0} → Stage W → Direction → ℕ → Stage W → Type 0
-FollowsBytes s d n t = (width : ℕ) (v : Streams (ById Call) State) → Shows width s v → Shows width t (after_bytes width d v n)

@@ -1,7 +1,7 @@
 //! The two directions of the line.
 
 /// A direction of the line.
-#[derive(Clone, Copy, Debug, PartialEq, Eq)]
+#[derive(Clone, Copy, PartialEq, Eq)]
 pub enum Direction {
     /// From the client to the instrument: requests.
     Up,

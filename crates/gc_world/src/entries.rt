@@ -12,7 +12,7 @@ use std::alloc::{AllocError, Global};
 use std::marker::Model;
 
 /// Entries in the order in which they came, in a `Vec`.
-#[derive(Debug, Drop)]
+#[derive(Drop)]
 pub struct Entries<T> {
     entries: Vec<T>,
 }
@@ -46,14 +46,6 @@ impl<T> Entries<T> {
         Self { entries }
     }
 
-    /// The entries as a vector, in order, for a caller that takes a report apart. No memory is allocated.
-    pub fn into_vec(self) -> Vec<T>
-        ensures { result.items ≡ self }
-    {
-        let Entries { entries } = self;
-        entries
-    }
-
     /// The entries, in order.
     pub fn as_slice(&self) -> &[T]
         ensures { result.now ≡ self.now }
@@ -74,6 +66,14 @@ impl<T> Entries<T> {
     {
         self.entries.is_empty()
     }
+
+    /// The entry at this place, counted from 0.
+    pub(crate) fn at(&self, place: usize) -> &T
+        requires { place < length self.now }
+        ensures { slice_get self.now place ≡ Some result.now }
+    {
+        &self.entries[place]
+    }
 }
 
 impl<T: Drop> Entries<T> {
@@ -85,16 +85,6 @@ impl<T: Drop> Entries<T> {
         self.entries.reserve(1)?;
         self.entries.push_reserved(entry);
         Ok(())
-    }
-}
-
-impl<T> Entries<T> {
-    /// The entry at this place, counted from 0.
-    pub(crate) fn at(&self, place: usize) -> &T
-        requires { place < length self.now }
-        ensures { slice_get self.now place ≡ Some result.now }
-    {
-        &self.entries[place]
     }
 }
 

@@ -5,7 +5,7 @@ use gc_catalogue::Call;
 /// Something that happens, or is tried. A line in flight is its bytes with CR LF: it is in flight until its last byte goes
 /// over, and is handed over with that byte. The lines of a queue are counted from its front: there is the line that was written
 /// first, and its bytes go first.
-#[derive(Clone, Copy, Debug, PartialEq, Eq)]
+#[derive(Clone, Copy, Debug)]
 pub enum Event {
     /// The client sends this call to this target, with this deadline. If its window is full it refuses, and nothing is sent.
     Send(u32, Call, u64),

@@ -1,14 +1,13 @@
 //! The stage: what the events so far leave, and what the next one does.
 
-ghost use Rattle.std.specs.Prelude.{◌≡◌, ◌↔◌, ◌+◌, ◌<◌, ◌≤◌, ◌^◌, ◌∷◌, ◌++◌, ℕ, [], OnOk, IsOk, IsTrue, length};
-ghost use Rattle.gc_catalogue.specs.declared.call.Call.{Call};
-ghost use Rattle.gc_client.specs.Rule.{ById};
-ghost use Rattle.gc_instrument.specs.State.{State, IsFittingState, restarted};
+ghost use Rattle.std.specs.Prelude.{◌≡◌, ◌↔◌, ◌+◌, ◌<◌, ◌≤◌, ◌^◌, ◌∷◌, ◌++◌, [], OnOk, IsOk, IsTrue, length};
+ghost use Rattle.gc_instrument.specs.State.{IsFittingState, restarted};
 ghost use Rattle.gc_world.specs.declared.event.Event.{Event};
-ghost use Rattle.gc_world.specs.Directions.{bytes, delivery, gone, lines};
+ghost use Rattle.gc_world.specs.Clients.{ends};
+ghost use Rattle.gc_world.specs.Directions.{bytes, delivery};
 ghost use Rattle.gc_world.specs.Memory.{IsBusy};
-ghost use Rattle.gc_world.specs.Stages.{streams_at_start, Shows, IsShown, Follows, FollowsBytes, HasMoreThan, IsOkWithoutMemory};
-ghost use Rattle.gc_world.specs.Streams.{Streams, remaining};
+ghost use Rattle.gc_world.specs.Stages.{Shows, staging, IsOkWithoutMemory};
+ghost use Rattle.gc_world.specs.Staging.{streams_at_start, IsShown, Follows, FollowsBytes, HasLeft, HasMoreThan};
 
 use crate::direction::Direction;
 use crate::entries::Entries;
@@ -54,7 +53,7 @@ impl<W: Window<Asked = Call>> Stage<W> {
     ) -> Stage<W>
         requires least { 1 ≤ width }
         requires most { width ≤ WINDOW }
-        ensures shows { Shows width result (streams_at_start instrument) }
+        ensures shows { Shows width result (streams_at_start ends instrument) }
         ensures fits { IsFittingState (restarted instrument) }
     {
         instrument.restart();
@@ -84,8 +83,8 @@ impl<W: Window<Asked = Call>> Stage<W> {
     pub fn happen(&mut self, event: &Event) -> Result<(), AllocError>
         requires refused { self.old.report.refused_sends + 1 < 2 ^ 64 }
         requires idle { self.old.report.idle_events + 1 < 2 ^ 64 }
-        requires shown { IsShown self.old }
-        ensures follows { OnOk result (Follows self.old event.now self.new) }
+        requires shown { IsShown staging self.old }
+        ensures follows { OnOk result (Follows staging self.old event.now self.new) }
         ensures spare { IsOkWithoutMemory self.old event.now result }
     {
         match *event {
@@ -128,7 +127,7 @@ impl<W: Window<Asked = Call>> Stage<W> {
     // was refused.
     fn send(&mut self, target: u32, call: &Call, deadline: u64) -> Result<(), AllocError>
         requires { self.old.report.refused_sends + 1 < 2 ^ 64 }
-        ensures follows { OnOk result (Follows self.old (Event.Send target call.now deadline) self.new) }
+        ensures follows { OnOk result (Follows staging self.old (Event.Send target call.now deadline) self.new) }
         ensures spare { length self.old.client.ids.waiting ≡ self.old.client.width → IsOk result }
     {
         let Ok(()) = self.client.send_into(target, call, deadline, &mut self.cut) else {
@@ -144,8 +143,8 @@ impl<W: Window<Asked = Call>> Stage<W> {
     #[inline(always)]
     fn up_deliver(&mut self) -> Result<(), AllocError>
         requires idle { self.old.report.idle_events + 1 < 2 ^ 64 }
-        requires shown { IsShown self.old }
-        ensures follows { OnOk result (Follows self.old Event.UpDeliver self.new) }
+        requires shown { IsShown staging self.old }
+        ensures follows { OnOk result (Follows staging self.old Event.UpDeliver self.new) }
         ensures spare { self.old.up.queue ≡ [] → IsOk result }
     {
         let Some(number) = self.up.queue.take_front() else {
@@ -174,8 +173,8 @@ impl<W: Window<Asked = Call>> Stage<W> {
     #[inline(always)]
     fn down_deliver(&mut self) -> Result<(), AllocError>
         requires idle { self.old.report.idle_events + 1 < 2 ^ 64 }
-        requires shown { IsShown self.old }
-        ensures follows { OnOk result (Follows self.old Event.DownDeliver self.new) }
+        requires shown { IsShown staging self.old }
+        ensures follows { OnOk result (Follows staging self.old Event.DownDeliver self.new) }
         ensures spare { IsOkWithoutMemory self.old Event.DownDeliver result }
     {
         let Some(place) = self.down.queue.take_front() else {
@@ -199,8 +198,8 @@ impl<W: Window<Asked = Call>> Stage<W> {
     #[inline(never)]
     fn deliver_bytes(&mut self, direction: Direction, n: usize) -> Result<(), AllocError>
         requires idle { self.old.report.idle_events + 1 < 2 ^ 64 }
-        requires shown { IsShown self.old }
-        ensures follows { OnOk result (Follows self.old (bytes direction n) self.new) }
+        requires shown { IsShown staging self.old }
+        ensures follows { OnOk result (Follows staging self.old (bytes direction n) self.new) }
         ensures spare { IsOkWithoutMemory self.old (bytes direction n) result }
     {
         let mut left = n;
@@ -225,8 +224,8 @@ impl<W: Window<Asked = Call>> Stage<W> {
     #[inline(always)]
     fn deliver(&mut self, direction: Direction) -> Result<(), AllocError>
         requires idle { self.old.report.idle_events + 1 < 2 ^ 64 }
-        requires shown { IsShown self.old }
-        ensures follows { OnOk result (Follows self.old (delivery direction) self.new) }
+        requires shown { IsShown staging self.old }
+        ensures follows { OnOk result (Follows staging self.old (delivery direction) self.new) }
         ensures spare { IsOkWithoutMemory self.old (delivery direction) result }
     {
         match direction {
@@ -237,8 +236,8 @@ impl<W: Window<Asked = Call>> Stage<W> {
 
     // How many bytes of the front line of a direction are still to go, CR LF included: 0 where no line is in flight.
     fn remaining(&self, direction: Direction) -> usize
-        requires { IsShown self.now }
-        ensures { (width : ℕ) (v : Streams (ById Call) State) → Shows width self.now v → result ≡ remaining (gone direction v) (lines direction v.world.wire) }
+        requires { IsShown staging self.now }
+        ensures { HasLeft staging self.now direction result }
     {
         match direction {
             Direction::Up => self.up.remaining(Direction::Up, &self.report),
@@ -249,9 +248,9 @@ impl<W: Window<Asked = Call>> Stage<W> {
     // Hands over the next `n` bytes of the front line of a direction, after those that have gone already. They don't
     // complete the line.
     fn go_on(&mut self, direction: Direction, n: usize)
-        requires shown { IsShown self.old }
-        requires some { HasMoreThan self.old direction n }
-        ensures { FollowsBytes self.old direction n self.new }
+        requires shown { IsShown staging self.old }
+        requires some { HasMoreThan staging self.old direction n }
+        ensures { FollowsBytes staging self.old direction n self.new }
     {
         match direction {
             Direction::Up => self.up.go_on(Direction::Up, &self.report, n, &mut self.cut),
@@ -266,7 +265,7 @@ impl<W: Window<Asked = Call>> Stage<W> {
     // Hands this moment to the client, which times out each outstanding request whose deadline is at most `now`. Nothing is
     // settled.
     fn expire(&mut self, now: u64)
-        ensures { Follows self.old (Event.Expire now) self.new }
+        ensures { Follows staging self.old (Event.Expire now) self.new }
     {
         self.client.expire(now);
     }
@@ -276,7 +275,7 @@ impl<W: Window<Asked = Call>> Stage<W> {
     // refused.
     fn restart_client(&mut self) -> Result<(), AllocError>
         requires { self.old.report.idle_events + 1 < 2 ^ 64 }
-        ensures follows { OnOk result (Follows self.old Event.RestartClient self.new) }
+        ensures follows { OnOk result (Follows staging self.old Event.RestartClient self.new) }
         ensures spare { IsBusy self.old.up.queue self.old.down.queue → IsOk result }
     {
         if !self.is_quiet() {
@@ -295,7 +294,7 @@ impl<W: Window<Asked = Call>> Stage<W> {
     // refused.
     fn restart_instrument(&mut self) -> Result<(), AllocError>
         requires { self.old.report.idle_events + 1 < 2 ^ 64 }
-        ensures follows { OnOk result (Follows self.old Event.RestartInstrument self.new) }
+        ensures follows { OnOk result (Follows staging self.old Event.RestartInstrument self.new) }
         ensures spare { IsBusy self.old.up.queue self.old.down.queue → IsOk result }
     {
         if self.is_quiet() {

@@ -1,52 +1,20 @@
--- Clients: their widths, the numbers of the faults that their calls return, and the lines and lists that these write.
-use Rattle.std.proofs.Common.{◌≡◌, ◌≢◌, ◌≤◌, ℕ, List, ◌+◌, ◌++◌, Some, Ok, Err, length, take, drop, ◌∙◌, sym, ap, subst, arith}
+-- Clients: their widths, and the lines and lists that their calls write.
+use Rattle.std.proofs.Common.{◌≡◌, ℕ, List, ◌+◌, ◌++◌, Some, Ok, Err, length, take, drop, ◌∙◌, sym, ap, subst, arith}
 use Rattle.std.proofs.lemmas.List.{take_all, take-append-le, drop-drop}
-use Rattle.gc_values.specs.declared.fault.ValueFault.TheVariants.{Spelling, Range, OpenQuote, TooMany, Count}
 use Rattle.gc_lines.specs.Lines.{with_end}
 use Rattle.gc_lines.specs.Requests.{request_text}
 use Rattle.gc_catalogue.specs.Asked.{asked_line, raw_params, IsAsked}
-use Rattle.gc_catalogue.specs.CallFault.{refusal_number}
 use Rattle.gc_catalogue.specs.Raws.{IsRawCall, IsRawRefusal}
 use Rattle.gc_catalogue.proofs.RawRules.{no_raw_refusal}
-use Rattle.gc_catalogue.specs.declared.fault.CallFault.{CallFault}
-use Rattle.gc_catalogue.specs.declared.fault.CallFault.TheVariants.{Unknown, Parameters}
 use Rattle.gc_catalogue.specs.declared.asked.Asked.{Asked}
 use Rattle.gc_catalogue.specs.declared.asked.Asked.TheVariants.{Raw}
 use Rattle.gc_catalogue.specs.declared.raw.RawCall.{RawCall}
 use Rattle.gc_catalogue.specs.declared.raw.RawFault.{RawFault}
-use Rattle.gc_catalogue.specs.declared.raw.RawFault.TheVariants as raw
 use Rattle.gc_client.specs.Rule.{Windowed}
-use Rattle.geocom_c.specs.Sending.{raw_number}
-use Rattle.geocom_c.specs.declared.header.TheConstants.{WINDOW_FULL, NO_CLIENT, NOT_BEGUN}
 
 -- where client d has the width of client c, d is c with the ids of d
 pub same_width : (c d : Windowed Asked) → d.width ≡ c.width → d ≡ record c { ids = d.ids }
 same_width c d e = ap (λ w. let x : Windowed Asked = record { width = w; ids = d.ids } in x) e
-
--- a number n that is `WINDOW_FULL` unless it is 0 isn't `NO_CLIENT`
-pub full_alone : (n : ℕ) → (n ≢ 0 → n ≡ WINDOW_FULL) → n ≡ NO_CLIENT → ⊥
-full_alone n either e = let f : n ≡ WINDOW_FULL = either (λ z. (cc)) in cc
-
--- a refusal of a call has a number of at most 22
-refusal_below : (e : CallFault) → refusal_number e ≤ 22
-refusal_below Unknown = omega arith
-refusal_below (Parameters Spelling) = omega arith
-refusal_below (Parameters Range) = omega arith
-refusal_below (Parameters OpenQuote) = omega arith
-refusal_below (Parameters TooMany) = omega arith
-refusal_below (Parameters Count) = omega arith
-
--- the number of a refusal of a call isn't `NO_CLIENT`
-pub no_refusal_astray : (e : CallFault) → refusal_number e ≡ NO_CLIENT → ⊥
-no_refusal_astray e f = absurd (omega (arith, f, refusal_below e))
-
--- the number of a refusal of a raw request isn't `NO_CLIENT`
-pub no_raw_astray : (e : RawFault) → raw_number e ≡ NO_CLIENT → ⊥
-no_raw_astray raw.InTable f = absurd (omega (arith, f))
-no_raw_astray raw.NotPlain f = absurd (omega (arith, f))
-no_raw_astray raw.TooLong f = absurd (omega (arith, f))
-no_raw_astray raw.OpenQuote f = absurd (omega (arith, f))
-no_raw_astray raw.TooMany f = absurd (omega (arith, f))
 
 -- a number and parameters for which a raw request asks aren't refused
 pub never_refused : (procedure : ℕ) (params : List ℕ) (raw : RawCall) (e : RawFault) → IsAsked procedure params (Raw raw) → IsRawRefusal procedure params e → ⊥
@@ -54,18 +22,13 @@ never_refused procedure params raw e is fault =
     no_raw_refusal procedure params e
     (subst (λ (n : ℕ). IsRawCall n params) is.0 (subst (λ (p : List ℕ). IsRawCall raw.rpc p) is.1 raw.is)) fault
 
--- the line of a raw request, with its CR LF, has the number and the parameters that were given, and the id of the state
-pub as_given : (raw : RawCall) (procedure : ℕ) (params : List ℕ) (id next : ℕ) (text : List ℕ) → IsAsked procedure params (Raw raw) → next ≡ id
-    → text ≡ with_end (asked_line (Some id) (Raw raw)) → text ≡ with_end (request_text (record { rpc = procedure; id = Some next; params = params }))
-as_given raw procedure params id next text is same e =
+-- the line of a raw request, with its CR LF, has the number and the parameters that were given
+pub as_given : (raw : RawCall) (procedure : ℕ) (params : List ℕ) (id : ℕ) (text : List ℕ) → IsAsked procedure params (Raw raw)
+    → text ≡ with_end (asked_line (Some id) (Raw raw)) → text ≡ with_end (request_text (record { rpc = procedure; id = Some id; params = params }))
+as_given raw procedure params id text is e =
     e
     ∙ ap (λ n. with_end (request_text (record { rpc = n; id = Some id; params = raw_params raw }))) is.0
     ∙ ap (λ (p : List ℕ). with_end (request_text (record { rpc = procedure; id = Some id; params = p }))) is.1
-    ∙ ap (λ i. with_end (request_text (record { rpc = procedure; id = Some i; params = params }))) (sym same)
-
--- `NOT_BEGUN` isn't `NO_CLIENT`
-pub unbegun_not_astray : NOT_BEGUN ≡ NO_CLIENT → ⊥
-unbegun_not_astray e = absurd (omega (arith, e))
 
 -- an error isn't a success
 pub never_ok : {A E : Type 0} (e : E) (x : A) → Err e ≡ Ok x → ⊥

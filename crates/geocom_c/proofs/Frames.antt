@@ -8,8 +8,9 @@ use Rattle.gc_catalogue.specs.declared.asked.Asked.{Asked}
 use Rattle.gc_client.specs.Rule.{Windowed}
 use Rattle.geocom_c.specs.Rest.{IsRest}
 use Rattle.geocom_c.specs.State.{StandsFor}
-use Rattle.geocom_c.specs.Feeding.{IsFed, IsInFront}
+use Rattle.geocom_c.specs.Feeding.{IsFed, IsInFront, unended}
 use Rattle.geocom_c.specs.declared.answers.GeocomHeard.{GeocomHeard}
+use Rattle.geocom_c.specs.declared.header.TheConstants.{MORE}
 use Rattle.geocom_c.specs.declared.rest.GeocomRest.{GeocomRest}
 use Rattle.geocom_c.specs.declared.settled.GeocomSettlement.{GeocomSettlement}
 use Rattle.geocom_c.specs.declared.state.GeocomClient.{GeocomClient}
@@ -48,3 +49,15 @@ fed_used c f g r q records text used e same is =
       recorded = is.recorded;
       front = subst (λ (n : ℕ). IsInFront f n text) (sym (ap (λ (x : GeocomHeard). x.count) same)) is.front;
     })
+
+-- where the frame f that was fed is `More`, and n bytes were used, that is told of bytes without a line feed
+pub fed_unended : (c : Windowed Asked) (f : Frame) (r q : GeocomHeard) (records : List GeocomSettlement) (text : List ℕ) (used n : ℕ) → f ≡ More → used ≡ n
+    → q ≡ record r { used = used } → IsFed c f r records text → q ≡ unended n
+fed_unended c f r q records text used n is e same fed =
+    let more : IsFed c More r records text = subst (λ (g : Frame). IsFed c g r records text) is fed in
+    same
+    ∙ ap (λ k. let x : GeocomHeard = record r { used = k } in x) e
+    ∙ ap (λ k. let x : GeocomHeard = record { used = n; fault = k; count = r.count; kind = r.kind; line_fault = r.line_fault } in x) more.fault
+    ∙ ap (λ k. let x : GeocomHeard = record { used = n; fault = 0; count = k; kind = r.kind; line_fault = r.line_fault } in x) more.count
+    ∙ ap (λ k. let x : GeocomHeard = record { used = n; fault = 0; count = 0; kind = k; line_fault = r.line_fault } in x) more.kind
+    ∙ ap (λ k. let x : GeocomHeard = record { used = n; fault = 0; count = 0; kind = MORE; line_fault = k } in x) more.line_fault

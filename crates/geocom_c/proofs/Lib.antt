@@ -9,6 +9,7 @@ mod Hearings
 mod Answering
 mod Courses
 mod Lines
+mod Sendings
 mod Owning
 mod Parting
 mod Safely

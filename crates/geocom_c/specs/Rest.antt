@@ -1,5 +1,5 @@
 -- The bytes of an incomplete line, this project's own: what a state keeps of those since the last line feed.
-use Rattle.std.specs.Prelude.{◌≡◌, ◌≢◌, ◌≤◌, ◌+◌, ℕ, List, ◌++◌, length, take, All, Some, None}
+use Rattle.std.specs.Prelude.{◌≡◌, ◌≢◌, ◌≤◌, ◌+◌, ℕ, List, [], ◌++◌, length, take, All, Some, None}
 use Rattle.std.specs.List.{position}
 use Rattle.gc_lines.specs.Frames.{is_line_feed, frame_of}
 pub use Rattle.gc_lines.specs.Passing.{lines_completed}
@@ -32,3 +32,16 @@ UsesUnended r piece used frame = (rest : List ℕ) → IsRest r rest → positio
 abbrev pub UsesFrame : GeocomRest → (piece : List ℕ) → (used : ℕ) → Frame → Type 0
 UsesFrame r piece used frame =
     (rest : List ℕ) (at : ℕ) → IsRest r rest → position is_line_feed piece ≡ Some at → (used ≡ at + 1) × (frame ≡ frame_of (rest ++ take at piece))
+
+-- no part of a promise: without a line feed in `piece` all of it is used, the frame is `More`, and `new` keeps it after what
+-- `old` keeps
+abbrev pub TakesUnended : (old new : GeocomRest) → (piece : List ℕ) → (used : ℕ) → Frame → Type 0
+TakesUnended old new piece used frame =
+    (rest : List ℕ) → IsRest old rest → position is_line_feed piece ≡ None → (used ≡ length piece) × (frame ≡ More) × IsRest new (rest ++ piece)
+
+-- no part of a promise: if `piece` has a line feed, the bytes through the first are used, the frame is the one that it ends after
+-- what `old` keeps, and `new` keeps nothing
+abbrev pub TakesFrame : (old new : GeocomRest) → (piece : List ℕ) → (used : ℕ) → Frame → Type 0
+TakesFrame old new piece used frame =
+    (rest : List ℕ) (at : ℕ) → IsRest old rest → position is_line_feed piece ≡ Some at
+    → (used ≡ at + 1) × (frame ≡ frame_of (rest ++ take at piece)) × IsRest new []

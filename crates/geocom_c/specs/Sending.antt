@@ -1,5 +1,5 @@
 -- What a send writes and returns, this project's own.
-use Rattle.std.specs.Prelude.{◌≡◌, ◌≢◌, ◌<◌, ◌≤◌, ℕ, List, [], length, take, Option, Some, None}
+use Rattle.std.specs.Prelude.{◌≡◌, ◌≢◌, ◌<◌, ◌≤◌, ℕ, List, [], length, take, Option, Some, None, Result, Ok, Err}
 use Rattle.gc_values.specs.ValueFault as of_value
 use Rattle.gc_values.specs.declared.fault.ValueFault.TheVariants as value
 use Rattle.gc_lines.specs.Faults as of_line
@@ -13,9 +13,10 @@ use Rattle.gc_catalogue.specs.declared.raw.RawFault.{RawFault}
 use Rattle.gc_catalogue.specs.declared.raw.RawFault.TheVariants.{InTable, NotPlain, TooLong, OpenQuote, TooMany}
 use Rattle.gc_client.specs.Rule.{ById, Windowed, Sending, sends}
 use Rattle.geocom_c.specs.Rest.{IsRest}
-use Rattle.geocom_c.specs.State.{StandsFor, left_of}
+use Rattle.geocom_c.specs.Rooms.{FaultLeavesAll, KeepsAfter, KeepsLength, ReportsNoClient, ReportsNoRoom}
+use Rattle.geocom_c.specs.State.{KeepsAnswered, StandsFor, left_of}
 use Rattle.geocom_c.specs.declared.answers.GeocomCount.{GeocomCount}
-use Rattle.geocom_c.specs.declared.header.TheConstants.{WINDOW_FULL, NO_ROOM, NO_CLIENT, NOT_BEGUN, IN_TABLE}
+use Rattle.geocom_c.specs.declared.header.TheConstants.{LINE_ROOM, WINDOW_FULL, NO_ROOM, NO_CLIENT, NOT_BEGUN, IN_TABLE}
 use Rattle.geocom_c.specs.declared.state.GeocomClient.{GeocomClient}
 
 -- the state and the room for the line before and after a send, and what the send returned
@@ -46,11 +47,14 @@ SendsEach {X = X} to Is target deadline sent =
 abbrev pub RefusesEach : {E : Type 0} → (Is : E → Type 0) → (number : E → ℕ) → GeocomClient → (fault : ℕ) → Type 0
 RefusesEach {E = E} Is number state fault = (c : Windowed Asked) (rest : List ℕ) (e : E) → StandsFor state c rest → left_of state ≡ [] → Is e → fault ≡ number e
 
--- a fault other than 0 is the number of a refusal e of which `Is` holds, unless it is that of a full window, of too little room,
--- of a state that is no client's or of a client that hasn't synchronized
+-- the fault is none of a send's own: not 0, nor that of a full window, of too little room, of a state that is no client's or of a
+-- client that hasn't synchronized
+abbrev pub IsOfRequest : (fault : ℕ) → Type 0
+IsOfRequest fault = (fault ≢ 0) × (fault ≢ WINDOW_FULL) × (fault ≢ NO_ROOM) × (fault ≢ NO_CLIENT) × (fault ≢ NOT_BEGUN)
+
+-- a fault that is none of a send's own (`IsOfRequest`) is the number of a refusal e of which `Is` holds
 abbrev pub IsRefusalNumber : {E : Type 0} → (Is : E → Type 0) → (number : E → ℕ) → (fault : ℕ) → Type 0
-IsRefusalNumber {E = E} Is number fault =
-    fault ≢ 0 → fault ≢ WINDOW_FULL → fault ≢ NO_ROOM → fault ≢ NO_CLIENT → fault ≢ NOT_BEGUN → (e : E) × Is e × (fault ≡ number e)
+IsRefusalNumber {E = E} Is number fault = IsOfRequest fault → (e : E) × Is e × (fault ≡ number e)
 
 -- a client that hasn't synchronized refuses to send
 abbrev pub RefusesUnbegun : GeocomClient → (fault : ℕ) → Type 0
@@ -98,3 +102,37 @@ ReportsDone Is state fault = fault ≡ 0 → WasAsked Is (λ count width. count 
 -- the raw call is of this number and these parameters
 abbrev pub IsRawOf : (procedure : ℕ) → (params : List ℕ) → RawCall → Type 0
 IsRawOf procedure params raw = IsAsked procedure params (Raw raw)
+
+-- what a send did and returned: a client that has synchronized sends `to x` where `Is x`, and refuses with the number of e where
+-- `IsNot e`; each fault comes only for its reason, and after one nothing has changed
+pub record IsSend {X E : Type 0} (to : X → Asked) (Is : X → Type 0) (IsNot : E → Type 0) (number : E → ℕ) (target deadline : ℕ) (s : SendEffect) : Type 0 where
+  -- if there is room for a line
+  pub sent : LINE_ROOM ≤ length s.before → SendsEach to Is target deadline s
+  pub refuses : LINE_ROOM ≤ length s.before → RefusesEach IsNot number s.old s.told.fault
+  pub begins : LINE_ROOM ≤ length s.before → RefusesUnbegun s.old s.told.fault
+  -- what each fault says
+  pub begun : ReportsUnbegun s.old s.told.fault
+  pub room : ReportsNoRoom s.before LINE_ROOM s.told.fault
+  pub astray : ReportsNoClient s.before LINE_ROOM s.old s.told.fault
+  pub full : ReportsFull Is s.old s.told.fault
+  pub done : ReportsDone Is s.old s.told.fault
+  pub refusal : IsRefusalNumber IsNot number s.told.fault
+  -- what stays
+  pub refused : FaultLeavesAll s.told s.old s.new s.before s.after
+  pub answered : KeepsAnswered s.old s.new
+  pub untouched : KeepsAfter s.told.count s.before s.after
+  pub same_length : KeepsLength s.before s.after
+
+-- no part of a promise: a number and parameters were read. They ask for `to x` exactly if `Is x`, and are refused with the number
+-- of e exactly if `IsNot e`, which is none of a send's own faults
+pub record IsReadAs {X E : Type 0} (to : X → Asked) (Is : X → Type 0) (IsNot : E → Type 0) (number : E → ℕ) (read : Result Asked ℕ) : Type 0 where
+  pub asks : (asked : Asked) → read ≡ Ok asked → (x : X) × Is x × (asked ≡ to x)
+  pub only : (x : X) → Is x → read ≡ Ok (to x)
+  pub refuses : (fault : ℕ) → read ≡ Err fault → (e : E) × IsNot e × (fault ≡ number e)
+  pub refused : (e : E) → IsNot e → read ≡ Err (number e)
+  pub number_of_request : (fault : ℕ) → read ≡ Err fault → IsOfRequest fault
+
+-- no part of a promise: what a send of what was read did and returned
+abbrev pub SendsRead : (read : Result Asked ℕ) → (target deadline : ℕ) → SendEffect → Type 0
+SendsRead read target deadline s =
+    IsSend (λ (asked : Asked). asked) (λ (asked : Asked). read ≡ Ok asked) (λ (fault : ℕ). read ≡ Err fault) (λ (fault : ℕ). fault) target deadline s

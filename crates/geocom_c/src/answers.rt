@@ -5,6 +5,7 @@ ghost use Rattle.geocom_c.specs.Beginning.{unbegun_with};
 ghost use Rattle.geocom_c.specs.declared.header.TheConstants.{MORE};
 
 use crate::header::MORE;
+use crate::state::NULLS;
 
 /// A fault or 0, and a count of bytes, targets, records or requests, as the call says: 0 after a fault.
 #[repr(C)]
@@ -81,7 +82,7 @@ pub(crate) fn begun(count: u32, answered: u8) -> GeocomBeginning
         fault: 0,
         count,
         answered: u32::from(answered),
-        has_begun: u32::from(answered == 8),
+        has_begun: u32::from(answered == NULLS),
     }
 }
 

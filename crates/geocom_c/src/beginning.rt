@@ -40,18 +40,9 @@ fn hear_line(rest: &mut GeocomRest, beginning: &mut Beginning, bytes: &[u8]) -> 
     ensures more { KeepsUnended bytes.now result rest.old rest.new beginning.old beginning.new }
     ensures frame { HearsFirst bytes.now result rest.old rest.new beginning.old beginning.new }
 {
-    let (used, frame) = rest.frame(bytes);
-    match frame {
-        Frame::More => {
-            rest.keep(bytes);
-            used
-        }
-        ended => {
-            *rest = GeocomRest::new();
-            hear_frame(beginning, &ended);
-            used
-        }
-    }
+    let (used, frame) = rest.take(bytes);
+    hear_frame(beginning, &frame);
+    used
 }
 
 // Uses all bytes: hands each line that they end to the synchronization, which discards those after the eighth answer.

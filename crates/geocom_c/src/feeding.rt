@@ -20,7 +20,7 @@ use crate::header::{
 use crate::listed::list_line;
 use crate::rest::{GeocomRest, put};
 use crate::settled::{GeocomSettlement, put_lost, put_records};
-use crate::state::{GeocomClient, load, store};
+use crate::state::{GeocomClient, NULLS, load, store};
 use gc_catalogue::Asked;
 use gc_client::{Client, Heard, SlotsOf, WINDOW};
 use gc_lines::{Frame, Line};
@@ -103,17 +103,8 @@ fn feed(
     ensures used { IsUsedOf bytes.now result.used }
     ensures written { WritesSettled result.count settlements.old settlements.new text.old text.new }
 {
-    let (used, frame) = state.rest.frame(bytes);
-    match frame {
-        Frame::More => {
-            state.rest.keep(bytes);
-            using(used, heard(MORE, 0, 0))
-        }
-        ended => {
-            state.rest = GeocomRest::new();
-            using(used, feed_frame(state, client, &ended, settlements, text))
-        }
-    }
+    let (used, frame) = state.rest.take(bytes);
+    using(used, feed_frame(state, client, &frame, settlements, text))
 }
 
 /// Takes bytes as they come, through the first line feed, and writes a record for each request that the line settles.
@@ -160,7 +151,7 @@ fn answered_after_restart(answered: u8) -> u8
     ensures left { drop result the_word ≡ left_by_restart (drop answered the_word) }
     ensures within { result ≤ 8 }
 {
-    let has_begun = answered >= 8;
+    let has_begun = answered >= NULLS;
     if has_begun {
         return 0;
     }

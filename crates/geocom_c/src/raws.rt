@@ -1,19 +1,17 @@
 //! Sending what isn't in the table: a number and parameters are sent exactly as they are, or are refused.
 
-ghost use Rattle.std.specs.Prelude.{◌≡◌, ◌≤◌, length, Some};
+ghost use Rattle.std.specs.Prelude.{◌≡◌, Some};
 ghost use Rattle.gc_lines.specs.Lines.{with_end};
 ghost use Rattle.gc_lines.specs.Requests.{request_text};
 ghost use Rattle.gc_catalogue.specs.declared.asked.Asked.TheVariants.{Raw};
 ghost use Rattle.gc_catalogue.specs.Raws.{IsRawRefusal};
-ghost use Rattle.geocom_c.specs.State.{KeepsAnswered};
-ghost use Rattle.geocom_c.specs.Rooms.{FaultLeavesAll, KeepsLength, KeepsAfter, ReportsNoClient, ReportsNoRoom, WritesText};
-ghost use Rattle.geocom_c.specs.Sending.{IsRawOf, IsRefusalNumber, RefusesEach, RefusesUnbegun, SendsEach, ReportsDone, ReportsFull, ReportsUnbegun, raw_number, send_effect};
-ghost use Rattle.geocom_c.specs.declared.header.TheConstants.{LINE_ROOM};
+ghost use Rattle.geocom_c.specs.Rooms.{WritesText};
+ghost use Rattle.geocom_c.specs.Sending.{IsRawOf, IsReadAs, IsSend, raw_number, send_effect};
 
-use crate::answers::{GeocomCount, refused};
-use crate::header::{IN_TABLE, LINE_ROOM, NO_CLIENT, NO_ROOM, NOT_BEGUN};
-use crate::sends::send_asked;
-use crate::state::{GeocomClient, load};
+use crate::answers::GeocomCount;
+use crate::header::IN_TABLE;
+use crate::sends::send_read;
+use crate::state::GeocomClient;
 use gc_catalogue::{Asked, RawFault, raw_call};
 use gc_lines::LineFault;
 use gc_values::ValueFault;
@@ -28,6 +26,16 @@ fn number_of(fault: RawFault) -> u32
         RawFault::TooLong => u32::from(LineFault::TooLong.number()),
         RawFault::OpenQuote => u32::from(ValueFault::OpenQuote.number()),
         RawFault::TooMany => u32::from(ValueFault::TooMany.number()),
+    }
+}
+
+// What a number and parameters ask for exactly as they are. `Err`: the number of the fault with which they are refused.
+fn read_raw(procedure: u16, params: &[u8]) -> Result<Asked, u32>
+    ensures { IsReadAs Raw (IsRawOf procedure params.now) (IsRawRefusal procedure params.now) raw_number result }
+{
+    match raw_call(procedure, params) {
+        Ok(raw) => Ok(Asked::Raw(raw)),
+        Err(fault) => Err(number_of(fault)),
     }
 }
 
@@ -52,35 +60,10 @@ pub extern "C" fn geocom_client_send_raw(
     params: &[u8],
     line: &mut [u8],
 ) -> GeocomCount
-    ensures sent { LINE_ROOM ≤ length line.old → SendsEach Raw (IsRawOf procedure params.now) target deadline
+    ensures sends { IsSend Raw (IsRawOf procedure params.now) (IsRawRefusal procedure params.now) raw_number target deadline
         (send_effect state.old state.new line.old line.new result) }
     ensures given { WritesText result line.new
         (with_end (request_text (record { rpc = procedure; id = Some state.old.next; params = params.now }))) }
-    ensures raw { LINE_ROOM ≤ length line.old → RefusesEach (IsRawRefusal procedure params.now) raw_number state.old result.fault }
-    ensures begins { LINE_ROOM ≤ length line.old → RefusesUnbegun state.old result.fault }
-    ensures begun { ReportsUnbegun state.old result.fault }
-    ensures room { ReportsNoRoom line.old LINE_ROOM result.fault }
-    ensures astray { ReportsNoClient line.old LINE_ROOM state.old result.fault }
-    ensures full { ReportsFull (IsRawOf procedure params.now) state.old result.fault }
-    ensures done { ReportsDone (IsRawOf procedure params.now) state.old result.fault }
-    ensures refusal { IsRefusalNumber (IsRawRefusal procedure params.now) raw_number result.fault }
-    ensures refused { FaultLeavesAll result state.old state.new line.old line.new }
-    ensures answered { KeepsAnswered state.old state.new }
-    ensures untouched { KeepsAfter result.count line.old line.new }
-    ensures length { KeepsLength line.old line.new }
 {
-    if line.len() < LINE_ROOM {
-        return refused(NO_ROOM);
-    }
-    let Some(client) = load(state) else {
-        return refused(NO_CLIENT);
-    };
-    let has_begun = state.answered >= 8;
-    if !has_begun {
-        return refused(NOT_BEGUN);
-    }
-    match raw_call(procedure, params) {
-        Ok(raw) => send_asked(state, client, target, deadline, Asked::Raw(raw), line),
-        Err(fault) => refused(number_of(fault)),
-    }
+    send_read(state, target, deadline, read_raw(procedure, params), line)
 }

@@ -4,7 +4,7 @@ ghost use Rattle.std.specs.Prelude.{◌≡◌, ◌≢◌, ◌≤◌, ◌↔◌, 
 ghost use Rattle.std.specs.List.{position};
 ghost use Rattle.gc_lines.specs.Frames.{is_line_feed};
 ghost use Rattle.gc_lines.specs.Taking.{IsUsedOf};
-ghost use Rattle.geocom_c.specs.Rest.{IsValid, IsRest, UsesFrame, UsesUnended};
+ghost use Rattle.geocom_c.specs.Rest.{IsValid, IsRest, TakesFrame, TakesUnended, UsesFrame, UsesUnended};
 ghost use Rattle.geocom_c.specs.Rooms.{IsWritten, KeepsLength, KeepsAfter};
 
 use gc_lines::{Assembler, Frame};
@@ -41,10 +41,32 @@ impl GeocomRest {
         length <= KEPT && has_no_line_feed(&self.bytes[..length])
     }
 
+    // Takes bytes of a piece through its first line feed, and returns how many these are, and the frame that the line feed ends.
+    // No byte is kept then. Without a line feed all bytes are used, the frame is `More`, and what the frame of the next line feed
+    // depends on is kept of them.
+    pub(crate) fn take(&mut self, piece: &[u8]) -> (usize, Frame)
+        requires { IsValid self.old }
+        ensures used { IsUsedOf piece.now result.0 }
+        ensures more { TakesUnended self.old self.new piece.now result.0 result.1 }
+        ensures frame { TakesFrame self.old self.new piece.now result.0 result.1 }
+    {
+        let (used, frame) = self.frame(piece);
+        match frame {
+            Frame::More => {
+                self.keep(piece);
+                (used, Frame::More)
+            }
+            ended => {
+                *self = GeocomRest::new();
+                (used, ended)
+            }
+        }
+    }
+
     // Returns how many bytes of a piece are used, those through its first line feed, and the frame that this line feed ends,
     // which is made of the kept bytes and the used ones after them. Without a line feed all bytes are used, and the frame is
     // `More`.
-    pub(crate) fn frame(&self, piece: &[u8]) -> (usize, Frame)
+    fn frame(&self, piece: &[u8]) -> (usize, Frame)
         requires { IsValid self.now }
         ensures used { IsUsedOf piece.now result.0 }
         ensures more { UsesUnended self.now piece.now result.0 result.1 }
@@ -57,7 +79,7 @@ impl GeocomRest {
 
     // Keeps the bytes of a piece that has no line feed: as many as there is room for. If not all fit, the last byte of the piece
     // overwrites the last place.
-    pub(crate) fn keep(&mut self, piece: &[u8])
+    fn keep(&mut self, piece: &[u8])
         requires { IsValid self.old }
         ensures { (rest : List ℕ) → IsRest self.old rest → position is_line_feed piece.now ≡ None
             → IsRest self.new (rest ++ piece.now) }

@@ -1,20 +1,21 @@
 //! Sending: a call's number and parameters become its request line, or are refused.
 
-ghost use Rattle.std.specs.Prelude.{◌≡◌, ◌≢◌, ◌<◌, ◌≤◌, length, Some};
+ghost use Rattle.std.specs.Prelude.{◌≡◌, ◌≢◌, ◌<◌, ◌≤◌, ℕ, length, Some, Ok, Err};
 ghost use Rattle.gc_lines.specs.Lines.{with_end};
+ghost use Rattle.gc_catalogue.specs.declared.asked.Asked.{Asked};
 ghost use Rattle.gc_catalogue.specs.declared.asked.Asked.TheVariants.{Table};
 ghost use Rattle.gc_catalogue.specs.Asked.{asked_line};
 ghost use Rattle.gc_catalogue.specs.CallFault.{refusal_number};
 ghost use Rattle.gc_catalogue.specs.Calls.{IsCall, IsRefusal};
 ghost use Rattle.geocom_c.specs.State.{KeepsAnswered};
-ghost use Rattle.geocom_c.specs.Rooms.{FaultLeavesAll, KeepsLength, KeepsAfter, ReportsNoClient, ReportsNoRoom, WritesText};
-ghost use Rattle.geocom_c.specs.Sending.{IsRefusalNumber, RefusesEach, RefusesUnbegun, SendsAsked, SendsEach, ReportsDone, ReportsFull, ReportsUnbegun, send_effect};
+ghost use Rattle.geocom_c.specs.Rooms.{FaultLeavesAll, KeepsLength, KeepsAfter, WritesText};
+ghost use Rattle.geocom_c.specs.Sending.{IsOfRequest, IsReadAs, IsSend, SendsAsked, SendsRead, send_effect};
 ghost use Rattle.geocom_c.specs.declared.header.TheConstants.{LINE_ROOM, WINDOW_FULL};
 
 use crate::answers::{GeocomCount, counted, refused};
 use crate::header::{LINE_ROOM, NO_CLIENT, NO_ROOM, NOT_BEGUN};
 use crate::rest::put;
-use crate::state::{GeocomClient, load, store};
+use crate::state::{GeocomClient, NULLS, load, store};
 use gc_catalogue::{Asked, decode_call};
 use gc_client::{Client, SlotsOf};
 use gc_lines::Request;
@@ -22,7 +23,7 @@ use gc_lines::Request;
 // Sends a request of `client` for what `asked` says. Stores the client in `state`, writes the request's line with CR LF to the
 // front of `line`, and returns how many bytes these are. If as many requests are outstanding as the client's width allows, the
 // fault is `WINDOW_FULL`, and neither `state` nor `line` has changed.
-pub(crate) fn send_asked(
+fn send_asked(
     state: &mut GeocomClient,
     mut client: Client<SlotsOf<Asked>>,
     target: u32,
@@ -52,6 +53,51 @@ pub(crate) fn send_asked(
     }
 }
 
+// Sends a request of the client of `state`, as `send_asked` does. `read` is what the caller's number and parameters ask for, or
+// the number of the fault with which they are refused. The faults come as `geocom_client_send` says.
+pub(crate) fn send_read(
+    state: &mut GeocomClient,
+    target: u32,
+    deadline: u64,
+    read: Result<Asked, u32>,
+    line: &mut [u8],
+) -> GeocomCount
+    requires { (fault : ℕ) → read ≡ Err fault → IsOfRequest fault }
+    ensures sends { SendsRead read target deadline (send_effect state.old state.new line.old line.new result) }
+    ensures given { (asked : Asked) → read ≡ Ok asked
+        → WritesText result line.new (with_end (asked_line (Some state.old.next) asked)) }
+{
+    if line.len() < LINE_ROOM {
+        return refused(NO_ROOM);
+    }
+    let Some(client) = load(state) else {
+        return refused(NO_CLIENT);
+    };
+    let has_begun = state.answered >= NULLS;
+    if !has_begun {
+        return refused(NOT_BEGUN);
+    }
+    match read {
+        Ok(asked) => send_asked(state, client, target, deadline, asked, line),
+        Err(fault) => refused(fault),
+    }
+}
+
+// What a number and parameters ask for of the table. `Err`: the number of the fault with which they are refused.
+fn read_call(procedure: u16, params: &[u8]) -> Result<Asked, u32>
+    ensures { IsReadAs Table (IsCall procedure params.now) (IsRefusal procedure params.now) refusal_number result }
+{
+    let request = Request {
+        rpc: procedure,
+        id: None,
+        params,
+    };
+    match decode_call(&request) {
+        Ok(call) => Ok(Asked::Table(call)),
+        Err(fault) => Err(u32::from(fault.refusal_number())),
+    }
+}
+
 /// Sends a request of a client that has synchronized: it is outstanding from now on, and its line is written into `line`, with CR
 /// LF, for the caller to write to the connection. These are `count` bytes; nothing is written after them.
 ///
@@ -71,38 +117,8 @@ pub extern "C" fn geocom_client_send(
     params: &[u8],
     line: &mut [u8],
 ) -> GeocomCount
-    ensures sent { LINE_ROOM ≤ length line.old → SendsEach Table (IsCall procedure params.now) target deadline
+    ensures sends { IsSend Table (IsCall procedure params.now) (IsRefusal procedure params.now) refusal_number target deadline
         (send_effect state.old state.new line.old line.new result) }
-    ensures call { LINE_ROOM ≤ length line.old → RefusesEach (IsRefusal procedure params.now) refusal_number state.old result.fault }
-    ensures begins { LINE_ROOM ≤ length line.old → RefusesUnbegun state.old result.fault }
-    ensures begun { ReportsUnbegun state.old result.fault }
-    ensures room { ReportsNoRoom line.old LINE_ROOM result.fault }
-    ensures astray { ReportsNoClient line.old LINE_ROOM state.old result.fault }
-    ensures full { ReportsFull (IsCall procedure params.now) state.old result.fault }
-    ensures done { ReportsDone (IsCall procedure params.now) state.old result.fault }
-    ensures refusal { IsRefusalNumber (IsRefusal procedure params.now) refusal_number result.fault }
-    ensures refused { FaultLeavesAll result state.old state.new line.old line.new }
-    ensures answered { KeepsAnswered state.old state.new }
-    ensures untouched { KeepsAfter result.count line.old line.new }
-    ensures length { KeepsLength line.old line.new }
 {
-    if line.len() < LINE_ROOM {
-        return refused(NO_ROOM);
-    }
-    let Some(client) = load(state) else {
-        return refused(NO_CLIENT);
-    };
-    let has_begun = state.answered >= 8;
-    if !has_begun {
-        return refused(NOT_BEGUN);
-    }
-    let request = Request {
-        rpc: procedure,
-        id: None,
-        params,
-    };
-    match decode_call(&request) {
-        Ok(call) => send_asked(state, client, target, deadline, Asked::Table(call), line),
-        Err(fault) => refused(u32::from(fault.refusal_number())),
-    }
+    send_read(state, target, deadline, read_call(procedure, params), line)
 }

@@ -59,6 +59,9 @@ const VACANT: GeocomWaiting = GeocomWaiting {
     line: [0; 512],
 };
 
+/// How many null procedures a synchronization has.
+pub(crate) const NULLS: u8 = 8;
+
 // A new client of this width, which hasn't synchronized, with no bytes of an incomplete line.
 pub(crate) fn fresh(width: u8) -> GeocomClient
     requires least { 1 ≤ width }
@@ -208,7 +211,7 @@ fn has_head(state: &GeocomClient) -> bool
         && state.width <= WINDOW as u8
         && state.next < IDS
         && state.waiting <= state.width
-        && state.answered <= 8
+        && state.answered <= NULLS
 }
 
 // The client that a state's bytes stand for. `None`: they stand for no client.

@@ -14,7 +14,7 @@ use Rattle.geocom_instrument_c.specs.declared.replied.GeocomReplied.{GeocomRepli
 
 -- if the instrument hears a line and has no reply, a result that says so (`IsWithoutReply`) meets `Answers`
 pub unanswered : (s n : SlowState) (frame : Frame) (line old new : List ℕ) (now used : ℕ) (r : GeocomReplied) → frame ≡ Line (record { items = line })
-    → AppendsAnswer (HearsLine s line now n) old new false → IsWithoutReply used r → Answers s frame now n used r
+    → AppendsAnswer (HearsLine s line now n) old new false → IsWithoutReply 0 used r → Answers s frame now n used r
 unanswered s n frame line old new now used r is heard nothing =
     subst (λ (f : Frame). Answers s f now n used r) (sym is) (record { text = None; hears = (None, heard.0, refl); says = nothing })
 

@@ -9,17 +9,10 @@ use Rattle.geocom_instrument_c.specs.Bench.{BenchState}
 use Rattle.geocom_instrument_c.specs.declared.header.TheConstants.{NO_INSTRUMENT}
 use Rattle.geocom_instrument_c.specs.declared.replied.GeocomReplied.{GeocomReplied}
 
--- there is no fault and no reply, and this many bytes were used
-pub record IsWithoutReply (used : ℕ) (r : GeocomReplied) : Type 0 where
-  pub no_fault : r.fault ≡ 0
+-- there is no reply; the fault is this one, or there is none where it is 0; and this many bytes were used
+pub record IsWithoutReply (fault used : ℕ) (r : GeocomReplied) : Type 0 where
+  pub is : r.fault ≡ fault
   pub used_bytes : r.used ≡ used
-  pub none : r.count ≡ 0
-  pub not_due : r.due ≡ 0
-
--- the fault is that no instrument is there; no byte was used, and there is no reply
-pub record IsUnheard (r : GeocomReplied) : Type 0 where
-  pub refused : r.fault ≡ NO_INSTRUMENT
-  pub used_bytes : r.used ≡ 0
   pub none : r.count ≡ 0
   pub not_due : r.due ≡ 0
 
@@ -33,7 +26,7 @@ pub record IsSent (text : List ℕ) (used due : ℕ) (r : GeocomReplied) : Type 
 
 -- the result of a feed that used this many bytes: the text, if there is one, is the reply, which goes out at the moment `due`
 abbrev pub CarriesReply : Option (List ℕ) → (used due : ℕ) → GeocomReplied → Type 0
-CarriesReply None used due r = IsWithoutReply used r
+CarriesReply None used due r = IsWithoutReply 0 used r
 CarriesReply (Some text) used due r = IsSent text used due r
 
 -- the instrument hears a frame at the moment `now`, which changes its state from `before` to `after`; and the result has its
@@ -45,7 +38,7 @@ pub record Answers (before : SlowState) (frame : Frame) (now : ℕ) (after : Slo
 
 -- bytes without a line feed: they are kept, and nothing else is done
 pub record IsKept (before : BenchState) (bytes : List ℕ) (after : BenchState) (r : GeocomReplied) : Type 0 where
-  pub says : IsWithoutReply (length bytes) r
+  pub says : IsWithoutReply 0 (length bytes) r
   pub same : after.slow ≡ before.slow
   pub more : (rest : List ℕ) → StandsFor before.incomplete rest → StandsFor after.incomplete (rest ++ bytes)
 
@@ -60,8 +53,8 @@ pub record IsFedTo (before : BenchState) (bytes : List ℕ) (now : ℕ) (after :
   pub none : position is_line_feed bytes ≡ None → IsKept before bytes after r
   pub some : (at : ℕ) → position is_line_feed bytes ≡ Some at → HearsFirstFrame before bytes at now after r
 
--- bytes were fed at the moment `now` where there may be no instrument: without one no byte was used, and the result says so; with
+-- bytes were fed at the moment `now` where there may be no instrument: without one no byte was used, and the fault says so; with
 -- one they were fed to it (`IsFedTo`)
 pub record IsFed (before : Option BenchState) (bytes : List ℕ) (now : ℕ) (after : Option BenchState) (r : GeocomReplied) : Type 0 where
-  pub absent : before ≡ None → (after ≡ None) × IsUnheard r
+  pub absent : before ≡ None → (after ≡ None) × IsWithoutReply NO_INSTRUMENT 0 r
   pub present : (b : BenchState) → before ≡ Some b → (c : BenchState) × (after ≡ Some c) × IsFedTo b bytes now c r

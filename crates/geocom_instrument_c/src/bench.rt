@@ -67,11 +67,11 @@ fn answer(slow: &mut SlowInstrument, frame: Lent<'_>, now: u64, used: usize) -> 
     ensures { Answers slow.old (lent_seen frame.entry) now slow.new used result }
 {
     let Lent::Line(line) = frame else {
-        return GeocomReplied::nothing(used);
+        return GeocomReplied::without_reply(0, used);
     };
     let mut text: ArrayVec<u8, REPLY_ROOM> = ArrayVec::new();
     if !slow.hear(line, now, &mut text) {
-        return GeocomReplied::nothing(used);
+        return GeocomReplied::without_reply(0, used);
     }
     append(&mut text, b"\r\n");
     GeocomReplied::sent(used, text.as_slice(), slow.free_from())
@@ -107,7 +107,7 @@ impl GeocomInstrument {
         ensures { IsFed self.old bytes.now now self.new result }
     {
         let Some(bench) = &mut self.bench else {
-            return GeocomReplied::unheard();
+            return GeocomReplied::without_reply(NO_INSTRUMENT, 0);
         };
         bench.feed(bytes, now)
     }

@@ -1,9 +1,9 @@
 //! What the calls for an instrument return, in plain fields.
 
 ghost use Rattle.std.specs.Prelude.{◌≡◌, ◌≤◌, length};
-ghost use Rattle.geocom_instrument_c.specs.Feeding.{IsSent, IsUnheard, IsWithoutReply};
+ghost use Rattle.geocom_instrument_c.specs.Feeding.{IsSent, IsWithoutReply};
 
-use crate::header::{NO_INSTRUMENT, REPLY_ROOM};
+use crate::header::REPLY_ROOM;
 
 /// What `geocom_instrument_init` returns.
 #[repr(C)]
@@ -32,27 +32,14 @@ pub struct GeocomReplied {
 }
 
 impl GeocomReplied {
-    /// The result of a feed that used this many bytes and got no reply.
-    pub(crate) fn nothing(used: usize) -> GeocomReplied
-        ensures { IsWithoutReply used result }
+    /// The result of a feed that used this many bytes and got no reply, with this fault, or 0 if there is none.
+    pub(crate) fn without_reply(fault: u32, used: usize) -> GeocomReplied
+        ensures { IsWithoutReply fault used result }
     {
         GeocomReplied {
             used,
             due: 0,
-            fault: 0,
-            count: 0,
-            reply: [0; REPLY_ROOM],
-        }
-    }
-
-    /// The result of a feed where there is no instrument: no byte was used.
-    pub(crate) fn unheard() -> GeocomReplied
-        ensures { IsUnheard result }
-    {
-        GeocomReplied {
-            used: 0,
-            due: 0,
-            fault: NO_INSTRUMENT,
+            fault,
             count: 0,
             reply: [0; REPLY_ROOM],
         }

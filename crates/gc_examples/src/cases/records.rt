@@ -2,7 +2,6 @@
 //! ended. They are of the second cycle, of place 3 and of the first attempt, where the case doesn't say `cycle`, `place` or
 //! `attempt`.
 
-use crate::cases::setup::size;
 use gc_cases::{Case, Player, Told, bytes_of};
 use gc_catalogue::{Answer, Asked, Asking, Call, Reading};
 use gc_lines::{Line, ToWriter, read_reply};
@@ -129,7 +128,7 @@ fn when_of(case: &Case<'_>) -> When {
 // doesn't say.
 fn turn_of(case: &Case<'_>) -> Turn {
     Turn {
-        place: size(case, "place", 3),
+        place: case.number("place", 3),
         attempt: case.number("attempt", 1),
         // (no record shows the command's place in its chain)
         link: 0,

@@ -3,7 +3,7 @@
 use crate::cases::outcome::Came;
 use crate::cases::setup::{Engine, Setup};
 use crate::cases::sink::Taking;
-use gc_engines::{read_rule_scene, read_scene, read_still_scene, read_timed_scene};
+use gc_engines::{RuleForm, StillForm, read_rule_scene, read_scene, read_timed_scene};
 use gc_instrument::serve;
 use gc_lines::{Line, Served, write_line, write_whole};
 use gc_probes::PieceSource;
@@ -44,7 +44,7 @@ impl Setup {
     // Has the instrument of the scene, which has rules, answer the requests of `source`; if the case has moments, the lines of the input
     // instead, each at its moment. Stores in `came` how the run ended: with the fault of the scene if it can't be read.
     pub(crate) fn serve_rules(&self, alloc: Global, source: &mut PieceSource<'_>, came: &mut Came) {
-        match read_rule_scene(alloc, self.scene.as_slice()) {
+        match read_rule_scene::<RuleForm>(alloc, self.scene.as_slice()) {
             Ok(mut instrument) if self.moments.is_empty() => {
                 let end = serve_scene(&mut instrument, source, &mut came.output, self.allowed);
                 came.end.set_served(end);
@@ -74,9 +74,9 @@ impl Setup {
     pub(crate) fn read_input_scene(&self, alloc: Global) -> Result<(), RunFault> {
         let text = self.input.as_slice();
         match self.engine {
-            Engine::RuleScene => without_instrument(read_rule_scene(alloc, text)),
+            Engine::RuleScene => without_instrument(read_rule_scene::<RuleForm>(alloc, text)),
             Engine::TimedScene => without_instrument(read_timed_scene(alloc, text)),
-            Engine::StillScene => without_instrument(read_still_scene(alloc, text)),
+            Engine::StillScene => without_instrument(read_rule_scene::<StillForm>(alloc, text)),
             _ => without_instrument(read_scene(alloc, text)),
         }
     }

@@ -7,9 +7,9 @@ use crate::cases::engines::push_single;
 use crate::cases::outcome::Came;
 use crate::cases::sink::Taking;
 use gc_ask::{Duplex, run_ask, run_loop_on};
-use gc_cases::{Case, input_of, number_or, push_bytes_of};
+use gc_cases::{Case, input_of, push_bytes_of};
 use gc_engines::{
-    read_scene, read_still_scene, run_check, run_check_log, run_drill_on, run_drill_scene, run_exec,
+    StillForm, read_rule_scene, read_scene, run_check, run_check_log, run_drill_on, run_exec,
 };
 use gc_lines::{ServeFault, Served};
 use gc_probes::{PieceSource, Pipe};
@@ -17,7 +17,7 @@ use gc_texts::RunFault;
 use std::alloc::{AllocError, Global};
 
 /// Which engine a case goes through.
-#[derive(Clone, Copy, PartialEq, Eq)]
+#[derive(Clone, Copy)]
 pub enum Engine {
     /// `exec` on the simulator.
     Exec,
@@ -117,16 +117,6 @@ fn engine_of(word: &str) -> Engine {
     }
 }
 
-// The value under a key as a number of 32 bits; `or` if it isn't one.
-pub(crate) fn small_number(case: &Case<'_>, key: &str, or: u32) -> u32 {
-    case.value(key).parse::<u32>().unwrap_or(or)
-}
-
-// The value under a key as a size; `or` if it isn't one.
-pub(crate) fn size(case: &Case<'_>, key: &str, or: usize) -> usize {
-    case.value(key).parse::<usize>().unwrap_or(or)
-}
-
 /// How many requests may be outstanding, by the width that a case says: 1 to 6 as they are, and 7 for any other.
 pub(crate) fn width_of(width: u8) -> u8
     ensures least { 1 ≤ result }
@@ -156,7 +146,7 @@ fn push_sizes(sizes: &mut Vec<usize>, text: &str) -> Result<(), AllocError> {
 // `push_sizes`.
 fn push_times(sizes: &mut Vec<usize>, times: &str, size: &str) -> Result<(), AllocError> {
     let size = size.parse::<usize>().unwrap_or(0);
-    for _ in 0..number_or(times, 0) {
+    for _ in 0..times.parse::<u64>().unwrap_or(0) {
         sizes.push(size)?;
     }
     Ok(())
@@ -218,15 +208,15 @@ impl Setup {
     // how many bytes a write takes, whether a drill prints its totals (the engine `totals`), and its width. A number that the
     // case doesn't have stays. How many calls of the instrument's ports are answered, only `fail_at` says.
     fn take_numbers(&mut self, case: &Case<'_>) {
-        self.allowed = small_number(case, "allowed", self.allowed);
+        self.allowed = case.number("allowed", self.allowed);
         self.answers.input = case.number("reads", self.answers.input);
         self.answers.output = case.number("taken", self.answers.output);
         self.answers.link_in = case.number("link-reads", self.answers.link_in);
         self.answers.link_out = case.number("link-taken", self.answers.link_out);
-        self.most = size(case, "most", self.most);
-        self.link_most = size(case, "link-most", self.link_most);
+        self.most = case.number("most", self.most);
+        self.link_most = case.number("link-most", self.link_most);
         self.totals = case.is("engine", "totals");
-        self.width = case.value("width").parse::<u8>().unwrap_or(self.width);
+        self.width = case.number("width", self.width);
     }
 
     /// Has a port fail at its call k, counted from 0. The port `allowed` stands for the number of reads that are allowed. If the port
@@ -313,24 +303,23 @@ impl Setup {
 
     // Runs one of the engines that don't count the lines that they write, and stores in `came` how it ended.
     fn run_plain(&self, alloc: Global, source: &mut PieceSource<'_>, came: &mut Came) {
-        let end = self.run_plain_to(alloc, source, &mut came.link, &mut came.output);
+        let end = self.run_plain_to(alloc, source, came);
         came.end.set_run(end);
     }
 
-    // Runs one of the engines that don't count the lines that they write, over this link and this output, and returns how it ended. Any
-    // engine but `Drill`, `DrillRules`, `Ask` and `Loop` reads the input as a scene.
+    // Runs one of the engines that don't count the lines that they write, over the link and the output of `came`, and returns
+    // how it ended. Any engine but `Drill`, `DrillRules`, `Ask` and `Loop` reads the input as a scene.
     fn run_plain_to(
         &self,
         alloc: Global,
         source: &mut PieceSource<'_>,
-        link: &mut Taking,
-        output: &mut Taking,
+        came: &mut Came,
     ) -> Result<(), RunFault> {
         match self.engine {
-            Engine::Drill => self.drill(alloc, source, output),
-            Engine::DrillRules => self.drill_rules(alloc, source, output),
-            Engine::Ask => self.ask(alloc, source, link, output),
-            Engine::Loop => self.ask_in_a_loop(alloc, source, output),
+            Engine::Drill => self.drill(alloc, source, &mut came.output),
+            Engine::DrillRules => self.drill_rules(alloc, source, &mut came.output),
+            Engine::Ask => self.ask(alloc, source, came),
+            Engine::Loop => self.ask_in_a_loop(alloc, source, &mut came.output),
             _ => self.read_input_scene(alloc),
         }
     }
@@ -360,8 +349,8 @@ impl Setup {
         source: &mut PieceSource<'_>,
         output: &mut Taking,
     ) -> Result<(), RunFault> {
-        let instrument = read_still_scene(alloc, self.scene.as_slice())?;
-        run_drill_scene(
+        let instrument = read_rule_scene::<StillForm>(alloc, self.scene.as_slice())?;
+        run_drill_on(
             alloc,
             instrument,
             source,
@@ -376,15 +365,21 @@ impl Setup {
         &self,
         alloc: Global,
         source: &mut PieceSource<'_>,
-        link: &mut Taking,
-        output: &mut Taking,
+        came: &mut Came,
     ) -> Result<(), RunFault> {
         let mut link_in = PieceSource::new(
             self.link.as_slice(),
             self.link_sizes.as_slice(),
             self.answers.link_in,
         );
-        run_ask(alloc, source, &mut link_in, link, output, self.allowed)
+        run_ask(
+            alloc,
+            source,
+            &mut link_in,
+            &mut came.link,
+            &mut came.output,
+            self.allowed,
+        )
     }
 
     // Asks the commands of the input over two pipes, with the scene's instrument at their other end. `Err`: as `loop_over`.

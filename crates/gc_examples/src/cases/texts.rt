@@ -2,7 +2,6 @@
 //! so on; or it names a fault, which is printed. The case expects under `is` what comes of it, as the functions here append it to
 //! `came`.
 
-use crate::cases::setup::{size, small_number};
 use gc_cases::{Case, Player, Told, bytes_of};
 use gc_catalogue::Asked;
 use gc_engines::read_schedule;
@@ -46,7 +45,7 @@ fn play_text(alloc: Global, case: &Case<'_>, text: &[u8], wrong: &mut Told) {
 // faulty line; the line that a log has of it; or the fault that it names. For any other word it is what `read_text` says.
 fn read(alloc: Global, case: &Case<'_>, text: &[u8], came: &mut Told) {
     match case.value("as") {
-        "line" => came.bytes(line_at(text, small_number(case, "line", 0))),
+        "line" => came.bytes(line_at(text, case.number("line", 0))),
         "trouble" => append_trouble(text, came),
         "log" => write_as_log_line(text, came),
         "fault" => append_named_fault(case, came),
@@ -104,7 +103,7 @@ fn append_events(events: &[Event], came: &mut Told) {
 // Reads a station's text. Until a line says otherwise, its commands have the case's `deadline` in milliseconds, 0 if it has none, and are
 // chained if its `mode` is `chained`. `Err`: the text is refused, or memory ran out.
 fn tasks_of(alloc: Global, case: &Case<'_>, text: &[u8]) -> Result<Tasks, RunFault> {
-    let deadline = u64::from(small_number(case, "deadline", 0));
+    let deadline = case.number("deadline", 0);
     read_tasks(alloc, text, deadline, case.is("mode", "chained"))
 }
 
@@ -224,7 +223,7 @@ fn compare_name(alloc: Global, case: &Case<'_>, text: &[u8], wrong: &mut Told) {
 // the text.
 fn append_name(alloc: Global, case: &Case<'_>, text: &[u8], name: &mut Told) {
     match tasks_of(alloc, case, text) {
-        Ok(all) => name.bytes(all.name_of(small_number(case, "of", 0))),
+        Ok(all) => name.bytes(all.name_of(case.number("of", 0))),
         Err(fault) => name.display(&fault),
     }
 }
@@ -288,11 +287,11 @@ fn append_fault(fault: RunFault, came: &mut Told) {
 fn fault_of(case: &Case<'_>) -> Option<RunFault> {
     Some(match case.value("text") {
         "Write" => RunFault::Write {
-            replies: u64::from(small_number(case, "replies", 0)),
-            bytes: size(case, "bytes", 0),
+            replies: case.number("replies", 0),
+            bytes: case.number("bytes", 0),
         },
         "Schedule" => RunFault::Schedule {
-            line: small_number(case, "line", 0),
+            line: case.number("line", 0),
         },
         word => return plain_fault_of(word),
     })

@@ -3,7 +3,7 @@
 
 use crate::cases::setup::width_of;
 use crate::cases::single_bytes::in_single_bytes;
-use gc_cases::{Case, Player, Rows, Told, number_or, play_rows};
+use gc_cases::{Case, Player, Rows, Told, play_rows};
 use gc_catalogue::Call;
 use gc_client::{Client, Outcome, Ring, Settlement, Slots, Window};
 use gc_engines::read_schedule;
@@ -160,13 +160,13 @@ fn append_at_start(report: &Report, came: &mut Told) {
 }
 
 impl Rows for WorldRows {
-    // Adds an event, sets the width (7 if `what` is no number up to 255) or the precision (15 if it is no number up to 32767), or appends
-    // what the events so far lead to; or appends that the word is unknown.
+    // Adds an event, sets the width or the precision, or appends what the events so far lead to; or appends that the word is
+    // unknown.
     fn play(&mut self, alloc: Global, word: &str, what: &str, _bytes: &[u8], came: &mut Told) {
         match word {
             "send" | "up" | "down" | "expire" | "restart" => self.add_event(word, what),
-            "width" => self.width = u8::try_from(number_or(what, 7)).unwrap_or(7),
-            "precision" => self.precision = i16::try_from(number_or(what, 15)).unwrap_or(15),
+            "width" => self.width = came.number(what),
+            "precision" => self.precision = came.number(what),
             "end" | "executed" | "starts" | "kept" | "lines" => self.append_end_or_part(
                 alloc, word, came,
             ),

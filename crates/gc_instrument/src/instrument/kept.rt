@@ -11,7 +11,7 @@ const ROOM: usize = 512;
 
 /// The id of a request and the line of its reply, or nothing. The line is written in place. Bytes of a longer earlier line
 /// stay after it, since clearing them would cost each request time.
-#[derive(Debug, Drop)]
+#[derive(Drop)]
 pub struct Kept {
     id: Option<u8>,
     bytes: [u8; ROOM],
@@ -63,7 +63,7 @@ impl Kept {
     #[inline]
     pub fn line_of(&self, id: Option<u8>) -> Option<&[u8]>
         ensures line { option_map (λ r. r.now) result ≡ kept_line self.now id }
-        ensures within { IfSome result (λ r. length r.now ≤ ROOM) }
+        ensures within { IfSome result (λ r. length r.now ≤ 512) }
     {
         let Some(asked) = id else {
             return None;

@@ -5,16 +5,16 @@ ghost use Rattle.std.specs.Prelude.{◌≡◌, ◌<◌, ◌≤◌, ◌+◌, ℕ,
 ghost use Rattle.std.specs.Option.{option_map, ForSome};
 ghost use Rattle.arrayvec.specs.ArrayVec.{array_vec_len};
 ghost use Rattle.gc_lines.specs.Answering.{AppendsAnswer, AppendsText};
-ghost use Rattle.gc_lines.specs.Requests.{request_seen};
 ghost use Rattle.gc_catalogue.specs.Calls.{IsFitting};
 ghost use Rattle.gc_catalogue.specs.Texts.{request_line};
-ghost use Rattle.gc_instrument.specs.Replying.{IsReplied, IsExchanged, AppendsExchange, IsReplyToRequest, IsReplyToCall, IsReplyToExecuted, com_code};
+ghost use Rattle.gc_instrument.specs.Replying.{IsReplied, IsExchanged, AppendsExchange, IsReplyToCall, IsReplyToExecuted, com_code};
 
 use super::Instrument;
 use crate::codes::{UNKNOWN_PROCEDURE, WRONG_PARAMETERS};
+use crate::replies::{Replies, reply_to_line};
 use arrayvec::ArrayVec;
 use gc_catalogue::{Answer, Call, CallFault, decode_call_into, encode_answer_onto};
-use gc_lines::{Line, Request, append, push_reply, read_request};
+use gc_lines::{Line, Request, append, push_reply};
 
 impl Instrument {
     ghost use Rattle.gc_catalogue.specs.declared.call.Call.{Call};
@@ -53,29 +53,7 @@ impl Instrument {
         ensures bound { length out.new.items ≤ length out.old.items + 512 }
         ensures exchanged { AppendsExchange self.old line.now self.new out.old.items out.new.items result }
     {
-        match read_request(line) {
-            Ok(request) => {
-                self.reply_to(&request, out);
-                true
-            }
-            Err(_) => false,
-        }
-    }
-
-    // Appends the reply to a request: one with the communication code 3081 or 3080 if it names no call, and else that of
-    // `answer_call`.
-    #[inline]
-    fn reply_to<const N: usize>(&mut self, request: &Request<'_>, out: &mut ArrayVec<u8, N>)
-        requires id { ForSome request.now.id (λ id. id < 8) }
-        requires room { array_vec_len out.old + 512 ≤ N }
-        ensures replies { AppendsText (IsReplyToRequest self.old (request_seen request.now) self.new) out.old.items out.new.items }
-        ensures bound { length out.new.items ≤ length out.old.items + 512 }
-    {
-        let mut call = Call::NullProc;
-        match decode_call_into(request, &mut call) {
-            Ok(()) => self.answer_call(request.id, &call, out),
-            Err(fault) => push_reply(out, com_code(fault), request.id.unwrap_or(0), 0),
-        }
+        reply_to_line(self, line, out)
     }
 
     // Appends the reply to a call: the stored one to a repeat, and else a new one, which is stored if the request has an id.
@@ -111,6 +89,22 @@ impl Instrument {
         let mut answer = Answer::Nothing;
         let rc = self.carry_out(call, &mut answer);
         encode_answer_onto(out, id, rc, &answer, self.settings.precision);
+    }
+}
+
+impl<const N: usize> Replies<N> for Instrument {
+    ghost use Rattle.gc_instrument.specs.Replying.{IsReplyToRequest};
+
+    ghost does = { IsReplyToRequest };
+
+    // The reply has the communication code 3081 or 3080 if the request names no call, and else it is that of `answer_call`.
+    #[inline]
+    fn reply_to(&mut self, request: &Request<'_>, out: &mut ArrayVec<u8, N>) {
+        let mut call = Call::NullProc;
+        match decode_call_into(request, &mut call) {
+            Ok(()) => self.answer_call(request.id, &call, out),
+            Err(fault) => push_reply(out, com_code(fault), request.id.unwrap_or(0), 0),
+        }
     }
 }
 

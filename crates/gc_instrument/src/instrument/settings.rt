@@ -6,7 +6,7 @@ use gc_catalogue::{DateTime, Station};
 use gc_values::Decimal;
 
 /// The part of an instrument that calls change. Lengths are in metres, angles in radians.
-#[derive(Clone, Copy, Debug)]
+#[derive(Clone, Copy)]
 pub struct Settings {
     /// The number of places to which doubles are rounded in replies, 0 to 15.
     pub precision: u8,

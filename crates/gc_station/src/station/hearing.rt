@@ -3,9 +3,8 @@
 ghost use Rattle.std.specs.Prelude.{◌≡◌};
 ghost use Rattle.gc_lines.specs.Lent.{IsLineWithin};
 ghost use Rattle.gc_lines.specs.Ports.{FailsWith};
-ghost use Rattle.gc_station.specs.Model.{Model, piece_came, piece_synchronizing, piece_taken, piece_at};
-ghost use Rattle.gc_station.specs.Progressing.{lines_synchronizing};
-ghost use Rattle.gc_station.specs.Stations.{Refines, MovesByReading, seen, Becomes, frame_came, lines_of_frame};
+ghost use Rattle.gc_station.specs.Model.{piece_came, piece_taken, piece_at};
+ghost use Rattle.gc_station.specs.Stations.{MovesByReading, seen, Becomes, frame_came};
 
 use super::Station;
 use crate::book::Book;
@@ -18,17 +17,27 @@ use gc_lines::{Lent, Line, PortFailed};
 use gc_links::{Came, Link, Moment};
 
 impl Station {
-    // Hears the line of a frame, and records what the line settles; nothing happens if the frame is no line. `Err`: the book failed at
-    // a record.
-    fn hear<B: Book>(&mut self, book: &mut B, frame: Lent<'_>) -> Result<(), PortFailed>
+    // Hears the line of a frame; nothing happens if the frame is no line. Once the station has synchronized (`begun`), what the
+    // line settles is recorded. Until then a reply with the first id that is left answers its null procedure, and nothing is
+    // settled. `Err`: the book failed at a record.
+    fn hear<B: Book>(
+        &mut self,
+        book: &mut B,
+        begun: bool,
+        frame: Lent<'_>,
+    ) -> Result<(), PortFailed>
         requires { IsLineWithin frame }
-        ensures hears { Becomes (frame_came frame.entry) (B.text book.old) (B.taken book.old) (B.taken book.new) self.old self.new result }
+        ensures hears { Becomes (frame_came begun frame.entry) (B.text book.old) (B.taken book.old) (B.taken book.new) self.old self.new result }
         ensures fails { FailsWith result (B.failed book.old) (B.failed book.new) }
         ensures form { B.text book.new ≡ B.text book.old }
     {
         let Lent::Line(line) = frame else {
             return Ok(());
         };
+        if !begun {
+            self.progress.hear_synchronizing(line);
+            return Ok(());
+        }
         let hearing = self.client.hear(line, &mut self.settled);
         if let Err(failed) = self.write(book) {
             return Err(failed);
@@ -39,10 +48,11 @@ impl Station {
         Ok(())
     }
 
-    // Hears the lines of a piece, in order, and records what they settle. `Err`: the book failed at a record, and the lines after
+    // Hears the lines of a piece, in order (`hear`). `begun`: whether the station had synchronized before the piece. So lines in
+    // the piece after the last answer of a synchronization settle nothing. `Err`: the book failed at a record, and the lines after
     // it weren't heard.
-    fn listen<B: Book>(&mut self, book: &mut B, piece: &[u8]) -> Result<(), PortFailed>
-        ensures listens { Becomes (piece_came piece.now) (B.text book.old) (B.taken book.old) (B.taken book.new) self.old self.new result }
+    fn listen<B: Book>(&mut self, book: &mut B, begun: bool, piece: &[u8]) -> Result<(), PortFailed>
+        ensures listens { Becomes (piece_came begun piece.now) (B.text book.old) (B.taken book.old) (B.taken book.new) self.old self.new result }
         ensures fails { FailsWith result (B.failed book.old) (B.failed book.new) }
         ensures form { B.text book.new ≡ B.text book.old }
     {
@@ -51,40 +61,15 @@ impl Station {
         while at < piece.len() {
             let (used, frame) = self.assembler.next(&piece[at..], &mut cut);
             at += used;
-            if let Err(failed) = self.hear(book, frame) {
+            if let Err(failed) = self.hear(book, begun, frame) {
                 return Err(failed);
             }
         }
         Ok(())
     }
 
-    // Hears a frame's line, if it has one, while the station synchronizes: a reply with the first id that is left answers its
-    // null procedure.
-    fn hear_synchronizing(&mut self, frame: Lent<'_>)
-        requires { IsLineWithin frame }
-        ensures { self.new ≡ record self.old { progress = lines_synchronizing self.old.progress (lines_of_frame frame.entry) } }
-    {
-        if let Lent::Line(line) = frame {
-            self.progress.hear_synchronizing(line);
-        }
-    }
-
-    // Hears the lines of a piece, in order, while the station synchronizes. Lines after the last answer of the synchronization settle
-    // nothing.
-    fn listen_synchronizing(&mut self, piece: &[u8])
-        ensures { (s : Model) → Refines self.old s → Refines self.new (piece_synchronizing piece.now s) }
-    {
-        let mut cut = Line::new();
-        let mut at = 0;
-        while at < piece.len() {
-            let (used, frame) = self.assembler.next(&piece[at..], &mut cut);
-            at += used;
-            self.hear_synchronizing(frame);
-        }
-    }
-
-    // Hears the lines of a piece: by `listen_synchronizing` while the station synchronizes, by `listen` once it has. In a phase in which
-    // nothing is heard the piece is discarded. `Err`: the book failed at a record.
+    // Hears the lines of a piece (`listen`). In a phase in which nothing is heard the piece is discarded. `Err`: the book failed
+    // at a record.
     fn take_lines<B: Book>(&mut self, book: &mut B, piece: &[u8]) -> Result<(), PortFailed>
         ensures takes { Becomes (piece_taken piece.now) (B.text book.old) (B.taken book.old) (B.taken book.new) self.old self.new result }
         ensures fails { FailsWith result (B.failed book.old) (B.failed book.new) }
@@ -93,11 +78,8 @@ impl Station {
         if !self.progress.phase.is_heard() {
             return Ok(());
         }
-        if !self.progress.has_begun() {
-            self.listen_synchronizing(piece);
-            return Ok(());
-        }
-        self.listen(book, piece)
+        let begun = self.progress.has_begun();
+        self.listen(book, begun, piece)
     }
 
     // Takes a piece and the moment that was read after it: requests whose deadline has come time out, then the piece is heard.

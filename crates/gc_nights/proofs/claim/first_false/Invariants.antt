@@ -1,6 +1,6 @@
 use Rattle.gc_nights.proofs.Matching.{HasMatched}
 use Rattle.gc_nights.proofs.claim.first_false.Given as goal
 
--- the first `matched` claims are true by the replies seen so far
+-- all claims are true exactly if those from place `matched` on are, by the replies that aren't seen yet
 abbrev pub invariant-loop-truth : goal.invariant-loop-truth
 invariant-loop-truth l = HasMatched l.claims l.truths l.matched l.truth-index

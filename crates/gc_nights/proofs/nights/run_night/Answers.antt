@@ -10,9 +10,6 @@ returns-in_err-run_once g c = runs_then c.args.programme.tasks.now c.args.link.n
 pub returns-in-Done : goal.returns-in-Done
 returns-in-Done g c = runs_then c.args.programme.tasks.now c.args.link.now.carried c.loop.link.carried c.run_once.new.link.carried c.loop.invariant c.run_once.ensures
 
-pub returns-in-CutOff : goal.returns-in-CutOff
-returns-in-CutOff g c = runs_then c.args.programme.tasks.now c.args.link.now.carried c.loop.link.carried c.run_once.new.link.carried c.loop.invariant c.run_once.ensures
-
 pub loop-preserved : goal.loop-preserved
 loop-preserved g c =
     let same : c.run_once.new.link.carried ≡ c.match-branch-2.link.carried = elim c.match-branch-2.branch as (λ _. c.run_once.new.link.carried ≡ c.match-branch-2.link.carried) [

@@ -3,8 +3,9 @@ use Rattle.gc_catalogue.specs.declared.call.Call.{Call}
 use Rattle.gc_client.specs.Rule.{ById}
 use Rattle.gc_scenes.specs.SceneState.{SceneState}
 use Rattle.gc_scene_world.specs.SceneRuns.{scene_ends, scene_streamed}
-use Rattle.gc_scene_world.specs.SceneStages.{seen, streams_at_start, AreStreamsOf}
+use Rattle.gc_scene_world.specs.SceneStages.{seen, AreStreamsOf}
 use Rattle.gc_world.specs.Clients.{by_ids}
+use Rattle.gc_world.specs.Staging.{streams_at_start}
 use Rattle.gc_world.specs.Streams.{Streams}
 use Rattle.gc_world.proofs.Flow.{flow_more}
 use Rattle.gc_scene_world.proofs.Turns.{has_room}
@@ -24,5 +25,5 @@ loop-event-preserved c =
     let events = c.args.events.now in
     let opening = c.args.instrument in
     subst (λ (v : Streams (ById Call) SceneState). AreStreamsOf c.args.width s v)
-    (sym (flow_more scene_ends (by_ids c.args.width scene_ends) events i c.event-item.result (streams_at_start opening) c.loop-event-test.true c.event-item.is))
+    (sym (flow_more scene_ends (by_ids c.args.width scene_ends) events i c.event-item.result (streams_at_start scene_ends opening) c.loop-event-test.true c.event-item.is))
     (c.in_ok-happen.ensures c.args.width (scene_streamed c.args.width opening (take i events)) c.loop-event.invariant)

@@ -1,6 +1,7 @@
 use Rattle.std.proofs.Common.{inl, inr}
 use Rattle.std.proofs.lemmas.Result.{IfOk-weaker}
 use Rattle.gc_subcommands.proofs.Played.{plays_at_0, reads_at_0}
+use Rattle.gc_instrument.specs.State.{simulator_opening}
 use Rattle.gc_subcommands.proofs.Started.{same_plain, never_ruled}
 use Rattle.gc_subcommands.proofs.drill.drill_scene.Goals as goal
 
@@ -9,8 +10,8 @@ returns-in-Ok-Plain-clause-done g c =
     IfOk-weaker c.drill_within.result _ _
     (λ status told zero. inl (
       c.in-Ok-Plain.instrument,
-      (λ none. same_plain c.staged_of.result c.in-Ok-Plain.field-0 c.in-Ok-Plain.instrument _ c.in-Ok-Plain.is c.in-Ok-Plain.field-0-is
-          (c.staged_of.ensures.simulator none)),
+      (λ none. same_plain c.instrument_of.result c.in-Ok-Plain.field-0 c.in-Ok-Plain.instrument simulator_opening c.in-Ok-Plain.is c.in-Ok-Plain.field-0-is
+          (c.instrument_of.ensures.simulator none)),
       plays_at_0 _ _ _ _ _ _ _ told zero,
     )) c.drill_within.ensures.told
 
@@ -19,8 +20,8 @@ returns-in-Ok-Plain-clause-told g c =
     IfOk-weaker c.drill_within.result _ _
     (λ status told. inr (inl (
       c.in-Ok-Plain.instrument,
-      (λ none. same_plain c.staged_of.result c.in-Ok-Plain.field-0 c.in-Ok-Plain.instrument _ c.in-Ok-Plain.is c.in-Ok-Plain.field-0-is
-          (c.staged_of.ensures.simulator none)),
+      (λ none. same_plain c.instrument_of.result c.in-Ok-Plain.field-0 c.in-Ok-Plain.instrument simulator_opening c.in-Ok-Plain.is c.in-Ok-Plain.field-0-is
+          (c.instrument_of.ensures.simulator none)),
       told,
     )))
     c.drill_within.ensures.told
@@ -33,8 +34,8 @@ pub returns-in-Ok-Ruled-clause-done : goal.returns-in-Ok-Ruled-clause-done
 returns-in-Ok-Ruled-clause-done g c =
     IfOk-weaker c.drill_within-in-Ok-Ruled.result _ _
     (λ status told zero. inr (
-      (λ none. never_ruled c.staged_of.result c.in-Ok-Ruled.field-0 c.in-Ok-Ruled.instrument _ c.in-Ok-Ruled.is c.in-Ok-Ruled.field-0-is
-          (c.staged_of.ensures.simulator none)),
+      (λ none. never_ruled c.instrument_of.result c.in-Ok-Ruled.field-0 c.in-Ok-Ruled.instrument simulator_opening c.in-Ok-Ruled.is c.in-Ok-Ruled.field-0-is
+          (c.instrument_of.ensures.simulator none)),
       (c.in-Ok-Ruled.instrument, plays_at_0 _ _ _ _ _ _ _ told zero),
     )) c.drill_within-in-Ok-Ruled.ensures.told
 
@@ -42,8 +43,8 @@ pub returns-in-Ok-Ruled-clause-told : goal.returns-in-Ok-Ruled-clause-told
 returns-in-Ok-Ruled-clause-told g c =
     IfOk-weaker c.drill_within-in-Ok-Ruled.result _ _
     (λ status told. inr (inr (
-      (λ none. never_ruled c.staged_of.result c.in-Ok-Ruled.field-0 c.in-Ok-Ruled.instrument _ c.in-Ok-Ruled.is c.in-Ok-Ruled.field-0-is
-          (c.staged_of.ensures.simulator none)),
+      (λ none. never_ruled c.instrument_of.result c.in-Ok-Ruled.field-0 c.in-Ok-Ruled.instrument simulator_opening c.in-Ok-Ruled.is c.in-Ok-Ruled.field-0-is
+          (c.instrument_of.ensures.simulator none)),
       (c.in-Ok-Ruled.instrument, told),
     )))
     c.drill_within-in-Ok-Ruled.ensures.told

@@ -1,5 +1,6 @@
 use Rattle.std.proofs.Common.{inl, inr}
 use Rattle.std.proofs.lemmas.Result.{IfOk-weaker}
+use Rattle.gc_instrument.specs.State.{simulator_opening}
 use Rattle.gc_subcommands.proofs.Started.{same_plain, never_ruled}
 use Rattle.gc_subcommands.proofs.exec.exec_scene.Goals as goal
 
@@ -8,8 +9,8 @@ returns-in-Ok-Plain-clause-told g c =
     IfOk-weaker c.exec.result _ _
     (λ status told. inr (inl (
       c.in-Ok-Plain.instrument,
-      (λ none. same_plain c.staged_of.result c.in-Ok-Plain.field-0 c.in-Ok-Plain.instrument _ c.in-Ok-Plain.is c.in-Ok-Plain.field-0-is
-          (c.staged_of.ensures.simulator none)),
+      (λ none. same_plain c.instrument_of.result c.in-Ok-Plain.field-0 c.in-Ok-Plain.instrument simulator_opening c.in-Ok-Plain.is c.in-Ok-Plain.field-0-is
+          (c.instrument_of.ensures.simulator none)),
       told,
     )))
     c.exec.ensures.told
@@ -18,8 +19,8 @@ pub returns-in-Ok-Ruled-clause-told : goal.returns-in-Ok-Ruled-clause-told
 returns-in-Ok-Ruled-clause-told g c =
     IfOk-weaker c.exec-in-Ok-Ruled.result _ _
     (λ status told. inr (inr (
-      (λ none. never_ruled c.staged_of.result c.in-Ok-Ruled.field-0 c.in-Ok-Ruled.instrument _ c.in-Ok-Ruled.is c.in-Ok-Ruled.field-0-is
-          (c.staged_of.ensures.simulator none)),
+      (λ none. never_ruled c.instrument_of.result c.in-Ok-Ruled.field-0 c.in-Ok-Ruled.instrument simulator_opening c.in-Ok-Ruled.is c.in-Ok-Ruled.field-0-is
+          (c.instrument_of.ensures.simulator none)),
       (c.in-Ok-Ruled.instrument, told),
     )))
     c.exec-in-Ok-Ruled.ensures.told

@@ -5,5 +5,5 @@ use Rattle.gc_texts.proofs.attempts.push_attempts.Goals as goal
 pub loop-left-preserved : goal.loop-left-preserved
 loop-left-preserved c =
     let some : 0 < c.loop-left.left = search rules in
-    pushes_one c.args.tasks.now.items c.loop-left.tasks.items c.push_attempt.new.tasks.items c.args.retry c.args.chain.now c.loop-left.attempt c.loop-left.left
+    pushes_one c.args.tasks.now.items c.loop-left.tasks.items c.push_attempt.new.tasks.items c.args.retry c.args.chain.now c.loop-left.number c.loop-left.left
     (length c.args.chain.now * (c.loop-left.left + 1)) c.loop-left.invariant some refl c.in_ok-push_attempt.ensures.appends

@@ -3,7 +3,7 @@ use Rattle.gc_texts.proofs.attempts.push_attempts.Given as goal
 
 -- the attempts before this one were appended
 abbrev pub invariant-loop-left : goal.invariant-loop-left
-invariant-loop-left l = Pushes l.initial.tasks.items l.tasks.items l.retry l.chain l.attempt l.left
+invariant-loop-left l = Pushes l.initial.tasks.items l.tasks.items l.retry l.chain l.number l.left
 
 -- each attempt leaves one less
 abbrev pub decreases-loop-left : goal.decreases-loop-left

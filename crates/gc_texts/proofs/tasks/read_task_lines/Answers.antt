@@ -71,23 +71,10 @@ loop-left-preserved c =
     c.if-is_skipped.false c.in-Some-read_task_line.ensures
     c.allows.ensures c.if-not-allows.false grows c.mode_after-next.ensures
 
-pub mode_after-next-requires-clause-begun : goal.mode_after-next-requires-clause-begun
-mode_after-next-requires-clause-begun c =
-    let few : c.loop-left.mode.begun ≤ 65537 =
-    (counted c.args.text.now c.args.deadline c.args.chained (option_copied c.loop-left.left) c.loop-left.number _ _ c.requires c.loop-left.invariant).begun in
-    omega (arith, few)
-
-pub mode_after-next-requires-clause-place : goal.mode_after-next-requires-clause-place
-mode_after-next-requires-clause-place c =
-    let few : c.loop-left.mode.place ≤ 65537 =
-    (counted c.args.text.now c.args.deadline c.args.chained (option_copied c.loop-left.left) c.loop-left.number _ _ c.requires c.loop-left.invariant).place in
-    omega (arith, few)
-
-pub mode_after-next-requires-clause-link : goal.mode_after-next-requires-clause-link
-mode_after-next-requires-clause-link c =
-    let few : c.loop-left.mode.link ≤ 65537 =
-    (counted c.args.text.now c.args.deadline c.args.chained (option_copied c.loop-left.left) c.loop-left.number _ _ c.requires c.loop-left.invariant).link in
-    omega (arith, few)
+pub mode_after-next-requires : goal.mode_after-next-requires
+mode_after-next-requires c =
+    let few = counted c.args.text.now c.args.deadline c.args.chained (option_copied c.loop-left.left) c.loop-left.number _ _ c.requires c.loop-left.invariant in
+    record { begun = omega (arith, few.begun); place = omega (arith, few.place); link = omega (arith, few.link) }
 
 pub lay_out-requires : goal.lay_out-requires
 lay_out-requires c =

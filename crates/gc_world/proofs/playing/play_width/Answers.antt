@@ -5,7 +5,8 @@ use Rattle.gc_catalogue.specs.declared.call.Call.{Call}
 use Rattle.gc_client.specs.Rule.{ById}
 use Rattle.gc_instrument.specs.State.{State}
 use Rattle.gc_world.specs.Clients.{by_ids, ends, streamed}
-use Rattle.gc_world.specs.Stages.{seen, streams_at_start, AreStreamsOf}
+use Rattle.gc_world.specs.Stages.{seen, AreStreamsOf}
+use Rattle.gc_world.specs.Staging.{streams_at_start}
 use Rattle.gc_world.specs.Streams.{Streams}
 use Rattle.gc_world.proofs.Faithfulness.{faithful, once, no_longer_than}
 use Rattle.gc_world.proofs.Flow.{flow_more}
@@ -22,7 +23,7 @@ loop-event-preserved g c =
     let shown = c.in_ok-happen.ensures.follows c.args.width (streamed c.args.width opening (take i events)) c.loop-event.invariant.shows in
     let shows : AreStreamsOf c.args.width s (streamed c.args.width opening (take (i + 1) events)) =
     subst (λ (v : Streams (ById Call) State). AreStreamsOf c.args.width s v)
-    (sym (flow_more ends (by_ids c.args.width ends) events i c.event-item.result (streams_at_start opening) c.loop-event-test.true is)) shown in
+    (sym (flow_more ends (by_ids c.args.width ends) events i c.event-item.result (streams_at_start ends opening) c.loop-event-test.true is)) shown in
     let counts = counts_at c.args.width opening events (i + 1) s.report shows.lines.reports (omega (arith, c.loop-event-test.true)) in
     record { shows = shows; refused = counts.0; idle = counts.1 }
 

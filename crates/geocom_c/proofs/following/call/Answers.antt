@@ -60,15 +60,16 @@ pub returns-in-Send : goal.returns-in-Send
 returns-in-Send c = λ width s steps at.
     let client : Windowed Asked = record { width = width; ids = s.reached.client } in
     let sent = c.geocom_client_send in
+    let did = sent.ensures.sends in
     let n = sent.result.fault in
-    let answered = ap (λ n. drop n the_word) sent.ensures.answered in
+    let answered = ap (λ n. drop n the_word) did.answered in
     let by : (call : Call) → left_of c.args.state.now ≡ [] → IsCall c.in-Send.procedure c.in-Send.params.now call
     → Reached width s (c.args.step.now ∷ steps) sent.new.state steps = λ call begun is. record {
       stage = record s { reached = course_after width s.reached (one.Send c.in-Send.target (Table call) c.in-Send.deadline) };
       at = record {
         stands = sent_course width s.reached s.rest (Table call) c.in-Send.target (sends width s.reached.client c.in-Send.target (Table call) c.in-Send.deadline)
             (record { old = c.args.state.now; new = sent.new.state; before = _; after = sent.new.line; told = sent.result }) at.stands
-            (sent.ensures.sent (search rules) client s.rest call at.stands begun is);
+            (did.sent (search rules) client s.rest call at.stands begun is);
         left = answered ∙ at.left;
       };
       on = λ t f. subst (λ (e : Step). CallsReach width s (e ∷ steps) t) (sym c.in-Send.is) (inl (call, sym at.left ∙ begun, is, f));
@@ -76,28 +77,29 @@ returns-in-Send c = λ width s steps at.
     let none : n ≢ 0 → (s.left ≡ [] → (call : Call) → IsCall c.in-Send.procedure c.in-Send.params.now call → ⊥)
     → Reached width s (c.args.step.now ∷ steps) sent.new.state steps = λ no never. record {
       stage = s;
-      at = record { stands = subst (λ (t : GeocomClient). StandsFor t client s.rest) (sym (sent.ensures.refused no).1) at.stands; left = answered ∙ at.left };
+      at = record { stands = subst (λ (t : GeocomClient). StandsFor t client s.rest) (sym (did.refused no).1) at.stands; left = answered ∙ at.left };
       on = λ t f. subst (λ (e : Step). CallsReach width s (e ∷ steps) t) (sym c.in-Send.is) (inr (never, f));
     } in
-    by_equality n 0 (λ e. let d = sent.ensures.done e in by d.2 d.4 d.5)
-    (λ no. by_equality n WINDOW_FULL (λ e. let d = sent.ensures.full e in by d.2 d.4 d.5)
-    (λ not_full. by_equality n NOT_BEGUN (λ e. none no (λ begun call is. sent.ensures.begun e (at.left ∙ begun)))
-    (λ begun. let r = sent.ensures.refusal no not_full (λ e. let short = sent.ensures.room.0 e in absurd (search rules)) (λ e. absurd ((sent.ensures.astray.0 e).1 client s.rest at.stands)) begun in
+    by_equality n 0 (λ e. let d = did.done e in by d.2 d.4 d.5)
+    (λ no. by_equality n WINDOW_FULL (λ e. let d = did.full e in by d.2 d.4 d.5)
+    (λ not_full. by_equality n NOT_BEGUN (λ e. none no (λ begun call is. did.begun e (at.left ∙ begun)))
+    (λ begun. let r = did.refusal (no, not_full, (λ e. let short = did.room.0 e in absurd (search rules)), (λ e. absurd ((did.astray.0 e).1 client s.rest at.stands)), begun) in
     none no (λ left call is. no_refusal _ _ call r.0 is r.1))))
 
 pub returns-in-SendRaw : goal.returns-in-SendRaw
 returns-in-SendRaw c = λ width s steps at.
     let client : Windowed Asked = record { width = width; ids = s.reached.client } in
     let sent = c.geocom_client_send_raw in
+    let did = sent.ensures.sends in
     let n = sent.result.fault in
-    let answered = ap (λ n. drop n the_word) sent.ensures.answered in
+    let answered = ap (λ n. drop n the_word) did.answered in
     let by : (raw : RawCall) → left_of c.args.state.now ≡ [] → IsAsked c.in-SendRaw.procedure c.in-SendRaw.params.now (Raw raw)
     → Reached width s (c.args.step.now ∷ steps) sent.new.state steps = λ raw begun is. record {
       stage = record s { reached = course_after width s.reached (one.Send c.in-SendRaw.target (Raw raw) c.in-SendRaw.deadline) };
       at = record {
         stands = sent_course width s.reached s.rest (Raw raw) c.in-SendRaw.target (sends width s.reached.client c.in-SendRaw.target (Raw raw) c.in-SendRaw.deadline)
             (record { old = c.args.state.now; new = sent.new.state; before = _; after = sent.new.line; told = sent.result }) at.stands
-            (sent.ensures.sent (search rules) client s.rest raw at.stands begun is);
+            (did.sent (search rules) client s.rest raw at.stands begun is);
         left = answered ∙ at.left;
       };
       on = λ t f. subst (λ (e : Step). CallsReach width s (e ∷ steps) t) (sym c.in-SendRaw.is) (inl (raw, sym at.left ∙ begun, is, f));
@@ -105,11 +107,11 @@ returns-in-SendRaw c = λ width s steps at.
     let none : n ≢ 0 → (s.left ≡ [] → (raw : RawCall) → IsAsked c.in-SendRaw.procedure c.in-SendRaw.params.now (Raw raw) → ⊥)
     → Reached width s (c.args.step.now ∷ steps) sent.new.state steps = λ no never. record {
       stage = s;
-      at = record { stands = subst (λ (t : GeocomClient). StandsFor t client s.rest) (sym (sent.ensures.refused no).1) at.stands; left = answered ∙ at.left };
+      at = record { stands = subst (λ (t : GeocomClient). StandsFor t client s.rest) (sym (did.refused no).1) at.stands; left = answered ∙ at.left };
       on = λ t f. subst (λ (e : Step). CallsReach width s (e ∷ steps) t) (sym c.in-SendRaw.is) (inr (never, f));
     } in
-    by_equality n 0 (λ e. let d = sent.ensures.done e in by d.2 d.4 d.5)
-    (λ no. by_equality n WINDOW_FULL (λ e. let d = sent.ensures.full e in by d.2 d.4 d.5)
-    (λ not_full. by_equality n NOT_BEGUN (λ e. none no (λ begun call is. sent.ensures.begun e (at.left ∙ begun)))
-    (λ begun. let r = sent.ensures.refusal no not_full (λ e. let short = sent.ensures.room.0 e in absurd (search rules)) (λ e. absurd ((sent.ensures.astray.0 e).1 client s.rest at.stands)) begun in
+    by_equality n 0 (λ e. let d = did.done e in by d.2 d.4 d.5)
+    (λ no. by_equality n WINDOW_FULL (λ e. let d = did.full e in by d.2 d.4 d.5)
+    (λ not_full. by_equality n NOT_BEGUN (λ e. none no (λ begun call is. did.begun e (at.left ∙ begun)))
+    (λ begun. let r = did.refusal (no, not_full, (λ e. let short = did.room.0 e in absurd (search rules)), (λ e. absurd ((did.astray.0 e).1 client s.rest at.stands)), begun) in
     none no (λ left raw is. never_refused _ _ raw r.0 is r.1))))

@@ -1,88 +1,24 @@
-use Rattle.std.proofs.Common.{◌≡◌, ◌∙◌, Ok, sym, subst}
-use Rattle.gc_catalogue.specs.declared.asked.Asked.{Asked}
 use Rattle.gc_catalogue.specs.declared.asked.Asked.TheVariants.{Raw}
-use Rattle.gc_catalogue.specs.declared.raw.RawCall.{RawCall}
-use Rattle.gc_client.specs.Rule.{Windowed, sends}
-use Rattle.geocom_c.specs.Sending.{SendEffect, SendMeets}
-use Rattle.geocom_c.specs.Rest.{kept}
-use Rattle.geocom_c.proofs.Answering.{is_begun, not_begun}
-use Rattle.std.proofs.lemmas.Option.{same_Some}
-use Rattle.geocom_c.proofs.Clients.{as_given, full_alone, no_raw_astray, unbegun_not_astray}
+use Rattle.gc_catalogue.specs.Raws.{IsRawRefusal}
+use Rattle.geocom_c.specs.Sending.{IsRawOf, raw_number, send_effect}
+use Rattle.geocom_c.proofs.Clients.{as_given}
+use Rattle.geocom_c.proofs.Sendings.{sends_as}
 use Rattle.geocom_c.proofs.raws.geocom_client_send_raw.Goals as goal
 
-pub returns-in_default-clause-sent : goal.returns-in_default-clause-sent
-returns-in_default-clause-sent c = λ room c' rest raw s begun is. absurd (c.in_default.not-Some c' (c.load.ensures.only c' rest s))
+pub send_read-requires : goal.send_read-requires
+send_read-requires c = c.read_raw.ensures.number_of_request
 
-pub returns-in_default-clause-raw : goal.returns-in_default-clause-raw
-returns-in_default-clause-raw c = λ room c' rest e s begun is. absurd (c.in_default.not-Some c' (c.load.ensures.only c' rest s))
-
-pub returns-in-Ok-clause-sent : goal.returns-in-Ok-clause-sent
-returns-in-Ok-clause-sent c = λ room c' rest raw s begun is.
-    let same = same_Some c.in-Some.client c' (sym c.in-Some.is ∙ c.load.ensures.only c' rest s) in
-    let both : Ok c.in-Ok.raw ≡ Ok raw = sym c.in-Ok.is ∙ c.raw_call.ensures.only raw is.0 is.1 in
-    let named : c.in-Ok.raw ≡ raw = cc in
-    let sent : SendEffect = record { old = c.args.state.now; new = c.send_asked.new.state; before = c.args.line.now; after = c.send_asked.new.line; told = c.send_asked.result } in
-    subst (λ (r : RawCall). SendMeets c' rest (Raw r) (sends c'.width c'.ids c.args.target (Raw r) c.args.deadline) sent) named
-    (subst (λ (d : Windowed Asked). SendMeets d rest (Raw c.in-Ok.raw) (sends d.width d.ids c.args.target (Raw c.in-Ok.raw) c.args.deadline) sent) same
-    (c.send_asked.ensures.sent rest s.incomplete s.head.answered))
-
-pub returns-in-Ok-clause-astray : goal.returns-in-Ok-clause-astray
-returns-in-Ok-clause-astray c = (λ e. absurd (full_alone _ c.send_asked.ensures.either e), λ both. absurd (both.1 _ _ c.in-Some.ensures.found))
-
-pub returns-in_default-clause-astray : goal.returns-in_default-clause-astray
-returns-in_default-clause-astray c = (λ _. (c.if-line-lt-LINE_ROOM.false, c.load.ensures.none c.in_default.is), λ _. c.refused-in_default.ensures.fault)
-
-pub returns-in-Err-clause-astray : goal.returns-in-Err-clause-astray
-returns-in-Err-clause-astray c = (
-  λ e. absurd (no_raw_astray c.in-Err.fault
-      (sym c.number_of.ensures ∙ sym c.refused-in-Err.ensures.fault ∙ e)),
-  λ both. absurd (both.1 _ _ c.in-Some.ensures.found),
-)
-
-pub returns-in_default-clause-begins : goal.returns-in_default-clause-begins
-returns-in_default-clause-begins c = λ room c' rest s unbegun. absurd (c.in_default.not-Some c' (c.load.ensures.only c' rest s))
-
-pub returns-then-not-has_begun-clause-sent : goal.returns-then-not-has_begun-clause-sent
-returns-then-not-has_begun-clause-sent c = λ room c' rest raw s begun is. absurd (not_begun c.args.state.now.answered c.if-not-has_begun.true begun)
-
-pub returns-then-not-has_begun-clause-raw : goal.returns-then-not-has_begun-clause-raw
-returns-then-not-has_begun-clause-raw c = λ room c' rest e s begun is. absurd (not_begun c.args.state.now.answered c.if-not-has_begun.true begun)
-
-pub returns-then-not-has_begun-clause-begun : goal.returns-then-not-has_begun-clause-begun
-returns-then-not-has_begun-clause-begun c = λ e. not_begun c.args.state.now.answered c.if-not-has_begun.true
-
-pub returns-then-not-has_begun-clause-astray : goal.returns-then-not-has_begun-clause-astray
-returns-then-not-has_begun-clause-astray c = (λ e. absurd (unbegun_not_astray (sym c.refused-then-not-has_begun.ensures.fault ∙ e)), λ both. absurd (both.1 _ _ c.in-Some.ensures.found))
-
-pub returns-in-Ok-clause-given : goal.returns-in-Ok-clause-given
-returns-in-Ok-clause-given c = λ none.
-    as_given c.in-Ok.raw c.args.procedure c.args.params.now c.in-Some.client.ids.next c.args.state.now.next _ c.in-Ok.ensures.found c.in-Some.ensures.found.next (c.send_asked.ensures.given none)
-
-pub returns-in-Ok-clause-full : goal.returns-in-Ok-clause-full
-returns-in-Ok-clause-full c = λ full. (
-  c.in-Some.client,
-  kept c.args.state.now.rest,
-  c.in-Ok.raw,
-  c.in-Some.ensures.found,
-  is_begun c.args.state.now.answered c.if-not-has_begun.false,
-  c.in-Ok.ensures.found,
-  c.send_asked.ensures.full full,
-)
-
-pub returns-in-Ok-clause-done : goal.returns-in-Ok-clause-done
-returns-in-Ok-clause-done c = λ done. (
-  c.in-Some.client,
-  kept c.args.state.now.rest,
-  c.in-Ok.raw,
-  c.in-Some.ensures.found,
-  is_begun c.args.state.now.answered c.if-not-has_begun.false,
-  c.in-Ok.ensures.found,
-  c.send_asked.ensures.done done,
-)
-
-pub returns-in-Err-clause-refusal : goal.returns-in-Err-clause-refusal
-returns-in-Err-clause-refusal c = λ some not_full roomy known begun. (
-  c.in-Err.fault,
-  c.in-Err.ensures.fault,
-  c.refused-in-Err.ensures.fault ∙ c.number_of.ensures,
-)
+pub returns : goal.returns
+returns c =
+    let procedure = c.args.procedure in
+    let params = c.args.params.now in
+    let sends = sends_as Raw (IsRawOf procedure params) (IsRawRefusal procedure params) raw_number c.args.target c.args.deadline c.read_raw.result
+    (send_effect c.args.state.now c.send_read.new.state c.args.line.now c.send_read.new.line c.send_read.result)
+    c.read_raw.ensures c.send_read.ensures.sends in
+    record {
+      sends = sends;
+      given = λ none.
+          let done = sends.done none in
+          let raw = done.2 in
+          as_given raw procedure params c.args.state.now.next _ done.5 (c.send_read.ensures.given (Raw raw) (c.read_raw.ensures.only raw done.5) none);
+    }

@@ -5,12 +5,12 @@ use Rattle.gc_lines.specs.Assembler.{Kept, StandsFor}
 use Rattle.gc_catalogue.specs.declared.call.Call.{Call}
 use Rattle.gc_client.specs.Rule.{ById}
 use Rattle.gc_ask.specs.Asking.{request_text}
-use Rattle.gc_ask.specs.Links.{TakesRequest, source_of}
+use Rattle.gc_ask.specs.Links.{TakesRequest}
 use Rattle.gc_ask.specs.Listening.{Exchanges, Heard, HearsReply, heard_by}
 use Rattle.gc_ask.proofs.Ends.{reads_nothing, reads_then, step_both}
 use Rattle.gc_ask.proofs.Exchanging.{exchanged, unsent}
 use Rattle.gc_ask.proofs.ask.AskState.exchange.Goals as goal
-use Rattle.gc_texts.specs.WholeTexts.{Input}
+use Rattle.gc_texts.specs.WholeTexts.{Input, source_of}
 
 pub returns-in-Err-clause-exchanges : goal.returns-in-Err-clause-exchanges
 returns-in-Err-clause-exchanges g c =

@@ -5,4 +5,4 @@ use Rattle.gc_rehearsal.proofs.carried.Carried.pass.Goals as goal
 pub invariant_of-self : goal.invariant_of-self
 invariant_of-self c =
     let i = c.self.inside in
-    passes i.history.acts c.args.moment (texts i.up.items) (texts i.down.items) i.instrument _ c.set_moment.ensures c.self.invariant
+    passes i.history.acts c.args.moment (texts i.traffic.up.items) (texts i.traffic.down.items) i.traffic.instrument _ c.set_moment.ensures c.self.invariant

@@ -4,4 +4,4 @@ use Rattle.gc_rehearsal.proofs.carried.Carried.reach.Goals as goal
 pub invariant_of-self : goal.invariant_of-self
 invariant_of-self c =
     let i = c.self.inside in
-    reaches i.history.acts i.up.items i.down.items _ _ i.instrument _ c.answer.ensures c.self.invariant
+    reaches i.history.acts i.traffic _ c.hand_over.ensures c.self.invariant

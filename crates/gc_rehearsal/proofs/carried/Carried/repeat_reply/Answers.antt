@@ -5,4 +5,4 @@ use Rattle.gc_rehearsal.proofs.carried.Carried.repeat_reply.Goals as goal
 pub invariant_of-self : goal.invariant_of-self
 invariant_of-self c =
     let i = c.self.inside in
-    repeats_down i.history.acts (texts i.up.items) i.down.items _ i.instrument c.repeat_last.ensures c.self.invariant
+    repeats_down i.history.acts (texts i.traffic.up.items) i.traffic.down.items _ i.traffic.instrument c.repeat_last.ensures c.self.invariant

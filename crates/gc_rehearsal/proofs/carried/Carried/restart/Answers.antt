@@ -5,4 +5,4 @@ use Rattle.gc_rehearsal.proofs.carried.Carried.restart.Goals as goal
 pub invariant_of-self : goal.invariant_of-self
 invariant_of-self c =
     let i = c.self.inside in
-    restarts i.history.acts (texts i.up.items) (texts i.down.items) i.instrument _ c.restart.ensures c.self.invariant
+    restarts i.history.acts (texts i.traffic.up.items) (texts i.traffic.down.items) i.traffic.instrument _ c.restart.ensures c.self.invariant

@@ -2,8 +2,10 @@ use Rattle.std.proofs.Common.{◌<◌, map, sym, subst}
 use Rattle.gc_lines.specs.Lines.{with_end}
 use Rattle.gc_world.specs.declared.direction.Direction.{Direction}
 use Rattle.gc_scene_world.specs.Lanes.{Flight}
-use Rattle.gc_scene_world.specs.SceneStages.{seen, Shows, after_bytes}
+use Rattle.gc_scene_world.specs.SceneRuns.{scene_ends}
+use Rattle.gc_scene_world.specs.SceneStages.{seen, staging}
 use Rattle.gc_world.specs.Directions.{gone, lines}
+use Rattle.gc_world.specs.Staging.{after_bytes}
 use Rattle.gc_world.specs.Streams.{remaining}
 use Rattle.gc_scene_world.proofs.Handed.{begins_up, begins_down}
 use Rattle.gc_scene_world.proofs.stage.Stage.go_on.Goals as goal
@@ -23,13 +25,13 @@ go_on-requires-in-Down c =
 pub returns-in-Up : goal.returns-in-Up
 returns-in-Up c =
     λ width v h.
-    subst (λ (d : Direction). Shows width (record c.args.self.now { up = c.go_on.new.self }) (after_bytes width d v c.args.n)) (sym c.in-Up.is)
+    subst (λ (d : Direction). staging.shows width (record c.args.self.now { up = c.go_on.new.self }) (after_bytes scene_ends width d v c.args.n)) (sym c.in-Up.is)
     (begins_up width (seen c.args.self.now) v c.args.n c.go_on.new.self h
     (subst (λ (d : Direction). c.args.n < remaining (gone d v) (lines d v.world.wire)) c.in-Up.is (c.requires.some width v h)) c.go_on.ensures)
 
 pub returns-in-Down : goal.returns-in-Down
 returns-in-Down c =
     λ width v h.
-    subst (λ (d : Direction). Shows width (record c.args.self.now { down = c.go_on-in-Down.new.self }) (after_bytes width d v c.args.n)) (sym c.in-Down.is)
+    subst (λ (d : Direction). staging.shows width (record c.args.self.now { down = c.go_on-in-Down.new.self }) (after_bytes scene_ends width d v c.args.n)) (sym c.in-Down.is)
     (begins_down width (seen c.args.self.now) v c.args.n c.go_on-in-Down.new.self h
     (subst (λ (d : Direction). c.args.n < remaining (gone d v) (lines d v.world.wire)) c.in-Down.is (c.requires.some width v h)) c.go_on-in-Down.ensures)

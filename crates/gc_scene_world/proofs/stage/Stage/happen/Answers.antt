@@ -1,21 +1,42 @@
 use Rattle.std.proofs.Common.{sym, subst, refl}
 use Rattle.gc_scene_world.specs.declared.report.Counts.{Counts}
 use Rattle.gc_scene_world.specs.Lanes.{is_whole}
-use Rattle.gc_scene_world.specs.SceneStages.{seen, AreStreamsOf, Follows, after_event}
+use Rattle.gc_scene_world.specs.SceneRuns.{scene_ends}
+use Rattle.gc_scene_world.specs.SceneStages.{seen, staging, AreStreamsOf}
 use Rattle.gc_world.specs.declared.event.Event.TheVariants as kind
+use Rattle.gc_world.specs.Staging.{Follows, after_event}
 use Rattle.gc_scene_world.proofs.Shown.{tallied_is, up_lost, up_repeated, down_lost, down_repeated}
 use Rattle.gc_scene_world.proofs.stage.Stage.happen.Goals as goal
 
--- What the event's own method says of it. The search finds those of the other methods.
+-- What the event's own method says of it.
+
+pub returns-in_ok-send-in-Send : goal.returns-in_ok-send-in-Send
+returns-in_ok-send-in-Send c = subst (λ event. Follows staging c.args.self.now event c.send.new.self) (sym c.in-Send.is) c.in_ok-send-in-Send.ensures
 
 pub returns-in_ok-up_deliver-in-UpDeliver : goal.returns-in_ok-up_deliver-in-UpDeliver
-returns-in_ok-up_deliver-in-UpDeliver c = subst (λ event. Follows c.args.self.now event c.up_deliver.new.self) (sym c.in-UpDeliver.is) c.in_ok-up_deliver-in-UpDeliver.ensures
+returns-in_ok-up_deliver-in-UpDeliver c = subst (λ event. Follows staging c.args.self.now event c.up_deliver.new.self) (sym c.in-UpDeliver.is) c.in_ok-up_deliver-in-UpDeliver.ensures
+
+pub returns-in_ok-deliver_bytes-in-UpBytes : goal.returns-in_ok-deliver_bytes-in-UpBytes
+returns-in_ok-deliver_bytes-in-UpBytes c =
+    subst (λ event. Follows staging c.args.self.now event c.deliver_bytes.new.self) (sym c.in-UpBytes.is) c.in_ok-deliver_bytes-in-UpBytes.ensures
+
+pub returns-in_ok-down_deliver-in-DownDeliver : goal.returns-in_ok-down_deliver-in-DownDeliver
+returns-in_ok-down_deliver-in-DownDeliver c =
+    subst (λ event. Follows staging c.args.self.now event c.down_deliver.new.self) (sym c.in-DownDeliver.is) c.in_ok-down_deliver-in-DownDeliver.ensures
+
+pub returns-in_ok-deliver_bytes-in-DownBytes : goal.returns-in_ok-deliver_bytes-in-DownBytes
+returns-in_ok-deliver_bytes-in-DownBytes c =
+    subst (λ event. Follows staging c.args.self.now event c.deliver_bytes-in-DownBytes.new.self) (sym c.in-DownBytes.is) c.in_ok-deliver_bytes-in-DownBytes.ensures
+
+pub returns-in_ok-restart_client-in-RestartClient : goal.returns-in_ok-restart_client-in-RestartClient
+returns-in_ok-restart_client-in-RestartClient c =
+    subst (λ event. Follows staging c.args.self.now event c.restart_client.new.self) (sym c.in-RestartClient.is) c.in_ok-restart_client-in-RestartClient.ensures
 
 pub returns-in-Expire : goal.returns-in-Expire
-returns-in-Expire c = subst (λ event. Follows c.args.self.now event c.expire.new.self) (sym c.in-Expire.is) c.expire.ensures
+returns-in-Expire c = subst (λ event. Follows staging c.args.self.now event c.expire.new.self) (sym c.in-Expire.is) c.expire.ensures
 
 pub returns-in-RestartInstrument : goal.returns-in-RestartInstrument
-returns-in-RestartInstrument c = subst (λ event. Follows c.args.self.now event c.restart_instrument.new.self) (sym c.in-RestartInstrument.is) c.restart_instrument.ensures
+returns-in-RestartInstrument c = subst (λ event. Follows staging c.args.self.now event c.restart_instrument.new.self) (sym c.in-RestartInstrument.is) c.restart_instrument.ensures
 
 -- A loss or a repeat.
 
@@ -23,8 +44,8 @@ pub returns-in-UpLose : goal.returns-in-UpLose
 returns-in-UpLose c =
     let s = c.args.self.now in
     let k = c.in-UpLose.k in
-    subst (λ event. Follows s event (record s { up = c.lose.new.lane; counts = record s.counts { idle_events = c.lose.new.idle } })) (sym c.in-UpLose.is)
-    (λ width v h. subst (λ (x : Counts). AreStreamsOf width (record (seen s) { up = c.lose.new.lane; counts = x }) (after_event width v (kind.UpLose k)))
+    subst (λ event. Follows staging s event (record s { up = c.lose.new.lane; counts = record s.counts { idle_events = c.lose.new.idle } })) (sym c.in-UpLose.is)
+    (λ width v h. subst (λ (x : Counts). AreStreamsOf width (record (seen s) { up = c.lose.new.lane; counts = x }) (after_event scene_ends width v (kind.UpLose k)))
     (tallied_is (is_whole k s.up) s.counts c.lose.new.idle c.lose.ensures.idle)
     (up_lost width (seen s) v h k (is_whole k s.up) c.lose.new.lane refl c.lose.ensures.left))
 
@@ -32,8 +53,8 @@ pub returns-in_ok-repeat-in-UpRepeat : goal.returns-in_ok-repeat-in-UpRepeat
 returns-in_ok-repeat-in-UpRepeat c =
     let s = c.args.self.now in
     let k = c.in-UpRepeat.k in
-    subst (λ event. Follows s event (record s { up = c.repeat.new.lane; counts = record s.counts { idle_events = c.repeat.new.idle } })) (sym c.in-UpRepeat.is)
-    (λ width v h. subst (λ (x : Counts). AreStreamsOf width (record (seen s) { up = c.repeat.new.lane; counts = x }) (after_event width v (kind.UpRepeat k)))
+    subst (λ event. Follows staging s event (record s { up = c.repeat.new.lane; counts = record s.counts { idle_events = c.repeat.new.idle } })) (sym c.in-UpRepeat.is)
+    (λ width v h. subst (λ (x : Counts). AreStreamsOf width (record (seen s) { up = c.repeat.new.lane; counts = x }) (after_event scene_ends width v (kind.UpRepeat k)))
     (tallied_is (is_whole k s.up) s.counts c.repeat.new.idle c.in_ok-repeat-in-UpRepeat.ensures.idle)
     (up_repeated width (seen s) v h k (is_whole k s.up) c.repeat.new.lane refl c.in_ok-repeat-in-UpRepeat.ensures.left))
 
@@ -41,8 +62,8 @@ pub returns-in-DownLose : goal.returns-in-DownLose
 returns-in-DownLose c =
     let s = c.args.self.now in
     let k = c.in-DownLose.k in
-    subst (λ event. Follows s event (record s { down = c.lose-in-DownLose.new.lane; counts = record s.counts { idle_events = c.lose-in-DownLose.new.idle } })) (sym c.in-DownLose.is)
-    (λ width v h. subst (λ (x : Counts). AreStreamsOf width (record (seen s) { down = c.lose-in-DownLose.new.lane; counts = x }) (after_event width v (kind.DownLose k)))
+    subst (λ event. Follows staging s event (record s { down = c.lose-in-DownLose.new.lane; counts = record s.counts { idle_events = c.lose-in-DownLose.new.idle } })) (sym c.in-DownLose.is)
+    (λ width v h. subst (λ (x : Counts). AreStreamsOf width (record (seen s) { down = c.lose-in-DownLose.new.lane; counts = x }) (after_event scene_ends width v (kind.DownLose k)))
     (tallied_is (is_whole k s.down) s.counts c.lose-in-DownLose.new.idle c.lose-in-DownLose.ensures.idle)
     (down_lost width (seen s) v h k (is_whole k s.down) c.lose-in-DownLose.new.lane refl c.lose-in-DownLose.ensures.left))
 
@@ -50,7 +71,7 @@ pub returns-in_ok-repeat-in-DownRepeat : goal.returns-in_ok-repeat-in-DownRepeat
 returns-in_ok-repeat-in-DownRepeat c =
     let s = c.args.self.now in
     let k = c.in-DownRepeat.k in
-    subst (λ event. Follows s event (record s { down = c.repeat-in-DownRepeat.new.lane; counts = record s.counts { idle_events = c.repeat-in-DownRepeat.new.idle } })) (sym c.in-DownRepeat.is)
-    (λ width v h. subst (λ (x : Counts). AreStreamsOf width (record (seen s) { down = c.repeat-in-DownRepeat.new.lane; counts = x }) (after_event width v (kind.DownRepeat k)))
+    subst (λ event. Follows staging s event (record s { down = c.repeat-in-DownRepeat.new.lane; counts = record s.counts { idle_events = c.repeat-in-DownRepeat.new.idle } })) (sym c.in-DownRepeat.is)
+    (λ width v h. subst (λ (x : Counts). AreStreamsOf width (record (seen s) { down = c.repeat-in-DownRepeat.new.lane; counts = x }) (after_event scene_ends width v (kind.DownRepeat k)))
     (tallied_is (is_whole k s.down) s.counts c.repeat-in-DownRepeat.new.idle c.in_ok-repeat-in-DownRepeat.ensures.idle)
     (down_repeated width (seen s) v h k (is_whole k s.down) c.repeat-in-DownRepeat.new.lane refl c.in_ok-repeat-in-DownRepeat.ensures.left))

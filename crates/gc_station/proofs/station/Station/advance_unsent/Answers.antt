@@ -2,7 +2,7 @@ use Rattle.std.proofs.Common.{false, ap, ◌∙◌}
 use Rattle.gc_station.specs.declared.progress.Progress.{Progress}
 use Rattle.gc_station.specs.declared.progress.Upcoming.{Upcoming}
 use Rattle.gc_station.specs.Marks.{commands_in}
-use Rattle.gc_station.specs.NextCommand.{is_chained_after, others_after}
+use Rattle.gc_station.specs.NextCommand.{upcoming_after}
 use Rattle.gc_station.specs.Progressing.{advanced, early_noted}
 use Rattle.gc_station.proofs.station.Station.advance_unsent.Goals as goal
 
@@ -13,7 +13,7 @@ returns c =
     let commands = c.args.commands.now in
     let count = c.args.count in
     let past =
-    c.advance.ensures ∙ ap (λ (u : Upcoming). advanced count u.is_chained u.others false c.note_moment.new.self) c.upcoming_after-next.ensures
-    ∙ ap (advanced count (is_chained_after count commands old.progress) (others_after count commands old.progress) false) c.note_moment.ensures in
+    c.advance.ensures ∙ ap (λ (u : Upcoming). advanced count u false c.note_moment.new.self) c.upcoming_after-next.ensures
+    ∙ ap (advanced count (upcoming_after count commands old.progress) false) c.note_moment.ensures in
     ap (λ (p : Progress). record old { progress = p }) (c.note_early.ensures ∙ ap (λ n. early_noted plan n c.advance.new.self) c.commands_waiting-waiting.ensures
     ∙ ap (early_noted plan (commands_in old.marks.items)) past)

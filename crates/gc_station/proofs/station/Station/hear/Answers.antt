@@ -1,12 +1,16 @@
-use Rattle.std.proofs.Common.{◌≤◌, ℕ, List, subst, length, map, ap, sym, ◌∙◌, refl}
+use Rattle.std.proofs.Common.{◌≡◌, ◌≤◌, subst, length, map, ap, sym, ◌∙◌, refl}
 use Rattle.std.proofs.lemmas.List.{length-map}
 use Rattle.gc_client.specs.Rule.{hears, heard}
 use Rattle.gc_client.specs.Settlements.{settlement_seen}
-use Rattle.gc_station.specs.Model.{is_reply, ends_with_table, settles, line_settles, lines_came}
+use Rattle.gc_lines.specs.Frames.{line_in}
+use Rattle.gc_lines.specs.Lent.{lent_seen}
+use Rattle.gc_station.specs.Model.{Model, is_reply, ends_with_table, settles, line_settles, lines_taken}
+use Rattle.gc_station.specs.Progressing.{line_synchronizing}
 use Rattle.gc_station.specs.Stations.{Refines, Took}
 use Rattle.gc_station.specs.declared.station.Station.{Station}
 use Rattle.std.specs.Option.{option_to_list}
-use Rattle.gc_station.proofs.Hearing.{hears_paired, settles_ok, settles_part, with_behind_noted, with_noted, no_line}
+use Rattle.gc_station.proofs.Hearing.{hears_paired, settles_ok, settles_part, with_behind_noted, with_noted, no_line, taken_none}
+use Rattle.gc_station.proofs.Making.{refines_with}
 use Rattle.gc_station.proofs.station.Station.hear.Goals as goal
 
 pub returns-clause-hears : goal.returns-clause-hears
@@ -44,11 +48,11 @@ returns-clause-hears g c s start stands so =
     let waits = c.waiting.ensures.waiting ∙ ap (λ (st : Station). length st.client.ids.waiting) after ∙ ap (λ w. length w.ids.waiting) client ∙ ap (λ y. length y.client.waiting) seen in
     let caught = with_behind_noted c.write.new.self c.note_behind.new.self c.ends_with_table-of_table.result (ends_with_table x.settlements) c.waiting.result (length x.client.waiting) (settles x s) t.0
     table waits c.note_behind.ensures in
-    rw c.in-Line.is (
+    rw c.if-not-begun.false (rw c.in-Line.is (
       with_noted (record c.write.new.self { progress = c.note_behind.new.self }) c.note_line.new.self c.is_reply.result
           (is_reply line) (line_settles x s) caught reply c.note_line.ensures,
       t.1,
-    )
+    ))
 
 pub returns-in-Err-clause-hears : goal.returns-in-Err-clause-hears
 returns-in-Err-clause-hears g c s start stands so =
@@ -77,14 +81,22 @@ returns-in-Err-clause-hears g c s start stands so =
     })
     same
     (λ are. c.in-Err.ensures.wrote s.reads are start s.records (so are)) in
-    rw c.in-Line.is t
+    rw c.if-not-begun.false (rw c.in-Line.is t)
+
+pub returns-then-not-begun-clause-hears : goal.returns-then-not-begun-clause-hears
+returns-then-not-begun-clause-hears g c s start stands so =
+    let line = c.in-Line.line.now in
+    rw c.if-not-begun.true (rw c.in-Line.is (
+      refines_with c.args.self.now c.hear_synchronizing.new.self (λ p. line_synchronizing p line) s stands c.hear_synchronizing.ensures,
+      so,
+    ))
 
 pub returns-in_default : goal.returns-in_default
 returns-in_default g c = record {
   hears = λ s start stands so.
-      let none = no_line c.args.frame c.in_default.not-Line in
-      subst (λ (lines : List (List ℕ)). Refines c.args.self.now (lines_came s lines)
-      × Took (g.B.Book.text c.args.book.now) start (g.B.Book.taken c.args.book.now) (lines_came s lines)) (sym (ap option_to_list none)) (stands, so);
+      let same : s ≡ lines_taken c.args.begun (option_to_list (line_in (lent_seen c.args.frame))) s =
+      sym (ap (λ l. lines_taken c.args.begun (option_to_list l) s) (no_line c.args.frame c.in_default.not-Line) ∙ taken_none c.args.begun s) in
+      subst (λ (x : Model). Refines c.args.self.now x × Took (g.B.Book.text c.args.book.now) start (g.B.Book.taken c.args.book.now) x) same (stands, so);
   fails = refl;
   form = refl;
 }

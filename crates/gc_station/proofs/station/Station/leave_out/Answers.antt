@@ -5,7 +5,7 @@ use Rattle.gc_station.specs.declared.progress.Progress.{Progress}
 use Rattle.gc_station.specs.declared.station.Station.{Station}
 use Rattle.gc_station.specs.Marks.{commands_in}
 use Rattle.gc_station.specs.Model.{next_left_out, with_more_passes, with_moment, moved}
-use Rattle.gc_station.specs.NextCommand.{is_chained_after, others_after}
+use Rattle.gc_station.specs.NextCommand.{upcoming_after}
 use Rattle.gc_station.specs.Progressing.{early_noted, attempts_left_out}
 use Rattle.gc_station.specs.Stations.{Refines}
 use Rattle.gc_station.proofs.Hearing.{refines_timed_out, untold_does}
@@ -19,7 +19,7 @@ returns-in-Some g c text known =
     let plan = c.args.plan.now in
     let commands = c.args.commands.now in
     let m = c.in-Some.moment in
-    let goes_on : Progress → Progress = λ p. attempts_left_out (is_chained_after p.next_others commands p) (others_after p.next_others commands p) m p in
+    let goes_on : Progress → Progress = λ p. attempts_left_out (upcoming_after p.next_others commands p) m p in
     record {
       act = Told m;
       tells = c.in-Some.ensures.0;

@@ -23,7 +23,7 @@ loop-at-preserved g c =
           let h = c.loop-at.invariant.hearing s start stands so in
           let t : Takes h.now.rest left used frame c.next-used.new.self = takes h.now.rest left used frame c.next-used.new.self
           (λ e. let m = more e in (m.0, m.1, m.2 h.now.rest h.stands.assembles)) (λ i e. let m = whole i e in (m.0, m.1 h.now.rest h.stands.assembles, m.2)) in
-          rw (← drop-drop used at piece) (hearing_on (g.B.Book.text c.args.book.now) start (g.B.Book.taken c.loop-at.book)
+          rw (← drop-drop used at piece) (hearing_on c.args.begun (g.B.Book.text c.args.book.now) start (g.B.Book.taken c.loop-at.book)
           (g.B.Book.taken c.hear.new.book) c.loop-at.self c.hear.new.self s piece left used frame c.next-used.new.self h t
           ((rw c.loop-at.invariant.form at c.in_default.ensures.hears) (with_rest t.now h.now) start (with_kept c.loop-at.self c.next-used.new.self t.now h.now h.stands t.stands) h.wrote));
       form = c.in_default.ensures.form ∙ c.loop-at.invariant.form;
@@ -42,7 +42,7 @@ returns-in-Err-clause-listens g c s start stands so =
     let h = c.loop-at.invariant.hearing s start stands so in
     let t : Takes h.now.rest left used frame c.next-used.new.self = takes h.now.rest left used frame c.next-used.new.self
     (λ e. let m = more e in (m.0, m.1, m.2 h.now.rest h.stands.assembles)) (λ i e. let m = whole i e in (m.0, m.1 h.now.rest h.stands.assembles, m.2)) in
-    hearing_part (g.B.Book.text c.args.book.now) start (g.B.Book.taken c.loop-at.book) (g.B.Book.taken c.hear.new.book) c.loop-at.self s piece left used frame c.next-used.new.self h t
+    hearing_part c.args.begun (g.B.Book.text c.args.book.now) start (g.B.Book.taken c.loop-at.book) (g.B.Book.taken c.hear.new.book) c.loop-at.self s piece left used frame c.next-used.new.self h t
     ((rw c.loop-at.invariant.form at c.in-Err.ensures.hears) (with_rest t.now h.now) start (with_kept c.loop-at.self c.next-used.new.self t.now h.now h.stands t.stands) h.wrote)
 
 pub returns-clause-listens : goal.returns-clause-listens
@@ -51,5 +51,5 @@ returns-clause-listens g c s start stands so =
     let at = c.loop-at.at in
     let past : length piece ≤ at = omega (arith, c.loop-at-test.false) in
     let h = c.loop-at.invariant.hearing s start stands so in
-    hearing_end (g.B.Book.text c.args.book.now) start (g.B.Book.taken c.loop-at.book) c.loop-at.self s piece
-    (subst (λ left. Hearing (g.B.Book.text c.args.book.now) start (g.B.Book.taken c.loop-at.book) c.loop-at.self s piece left) (drop_of_length-le piece past) h)
+    hearing_end c.args.begun (g.B.Book.text c.args.book.now) start (g.B.Book.taken c.loop-at.book) c.loop-at.self s piece
+    (subst (λ left. Hearing c.args.begun (g.B.Book.text c.args.book.now) start (g.B.Book.taken c.loop-at.book) c.loop-at.self s piece left) (drop_of_length-le piece past) h)

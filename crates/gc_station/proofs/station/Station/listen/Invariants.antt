@@ -10,7 +10,7 @@ abbrev pub invariant-loop-at : goal.invariant-loop-at
 invariant-loop-at g l = record {
   within : l.at ≤ length l.piece;
   hearing : (s : Model) (start : Option (List ℕ)) → Refines l.initial.self s → Took (g.B.Book.text l.initial.book) start (g.B.Book.taken l.initial.book) s
-      → Hearing (g.B.Book.text l.initial.book) start (g.B.Book.taken l.book) l.self s l.piece (drop l.at l.piece);
+      → Hearing l.begun (g.B.Book.text l.initial.book) start (g.B.Book.taken l.book) l.self s l.piece (drop l.at l.piece);
   form : g.B.Book.text l.book ≡ g.B.Book.text l.initial.book;
   failed : g.B.Book.failed l.book ≡ g.B.Book.failed l.initial.book;
 }

@@ -10,7 +10,7 @@ use Rattle.gc_station.specs.declared.progress.Upcoming.{Upcoming}
 use Rattle.gc_station.specs.Progressing.{sent}
 use Rattle.gc_station.specs.Requests.{command_at}
 use Rattle.gc_station.specs.Model.{Model, request_text, first_text, asks_next, with_progress}
-use Rattle.gc_station.specs.NextCommand.{place_next, mark_next, is_chained_after_next, others_after_next, upcoming_after, commands_before}
+use Rattle.gc_station.specs.NextCommand.{place_next, mark_next, upcoming_after, commands_before}
 use Rattle.gc_station.proofs.Making.{refines_with, asks_refines, put_puts, put_refines, put_took, first_refines, first_took}
 use Rattle.gc_station.proofs.station.Station.send.Goals as goal
 
@@ -36,7 +36,7 @@ returns g c text known =
       goes = λ s start stands so.
           let list = drop (place_next commands s.progress) commands in
           let is : list ≡ task ∷ others = sym (ap (λ n. drop n commands) (at ∙ ap (place_next commands) stands.progress)) ∙ here in
-          let f : Model → Model = λ (x : Model). with_progress (sent (is_chained_after_next commands x.progress) (others_after_next commands x.progress)) (asks_next plan commands x) in
+          let f : Model → Model = λ (x : Model). with_progress (sent (upcoming_after 1 commands x.progress)) (asks_next plan commands x) in
           let asked = asks_refines old c.ask-put.new.self s task.deadline command (command_at mark.sent task) (Some mark) stands c.requires.room c.command_at-command.ensures c.ask-put.ensures.asks in
           let utc = s.progress.moment.utc in
           let next : mark ≡ mark_next plan commands s.progress = c.mark-mark.ensures ∙ ap (mark_next plan commands) stands.progress in
@@ -45,8 +45,8 @@ returns g c text known =
                 ∙ ap (λ (w : Wish). request_text s.client w.call) (c.command_at-command.ensures ∙ ap (λ (m : Mark). command_at m.sent task) next) ∙ sym
                 (ap (first_text utc s.client) is)) c.ask-put.ensures.part,
             put_refines put line c.commands_before-requests.result (commands_before plan commands s.progress) f s (record c.ask-put.new.self { progress = c.note_sent.new.self }) c.note_cut.new.self
-                (refines_with c.ask-put.new.self c.note_sent.new.self (sent (is_chained_after_next commands s.progress) (others_after_next commands s.progress)) (asks_next plan commands s) first
-                (c.note_sent.ensures ∙ ap (λ (u : Upcoming). sent u.is_chained u.others c.ask-put.new.self.progress)
+                (refines_with c.ask-put.new.self c.note_sent.new.self (sent (upcoming_after 1 commands s.progress)) (asks_next plan commands s) first
+                (c.note_sent.ensures ∙ ap (λ (u : Upcoming). sent u c.ask-put.new.self.progress)
                 (c.upcoming_after-next.ensures ∙ ap (upcoming_after 1 commands) stands.progress))) c.note_cut.ensures
                 (c.commands_before-requests.ensures ∙ ap (commands_before plan commands) stands.progress),
             put_took text start known put line (commands_before plan commands s.progress) f s (first_took text start known s (mark_next plan commands s.progress) list so),

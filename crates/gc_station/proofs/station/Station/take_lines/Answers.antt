@@ -1,9 +1,8 @@
 use Rattle.std.proofs.Common.{ap, sym, ◌∙◌, subst}
 use Rattle.gc_station.specs.declared.progress.Progress.{Progress}
 use Rattle.gc_station.specs.Deciding.{is_none_left}
-use Rattle.gc_station.specs.Model.{Model, is_heard, after_piece}
+use Rattle.gc_station.specs.Model.{is_heard, piece_came, after_piece}
 use Rattle.gc_station.specs.Stations.{Refines, Took, ComesTo}
-use Rattle.gc_station.proofs.Hearing.{came_asked, came_begun}
 use Rattle.gc_station.proofs.station.Station.take_lines.Goals as goal
 
 pub returns-then-not-is_heard-clause-takes : goal.returns-then-not-is_heard-clause-takes
@@ -14,20 +13,11 @@ returns-then-not-is_heard-clause-takes g c s start stands so =
     let heard = sym c.if-not-is_heard.true ∙ c.is_heard.ensures ∙ ap (λ (p : Progress). is_heard p.phase) stands.progress in
     subst (λ b. Refines self (after_piece b s.progress.word piece s) × Took (g.B.Book.text c.args.book.now) start taken (after_piece b s.progress.word piece s)) heard (stands, so)
 
-pub returns-then-not-has_begun-clause-takes : goal.returns-then-not-has_begun-clause-takes
-returns-then-not-has_begun-clause-takes g c s start stands so =
-    let piece = c.args.piece.now in
-    let taken = g.B.Book.taken c.args.book.now in
-    let heard = sym c.if-not-is_heard.false ∙ c.is_heard.ensures ∙ ap (λ (p : Progress). is_heard p.phase) stands.progress in
-    let begun = sym (sym c.if-not-has_begun.true ∙ c.has_begun.ensures ∙ ap (λ (p : Progress). is_none_left p.word) stands.progress) in
-    subst (λ b. Refines c.listen_synchronizing.new.self (after_piece b s.progress.word piece s) × Took (g.B.Book.text c.args.book.now) start taken (after_piece b s.progress.word piece s)) heard
-    (subst (λ (x : Model). Refines c.listen_synchronizing.new.self x × Took (g.B.Book.text c.args.book.now) start taken x) (sym (came_asked s.progress.word piece s begun)) (c.listen_synchronizing.ensures s stands, so))
-
 pub returns-clause-takes : goal.returns-clause-takes
 returns-clause-takes g c s start stands so =
     let piece = c.args.piece.now in
     let heard = sym c.if-not-is_heard.false ∙ c.is_heard.ensures ∙ ap (λ (p : Progress). is_heard p.phase) stands.progress in
-    let begun = sym (sym c.if-not-has_begun.false ∙ c.has_begun.ensures ∙ ap (λ (p : Progress). is_none_left p.word) stands.progress) in
+    let begun = c.has_begun-begun.ensures ∙ ap (λ (p : Progress). is_none_left p.word) stands.progress in
     subst (λ b. ComesTo (g.B.Book.text c.args.book.now) s.records c.listen.new.self start (g.B.Book.taken c.listen.new.book) (after_piece b s.progress.word piece s) c.listen.result) heard
-    (subst (λ (x : Model). ComesTo (g.B.Book.text c.args.book.now) s.records c.listen.new.self start (g.B.Book.taken c.listen.new.book) x c.listen.result)
-    (sym (came_begun s.progress.word piece s begun)) (c.listen.ensures.listens s start stands so))
+    (subst (λ b. ComesTo (g.B.Book.text c.args.book.now) s.records c.listen.new.self start (g.B.Book.taken c.listen.new.book) (piece_came b piece s) c.listen.result) begun
+    (c.listen.ensures.listens s start stands so))

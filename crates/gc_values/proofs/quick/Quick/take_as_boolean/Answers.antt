@@ -1,5 +1,6 @@
 use Rattle.gc_values.specs.declared.value.Value.TheVariants as value
+use Rattle.gc_values.proofs.PlainLists.{taken}
 use Rattle.gc_values.proofs.quick.Quick.take_as_boolean.Goals as goal
 
-pub returns-in-Ok : goal.returns-in-Ok
-returns-in-Ok c = λ vs left. c.item.ensures (value.Bool c.in-Ok.n) vs left c.in-Ok.ensures.value
+pub returns : goal.returns
+returns c = taken value.Bool c.item.result.now c.read_bool-read.result c.read_or.result _ _ _ c.item.ensures c.read_bool-read.ensures.value c.read_or.ensures

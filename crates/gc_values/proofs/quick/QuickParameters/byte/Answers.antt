@@ -1,5 +1,6 @@
 use Rattle.gc_values.specs.declared.value.Value.TheVariants as value
+use Rattle.gc_values.proofs.PlainLists.{taken}
 use Rattle.gc_values.proofs.quick.QuickParameters.byte.Goals as goal
 
-pub returns-in-Ok-clause-reads : goal.returns-in-Ok-clause-reads
-returns-in-Ok-clause-reads c = λ vs left. c.item.ensures (value.Byte c.in-Ok.n) vs left c.in-Ok.ensures.value
+pub returns-clause-reads : goal.returns-clause-reads
+returns-clause-reads c = taken value.Byte c.item.result.now c.read_byte-read.result c.read_or.result _ _ _ c.item.ensures c.read_byte-read.ensures.value c.read_or.ensures

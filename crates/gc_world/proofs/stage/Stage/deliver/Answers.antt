@@ -3,12 +3,17 @@ use Rattle.std.specs.Prelude.{OnOk}
 use Rattle.gc_world.specs.declared.direction.Direction.{Direction}
 use Rattle.gc_world.specs.Directions.{delivery}
 use Rattle.gc_world.specs.Memory.{TakesNoMemory}
-use Rattle.gc_world.specs.Stages.{Follows}
+use Rattle.gc_world.specs.Stages.{staging}
+use Rattle.gc_world.specs.Staging.{Follows}
 use Rattle.gc_world.proofs.stage.Stage.deliver.Goals as goal
 
 pub returns-in-Up-clause-follows : goal.returns-in-Up-clause-follows
 returns-in-Up-clause-follows g c =
-    subst (λ (d : Direction). OnOk c.up_deliver.result (Follows c.args.self.now (delivery d) c.up_deliver.new.self)) (sym c.in-Up.is) c.up_deliver.ensures.follows
+    subst (λ (d : Direction). OnOk c.up_deliver.result (Follows staging c.args.self.now (delivery d) c.up_deliver.new.self)) (sym c.in-Up.is) c.up_deliver.ensures.follows
+
+pub returns-in-Down-clause-follows : goal.returns-in-Down-clause-follows
+returns-in-Down-clause-follows g c =
+    subst (λ (d : Direction). OnOk c.down_deliver.result (Follows staging c.args.self.now (delivery d) c.down_deliver.new.self)) (sym c.in-Down.is) c.down_deliver.ensures.follows
 
 pub returns-in-Down-clause-spare : goal.returns-in-Down-clause-spare
 returns-in-Down-clause-spare g c =

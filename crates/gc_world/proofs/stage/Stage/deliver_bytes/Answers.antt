@@ -5,7 +5,8 @@ use Rattle.gc_client.specs.Rule.{ById}
 use Rattle.gc_instrument.specs.State.{State}
 use Rattle.gc_world.specs.Clients.{by_ids, ends}
 use Rattle.gc_world.specs.Directions.{delivery}
-use Rattle.gc_world.specs.Stages.{seen, after_event, AreStreamsOf}
+use Rattle.gc_world.specs.Stages.{seen, AreStreamsOf}
+use Rattle.gc_world.specs.Staging.{after_event}
 use Rattle.gc_world.specs.Streams.{Streams}
 use Rattle.gc_world.proofs.Handed.{reached, reaches_next, next_spares, reaches_end, runs_dry, bytes_handed, runs_out}
 use Rattle.gc_world.proofs.Shown.{streams_idle_bytes}
@@ -51,7 +52,7 @@ returns-in_err-deliver-clause-spare g c =
 pub remaining-remaining-requires-in-loop-left : goal.remaining-remaining-requires-in-loop-left
 remaining-remaining-requires-in-loop-left g c =
     let at = c.loop-left.invariant.follows c.requires.shown.0 c.requires.shown.1 c.requires.shown.2 in
-    (c.requires.shown.0, after_event c.requires.shown.0 at.now (delivery c.args.direction), c.in_ok-deliver.ensures.follows c.requires.shown.0 at.now at.shows)
+    (c.requires.shown.0, after_event ends c.requires.shown.0 at.now (delivery c.args.direction), c.in_ok-deliver.ensures.follows c.requires.shown.0 at.now at.shows)
 
 pub loop-left-smaller : goal.loop-left-smaller
 loop-left-smaller g c =

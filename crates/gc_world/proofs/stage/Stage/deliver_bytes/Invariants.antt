@@ -1,10 +1,10 @@
-use Rattle.std.proofs.Common.{◌≡◌, ℕ}
+use Rattle.std.proofs.Common.{ℕ}
 use Rattle.gc_catalogue.specs.declared.call.Call.{Call}
 use Rattle.gc_client.specs.Rule.{ById}
 use Rattle.gc_instrument.specs.State.{State}
-use Rattle.gc_world.specs.Directions.{gone, lines}
-use Rattle.gc_world.specs.Stages.{seen, Shows}
-use Rattle.gc_world.specs.Streams.{Streams, remaining}
+use Rattle.gc_world.specs.Stages.{seen, staging, Shows}
+use Rattle.gc_world.specs.Staging.{HasLeft}
+use Rattle.gc_world.specs.Streams.{Streams}
 use Rattle.gc_world.proofs.Handed.{IsReached}
 use Rattle.gc_world.proofs.stage.Stage.deliver_bytes.Given as goal
 
@@ -13,7 +13,7 @@ abbrev pub invariant-loop-left : goal.invariant-loop-left
 invariant-loop-left g l =
     record {
       follows : (width : ℕ) (v : Streams (ById Call) State) → Shows width l.fn.self v → IsReached width l.direction (seen l.self) v l.n l.left;
-      remaining : (width : ℕ) (v : Streams (ById Call) State) → Shows width l.self v → l.remaining ≡ remaining (gone l.direction v) (lines l.direction v.world.wire);
+      remaining : HasLeft staging l.self l.direction l.remaining;
     }
 
 abbrev pub decreases-loop-left : goal.decreases-loop-left

@@ -1,8 +1,10 @@
 use Rattle.std.proofs.Common.{◌<◌, sym, subst}
 use Rattle.gc_world.specs.declared.direction.Direction.{Direction}
 use Rattle.gc_world.specs.declared.direction.Direction.TheVariants.{Up, Down}
+use Rattle.gc_world.specs.Clients.{ends}
 use Rattle.gc_world.specs.Directions.{gone, lines, texts}
-use Rattle.gc_world.specs.Stages.{seen, Shows, after_bytes}
+use Rattle.gc_world.specs.Stages.{seen, Shows}
+use Rattle.gc_world.specs.Staging.{after_bytes}
 use Rattle.gc_world.specs.Streams.{remaining}
 use Rattle.gc_world.proofs.Shown.{carries, more_left, streams_begin}
 use Rattle.gc_world.proofs.stage.Stage.go_on.Goals as goal
@@ -32,7 +34,7 @@ returns-in-Up g c =
     let s = seen c.args.self.now in
     let did = c.go_on.ensures in
     λ width v h.
-    subst (λ (d : Direction). Shows width (record c.args.self.now { up = c.go_on.new.self; cut = c.go_on.new.cut }) (after_bytes width d v c.args.n)) (sym c.in-Up.is)
+    subst (λ (d : Direction). Shows width (record c.args.self.now { up = c.go_on.new.self; cut = c.go_on.new.cut }) (after_bytes ends width d v c.args.n)) (sym c.in-Up.is)
     (streams_begin width s v h Up c.args.n c.go_on.new.self (subst (λ (d : Direction). c.args.n < remaining (gone d v) (lines d v.world.wire)) c.in-Up.is (c.requires.some width v h))
     (did.flow (texts Up v.world.wire) (carries width s v h Up)) did.gone did.queue)
 
@@ -41,6 +43,6 @@ returns-in-Down g c =
     let s = seen c.args.self.now in
     let did = c.go_on-in-Down.ensures in
     λ width v h.
-    subst (λ (d : Direction). Shows width (record c.args.self.now { down = c.go_on-in-Down.new.self; cut = c.go_on-in-Down.new.cut }) (after_bytes width d v c.args.n)) (sym c.in-Down.is)
+    subst (λ (d : Direction). Shows width (record c.args.self.now { down = c.go_on-in-Down.new.self; cut = c.go_on-in-Down.new.cut }) (after_bytes ends width d v c.args.n)) (sym c.in-Down.is)
     (streams_begin width s v h Down c.args.n c.go_on-in-Down.new.self (subst (λ (d : Direction). c.args.n < remaining (gone d v) (lines d v.world.wire)) c.in-Down.is (c.requires.some width v h))
     (did.flow (texts Down v.world.wire) (carries width s v h Down)) did.gone did.queue)

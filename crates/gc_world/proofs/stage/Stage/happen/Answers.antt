@@ -1,7 +1,8 @@
 use Rattle.std.proofs.Common.{sym, subst}
 use Rattle.std.proofs.lemmas.Bool.{false≢true}
 use Rattle.gc_world.specs.Memory.{TakesNoMemory}
-use Rattle.gc_world.specs.Stages.{seen, Follows}
+use Rattle.gc_world.specs.Stages.{seen, staging}
+use Rattle.gc_world.specs.Staging.{Follows}
 use Rattle.gc_world.proofs.Shown.{up_lost, up_repeated, down_lost, down_repeated}
 use Rattle.gc_world.proofs.Sparing.{full, none_up, no_repeat_up, no_repeat_down, busy}
 use Rattle.gc_world.proofs.stage.Stage.happen.Goals as goal
@@ -10,58 +11,58 @@ use Rattle.gc_world.proofs.stage.Stage.happen.Goals as goal
 
 pub returns-in_ok-send-in-Send-clause-follows : goal.returns-in_ok-send-in-Send-clause-follows
 returns-in_ok-send-in-Send-clause-follows g c =
-    subst (λ event. Follows c.args.self.now event c.send.new.self) (sym c.in-Send.is) c.in_ok-send-in-Send.ensures.follows
+    subst (λ event. Follows staging c.args.self.now event c.send.new.self) (sym c.in-Send.is) c.in_ok-send-in-Send.ensures.follows
 
 pub returns-in_ok-up_deliver-in-UpDeliver-clause-follows : goal.returns-in_ok-up_deliver-in-UpDeliver-clause-follows
 returns-in_ok-up_deliver-in-UpDeliver-clause-follows g c =
-    subst (λ event. Follows c.args.self.now event c.up_deliver.new.self) (sym c.in-UpDeliver.is) c.in_ok-up_deliver-in-UpDeliver.ensures.follows
+    subst (λ event. Follows staging c.args.self.now event c.up_deliver.new.self) (sym c.in-UpDeliver.is) c.in_ok-up_deliver-in-UpDeliver.ensures.follows
 
 pub returns-in_ok-deliver_bytes-in-UpBytes-clause-follows : goal.returns-in_ok-deliver_bytes-in-UpBytes-clause-follows
 returns-in_ok-deliver_bytes-in-UpBytes-clause-follows g c =
-    subst (λ event. Follows c.args.self.now event c.deliver_bytes.new.self) (sym c.in-UpBytes.is) c.in_ok-deliver_bytes-in-UpBytes.ensures.follows
+    subst (λ event. Follows staging c.args.self.now event c.deliver_bytes.new.self) (sym c.in-UpBytes.is) c.in_ok-deliver_bytes-in-UpBytes.ensures.follows
 
 pub returns-in_ok-down_deliver-in-DownDeliver-clause-follows : goal.returns-in_ok-down_deliver-in-DownDeliver-clause-follows
 returns-in_ok-down_deliver-in-DownDeliver-clause-follows g c =
-    subst (λ event. Follows c.args.self.now event c.down_deliver.new.self) (sym c.in-DownDeliver.is) c.in_ok-down_deliver-in-DownDeliver.ensures.follows
+    subst (λ event. Follows staging c.args.self.now event c.down_deliver.new.self) (sym c.in-DownDeliver.is) c.in_ok-down_deliver-in-DownDeliver.ensures.follows
 
 pub returns-in_ok-deliver_bytes-in-DownBytes-clause-follows : goal.returns-in_ok-deliver_bytes-in-DownBytes-clause-follows
 returns-in_ok-deliver_bytes-in-DownBytes-clause-follows g c =
-    subst (λ event. Follows c.args.self.now event c.deliver_bytes-in-DownBytes.new.self) (sym c.in-DownBytes.is) c.in_ok-deliver_bytes-in-DownBytes.ensures.follows
+    subst (λ event. Follows staging c.args.self.now event c.deliver_bytes-in-DownBytes.new.self) (sym c.in-DownBytes.is) c.in_ok-deliver_bytes-in-DownBytes.ensures.follows
 
 pub returns-in_ok-restart_client-in-RestartClient-clause-follows : goal.returns-in_ok-restart_client-in-RestartClient-clause-follows
 returns-in_ok-restart_client-in-RestartClient-clause-follows g c =
-    subst (λ event. Follows c.args.self.now event c.restart_client.new.self) (sym c.in-RestartClient.is) c.in_ok-restart_client-in-RestartClient.ensures.follows
+    subst (λ event. Follows staging c.args.self.now event c.restart_client.new.self) (sym c.in-RestartClient.is) c.in_ok-restart_client-in-RestartClient.ensures.follows
 
 pub returns-in_ok-restart_instrument-in-RestartInstrument-clause-follows : goal.returns-in_ok-restart_instrument-in-RestartInstrument-clause-follows
 returns-in_ok-restart_instrument-in-RestartInstrument-clause-follows g c =
-    subst (λ event. Follows c.args.self.now event c.restart_instrument.new.self) (sym c.in-RestartInstrument.is) c.in_ok-restart_instrument-in-RestartInstrument.ensures.follows
+    subst (λ event. Follows staging c.args.self.now event c.restart_instrument.new.self) (sym c.in-RestartInstrument.is) c.in_ok-restart_instrument-in-RestartInstrument.ensures.follows
 
 pub returns-in-Expire-clause-follows : goal.returns-in-Expire-clause-follows
 returns-in-Expire-clause-follows g c =
-    subst (λ event. Follows c.args.self.now event c.expire.new.self) (sym c.in-Expire.is) c.expire.ensures
+    subst (λ event. Follows staging c.args.self.now event c.expire.new.self) (sym c.in-Expire.is) c.expire.ensures
 
 pub returns-in-UpLose-clause-follows : goal.returns-in-UpLose-clause-follows
 returns-in-UpLose-clause-follows g c =
     let s = c.args.self.now in
-    subst (λ event. Follows s event (record s { report = record s.report { idle_events = c.lose.new.idle }; up = c.lose.new.self })) (sym c.in-UpLose.is)
+    subst (λ event. Follows staging s event (record s { report = record s.report { idle_events = c.lose.new.idle }; up = c.lose.new.self })) (sym c.in-UpLose.is)
     (λ width v h. up_lost width (seen s) v h c.in-UpLose.k c.lose.new.self c.lose.new.idle c.lose.ensures)
 
 pub returns-in_ok-repeat-in-UpRepeat-clause-follows : goal.returns-in_ok-repeat-in-UpRepeat-clause-follows
 returns-in_ok-repeat-in-UpRepeat-clause-follows g c =
     let s = c.args.self.now in
-    subst (λ event. Follows s event (record s { report = record s.report { idle_events = c.repeat.new.idle }; up = c.repeat.new.self })) (sym c.in-UpRepeat.is)
+    subst (λ event. Follows staging s event (record s { report = record s.report { idle_events = c.repeat.new.idle }; up = c.repeat.new.self })) (sym c.in-UpRepeat.is)
     (λ width v h. up_repeated width (seen s) v h c.in-UpRepeat.k c.repeat.new.self c.repeat.new.idle c.in_ok-repeat-in-UpRepeat.ensures.changes)
 
 pub returns-in-DownLose-clause-follows : goal.returns-in-DownLose-clause-follows
 returns-in-DownLose-clause-follows g c =
     let s = c.args.self.now in
-    subst (λ event. Follows s event (record s { report = record s.report { idle_events = c.lose-in-DownLose.new.idle }; down = c.lose-in-DownLose.new.self })) (sym c.in-DownLose.is)
+    subst (λ event. Follows staging s event (record s { report = record s.report { idle_events = c.lose-in-DownLose.new.idle }; down = c.lose-in-DownLose.new.self })) (sym c.in-DownLose.is)
     (λ width v h. down_lost width (seen s) v h c.in-DownLose.k c.lose-in-DownLose.new.self c.lose-in-DownLose.new.idle c.lose-in-DownLose.ensures)
 
 pub returns-in_ok-repeat-in-DownRepeat-clause-follows : goal.returns-in_ok-repeat-in-DownRepeat-clause-follows
 returns-in_ok-repeat-in-DownRepeat-clause-follows g c =
     let s = c.args.self.now in
-    subst (λ event. Follows s event (record s { report = record s.report { idle_events = c.repeat-in-DownRepeat.new.idle }; down = c.repeat-in-DownRepeat.new.self })) (sym c.in-DownRepeat.is)
+    subst (λ event. Follows staging s event (record s { report = record s.report { idle_events = c.repeat-in-DownRepeat.new.idle }; down = c.repeat-in-DownRepeat.new.self })) (sym c.in-DownRepeat.is)
     (λ width v h. down_repeated width (seen s) v h c.in-DownRepeat.k c.repeat-in-DownRepeat.new.self c.repeat-in-DownRepeat.new.idle c.in_ok-repeat-in-DownRepeat.ensures.changes)
 
 -- An event that takes no memory doesn't fail for memory.

@@ -1,7 +1,0 @@
-use Rattle.std.proofs.Common.{rules}
-use Rattle.gc_files.proofs.Adding.{mend_all}
-use Rattle.gc_files.proofs.opening.repair.Goals as goal
-
-pub returns-in_ok-sync-clause-ok : goal.returns-in_ok-sync-clause-ok
-returns-in_ok-sync-clause-ok g c known is =
-    mend_all _ _ _ known c.args.end c.args.len (search rules) (c.requires.len known is) (c.requires.end known is) c.in_ok-cut.ensures c.in_ok-sync.ensures.step

@@ -1,0 +1,110 @@
+-- Sends: what a number and parameters ask for, or why they are refused, and what a send of that does. The faults of a request
+-- (`IsOfRequest`) are none of a send's own.
+use Rattle.std.proofs.Common.{◌≡◌, ◌≢◌, ◌<◌, ◌≤◌, ℕ, Result, Ok, Err, refl, sym, ap, subst, ◌∙◌, arith}
+use Rattle.gc_values.specs.declared.fault.ValueFault.TheVariants.{Spelling, Range, OpenQuote, TooMany, Count}
+use Rattle.gc_catalogue.specs.CallFault.{refusal_number}
+use Rattle.gc_catalogue.specs.declared.fault.CallFault.{CallFault}
+use Rattle.gc_catalogue.specs.declared.fault.CallFault.TheVariants.{Unknown, Parameters}
+use Rattle.gc_catalogue.specs.declared.asked.Asked.{Asked}
+use Rattle.gc_catalogue.specs.declared.raw.RawFault.{RawFault}
+use Rattle.gc_catalogue.specs.declared.raw.RawFault.TheVariants as raw
+use Rattle.geocom_c.specs.Sending.{IsOfRequest, IsReadAs, IsSend, SendEffect, SendsRead, raw_number}
+use Rattle.geocom_c.specs.declared.header.TheConstants.{WINDOW_FULL}
+use Rattle.geocom_c.proofs.Clients.{never_ok}
+
+-- Results.
+
+-- a result has one value
+pub same_value : {A E : Type 0} (r : Result A E) (x y : A) → r ≡ Ok x → r ≡ Ok y → x ≡ y
+same_value r x y e f = cc
+
+-- a result has one error
+pub same_error : {A E : Type 0} (r : Result A E) (x y : E) → r ≡ Err x → r ≡ Err y → x ≡ y
+same_error r x y e f = cc
+
+-- a result isn't a value and an error
+pub never_both : {A E : Type 0} (r : Result A E) (x : A) (y : E) → r ≡ Ok x → r ≡ Err y → ⊥
+never_both r x y e f = never_ok y x (sym f ∙ e)
+
+-- Numbers of faults.
+
+-- a number from 1 to 22 is none of a send's own
+low_of_request : (n : ℕ) → 0 < n → n ≤ 22 → IsOfRequest n
+low_of_request n some few = (
+  λ e. absurd (omega (arith, e, some)),
+  λ e. absurd (omega (arith, e, few)),
+  λ e. absurd (omega (arith, e, few)),
+  λ e. absurd (omega (arith, e, few)),
+  λ e. absurd (omega (arith, e, few)),
+)
+
+-- the number of a refusal of a call is none of a send's own
+pub call_of_request : (e : CallFault) → IsOfRequest (refusal_number e)
+call_of_request Unknown = low_of_request _ (omega arith) (omega arith)
+call_of_request (Parameters Spelling) = low_of_request _ (omega arith) (omega arith)
+call_of_request (Parameters Range) = low_of_request _ (omega arith) (omega arith)
+call_of_request (Parameters OpenQuote) = low_of_request _ (omega arith) (omega arith)
+call_of_request (Parameters TooMany) = low_of_request _ (omega arith) (omega arith)
+call_of_request (Parameters Count) = low_of_request _ (omega arith) (omega arith)
+
+-- the number of a refusal of a raw request is none of a send's own
+pub raw_of_request : (e : RawFault) → IsOfRequest (raw_number e)
+raw_of_request raw.InTable = (
+  λ e. absurd (omega (arith, e)),
+  λ e. absurd (omega (arith, e)),
+  λ e. absurd (omega (arith, e)),
+  λ e. absurd (omega (arith, e)),
+  λ e. absurd (omega (arith, e)),
+)
+raw_of_request raw.NotPlain = low_of_request _ (omega arith) (omega arith)
+raw_of_request raw.TooLong = low_of_request _ (omega arith) (omega arith)
+raw_of_request raw.OpenQuote = low_of_request _ (omega arith) (omega arith)
+raw_of_request raw.TooMany = low_of_request _ (omega arith) (omega arith)
+
+-- a number n that is `WINDOW_FULL` unless it is 0 is no number k above that one
+pub never_above_full : (n k : ℕ) → (n ≢ 0 → n ≡ WINDOW_FULL) → WINDOW_FULL < k → n ≡ k → ⊥
+never_above_full n k either above e = let full : n ≡ WINDOW_FULL = either (λ z. absurd (omega (arith, e, z, above))) in absurd (omega (arith, e, full, above))
+
+-- What was read.
+
+module _ {X E : Type 0} (to : X → Asked) (Is : X → Type 0) (IsNot : E → Type 0) (number : E → ℕ) where
+  -- what was found (x), if `found` has it alone, is what is asked for
+  pub reads_found : (found : Result X E) (x : X) → found ≡ Ok x → Is x → ((y : X) → Is y → found ≡ Ok y) → ((e : E) → IsNot e → found ≡ Err e)
+      → IsReadAs to Is IsNot number (Ok (to x))
+  reads_found found x is holds only exactly = record {
+    asks = λ asked same. (x, holds, same_value _ asked (to x) same refl);
+    only = λ y it. ap (λ (z : X). let r : Result Asked ℕ = Ok (to z) in r) (same_value found x y is (only y it));
+    refuses = λ fault same. absurd (never_both _ (to x) fault refl same);
+    refused = λ e not. absurd (never_both found x e is (exactly e not));
+    number_of_request = λ fault same. absurd (never_both _ (to x) fault refl same);
+  }
+
+  -- the fault that was found (e), if `found` has it alone, is why it is refused, with its number n
+  pub reads_fault : (found : Result X E) (e : E) (n : ℕ) → found ≡ Err e → IsNot e → n ≡ number e → IsOfRequest (number e)
+      → ((y : X) → Is y → found ≡ Ok y) → ((f : E) → IsNot f → found ≡ Err f) → IsReadAs to Is IsNot number (Err n)
+  reads_fault found e n is holds named of_request only exactly = record {
+    asks = λ asked same. absurd (never_both _ asked n same refl);
+    only = λ y it. absurd (never_both found y e (only y it) is);
+    refuses = λ fault same. (e, holds, same_error _ fault n same refl ∙ named);
+    refused = λ f not. ap (λ (k : ℕ). let r : Result Asked ℕ = Err k in r) (named ∙ ap number (same_error found e f is (exactly f not)));
+    number_of_request = λ fault same. subst (λ (k : ℕ). IsOfRequest k) (sym (same_error _ fault n same refl ∙ named)) of_request;
+  }
+
+  -- a send of what was read is a send of what is asked for
+  pub sends_as : (target deadline : ℕ) (read : Result Asked ℕ) (s : SendEffect) → IsReadAs to Is IsNot number read → SendsRead read target deadline s
+      → IsSend to Is IsNot number target deadline s
+  sends_as target deadline read s r did = record {
+    sent = λ room c rest x stands begun is. did.sent room c rest (to x) stands begun (r.only x is);
+    refuses = λ room c rest e stands begun is. did.refuses room c rest (number e) stands begun (r.refused e is);
+    begins = did.begins;
+    begun = did.begun;
+    room = did.room;
+    astray = did.astray;
+    full = λ e. let (c, rest, asked, stands, begun, is, fills) = did.full e in let found = r.asks asked is in (c, rest, found.0, stands, begun, found.1, fills);
+    done = λ e. let (c, rest, asked, stands, begun, is, fills) = did.done e in let found = r.asks asked is in (c, rest, found.0, stands, begun, found.1, fills);
+    refusal = λ of_request. let (fault, is, same) = did.refusal of_request in let found = r.refuses fault is in (found.0, found.1, same ∙ found.2);
+    refused = did.refused;
+    answered = did.answered;
+    untouched = did.untouched;
+    same_length = did.same_length;
+  }

@@ -1,0 +1,141 @@
+use Rattle.std.proofs.Common.{◌∙◌, Some, refl, sym, ap, subst, arith}
+use Rattle.gc_lines.specs.Lines.{with_end}
+use Rattle.gc_catalogue.specs.Asked.{asked_line}
+use Rattle.gc_catalogue.specs.declared.asked.Asked.{Asked}
+use Rattle.gc_client.specs.Rule.{Windowed, sends}
+use Rattle.geocom_c.specs.Sending.{SendMeets, send_effect}
+use Rattle.geocom_c.specs.Rest.{kept}
+use Rattle.geocom_c.proofs.Answering.{is_begun, not_begun}
+use Rattle.geocom_c.proofs.Sendings.{never_above_full, never_both, same_error, same_value}
+use Rattle.std.proofs.lemmas.Option.{same_Some}
+use Rattle.geocom_c.proofs.sends.send_read.Goals as goal
+
+pub returns-then-line-lt-LINE_ROOM-clause-sends : goal.returns-then-line-lt-LINE_ROOM-clause-sends
+returns-then-line-lt-LINE_ROOM-clause-sends c =
+    let short = c.if-line-lt-LINE_ROOM.true in
+    let fault = c.refused.ensures.fault in
+    record {
+      sent = λ room c' rest x stands begun is. absurd (omega (arith, room, short));
+      refuses = λ room c' rest e stands begun is. absurd (omega (arith, room, short));
+      begins = λ room c' rest stands unbegun. absurd (omega (arith, room, short));
+      begun = λ e. absurd (omega (arith, fault, e));
+      room = (λ _. short, λ _. fault);
+      astray = (λ e. absurd (omega (arith, fault, e)), λ both. absurd (omega (arith, both.0, short)));
+      full = λ e. absurd (omega (arith, fault, e));
+      done = λ e. absurd (omega (arith, fault, e));
+      refusal = λ of_request. absurd (of_request.2 fault);
+      refused = λ _. (c.refused.ensures.count, refl, refl);
+      answered = refl;
+      untouched = refl;
+      same_length = refl;
+    }
+
+pub returns-in_default-clause-sends : goal.returns-in_default-clause-sends
+returns-in_default-clause-sends c =
+    let room = c.if-line-lt-LINE_ROOM.false in
+    let astray = c.load.ensures.none c.in_default.is in
+    let fault = c.refused-in_default.ensures.fault in
+    record {
+      sent = λ _ c' rest x stands begun is. absurd (astray c' rest stands);
+      refuses = λ _ c' rest e stands begun is. absurd (astray c' rest stands);
+      begins = λ _ c' rest stands unbegun. absurd (astray c' rest stands);
+      begun = λ e. absurd (omega (arith, fault, e));
+      room = (λ e. absurd (omega (arith, fault, e)), λ short. absurd (omega (arith, room, short)));
+      astray = (λ _. (room, astray), λ _. fault);
+      full = λ e. absurd (omega (arith, fault, e));
+      done = λ e. absurd (omega (arith, fault, e));
+      refusal = λ of_request. absurd (of_request.3 fault);
+      refused = λ _. (c.refused-in_default.ensures.count, refl, refl);
+      answered = refl;
+      untouched = refl;
+      same_length = refl;
+    }
+
+pub returns-then-not-has_begun-clause-sends : goal.returns-then-not-has_begun-clause-sends
+returns-then-not-has_begun-clause-sends c =
+    let room = c.if-line-lt-LINE_ROOM.false in
+    let left = not_begun c.args.state.now.answered c.if-not-has_begun.true in
+    let fault = c.refused-then-not-has_begun.ensures.fault in
+    record {
+      sent = λ _ c' rest x stands begun is. absurd (left begun);
+      refuses = λ _ c' rest e stands begun is. absurd (left begun);
+      begins = λ _ c' rest stands unbegun. fault;
+      begun = λ _. left;
+      room = (λ e. absurd (omega (arith, fault, e)), λ short. absurd (omega (arith, room, short)));
+      astray = (λ e. absurd (omega (arith, fault, e)), λ both. absurd (both.1 _ _ c.in-Some.ensures.found));
+      full = λ e. absurd (omega (arith, fault, e));
+      done = λ e. absurd (omega (arith, fault, e));
+      refusal = λ of_request. absurd (of_request.4 fault);
+      refused = λ _. (c.refused-then-not-has_begun.ensures.count, refl, refl);
+      answered = refl;
+      untouched = refl;
+      same_length = refl;
+    }
+
+pub returns-in-Ok-clause-sends : goal.returns-in-Ok-clause-sends
+returns-in-Ok-clause-sends c =
+    let room = c.if-line-lt-LINE_ROOM.false in
+    let client = c.in-Some.client in
+    let asked = c.in-Ok.asked in
+    let begun = is_begun c.args.state.now.answered c.if-not-has_begun.false in
+    let s = send_effect c.args.state.now c.send_asked.new.state c.args.line.now c.send_asked.new.line c.send_asked.result in
+    let either = c.send_asked.ensures.either in
+    record {
+      sent = λ _ c' rest x stands _ is.
+          subst (λ (a : Asked). SendMeets c' rest a (sends c'.width c'.ids c.args.target a c.args.deadline) s) (same_value c.args.read asked x c.in-Ok.is is)
+          (subst (λ (d : Windowed Asked). SendMeets d rest asked (sends d.width d.ids c.args.target asked c.args.deadline) s)
+          (same_Some client c' (sym c.in-Some.is ∙ c.load.ensures.only c' rest stands))
+          (c.send_asked.ensures.sent rest stands.incomplete stands.head.answered));
+      refuses = λ _ c' rest e stands _ is. absurd (never_both c.args.read asked e c.in-Ok.is is);
+      begins = λ _ c' rest stands unbegun. absurd (unbegun begun);
+      begun = λ e. absurd (never_above_full _ _ either (omega arith) e);
+      room = (λ e. absurd (never_above_full _ _ either (omega arith) e), λ short. absurd (omega (arith, room, short)));
+      astray = (λ e. absurd (never_above_full _ _ either (omega arith) e), λ both. absurd (both.1 _ _ c.in-Some.ensures.found));
+      full = λ e. (client, kept c.args.state.now.rest, asked, c.in-Some.ensures.found, begun, c.in-Ok.is, c.send_asked.ensures.full e);
+      done = λ e. (client, kept c.args.state.now.rest, asked, c.in-Some.ensures.found, begun, c.in-Ok.is, c.send_asked.ensures.done e);
+      refusal = λ of_request. absurd (of_request.1 (either of_request.0));
+      refused = c.send_asked.ensures.refused;
+      answered = c.send_asked.ensures.answered;
+      untouched = c.send_asked.ensures.untouched;
+      same_length = c.send_asked.ensures.length;
+    }
+
+pub returns-in-Err-clause-sends : goal.returns-in-Err-clause-sends
+returns-in-Err-clause-sends c =
+    let room = c.if-line-lt-LINE_ROOM.false in
+    let begun = is_begun c.args.state.now.answered c.if-not-has_begun.false in
+    let fault = c.refused-in-Err.ensures.fault in
+    let of_request = c.requires c.in-Err.fault c.in-Err.is in
+    record {
+      sent = λ _ c' rest x stands _ is. absurd (never_both c.args.read x c.in-Err.fault is c.in-Err.is);
+      refuses = λ _ c' rest e stands _ is. fault ∙ same_error c.args.read c.in-Err.fault e c.in-Err.is is;
+      begins = λ _ c' rest stands unbegun. absurd (unbegun begun);
+      begun = λ e. absurd (of_request.4 (sym fault ∙ e));
+      room = (λ e. absurd (of_request.2 (sym fault ∙ e)), λ short. absurd (omega (arith, room, short)));
+      astray = (λ e. absurd (of_request.3 (sym fault ∙ e)), λ both. absurd (both.1 _ _ c.in-Some.ensures.found));
+      full = λ e. absurd (of_request.1 (sym fault ∙ e));
+      done = λ e. absurd (of_request.0 (sym fault ∙ e));
+      refusal = λ _. (c.in-Err.fault, c.in-Err.is, fault);
+      refused = λ _. (c.refused-in-Err.ensures.count, refl, refl);
+      answered = refl;
+      untouched = refl;
+      same_length = refl;
+    }
+
+pub returns-then-line-lt-LINE_ROOM-clause-given : goal.returns-then-line-lt-LINE_ROOM-clause-given
+returns-then-line-lt-LINE_ROOM-clause-given c = λ asked is none. absurd (omega (arith, c.refused.ensures.fault, none))
+
+pub returns-in_default-clause-given : goal.returns-in_default-clause-given
+returns-in_default-clause-given c = λ asked is none. absurd (omega (arith, c.refused-in_default.ensures.fault, none))
+
+pub returns-then-not-has_begun-clause-given : goal.returns-then-not-has_begun-clause-given
+returns-then-not-has_begun-clause-given c = λ asked is none. absurd (omega (arith, c.refused-then-not-has_begun.ensures.fault, none))
+
+pub returns-in-Ok-clause-given : goal.returns-in-Ok-clause-given
+returns-in-Ok-clause-given c = λ asked is none.
+    c.send_asked.ensures.given none
+    ∙ ap (λ (a : Asked). with_end (asked_line (Some c.in-Some.client.ids.next) a)) (same_value c.args.read c.in-Ok.asked asked c.in-Ok.is is)
+    ∙ ap (λ n. with_end (asked_line (Some n) asked)) (sym c.in-Some.ensures.found.next)
+
+pub returns-in-Err-clause-given : goal.returns-in-Err-clause-given
+returns-in-Err-clause-given c = λ asked is none. absurd (never_both c.args.read asked c.in-Err.fault is c.in-Err.is)
